@@ -1,0 +1,105 @@
+-- Frames in an area: read from their parts, and after an answer.
+use Rattle.std.proofs.Common.{◌≡◌, ℕ, ◌+◌, ◌*◌, ◌-◌, ◌^◌, ◌<◌, ◌≤◌, ◌⊎◌, inl, inr, List, length, get_or, refl, ap, ◌∙◌, arith}
+use Rattle.std.specs.List.{AllByRecursion}
+use Rattle.std.proofs.Common.{◌/◌, true}
+use Rattle.std.proofs.lemmas.Bool.Decides.{nat_tests}
+use Rattle.scmi_codec.specs.Header.{HeaderFields, header_of}
+use Rattle.scmi_codec.specs.Area.{is_well_formed, length_at, header_at, frame_of, StandsFor}
+use Rattle.scmi_codec.specs.Word.{words_at, put_word, put_words}
+use Rattle.scmi_codec.specs.declared.frame.Frame.TheVariants.{Good}
+use Rattle.scmi_codec.proofs.WordLemmas.{length-put_word, get_or-put_word, get_or-put_word_above, word_at-put_word, word_at-put_word_other, same_words, same_word_lists, words_at-put_words, words_at-put_word_other, word_at-put_words_other, length-put_words, get_or-put_words}
+
+pub is_well_formed-true : (n : ℕ) → n ≤ 32 → is_well_formed (4 + 4 * n) ≡ true
+is_well_formed-true n few = grind (arith, nat_tests)
+
+quarter : (n : ℕ) → (4 + 4 * n - 4) / 4 ≡ n
+quarter n = omega arith
+
+-- a frame is read from its three parts
+pub frame_of-good : (area : List ℕ) (header : HeaderFields) (words : List ℕ) → length words ≤ 32 → length_at area ≡ 4 + 4 * length words
+    → header_of (header_at area) ≡ header → words_at 0x1C (length words) area ≡ words
+    → frame_of area ≡ Good (record { header = header; payload = record { items = words } })
+frame_of-good area header words few el eh ew =
+    rw (el, is_well_formed-true (length words) few, quarter (length words), eh, ew) refl
+
+-- an area after a reply
+abbrev pub replied : List ℕ → ℕ → List ℕ → List ℕ
+replied area word words = put_word 0x04 1 (put_words 0x1C words (put_word 0x18 word (put_word 0x14 (4 + 4 * length words) area)))
+
+pub StandsFor-replied : (area : List ℕ) (header : HeaderFields) (word : ℕ) (words : List ℕ) → length area ≡ 156 → length words ≤ 32
+    → AllByRecursion (λ w. w < 2 ^ 32) words → word < 2 ^ 32 → header_of word ≡ header
+    → StandsFor (replied area word words) 1 (Good (record { header = header; payload = record { items = words } }))
+StandsFor-replied area header word words size few small narrow unpacked =
+    let a : List ℕ = put_word 0x14 (4 + 4 * length words) area in
+    let b : List ℕ = put_word 0x18 word a in
+    let d : List ℕ = put_words 0x1C words b in
+    let la : length a ≡ 156 = length-put_word 0x14 (4 + 4 * length words) area (omega arith) ∙ size in
+    let lb : length b ≡ 156 = length-put_word 0x18 word a (omega arith) ∙ la in
+    let ld : length d ≡ 156 = length-put_words 0x1C words b (omega arith) ∙ lb in
+    let el : length_at (put_word 0x04 1 d) ≡ 4 + 4 * length words =
+    word_at-put_word_other 0x04 1 d 0x14 (omega arith) (inr (omega arith))
+    ∙ word_at-put_words_other 0x1C words b 0x14 (omega arith) (omega arith)
+    ∙ word_at-put_word_other 0x18 word a 0x14 (omega arith) (inl (omega arith))
+    ∙ word_at-put_word 0x14 (4 + 4 * length words) area (omega arith) (omega arith) in
+    let eh : header_at (put_word 0x04 1 d) ≡ word =
+    word_at-put_word_other 0x04 1 d 0x18 (omega arith) (inr (omega arith))
+    ∙ word_at-put_words_other 0x1C words b 0x18 (omega arith) (omega arith)
+    ∙ word_at-put_word 0x18 word a (omega arith) narrow in
+    let ew : words_at 0x1C (length words) (put_word 0x04 1 d) ≡ words =
+    words_at-put_word_other 0x04 1 d 0x1C (length words) (omega arith) (inr (omega arith))
+    ∙ words_at-put_words 0x1C words b (omega arith) small in
+    record {
+      status = word_at-put_word 0x04 1 d (omega arith) (omega arith);
+      frame = frame_of-good (put_word 0x04 1 d) header words few el (ap header_of eh ∙ unpacked) ew;
+    }
+
+pub kept-replied : (area : List ℕ) (word : ℕ) (words : List ℕ) (i : ℕ) → length area ≡ 156 → length words ≤ 32
+    → (i < 0x04) ⊎ ((0x08 ≤ i) × (i < 0x14)) ⊎ (0x1C + 4 * length words ≤ i)
+    → get_or (replied area word words) i 0 ≡ get_or area i 0
+kept-replied area word words i size few apart =
+    let a : List ℕ = put_word 0x14 (4 + 4 * length words) area in
+    let b : List ℕ = put_word 0x18 word a in
+    let d : List ℕ = put_words 0x1C words b in
+    let la : length a ≡ 156 = length-put_word 0x14 (4 + 4 * length words) area (omega arith) ∙ size in
+    let lb : length b ≡ 156 = length-put_word 0x18 word a (omega arith) ∙ la in
+    let ld : length d ≡ 156 = length-put_words 0x1C words b (omega arith) ∙ lb in
+    get_or-put_word 0x04 1 d i (omega arith) (away apart) ∙ get_or-put_words 0x1C words b i (omega arith) (away' apart)
+    ∙ get_or-put_word 0x18 word a i (omega arith) (away'' apart) ∙ get_or-put_word 0x14 (4 + 4 * length words) area i (omega arith) (away3 apart)
+  where
+    Apart : Type 0
+    Apart = (i < 0x04) ⊎ ((0x08 ≤ i) × (i < 0x14)) ⊎ (0x1C + 4 * length words ≤ i)
+
+    away : Apart → (i < 0x04) ⊎ (0x04 + 4 ≤ i)
+    away (inl h) = inl h
+    away (inr (inl h)) = inr h.0
+    away (inr (inr h)) = inr (omega arith)
+
+    away' : Apart → (i < 0x1C) ⊎ (0x1C + 4 * length words ≤ i)
+    away' (inl h) = inl (omega arith)
+    away' (inr (inl h)) = inl (omega arith)
+    away' (inr (inr h)) = inr h
+
+    away'' : Apart → (i < 0x18) ⊎ (0x18 + 4 ≤ i)
+    away'' (inl h) = inl (omega arith)
+    away'' (inr (inl h)) = inl (omega arith)
+    away'' (inr (inr h)) = inr (omega arith)
+
+    away3 : Apart → (i < 0x14) ⊎ (0x14 + 4 ≤ i)
+    away3 (inl h) = inl (omega arith)
+    away3 (inr (inl h)) = inl h.1
+    away3 (inr (inr h)) = inr (omega arith)
+
+-- a frame is the same where its bytes are
+frame_of-same : (old new : List ℕ) → ((k : ℕ) → 0x14 ≤ k → get_or new k 0 ≡ get_or old k 0) → frame_of new ≡ frame_of old
+frame_of-same old new same =
+    let el : length_at new ≡ length_at old = same_words 0x14 old new (λ k lo hi. same k lo) in
+    let eh : header_at new ≡ header_at old = same_words 0x18 old new (λ k lo hi. same k (omega arith)) in
+    let ew : (n : ℕ) → words_at 0x1C n new ≡ words_at 0x1C n old = λ n. same_word_lists 0x1C n old new (λ k lo hi. same k (omega arith)) in
+    rw (el, eh, ew ((length_at old - 4) / 4)) refl
+
+-- a status alone is written
+pub StandsFor-status : (area : List ℕ) (status : ℕ) → length area ≡ 156 → status < 2 ^ 32 → StandsFor (put_word 0x04 status area) status (frame_of area)
+StandsFor-status area status size small = record {
+  status = word_at-put_word 0x04 status area (omega arith) small;
+  frame = frame_of-same area (put_word 0x04 status area) (λ k lo. get_or-put_word_above 0x04 status area k (omega arith) (omega arith));
+}

@@ -1,0 +1,3 @@
+pub mod HeaderLemmas
+pub mod WordLemmas
+pub mod AreaLemmas

@@ -1,0 +1,61 @@
+-- The shared area of a channel (DEN0056B, shared memory transport): 156 bytes.
+use Rattle.std.specs.Prelude.{Bool, ◌≡◌, ℕ, ◌+◌, ◌*◌, ◌/◌, ◌-◌, ◌%◌, ◌<◌, ◌≤◌, ◌==◌, nat_le, ◌&&◌, ◌⊎◌, if◌then◌else◌, List, length, Option, Some, None}
+use Rattle.scmi_codec.specs.Word.{word_at, words_at, put_word, put_words}
+use Rattle.scmi_codec.specs.Header.{header_of, header_word}
+use Rattle.scmi_codec.specs.declared.payload.TheConstants.{PAYLOAD_WORDS}
+use Rattle.scmi_codec.specs.declared.frame.Frame.{Frame}
+use Rattle.scmi_codec.specs.declared.frame.Frame.TheVariants.{Good, Malformed}
+use Rattle.scmi_codec.specs.declared.frame.Answer.{Answer}
+use Rattle.scmi_codec.specs.declared.frame.Answer.TheVariants.{Reply, Released, ChannelError}
+
+-- whether a length in bytes is 4 + 4k, k from 0 to the most words of a payload (own)
+abbrev pub is_well_formed : ℕ → Bool
+is_well_formed n = nat_le 4 n && (nat_le n (4 + 4 * PAYLOAD_WORDS) && (n % 4 == 0))
+
+-- the channel status, the length of header and payload, and the header word
+abbrev pub status_at : List ℕ → ℕ
+status_at area = word_at 0x04 area
+
+abbrev pub length_at : List ℕ → ℕ
+length_at area = word_at 0x14 area
+
+abbrev pub header_at : List ℕ → ℕ
+header_at area = word_at 0x18 area
+
+-- the frame that an area stands for
+abbrev pub frame_of : List ℕ → Frame
+frame_of area =
+    if is_well_formed (length_at area)
+    then Good (record {
+      header = header_of (header_at area);
+      payload = record { items = words_at 0x1C ((length_at area - 4) / 4) area };
+    })
+    else Malformed (length_at area) (header_at area)
+
+-- what a callee finds: nothing while the channel is free
+abbrev pub arrived : List ℕ → Option Frame
+arrived area = if status_at area % 2 == 1 then None else Some (frame_of area)
+
+-- an area stands for a status and a frame
+pub record StandsFor (area : List ℕ) (s : ℕ) (f : Frame) : Type 0 where
+  pub status : status_at area ≡ s
+  pub frame : frame_of area ≡ f
+
+-- an area stands for an answer to a frame
+abbrev pub StandsForAnswer : List ℕ → Frame → Answer → Type 0
+StandsForAnswer area frame (Reply m) = StandsFor area 1 (Good m)
+StandsForAnswer area frame Released = StandsFor area 1 frame
+StandsForAnswer area frame ChannelError = StandsFor area 3 frame
+
+-- a byte that an answer doesn't touch
+abbrev pub IsKept : Answer → ℕ → Type 0
+IsKept (Reply m) i = (i < 0x04) ⊎ ((0x08 ≤ i) × (i < 0x14)) ⊎ (0x1C + 4 * length m.payload.items ≤ i)
+IsKept Released i = (i < 0x04) ⊎ (0x08 ≤ i)
+IsKept ChannelError i = (i < 0x04) ⊎ (0x08 ≤ i)
+
+-- an area after an answer
+abbrev pub answered : Answer → List ℕ → List ℕ
+answered (Reply m) area =
+    put_word 0x04 1 (put_words 0x1C m.payload.items (put_word 0x18 (header_word m.header) (put_word 0x14 (4 + 4 * length m.payload.items) area)))
+answered Released area = put_word 0x04 1 area
+answered ChannelError area = put_word 0x04 3 area

@@ -1,0 +1,34 @@
+-- The commands of all protocols, as messages carry them (own order of checks).
+use Rattle.std.specs.Prelude.{ℕ, ◌==◌, if◌then◌else◌, List, Result, Ok, Err}
+use Rattle.scmi_codec.specs.Header.{HeaderFields}
+use Rattle.scmi_codec.specs.BaseCommand.{base_of, base_id, base_words}
+use Rattle.scmi_codec.specs.declared.status.Status.{Status}
+use Rattle.scmi_codec.specs.declared.status.Status.TheVariants.{ProtocolError, NotSupported}
+use Rattle.scmi_codec.specs.declared.message.Message.{Message}
+use Rattle.scmi_codec.specs.declared.command.Command.{Command}
+use Rattle.scmi_codec.specs.declared.command.Command.TheVariants.{Base}
+
+-- an Ok with a function applied, an error as it is
+abbrev pub map_ok : {A B : Type 0} → (A → B) → Result A Status → Result B Status
+map_ok f (Ok x) = Ok (f x)
+map_ok f (Err e) = Err e
+
+-- the command that a message carries, or the status of the first check that fails
+abbrev pub command_of : Message → Result Command Status
+command_of m =
+    if m.header.kind == 0 then
+    (if m.header.protocol == 0x10 then map_ok Base (base_of m.header.id m.payload.items)
+    else Err NotSupported)
+    else Err ProtocolError
+
+-- the payload words of a command
+abbrev pub command_words : Command → List ℕ
+command_words (Base c) = base_words c
+
+-- the header of a command of a protocol, with reserved bits and type 0
+abbrev pub protocol_header : ℕ → ℕ → ℕ → HeaderFields
+protocol_header protocol token id = record { reserved = 0; token = token; protocol = protocol; kind = 0; id = id }
+
+-- the header of a command that carries a token
+abbrev pub command_header : Command → ℕ → HeaderFields
+command_header (Base c) token = protocol_header 0x10 token (base_id c)

@@ -1,0 +1,142 @@
+//! The shared area of a channel.
+ghost use Rattle.std.specs.Prelude.{◌≡◌, ◌+◌, ◌*◌, ◌^◌, ◌<◌, ◌≤◌, ℕ, length, IsOk, OnOk, OnErr, IfErr, ◌↔◌, ◌≢◌, slice_index};
+ghost use Rattle.std.specs.List.{AllByRecursion};
+ghost use Rattle.scmi_codec.specs.Word.{words_at, put_words};
+ghost use Rattle.scmi_codec.specs.Area.{frame_of, arrived, answered, is_well_formed, StandsFor, StandsForAnswer, IsKept};
+ghost use Rattle.scmi_codec.specs.declared.frame.Frame.TheVariants.{Good};
+ghost use Rattle.scmi_codec.specs.declared.frame.Answer.TheVariants.{Reply};
+ghost use Rattle.scmi_codec.specs.declared.payload.TheConstants.{PAYLOAD_WORDS};
+
+use crate::channel_status::ChannelStatus;
+use crate::frame::{Answer, Frame};
+use crate::header::Header;
+use crate::message::Message;
+use crate::payload::{PAYLOAD_WORDS, Payload};
+use crate::word::{read_word, write_word};
+use arrayvec::ArrayVec;
+use bitflags::Flags;
+use thiserror::Error;
+
+/// The size of an area in bytes: 28 before the payload, and the payload (own).
+pub const AREA_BYTES: usize = 156;
+
+// The places of the fields, in bytes (DEN0056B, shared memory transport).
+const STATUS_AT: usize = 0x04;
+
+const LENGTH_AT: usize = 0x14;
+
+const HEADER_AT: usize = 0x18;
+
+const PAYLOAD_AT: usize = 0x1c;
+
+/// Why an area was not read or written.
+#[derive(Clone, Copy, PartialEq, Eq, Debug, Error)]
+pub enum AreaError {
+    #[error("an area has 156 bytes")]
+    WrongSize = 1,
+}
+
+/// Whether a length in bytes, of header and payload, is 4 + 4k with k from 0 to `PAYLOAD_WORDS`
+/// (own).
+fn is_well_formed(length: u32) -> bool
+    ensures { result ≡ is_well_formed length }
+{
+    length >= 4 && length <= 4 + 4 * PAYLOAD_WORDS as u32 && length % 4 == 0
+}
+
+/// The frame that a caller has posted, or `None` for a free channel: of the status word, bit 0 alone
+/// decides (own). `WrongSize` where there are not `AREA_BYTES` bytes.
+pub fn read_area(area: &[u8]) -> Result<Option<Frame>, AreaError>
+    ensures ok { length area.now ≡ 156 → result ≡ Ok (arrived area.now) }
+    ensures wrong_size { length area.now ≢ 156 → result ≡ Err AreaError.WrongSize }
+{
+    if area.len() != AREA_BYTES {
+        return Err(AreaError::WrongSize);
+    }
+    let status = ChannelStatus::from_bits_retain(read_word(area, STATUS_AT));
+    if status.contains(ChannelStatus::FREE) {
+        Ok(None)
+    } else {
+        Ok(Some(read_frame(area)))
+    }
+}
+
+/// The frame that stands in an area, whatever its status word.
+fn read_frame(area: &[u8]) -> Frame
+    requires { length area.now ≡ 156 }
+    ensures { result ≡ frame_of area.now }
+{
+    let length = read_word(area, LENGTH_AT);
+    let header = read_word(area, HEADER_AT);
+    if is_well_formed(length) {
+        Frame::Good(Message {
+            header: Header::unpack(header),
+            payload: read_payload(area, (length as usize - 4) / 4),
+        })
+    } else {
+        Frame::Malformed { length, header }
+    }
+}
+
+fn read_payload(area: &[u8], count: usize) -> Payload
+    requires few { count ≤ PAYLOAD_WORDS }
+    requires size { length area.now ≡ 156 }
+    ensures { result.items ≡ words_at 0x1C count area.now }
+{
+    let mut payload = ArrayVec::new();
+    for i in 0..count {
+        payload.push(read_word(area, PAYLOAD_AT + 4 * i));
+    }
+    payload
+}
+
+/// Writes the callee's answer over the message, and marks the channel free. A response writes the
+/// status word 1, its length, header and payload words; `Released` writes status word 1 alone, and
+/// `ChannelError` status word 3 alone; every other byte stays (own). `WrongSize` where there are not
+/// `AREA_BYTES` bytes, and then nothing is written.
+pub fn write_answer(area: &mut [u8], answer: &Answer) -> Result<(), AreaError>
+    ensures size { IsOk result ↔ (length area.old ≡ 156) }
+    ensures written { OnOk result (area.new ≡ answered answer.now area.old) }
+    ensures stands { OnOk result (StandsForAnswer area.new (frame_of area.old) answer.now) }
+    ensures kept { OnOk result ((i : ℕ) → IsKept answer.now i → slice_index area.new i ≡ slice_index area.old i) }
+    ensures err { OnErr result (area.new ≡ area.old) }
+    ensures wrong_size { IfErr result (λ e. e ≡ AreaError.WrongSize) }
+{
+    if area.len() != AREA_BYTES {
+        return Err(AreaError::WrongSize);
+    }
+    match answer {
+        Answer::Reply(message) => write_response(area, message),
+        Answer::Released => write_word(area, STATUS_AT, ChannelStatus::FREE.bits()),
+        Answer::ChannelError => {
+            let status = ChannelStatus::FREE.union(ChannelStatus::ERROR);
+            write_word(area, STATUS_AT, status.bits());
+        }
+    }
+    Ok(())
+}
+
+/// Writes a response and status word 1.
+fn write_response(area: &mut [u8], message: &Message)
+    requires { length area.old ≡ 156 }
+    ensures written { area.new ≡ answered (Reply message.now) area.old }
+    ensures stands { StandsFor area.new 1 (Good message.now) }
+    ensures kept { (i : ℕ) → IsKept (Reply message.now) i → slice_index area.new i ≡ slice_index area.old i }
+{
+    let payload = &message.payload;
+    write_word(area, LENGTH_AT, 4 + 4 * payload.len() as u32);
+    write_word(area, HEADER_AT, message.header.pack());
+    write_payload(area, payload);
+    write_word(area, STATUS_AT, ChannelStatus::FREE.bits());
+}
+
+fn write_payload(area: &mut [u8], payload: &Payload)
+    requires size { length area.old ≡ 156 }
+    requires few { length payload.now.items ≤ PAYLOAD_WORDS }
+    ensures written { area.new ≡ put_words 0x1C payload.now.items area.old }
+    ensures words { AllByRecursion (λ w. w < 2 ^ 32) payload.now.items }
+{
+    for (i, word) in payload.as_slice().iter().enumerate() {
+        write_word(area, PAYLOAD_AT + 4 * i, *word);
+    }
+}

@@ -1,0 +1,51 @@
+//! What a caller puts into a channel, and what the callee answers.
+ghost use Rattle.std.specs.Prelude.{◌≡◌};
+
+use crate::message::Message;
+
+/// What stands in an area that is not free: a message, or a length that is not well formed.
+#[derive(Clone, PartialEq, Eq, Debug, Drop)]
+pub enum Frame {
+    Good(Message),
+    /// The length in bytes as it stands, and the header word.
+    Malformed { length: u32, header: u32 },
+}
+
+/// What the callee leaves in an area.
+#[derive(Clone, PartialEq, Eq, Debug, Drop)]
+pub enum Answer {
+    /// The response to a command.
+    Reply(Message),
+    /// The channel is marked free, with no response.
+    Released,
+    /// The channel is marked free with the error bit (own): the frame was malformed.
+    ChannelError,
+}
+
+impl Frame {
+    /// The same frame again. It takes no memory.
+    pub fn copy(&self) -> Frame
+        ensures { result ≡ self.now }
+    {
+        match self {
+            Frame::Good(message) => Frame::Good(message.copy()),
+            Frame::Malformed { length, header } => Frame::Malformed {
+                length: *length,
+                header: *header,
+            },
+        }
+    }
+}
+
+impl Answer {
+    /// The same answer again. It takes no memory.
+    pub fn copy(&self) -> Answer
+        ensures { result ≡ self.now }
+    {
+        match self {
+            Answer::Reply(message) => Answer::Reply(message.copy()),
+            Answer::Released => Answer::Released,
+            Answer::ChannelError => Answer::ChannelError,
+        }
+    }
+}

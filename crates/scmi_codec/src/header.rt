@@ -1,0 +1,58 @@
+//! The header word of a message.
+ghost use Rattle.std.specs.Prelude.{◌≡◌};
+ghost use Rattle.scmi_codec.specs.Header.{header_of, header_word};
+
+use std::marker::Model;
+
+/// The fields of a message header (DEN0056B, message header), each within its width in bits:
+/// reserved 4, token 10, protocol 8, kind (the message type) 2, id 8.
+///
+/// The type is 0 for a command and its response, 2 for a delayed response, 3 for a notification.
+#[derive(Clone, Copy, PartialEq, Eq, Debug)]
+pub struct Header {
+    pub reserved: u8,
+    pub token: u16,
+    pub protocol: u8,
+    pub kind: u8,
+    pub id: u8,
+}
+
+impl Model for Header {
+    ghost use Rattle.scmi_codec.specs.Header.{HeaderFields, FitsWidths};
+
+    ghost Value = { HeaderFields };
+
+    ghost view = { λ h. record { reserved = h.reserved; token = h.token; protocol = h.protocol; kind = h.kind; id = h.id } };
+
+    ghost invariant = { λ h. FitsWidths (record { reserved = h.reserved; token = h.token; protocol = h.protocol; kind = h.kind; id = h.id }) };
+
+    ghost inverse = { λ h. record { reserved = h.reserved; token = h.token; protocol = h.protocol; kind = h.kind; id = h.id } };
+}
+
+impl Header {
+    /// The fields of a header word.
+    pub fn unpack(word: u32) -> Header
+        ensures fields { result ≡ header_of word }
+        ensures back { header_word result ≡ word }
+    {
+        Header {
+            reserved: (word >> 28) as u8,
+            token: ((word >> 18) & 0x3ff) as u16,
+            protocol: ((word >> 10) & 0xff) as u8,
+            kind: ((word >> 8) & 0x3) as u8,
+            id: (word & 0xff) as u8,
+        }
+    }
+
+    /// The header word of the fields.
+    pub fn pack(&self) -> u32
+        ensures word { result ≡ header_word self.now }
+        ensures back { header_of result ≡ self.now }
+    {
+        (u32::from(self.reserved) << 28)
+            | (u32::from(self.token) << 18)
+            | (u32::from(self.protocol) << 10)
+            | (u32::from(self.kind) << 8)
+            | u32::from(self.id)
+    }
+}

@@ -1,0 +1,24 @@
+//! A message: its header and its payload.
+ghost use Rattle.std.specs.Prelude.{◌≡◌};
+
+use crate::header::Header;
+use crate::payload::{Payload, payload_of};
+
+/// A header and the payload words that follow it.
+#[derive(Clone, PartialEq, Eq, Debug, Drop)]
+pub struct Message {
+    pub header: Header,
+    pub payload: Payload,
+}
+
+impl Message {
+    /// The same message again. It takes no memory, so it cannot fail.
+    pub fn copy(&self) -> Message
+        ensures { result ≡ self.now }
+    {
+        Message {
+            header: self.header,
+            payload: payload_of(self.payload.as_slice()),
+        }
+    }
+}

@@ -1,0 +1,30 @@
+//! The payload words of a message.
+ghost use Rattle.std.specs.Prelude.{◌≡◌, ◌≤◌, ◌∷◌, [], length};
+ghost use Rattle.scmi_codec.specs.Status.{status_word};
+ghost use Rattle.scmi_codec.specs.declared.payload.TheConstants.{PAYLOAD_WORDS};
+
+use crate::status::Status;
+use arrayvec::ArrayVec;
+
+/// The most words of a payload (own).
+pub const PAYLOAD_WORDS: usize = 32;
+
+/// The payload words of a message.
+pub type Payload = ArrayVec<u32, PAYLOAD_WORDS>;
+
+/// The payload of these words, at most `PAYLOAD_WORDS` of them.
+pub fn payload_of(words: &[u32]) -> Payload
+    requires { length words.now ≤ PAYLOAD_WORDS }
+    ensures { result.items ≡ words.now }
+{
+    let mut payload = ArrayVec::new();
+    let _ = payload.try_extend_from_slice(words);
+    payload
+}
+
+/// The payload of an error response: the status word alone (own).
+pub fn refusal(status: Status) -> Payload
+    ensures { result.items ≡ status_word status ∷ [] }
+{
+    payload_of(&[status.word()])
+}

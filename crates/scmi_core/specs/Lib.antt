@@ -1,0 +1,4 @@
+pub mod Trace
+pub mod Prefix
+pub mod History
+pub mod Platform

@@ -1,0 +1,8 @@
+-- What contracts see of a trace.
+use Rattle.std.specs.Prelude.{ℕ, List}
+use Rattle.scmi_core.specs.declared.event.Event.{Event}
+
+-- the events, oldest first, and for how many more there is room
+pub record TraceView : Type 0 where
+  pub events : List Event
+  pub room : ℕ

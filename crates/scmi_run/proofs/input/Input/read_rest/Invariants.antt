@@ -1,0 +1,12 @@
+use Rattle.std.proofs.Common.{◌≡◌, ◌≤◌, ◌+◌, vec_len}
+use Rattle.std.specs.Io.KnownBytes.{Consumes}
+use Rattle.scmi_run.specs.declared.input.TheConstants.{INPUT_BYTES}
+use Rattle.scmi_run.proofs.input.Input.read_rest.Given as goal
+
+abbrev pub invariant-reads : goal.invariant-reads
+invariant-reads g l = record {
+  read : Consumes (g.R.Read.remaining l.fn.self.reader.now) (g.R.Read.remaining l.self.reader.now) l.all.items;
+  small : vec_len l.all ≤ INPUT_BYTES;
+  bytes : l.counter ≤ vec_len l.all;
+  count : l.self.reads ≡ l.fn.self.reads + l.counter;
+}

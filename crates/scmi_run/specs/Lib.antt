@@ -1,0 +1,4 @@
+pub mod RunError
+pub mod Lines
+pub mod Mode
+pub mod Once

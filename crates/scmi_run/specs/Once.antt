@@ -1,0 +1,20 @@
+-- What the mode `once` reads and writes.
+use Rattle.std.specs.Prelude.{ℕ, List, [], ◌∷◌, ◌++◌, Option, option_and_then}
+use Rattle.std.specs.Option.{option_map_or}
+use Rattle.std.specs.Result.{result_ok}
+use Rattle.hex.specs.Hex.{decode_sized, encode_lower}
+use Rattle.scmi_codec.specs.Area.{arrived, answered}
+use Rattle.scmi_core.specs.History.{answer_to}
+use Rattle.scmi_run.specs.Lines.{only, significant_lines}
+
+-- the area of an input whose one line that counts is its 312 hexadecimal digits
+abbrev pub area_of : List ℕ → Option (List ℕ)
+area_of input = option_and_then (λ line. result_ok (decode_sized line 156)) (only (significant_lines input))
+
+-- an area with the answer to its frame, agent 1's first command; a free channel's area as it is
+abbrev pub answered_area : List ℕ → List ℕ
+answered_area area = option_map_or (λ frame. answered (answer_to 1 frame []) area) (arrived area) area
+
+-- an area in lower-case digits, and a line feed
+abbrev pub area_text : List ℕ → List ℕ
+area_text area = encode_lower area ++ (10 ∷ [])

@@ -1,0 +1,26 @@
+//! The answer to the frame of an area, in place.
+ghost use Rattle.std.specs.Prelude.{◌≡◌, IfErr, OnOk, OnErr};
+ghost use Rattle.scmi_run.specs.Once.{answered_area};
+
+use crate::run_error::RunError;
+use scmi_codec::{AREA_BYTES, read_area, write_answer};
+use scmi_core::Core;
+use std::alloc::Global;
+
+/// Answers the frame of an area in place: agent 1's first command on a new platform. The area of a
+/// free channel stays as it is. The only error is `Memory`, and then the area stays as it is.
+pub fn answer_area(alloc: Global, area: &mut [u8; AREA_BYTES]) -> Result<(), RunError>
+    ensures ok { OnOk result (area.new ≡ answered_area area.old) }
+    ensures err { OnErr result (area.new ≡ area.old) }
+    ensures memory { IfErr result (λ e. e ≡ RunError.Memory) }
+{
+    let mut core = Core::first(alloc);
+    let Ok(Some(frame)) = read_area(area) else {
+        return Ok(());
+    };
+    let Ok(answer) = core.command(1, &frame) else {
+        return Err(RunError::Memory);
+    };
+    let _ = write_answer(area, &answer);
+    Ok(())
+}

@@ -1,0 +1,27 @@
+//! The lines of an input.
+ghost use Rattle.std.specs.Prelude.{◌≡◌};
+ghost use Rattle.std.specs.Option.{option_copied};
+ghost use Rattle.scmi_run.specs.Lines.{only, significant_lines, is_significant};
+
+/// Whether a line counts: it is neither blank nor begun by `#` (own).
+fn is_significant(line: &[u8]) -> bool
+    ensures { result ≡ is_significant line.now }
+{
+    !line.is_empty() && line[0] != b'#'
+}
+
+/// The line of an input that has just one that counts.
+pub fn only_line(input: &[u8]) -> Option<&[u8]>
+    ensures { option_copied result ≡ only (significant_lines input.now) }
+{
+    let mut found = None;
+    for line in input.split(|b| *b == b'\n') {
+        if is_significant(line) {
+            if found.is_some() {
+                return None;
+            }
+            found = Some(line);
+        }
+    }
+    found
+}

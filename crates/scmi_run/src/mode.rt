@@ -1,0 +1,25 @@
+//! The mode of a run, which is the first line of the input.
+ghost use Rattle.std.specs.Prelude.{◌≡◌, ◌≢◌, IfSome, IfNone};
+ghost use Rattle.scmi_run.specs.Mode.{text_of};
+ghost use Rattle.scmi_run.specs.declared.mode.Mode.{Mode};
+
+/// What a run does with its input.
+#[derive(Clone, Copy, Debug, PartialEq, Eq)]
+pub enum Mode {
+    /// One area in, one area out.
+    Once,
+}
+
+impl Mode {
+    /// The mode that a line names, exactly.
+    pub fn of_line(line: &[u8]) -> Option<Mode>
+        ensures some { IfSome result (λ mode. line.now ≡ text_of mode) }
+        ensures none { IfNone result ((mode : Mode) → line.now ≢ text_of mode) }
+    {
+        if line == b"once".as_slice() {
+            Some(Mode::Once)
+        } else {
+            None
+        }
+    }
+}

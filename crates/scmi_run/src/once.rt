@@ -1,0 +1,74 @@
+//! The mode `once`: one area in, one area out.
+ghost use Rattle.std.specs.Prelude.{◌≡◌, ◌≢◌, ◌<◌, ◌^◌, ◌⊎◌, length, Some, None, IfSome, IfErr, IsErrOf, OnOk, IsSomeAnd, MatchResult};
+ghost use Rattle.std.specs.Io.KnownBytes.{Appends};
+ghost use Rattle.scmi_run.specs.Once.{area_of, area_text, answered_area};
+ghost use Rattle.scmi_run.specs.declared.input.TheConstants.{INPUT_BYTES};
+
+use crate::answer::answer_area;
+use crate::input::Input;
+use crate::lines::only_line;
+use crate::run_error::RunError;
+use hex::FromHex;
+use scmi_codec::AREA_BYTES;
+use std::alloc::Global;
+use std::io::{Read, Write};
+
+/// Reads an area in hexadecimal digits, and writes it with the answer of agent 1's first command on
+/// a new platform, in lower-case digits and with a line feed. `Size` where the input is longer than
+/// `INPUT_BYTES`, `Read` at a read that fails, `Area` where the input is not one line of an area's
+/// digits, `Memory` where memory is refused: after each of these nothing is written. `Write` where
+/// the output fails.
+pub fn run_once<R: Read, W: Write>(
+    alloc: Global,
+    reader: &mut R,
+    writer: &mut W,
+) -> Result<(), RunError>
+    ensures answer { OnOk result (IfSome (R.remaining reader.old) (λ input. IsSomeAnd (area_of input) (λ area. Appends (W.contents writer.old) (W.contents writer.new) (area_text (answered_area area))))) }
+    ensures area { IsErrOf result RunError.Area → IfSome (R.remaining reader.old) (λ input. area_of input ≡ None) }
+    ensures size { IsErrOf result RunError.Size → IfSome (R.remaining reader.old) (λ input. INPUT_BYTES < length input) }
+    ensures kept { IfErr result (λ e. e ≢ RunError.Write → writer.new ≡ writer.old) }
+{
+    let mut input = Input::new(reader);
+    answer_input(alloc, &mut input, writer)
+}
+
+/// The same, for what an input has left.
+pub fn answer_input<R: Read, W: Write>(
+    alloc: Global,
+    input: &mut Input<'_, R>,
+    writer: &mut W,
+) -> Result<(), RunError>
+    requires { input.old.reads < 2 ^ 32 }
+    ensures answer { OnOk result (IfSome (R.remaining input.old.reader.now) (λ bytes. IsSomeAnd (area_of bytes) (λ area. Appends (W.contents writer.old) (W.contents writer.new) (area_text (answered_area area))))) }
+    ensures area { IsErrOf result RunError.Area → IfSome (R.remaining input.old.reader.now) (λ bytes. area_of bytes ≡ None) }
+    ensures size { IsErrOf result RunError.Size → IfSome (R.remaining input.old.reader.now) (λ bytes. INPUT_BYTES < length bytes) }
+    ensures kept { IfErr result (λ e. e ≢ RunError.Write → writer.new ≡ writer.old) }
+{
+    let bytes = input.read_rest(alloc)?;
+    let mut area = read_area_line(&bytes)?;
+    answer_area(alloc, &mut area)?;
+    write_area_line(&area, writer)
+}
+
+/// The area that the one line of an input has as its digits, of either case.
+fn read_area_line(input: &[u8]) -> Result<[u8; AREA_BYTES], RunError>
+    ensures { MatchResult result (λ area. area_of input.now ≡ Some area) (λ e. (e ≡ RunError.Area) × (area_of input.now ≡ None)) }
+{
+    let Some(line) = only_line(input) else {
+        return Err(RunError::Area);
+    };
+    <[u8; AREA_BYTES] as FromHex>::from_hex(line).map_err(|_| RunError::Area)
+}
+
+/// Writes an area in lower-case digits, and a line feed.
+fn write_area_line<W: Write>(area: &[u8; AREA_BYTES], writer: &mut W) -> Result<(), RunError>
+    ensures ok { OnOk result (Appends (W.contents writer.old) (W.contents writer.new) (area_text area.now)) }
+    ensures err { IfErr result (λ e. e ≡ RunError.Write) }
+{
+    let mut digits = [0u8; 2 * AREA_BYTES];
+    if hex::encode_to_slice(area, &mut digits).is_err() {
+        return Err(RunError::Write);
+    }
+    writer.write_all(&digits).map_err(|_| RunError::Write)?;
+    writer.write_all(b"\n").map_err(|_| RunError::Write)
+}

@@ -1,0 +1,55 @@
+//! Why a run is refused or stops.
+ghost use Rattle.std.specs.Prelude.{◌≡◌};
+ghost use Rattle.scmi_run.specs.RunError.{status_of};
+
+use thiserror::Error;
+
+/// Why a run is refused or stops. Its text is what follows the word `fault`.
+#[derive(Clone, Copy, Debug, PartialEq, Eq, Error)]
+pub enum RunError {
+    /// The first line names no mode.
+    #[error("mode")]
+    Mode,
+    /// The first line, or what follows it, is longer than `INPUT_BYTES`.
+    #[error("size")]
+    Size,
+    /// A read failed.
+    #[error("read")]
+    Read,
+    /// The input of the mode `once` is not one line of an area's digits.
+    #[error("area")]
+    Area,
+    /// This line is no line of a board.
+    #[error("board {0}")]
+    Board(u32),
+    /// This line is no line of a script.
+    #[error("script {0}")]
+    Script(u32),
+    /// The board breaks this rule.
+    #[error("plan {0}")]
+    Plan(u8),
+    /// A limit of the run was met.
+    #[error("limit")]
+    Limit,
+    /// Memory was refused.
+    #[error("memory")]
+    Memory,
+    /// The output failed.
+    #[error("write")]
+    Write,
+}
+
+impl RunError {
+    /// The exit status of a run that ends so: 1 for a failed output, 2 for a refused input, 3 for a
+    /// limit, 4 for want of memory.
+    pub fn status(&self) -> u8
+        ensures { result ≡ status_of self.now }
+    {
+        match self {
+            RunError::Write => 1,
+            RunError::Limit => 3,
+            RunError::Memory => 4,
+            _ => 2,
+        }
+    }
+}
