@@ -1,5 +1,5 @@
 -- Words in bytes: reading on, and reading after a write.
-use Rattle.std.proofs.Common.{◌≡◌, ℕ, zero, suc, ◌+◌, ◌*◌, ◌-◌, ◌^◌, ◌<◌, ◌≤◌, ◌⊎◌, inl, inr, List, [], ◌∷◌, ◌++◌, length, take, drop, get_or, refl, sym, ap, ◌∙◌, arith, add-suc, add-one}
+use Rattle.std.proofs.Common.{◌≡◌, ℕ, zero, suc, ◌+◌, ◌*◌, ◌-◌, ◌^◌, ◌<◌, ◌≤◌, ◌⊎◌, inl, inr, List, [], ◌∷◌, ◌++◌, length, take, drop, get_or, replicate, refl, sym, ap, ◌∙◌, arith, add-suc, add-one}
 use Rattle.std.proofs.lemmas.List.{append_assoc, append-nil, drop-drop, drop_all, drop_at, length-take-le, length-drop, get_or-drop, get_or-append_right, places, take_rest}
 use Rattle.std.specs.List.{AllByRecursion}
 use Rattle.byteorder.specs.Endian.{little_from, little_bytes}
@@ -161,3 +161,22 @@ words_at-put_word_other at word area other count fits (inr above) =
 pub word_at-put_words_other : (at : ℕ) (words area : List ℕ) (other : ℕ) → at + 4 * length words ≤ length area → other + 4 ≤ at → word_at other (put_words at words area) ≡ word_at other area
 word_at-put_words_other at words area other fits below =
     same_words other area (put_words at words area) (λ k lo hi. get_or-put_words at words area k fits (inl (omega arith)))
+
+-- past its end a list reads as 0, as do zeros
+get_or-zeros : (i count : ℕ) (xs : List ℕ) → get_or (xs ++ replicate count 0) i 0 ≡ get_or xs i 0
+get_or-zeros i zero [] = refl
+get_or-zeros zero (suc count) [] = refl
+get_or-zeros (suc i) (suc count) [] = get_or-zeros i count []
+get_or-zeros zero count (x ∷ xs) = refl
+get_or-zeros (suc i) count (x ∷ xs) = get_or-zeros i count xs
+
+-- zeros after a list of bytes read as what stands past its end
+little_from-zeros : (i n count : ℕ) (xs : List ℕ) → little_from i n (xs ++ replicate count 0) ≡ little_from i n xs
+little_from-zeros i zero count xs = refl
+little_from-zeros i (suc n) count xs =
+    let here : get_or (xs ++ replicate count 0) i 0 ≡ get_or xs i 0 = get_or-zeros i count xs in
+    let on : little_from (suc i) n (xs ++ replicate count 0) ≡ little_from (suc i) n xs = little_from-zeros (suc i) n count xs in
+    ap (λ a. a + 256 * little_from (suc i) n (xs ++ replicate count 0)) here ∙ ap (λ b. get_or xs i 0 + 256 * b) on
+
+pub word_at-zeros : (at count : ℕ) (xs : List ℕ) → word_at at (xs ++ replicate count 0) ≡ word_at at xs
+word_at-zeros at count xs = little_from-zeros at 4 count xs

@@ -12,13 +12,15 @@ use Rattle.scmi_codec.specs.declared.frame.Answer.TheVariants.{Reply, Released, 
 abbrev pub is_well_formed : ℕ → Bool
 is_well_formed n = nat_le 4 n && (nat_le n (4 + 4 * PAYLOAD_WORDS) && (n % 4 == 0))
 
--- the channel status, the length of header and payload, and the header word
+-- the channel status word of an area
 abbrev pub status_at : List ℕ → ℕ
 status_at area = word_at 0x04 area
 
+-- the length of header and payload in bytes, as it stands in an area
 abbrev pub length_at : List ℕ → ℕ
 length_at area = word_at 0x14 area
 
+-- the header word of an area
 abbrev pub header_at : List ℕ → ℕ
 header_at area = word_at 0x18 area
 

@@ -2,11 +2,13 @@
 use Rattle.std.specs.Prelude.{ℕ, ◌==◌, if◌then◌else◌, List, Result, Ok, Err}
 use Rattle.scmi_codec.specs.Header.{HeaderFields}
 use Rattle.scmi_codec.specs.BaseCommand.{base_of, base_id, base_words}
+use Rattle.scmi_codec.specs.PowerCommand.{power_of, power_id, power_words}
+use Rattle.scmi_codec.specs.ClockCommand.{clock_of, clock_id, clock_words}
 use Rattle.scmi_codec.specs.declared.status.Status.{Status}
 use Rattle.scmi_codec.specs.declared.status.Status.TheVariants.{ProtocolError, NotSupported}
 use Rattle.scmi_codec.specs.declared.message.Message.{Message}
 use Rattle.scmi_codec.specs.declared.command.Command.{Command}
-use Rattle.scmi_codec.specs.declared.command.Command.TheVariants.{Base}
+use Rattle.scmi_codec.specs.declared.command.Command.TheVariants.{Base, Power, Clock}
 
 -- an Ok with a function applied, an error as it is
 abbrev pub map_ok : {A B : Type 0} → (A → B) → Result A Status → Result B Status
@@ -18,12 +20,16 @@ abbrev pub command_of : Message → Result Command Status
 command_of m =
     if m.header.kind == 0 then
     (if m.header.protocol == 0x10 then map_ok Base (base_of m.header.id m.payload.items)
+    else if m.header.protocol == 0x11 then map_ok Power (power_of m.header.id m.payload.items)
+    else if m.header.protocol == 0x14 then map_ok Clock (clock_of m.header.id m.payload.items)
     else Err NotSupported)
     else Err ProtocolError
 
 -- the payload words of a command
 abbrev pub command_words : Command → List ℕ
 command_words (Base c) = base_words c
+command_words (Power c) = power_words c
+command_words (Clock c) = clock_words c
 
 -- the header of a command of a protocol, with reserved bits and type 0
 abbrev pub protocol_header : ℕ → ℕ → ℕ → HeaderFields
@@ -32,3 +38,5 @@ protocol_header protocol token id = record { reserved = 0; token = token; protoc
 -- the header of a command that carries a token
 abbrev pub command_header : Command → ℕ → HeaderFields
 command_header (Base c) token = protocol_header 0x10 token (base_id c)
+command_header (Power c) token = protocol_header 0x11 token (power_id c)
+command_header (Clock c) token = protocol_header 0x14 token (clock_id c)

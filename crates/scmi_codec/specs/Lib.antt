@@ -1,7 +1,13 @@
 pub mod Header
 pub mod Status
+pub mod Payload
+pub mod Reply
+pub mod Rate
 pub mod Row
 pub mod Word
 pub mod BaseCommand
+pub mod PowerCommand
+pub mod ClockCommand
 pub mod Command
 pub mod Area
+pub mod Name

@@ -23,9 +23,11 @@ abbrev pub minus_word : ℕ → ℕ
 minus_word zero = 0
 minus_word (suc n) = 2 ^ 32 - suc n
 
+-- the payload word of a status
 abbrev pub status_word : Status → ℕ
 status_word s = minus_word (minus_code s)
 
+-- every status, SUCCESS first
 abbrev pub all_statuses : List Status
 all_statuses =
     Success ∷ NotSupported ∷ InvalidParameters ∷ Denied ∷ NotFound ∷ OutOfRange ∷ Busy ∷ CommsError ∷ GenericError

@@ -38,7 +38,7 @@ pub enum AreaError {
 
 /// Whether a length in bytes, of header and payload, is 4 + 4k with k from 0 to `PAYLOAD_WORDS`
 /// (own).
-fn is_well_formed(length: u32) -> bool
+pub fn is_well_formed(length: u32) -> bool
     ensures { result ≡ is_well_formed length }
 {
     length >= 4 && length <= 4 + 4 * PAYLOAD_WORDS as u32 && length % 4 == 0

@@ -11,8 +11,16 @@ pub const BASE_PROTOCOL: u8 = 0x10;
 /// A command of the base protocol (DEN0056B, base protocol).
 #[derive(Clone, Copy, PartialEq, Eq, Debug)]
 pub enum BaseCommand {
-    /// PROTOCOL_VERSION, message id 0x0, with no payload.
     Version,
+    Attributes,
+    MessageAttributes { message: u32 },
+    Vendor,
+    SubVendor,
+    Implementation,
+    Protocols { skip: u32 },
+    Agent { agent: u32 },
+    Permit { agent: u32, device: u32, flags: u32 },
+    ResetAgent { agent: u32, flags: u32 },
 }
 
 impl BaseCommand {
@@ -23,7 +31,23 @@ impl BaseCommand {
     {
         match (id, words) {
             (0x0, []) => Ok(BaseCommand::Version),
-            (0x0, _) => Err(Status::ProtocolError),
+            (0x1, []) => Ok(BaseCommand::Attributes),
+            (0x2, [message]) => Ok(BaseCommand::MessageAttributes { message: *message }),
+            (0x3, []) => Ok(BaseCommand::Vendor),
+            (0x4, []) => Ok(BaseCommand::SubVendor),
+            (0x5, []) => Ok(BaseCommand::Implementation),
+            (0x6, [skip]) => Ok(BaseCommand::Protocols { skip: *skip }),
+            (0x7, [agent]) => Ok(BaseCommand::Agent { agent: *agent }),
+            (0x9, [agent, device, flags]) => Ok(BaseCommand::Permit {
+                agent: *agent,
+                device: *device,
+                flags: *flags,
+            }),
+            (0xb, [agent, flags]) => Ok(BaseCommand::ResetAgent {
+                agent: *agent,
+                flags: *flags,
+            }),
+            (0x0..=0x7 | 0x9 | 0xb, _) => Err(Status::ProtocolError),
             _ => Err(Status::NotSupported),
         }
     }
@@ -33,6 +57,15 @@ impl BaseCommand {
     {
         match self {
             BaseCommand::Version => 0x0,
+            BaseCommand::Attributes => 0x1,
+            BaseCommand::MessageAttributes { .. } => 0x2,
+            BaseCommand::Vendor => 0x3,
+            BaseCommand::SubVendor => 0x4,
+            BaseCommand::Implementation => 0x5,
+            BaseCommand::Protocols { .. } => 0x6,
+            BaseCommand::Agent { .. } => 0x7,
+            BaseCommand::Permit { .. } => 0x9,
+            BaseCommand::ResetAgent { .. } => 0xb,
         }
     }
 
@@ -40,7 +73,16 @@ impl BaseCommand {
         ensures { result.items ≡ base_words self.now }
     {
         match self {
-            BaseCommand::Version => payload_of(&[]),
+            BaseCommand::MessageAttributes { message } => payload_of(&[*message]),
+            BaseCommand::Protocols { skip } => payload_of(&[*skip]),
+            BaseCommand::Agent { agent } => payload_of(&[*agent]),
+            BaseCommand::Permit {
+                agent,
+                device,
+                flags,
+            } => payload_of(&[*agent, *device, *flags]),
+            BaseCommand::ResetAgent { agent, flags } => payload_of(&[*agent, *flags]),
+            _ => payload_of(&[]),
         }
     }
 }

@@ -3,14 +3,18 @@ ghost use Rattle.std.specs.Prelude.{◌≡◌, ◌<◌, IfOk};
 ghost use Rattle.scmi_codec.specs.Command.{command_of, command_header, command_words};
 
 use crate::base_command::{BASE_PROTOCOL, BaseCommand};
+use crate::clock_command::{CLOCK_PROTOCOL, ClockCommand};
 use crate::header::Header;
 use crate::message::Message;
+use crate::power_command::{POWER_PROTOCOL, PowerCommand};
 use crate::status::Status;
 
 /// What a message of type 0 asks for.
 #[derive(Clone, Copy, PartialEq, Eq, Debug)]
 pub enum Command {
     Base(BaseCommand),
+    Power(PowerCommand),
+    Clock(ClockCommand),
 }
 
 impl Command {
@@ -28,6 +32,8 @@ impl Command {
         let words = message.payload.as_slice();
         match message.header.protocol {
             BASE_PROTOCOL => Ok(Command::Base(BaseCommand::read(id, words)?)),
+            POWER_PROTOCOL => Ok(Command::Power(PowerCommand::read(id, words)?)),
+            CLOCK_PROTOCOL => Ok(Command::Clock(ClockCommand::read(id, words)?)),
             _ => Err(Status::NotSupported),
         }
     }
@@ -41,6 +47,8 @@ impl Command {
     {
         let (protocol, id, payload) = match self {
             Command::Base(command) => (BASE_PROTOCOL, command.id(), command.payload()),
+            Command::Power(command) => (POWER_PROTOCOL, command.id(), command.payload()),
+            Command::Clock(command) => (CLOCK_PROTOCOL, command.id(), command.payload()),
         };
         let header = Header {
             reserved: 0,

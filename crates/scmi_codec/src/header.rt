@@ -29,6 +29,13 @@ impl Model for Header {
     ghost inverse = { λ h. record { reserved = h.reserved; token = h.token; protocol = h.protocol; kind = h.kind; id = h.id } };
 }
 
+// What stands in a place that holds no message.
+impl Default for Header {
+    fn default() -> Header {
+        Header::unpack(0)
+    }
+}
+
 impl Header {
     /// The fields of a header word.
     pub fn unpack(word: u32) -> Header

@@ -8,22 +8,35 @@
 mod area;
 mod base_command;
 mod channel_status;
+mod clock_command;
 mod command;
+mod flag_word;
 mod frame;
 mod header;
 mod message;
+mod name;
 mod payload;
+mod power_command;
+mod rate;
+mod rate_flags;
 mod status;
 #[cfg(test)]
 mod tests;
 mod word;
 
-pub use area::{AREA_BYTES, AreaError, read_area, write_answer};
+pub use area::{AREA_BYTES, AreaError, is_well_formed, read_area, write_answer};
 pub use base_command::{BASE_PROTOCOL, BaseCommand};
 pub use channel_status::ChannelStatus;
+pub use clock_command::{CLOCK_PROTOCOL, ClockCommand};
 pub use command::Command;
+pub use flag_word::single_flag;
 pub use frame::{Answer, Frame};
 pub use header::Header;
 pub use message::Message;
-pub use payload::{PAYLOAD_WORDS, Payload, payload_of, refusal};
+pub use name::{NAME_BYTES, Name, name_words};
+pub use payload::{PAYLOAD_WORDS, Payload, is_success, payload_of, refusal};
+pub use power_command::{POWER_PROTOCOL, PowerCommand};
+pub use rate::{rate_of, rate_words};
+pub use rate_flags::RateFlags;
 pub use status::Status;
+pub use word::write_word;

@@ -3,6 +3,7 @@ ghost use Rattle.std.specs.Prelude.{◌≡◌};
 
 use crate::header::Header;
 use crate::payload::{Payload, payload_of};
+use arrayvec::ArrayVec;
 
 /// A header and the payload words that follow it.
 #[derive(Clone, PartialEq, Eq, Debug, Drop)]
@@ -19,6 +20,16 @@ impl Message {
         Message {
             header: self.header,
             payload: payload_of(self.payload.as_slice()),
+        }
+    }
+}
+
+// A vector of fixed room holds this in its unused places.
+impl Default for Message {
+    fn default() -> Message {
+        Message {
+            header: Header::default(),
+            payload: ArrayVec::new(),
         }
     }
 }

@@ -1,5 +1,6 @@
 //! The payload words of a message.
 ghost use Rattle.std.specs.Prelude.{◌≡◌, ◌≤◌, ◌∷◌, [], length};
+ghost use Rattle.scmi_codec.specs.Payload.{begins_with_success};
 ghost use Rattle.scmi_codec.specs.Status.{status_word};
 ghost use Rattle.scmi_codec.specs.declared.payload.TheConstants.{PAYLOAD_WORDS};
 
@@ -27,4 +28,14 @@ pub fn refusal(status: Status) -> Payload
     ensures { result.items ≡ status_word status ∷ [] }
 {
     payload_of(&[status.word()])
+}
+
+/// Whether a response's payload begins with the status SUCCESS.
+pub fn is_success(payload: &Payload) -> bool
+    ensures { result ≡ begins_with_success payload.now.items }
+{
+    match payload.as_slice() {
+        [status, ..] => *status == 0,
+        [] => false,
+    }
 }

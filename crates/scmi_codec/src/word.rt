@@ -13,7 +13,7 @@ pub(crate) fn read_word(bytes: &[u8], at: usize) -> u32
 }
 
 /// Writes a word at a place, in bytes.
-pub(crate) fn write_word(bytes: &mut [u8], at: usize, word: u32)
+pub fn write_word(bytes: &mut [u8], at: usize, word: u32)
     requires { at + 4 ≤ length bytes.old }
     ensures { bytes.new ≡ put_word at word bytes.old }
 {

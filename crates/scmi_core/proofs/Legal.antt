@@ -1,38 +1,99 @@
--- When a history is legal, and stays so.
-use Rattle.std.proofs.Common.{◌≡◌, List, [], ◌∷◌, ◌++◌, length, sym, ap, ◌∙◌, subst, arith}
-use Rattle.std.proofs.lemmas.List.{append_assoc, same_from_push, length-append}
+-- In a legal history no more is completed than was accepted.
+use Rattle.std.proofs.Common.{◌≡◌, ◌⊎◌, inl, inr, ◌==◌, ℕ, ◌<◌, ◌≤◌, true, false, List, [], ◌∷◌, ◌++◌, length, refl, sym, ap, ◌∙◌, subst, arith}
+use Rattle.std.proofs.lemmas.List.{append_assoc, length-append, length-drop}
+use Rattle.std.proofs.lemmas.Grind.{fold-append}
+use Rattle.std.proofs.lemmas.Bool.{cases_Bool, eqb-true}
+use Rattle.scmi_plan.specs.Board.{Board}
+use Rattle.scmi_codec.specs.declared.frame.Frame.TheVariants.{Good, Malformed}
 use Rattle.scmi_core.specs.declared.event.Event.{Event}
-use Rattle.scmi_core.specs.History.{IsLegal, CanFollow}
+use Rattle.scmi_core.specs.declared.event.Event.TheVariants.{Command, Advance, Sent}
+use Rattle.std.specs.Option.{option_to_list, option_and_then}
+use Rattle.scmi_core.specs.Deed.{Deed}
+use Rattle.scmi_core.specs.Pending.{accepted, advances, is_advance, pending, acceptance}
+use Rattle.scmi_core.specs.Outbox.{sent, made, made_by, outbox_after, is_sent_by}
+use Rattle.scmi_core.specs.History.{deeds, deed_after}
+use Rattle.scmi_core.specs.Legal.{IsLegal, CanFollow}
+use Rattle.scmi_core.proofs.Laws.{added, accepted-push, advances-push, sent-push, made-push}
 
--- a list is empty or has a last item
-data Snoc {X : Type 0} : List X → Type 0 where
-  nothing : Snoc []
-  last : (xs : List X) (x : X) → Snoc (xs ++ x ∷ [])
+-- a list grown at its end
+pub data Grown {X : Type 0} : List X → Type 0 where
+  empty : Grown []
+  grow : {xs : List X} → Grown xs → (x : X) → Grown (xs ++ x ∷ [])
 
-snoc : {X : Type 0} (xs : List X) → Snoc xs
-snoc [] = nothing
-snoc (x ∷ xs) = onto x (snoc xs) where
-  onto : {X : Type 0} (x : X) {xs : List X} → Snoc xs → Snoc (x ∷ xs)
-  onto x nothing = last [] x
-  onto x (last ys y) = last (x ∷ ys) y
+onto : {X : Type 0} (x : X) {xs : List X} → Grown xs → Grown (x ∷ xs)
+onto x empty = grow empty x
+onto x (grow g y) = grow (onto x g) y
 
--- the empty history is legal
-pub IsLegal-nil : IsLegal []
-IsLegal-nil = record {
+pub grown : {X : Type 0} (xs : List X) → Grown xs
+grown [] = empty
+grown (x ∷ xs) = onto x (grown xs)
+
+pub deeds-push : (board : Board) (h : List Event) (e : Event) → deeds board (h ++ e ∷ []) ≡ deeds board h ++ deed_after board (deeds board h) e ∷ []
+unfolding deeds
+deeds-push board h e = fold-append (λ before event. before ++ deed_after board before event ∷ []) [] h (e ∷ [])
+
+pub IsLegal-front : (board : Board) (h : List Event) (e : Event) → IsLegal board (h ++ e ∷ []) → IsLegal board h
+IsLegal-front board h e legal = record {
   each = λ before after event is.
-      let none = ap length is ∙ length-append before (event ∷ after) in
-      absurd (omega (arith, none));
+      legal.each before (after ++ e ∷ []) event (ap (λ xs. xs ++ e ∷ []) is ∙ append_assoc before (event ∷ after) (e ∷ []));
 }
 
--- a legal history stays legal with an event that may follow
-pub IsLegal-push : (h : List Event) (e : Event) → IsLegal h → CanFollow h e → IsLegal (h ++ e ∷ [])
-IsLegal-push h e legal follows = record {
-  each = λ before after event is. at before after event (snoc after) is;
-} where
-  at : (before after : List Event) (event : Event) → Snoc after → h ++ e ∷ [] ≡ before ++ event ∷ after → CanFollow before event
-  at before [] event nothing is =
-      let same = same_from_push h before e event is in
-      subst (λ b. CanFollow b event) same.0 (subst (λ x. CanFollow h x) same.1 follows)
-  at before after event (last xs x) is =
-      let shifted : h ++ e ∷ [] ≡ (before ++ event ∷ xs) ++ x ∷ [] = is ∙ sym (append_assoc before (event ∷ xs) (x ∷ [])) in
-      legal.each before xs event (same_from_push h (before ++ event ∷ xs) e x shifted).0
+pub IsLegal-last : (board : Board) (h : List Event) (e : Event) → IsLegal board (h ++ e ∷ []) → CanFollow board h e
+IsLegal-last board h e legal = legal.each h [] e refl
+
+-- one event more
+one_more : (board : Board) (h : List Deed) (e : Event) → advances h ≤ length (accepted board h)
+    → (is_advance e ≡ true → 0 < length (pending board h))
+    → advances (h ++ deed_after board h e ∷ []) ≤ length (accepted board (h ++ deed_after board h e ∷ []))
+one_more board h (Command a (Good m)) enough waits =
+    rw (advances-push, accepted-push) (omega (arith, length-append (accepted board h) (option_to_list (option_and_then (acceptance board) (added (deed_after board h (Command a (Good m))))))))
+one_more board h (Command a (Malformed len header)) enough waits =
+    rw (advances-push, accepted-push) (omega (arith, length-append (accepted board h) []))
+one_more board h (Sent a) enough waits =
+    rw (advances-push, accepted-push) (omega (arith, length-append (accepted board h) []))
+one_more board h Advance enough waits =
+    rw (advances-push, accepted-push) (omega (arith, length-append (accepted board h) [], waits refl, length-drop (advances h) (accepted board h)))
+
+waits_at : (board : Board) (h : List Event) (e : Event) → CanFollow board h e → is_advance e ≡ true → 0 < length (pending board (deeds board h))
+waits_at board h Advance follows is = follows
+waits_at board h (Command a frame) follows is = absurd (cc)
+waits_at board h (Sent a) follows is = absurd (cc)
+
+enough_of : (board : Board) {h : List Event} → Grown h → IsLegal board h → advances (deeds board h) ≤ length (accepted board (deeds board h))
+unfolding deeds
+enough_of board empty legal = omega arith
+enough_of board (grow {xs} g e) legal =
+    rw (deeds-push board xs e)
+    (one_more board (deeds board xs) e (enough_of board g (IsLegal-front board xs e legal)) (waits_at board xs e (IsLegal-last board xs e legal)))
+
+pub advances_le-accepted : (board : Board) (h : List Event) → IsLegal board h → advances (deeds board h) ≤ length (accepted board (deeds board h))
+advances_le-accepted board h legal = enough_of board (grown h) legal
+
+-- and no more is sent than was made
+sent_more : (board : Board) (a : ℕ) (h : List Deed) (e : Event) → sent a h ≤ length (made board a h) → (is_sent_by a e ≡ true → 0 < length (outbox_after board a h))
+    → sent a (h ++ deed_after board h e ∷ []) ≤ length (made board a (h ++ deed_after board h e ∷ []))
+sent_more board a h (Command b (Good m)) enough waits =
+    rw (sent-push, made-push) (omega (arith, length-append (made board a h) (made_by board a h (made board a h) (deed_after board h (Command b (Good m))))))
+sent_more board a h (Command b (Malformed len header)) enough waits =
+    rw (sent-push, made-push) (omega (arith, length-append (made board a h) (made_by board a h (made board a h) (deed_after board h (Command b (Malformed len header))))))
+sent_more board a h Advance enough waits =
+    rw (sent-push, made-push) (omega (arith, length-append (made board a h) (made_by board a h (made board a h) (deed_after board h Advance))))
+sent_more board a h (Sent b) enough waits = by_case (cases_Bool (a == b)) where
+  by_case : ((a == b) ≡ true) ⊎ ((a == b) ≡ false) → sent a (h ++ deed_after board h (Sent b) ∷ []) ≤ length (made board a (h ++ deed_after board h (Sent b) ∷ []))
+  by_case (inl same) = rw (sent-push, made-push, same) (omega (arith, length-append (made board a h) (made_by board a h (made board a h) (deed_after board h (Sent b))), waits same, length-drop (sent a h) (made board a h)))
+  by_case (inr other) = rw (sent-push, made-push, other) (omega (arith, length-append (made board a h) (made_by board a h (made board a h) (deed_after board h (Sent b)))))
+
+front_at : (board : Board) (a : ℕ) (h : List Event) (e : Event) → CanFollow board h e → is_sent_by a e ≡ true → 0 < length (outbox_after board a (deeds board h))
+front_at board a h (Sent b) follows is = subst (λ x. 0 < length (outbox_after board x (deeds board h))) (sym (eqb-true a b is)) follows.2
+front_at board a h (Command b frame) follows is = absurd (cc)
+front_at board a h Advance follows is = absurd (cc)
+
+sent_of : (board : Board) (a : ℕ) {h : List Event} → Grown h → IsLegal board h → sent a (deeds board h) ≤ length (made board a (deeds board h))
+unfolding deeds
+sent_of board a empty legal = omega arith
+sent_of board a (grow {xs} g e) legal =
+    rw (deeds-push board xs e)
+    (sent_more board a (deeds board xs) e (sent_of board a g (IsLegal-front board xs e legal)) (front_at board a xs e (IsLegal-last board xs e legal)))
+
+pub sent_le-made : (board : Board) (h : List Event) → IsLegal board h → (a : ℕ) → sent a (deeds board h) ≤ length (made board a (deeds board h))
+sent_le-made board h legal a = sent_of board a (grown h) legal

@@ -1,68 +1,47 @@
 -- The history of a platform: a list of events, oldest first. Each event is judged at its prefix, the events before it.
-use Rattle.std.specs.Prelude.{◌≡◌, ℕ, ◌≤◌, ◌==◌, if◌then◌else◌, List, [], ◌∷◌, ◌++◌, take, slice_get, Option, Some, None, option_and_then, Result, Ok, Err}
-use Rattle.std.specs.List.{filter_map}
+use Rattle.std.specs.Prelude.{ℕ, List, [], ◌∷◌, ◌++◌, take, slice_get, Option, Some, None}
+use Rattle.std.specs.List.{fold}
+use Rattle.std.specs.Option.{option_and_then}
 use Rattle.scmi_codec.specs.Command.{command_of}
-use Rattle.scmi_codec.specs.Status.{status_word}
-use Rattle.scmi_codec.specs.declared.status.Status.{Status}
-use Rattle.scmi_codec.specs.declared.status.Status.TheVariants.{Success}
 use Rattle.scmi_codec.specs.declared.message.Message.{Message}
 use Rattle.scmi_codec.specs.declared.frame.Frame.{Frame}
 use Rattle.scmi_codec.specs.declared.frame.Frame.TheVariants.{Good, Malformed}
 use Rattle.scmi_codec.specs.declared.frame.Answer.{Answer}
 use Rattle.scmi_codec.specs.declared.frame.Answer.TheVariants.{Reply, ChannelError}
-use Rattle.scmi_codec.specs.declared.base_command.BaseCommand.TheVariants as base
-use Rattle.scmi_codec.specs.declared.command.Command as codec
-use Rattle.scmi_codec.specs.declared.command.Command.TheVariants.{Base}
-use Rattle.scmi_core.specs.Prefix.{gathered}
+use Rattle.scmi_plan.specs.Board.{Board}
 use Rattle.scmi_core.specs.declared.event.Event.{Event}
 use Rattle.scmi_core.specs.declared.event.Event.TheVariants.{Command}
+use Rattle.scmi_core.specs.Deed.{Deed}
+use Rattle.scmi_core.specs.Outbox.{outbox_after}
+use Rattle.scmi_core.specs.Reply.{reply_after, reply_words}
 
--- the fixed platform has agents 1 and 2
-abbrev pub agents : ℕ
-agents = 2
+-- an event with the payload of its reply, after these deeds
+abbrev pub deed_after : Board → List Deed → Event → Deed
+deed_after board h (Command a (Good m)) = record { event = Command a (Good m); reply = reply_words board a h (command_of m) }
+deed_after board h event = record { event = event; reply = [] }
 
--- the payload of the response to a command, or to a message that carries none: its status alone
-abbrev pub reply_words : Result codec.Command Status → List ℕ
-reply_words (Ok (Base base.Version)) = status_word Success ∷ 0x00020000 ∷ []
-reply_words (Err status) = status_word status ∷ []
+-- each event with its reply at its prefix
+unfoldable pub deeds : Board → List Event → List Deed
+deeds board h = fold (λ before event. before ++ deed_after board before event ∷ []) [] h
 
--- the response to a message from agent a after a history: the message's own header, and the payload
-abbrev pub scmi : ℕ → Message → List Event → Message
-scmi a m h = record { header = m.header; payload = record { items = reply_words (command_of m) } }
+-- the reply to a message of agent a after a history
+abbrev pub scmi : Board → ℕ → Message → List Event → Message
+scmi board a m h = reply_after board a m (deeds board h)
 
--- the answer to a frame from agent a after a history: a response, or a channel error to a malformed frame
-abbrev pub answer_to : ℕ → Frame → List Event → Answer
-answer_to a (Good m) h = Reply (scmi a m h)
-answer_to a (Malformed len header) h = ChannelError
+-- the answer to a frame of agent a after a history: the reply to a message, a channel error to a malformed frame
+abbrev pub answer_to : Board → ℕ → Frame → List Event → Answer
+answer_to board a (Good m) h = Reply (scmi board a m h)
+answer_to board a (Malformed len header) h = ChannelError
 
--- the answer to an event after a history
-abbrev pub answer_of_event : List Event → Event → Option Answer
-answer_of_event h (Command a frame) = Some (answer_to a frame h)
+-- the answer to an event after a history, if it is a command
+abbrev pub answer_of_event : Board → List Event → Event → Option Answer
+answer_of_event board h (Command a frame) = Some (answer_to board a frame h)
+answer_of_event board h _ = None
 
--- the answer to the event at place n, judged at its prefix
-abbrev pub answer_at : List Event → ℕ → Option Answer
-answer_at h n = option_and_then (answer_of_event (take n h)) (slice_get h n)
+-- the answer to the event at index n of a history, if it is a command
+abbrev pub answer_at : Board → List Event → ℕ → Option Answer
+answer_at board h n = option_and_then (answer_of_event board (take n h)) (slice_get h n)
 
--- the frame of an event, if it is a command of agent a
-abbrev pub frame_from : ℕ → Event → Option Frame
-frame_from a (Command b frame) = if a == b then Some frame else None
-
--- the frames of agent a's commands, in order
-abbrev pub frames_of : ℕ → List Event → List Frame
-frames_of a h = filter_map (frame_from a) h
-
--- the answer to an event, if it is a command of agent a
-abbrev pub answer_for : ℕ → List Event → Event → List Answer
-answer_for a before (Command b frame) = if a == b then answer_to b frame before ∷ [] else []
-
--- the answers to agent a's commands, in order, each judged at its prefix
-abbrev pub answers_to : ℕ → List Event → List Answer
-answers_to a h = gathered (answer_for a) h
-
--- an event may come after a history
-abbrev pub CanFollow : List Event → Event → Type 0
-CanFollow before (Command a frame) = (1 ≤ a) × (a ≤ agents)
-
--- a history in which each event may come after those before it
-pub record IsLegal (h : List Event) : Type 0 where
-  pub each : (before after : List Event) (event : Event) → h ≡ before ++ event ∷ after → CanFollow before event
+-- the outbox of agent a after a history
+abbrev pub outbox : Board → ℕ → List Event → List Message
+outbox board a h = outbox_after board a (deeds board h)

@@ -2,7 +2,7 @@
 use Rattle.std.specs.Prelude.{ℕ, List}
 use Rattle.scmi_core.specs.declared.event.Event.{Event}
 
--- the events, oldest first, and for how many more there is room
-pub record TraceView : Type 0 where
+-- the events so far, oldest first, and for how many more there is memory
+pub record Recorded : Type 0 where
   pub events : List Event
   pub room : ℕ

@@ -1,14 +1,29 @@
-//! Why a call of the controller was refused.
+//! Why the controller refused a call.
+ghost use Rattle.std.specs.Prelude.{◌≡◌};
+ghost use Rattle.scmi_core.specs.declared.core_error.CoreError.TheVariants.{Memory};
 
+use std::alloc::AllocError;
 use thiserror::Error;
 
-/// Why a call of the controller was refused. A refused call changes nothing.
+/// Why a call of `Core` was refused. A refused call changed nothing. Where several apply, the one
+/// that stands first in `NoAgent`, `Nothing`, `Memory` is answered (own).
 #[derive(Clone, Copy, PartialEq, Eq, Debug, Error)]
 pub enum CoreError {
-    #[error("there is no memory for one more event")]
+    /// A growth of the trace was refused.
+    #[error("out of memory")]
     Memory = 1,
+    /// The number is no agent's: 0, which is the platform, or above the number of agents.
     #[error("the board has no such agent")]
     NoAgent = 2,
+    /// The agent's outbox is empty.
     #[error("the agent's outbox is empty")]
     Nothing = 3,
+}
+
+impl From<AllocError> for CoreError {
+    ghost from_gives = { λ _ e. e ≡ Memory };
+
+    fn from(_error: AllocError) -> CoreError {
+        CoreError::Memory
+    }
 }

@@ -1,18 +1,25 @@
-//! The platform controller: it answers each command and appends it to one history.
+//! The platform controller of SCMI (DEN0056B, version 2.0): one history of events for all agents.
 //!
-//! The main type is `Core`. The main theorem is the contract of `Core::command`: it answers what the
-//! definitions say at the command's place in the history, and appends exactly one event, or is
-//! refused and changes nothing.
+//! The main type is `Core`. The main theorem is the contracts of its calls: each adds exactly one
+//! event to a legal history or changes nothing, and `command`, `advance` and `front` answer what the
+//! definitions of the history say at that place (specs/History.antt).
 #![tactic(auto)]
 
-mod controller;
+mod busy;
 mod core_error;
 mod event;
-#[cfg(test)]
-mod tests;
+mod load;
+mod outbox;
+mod p2a_message;
+mod pending_set;
+mod platform_core;
+mod tables;
 mod trace;
 
-pub use controller::Core;
 pub use core_error::CoreError;
 pub use event::Event;
+pub use platform_core::Core;
 pub use trace::Trace;
+
+#[cfg(test)]
+mod tests;

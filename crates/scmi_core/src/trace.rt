@@ -1,12 +1,13 @@
-//! The history of a platform.
-ghost use Rattle.std.specs.Prelude.{◌≡◌, ◌++◌, ◌∷◌, [], ◌<◌, ◌+◌, ◌↔◌, length, slice_get, IsOk, IsTrue, OnOk, OnErr};
+//! The events of a platform, in one order for all agents.
 ghost use Rattle.std.specs.Option.{option_copied};
+ghost use Rattle.std.specs.Prelude.{◌≡◌, ◌<◌, ◌+◌, ◌-◌, ◌++◌, ◌∷◌, [], ◌↔◌, length, slice_get, IsTrue, IsOk, OnOk, OnErr};
 
 use crate::event::Event;
 use std::alloc::{AllocError, Global};
 use std::marker::Model;
 
-/// The events of a platform, oldest first. It never shrinks.
+/// The events of a platform, oldest first. Contracts also see for how many more events it has
+/// memory.
 #[derive(Debug, Drop)]
 pub struct Trace {
     events: Vec<Event>,
@@ -14,23 +15,14 @@ pub struct Trace {
 
 impl Model for Trace {
     ghost use Rattle.std.specs.Prelude.{◌-◌};
-    ghost use Rattle.scmi_core.specs.Trace.{TraceView};
+    ghost use Rattle.scmi_core.specs.Trace.{Recorded};
 
-    ghost Value = { TraceView };
+    ghost Value = { Recorded };
 
     ghost view = { λ t. record { events = t.events.items; room = t.events.cap - t.events.len } };
 }
 
 impl Trace {
-    /// The empty trace. It takes no memory.
-    pub(crate) fn new(alloc: Global) -> Trace
-        ensures { result.events ≡ [] }
-    {
-        Trace {
-            events: Vec::new(alloc),
-        }
-    }
-
     /// The number of events.
     pub fn len(&self) -> usize
         ensures { result ≡ length self.now.events }
@@ -45,28 +37,37 @@ impl Trace {
         self.events.is_empty()
     }
 
-    /// The event at a place, from 0; `None` past the last.
-    pub fn get(&self, place: usize) -> Option<&Event>
-        ensures { option_copied result ≡ slice_get self.now.events place }
+    /// The event at an index from 0, in order of time; `None` from `len` on.
+    pub fn get(&self, index: usize) -> Option<&Event>
+        ensures { option_copied result ≡ slice_get self.now.events index }
     {
-        self.events.get(place)
+        self.events.as_slice().get(index)
     }
 
-    /// Makes room for one event. Where there is none the room is doubled, so that the cost of an
-    /// event stays the same on average.
+    /// The empty trace. It takes no memory.
+    pub(crate) fn new(alloc: Global) -> Trace
+        ensures events { result.events ≡ [] }
+    {
+        Trace {
+            events: Vec::new(alloc),
+        }
+    }
+
+    /// Makes room for one more event, by doubling where there is none.
     pub(crate) fn reserve(&mut self) -> Result<(), AllocError>
-        ensures ok { OnOk result (0 < self.new.room) }
         ensures events { self.new.events ≡ self.old.events }
+        ensures ok { OnOk result (0 < self.new.room) }
         ensures succeeds { 0 < self.old.room → IsOk result }
         ensures err { OnErr result (self.new ≡ self.old) }
     {
         self.events.reserve(1)
     }
 
-    /// Appends an event, where there is room.
+    /// Adds an event in the room that there is.
     pub(crate) fn push(&mut self, event: Event)
         requires { 0 < self.old.room }
-        ensures { self.new.events ≡ self.old.events ++ event ∷ [] }
+        ensures events { self.new.events ≡ self.old.events ++ event ∷ [] }
+        ensures room { self.new.room + 1 ≡ self.old.room }
     {
         self.events.push_reserved(event);
     }

@@ -4,6 +4,7 @@ use Rattle.std.specs.Option.{option_map_or}
 use Rattle.std.specs.Result.{result_ok}
 use Rattle.hex.specs.Hex.{decode_sized, encode_lower}
 use Rattle.scmi_codec.specs.Area.{arrived, answered}
+use Rattle.scmi_core.specs.BoardB.{board_b}
 use Rattle.scmi_core.specs.History.{answer_to}
 use Rattle.scmi_run.specs.Lines.{only, significant_lines}
 
@@ -11,9 +12,9 @@ use Rattle.scmi_run.specs.Lines.{only, significant_lines}
 abbrev pub area_of : List ℕ → Option (List ℕ)
 area_of input = option_and_then (λ line. result_ok (decode_sized line 156)) (only (significant_lines input))
 
--- an area with the answer to its frame, agent 1's first command; a free channel's area as it is
+-- an area with the answer to its frame, agent 1's first command on the reference board; a free channel's area as it is
 abbrev pub answered_area : List ℕ → List ℕ
-answered_area area = option_map_or (λ frame. answered (answer_to 1 frame []) area) (arrived area) area
+answered_area area = option_map_or (λ frame. answered (answer_to board_b 1 frame []) area) (arrived area) area
 
 -- an area in lower-case digits, and a line feed
 abbrev pub area_text : List ℕ → List ℕ

@@ -10,6 +10,7 @@ mod input;
 mod lines;
 mod mode;
 mod once;
+mod reference_board;
 mod run;
 mod run_error;
 #[cfg(test)]

@@ -1,0 +1,122 @@
+//! The replies to the commands of discovery, which change nothing.
+ghost use Rattle.std.specs.Prelude.{◌≡◌, ◌≤◌, ◌<◌, ◌+◌, ◌-◌, ◌*◌, ◌∷◌, [], length, true};
+ghost use Rattle.byteorder.specs.Endian.{little_number};
+ghost use Rattle.scmi_base.specs.BaseReply.{base_reply, message_reply, protocols_reply, agent_reply, agent_name};
+ghost use Rattle.scmi_base.specs.Permission.{changes_nothing};
+ghost use Rattle.scmi_codec.specs.Name.{name_words};
+
+use byteorder::{ByteOrder, LittleEndian};
+use scmi_codec::{BaseCommand, Name, Payload, Status, name_words, payload_of, refusal};
+use scmi_plan::Plan;
+
+/// The status word of a successful reply.
+pub(crate) const SUCCESS: u32 = 0;
+
+/// The version of the base protocol: major 2, minor 0.
+const VERSION: u32 = 0x0002_0000;
+
+/// The protocols besides this one: power domains and clocks.
+const PROTOCOLS: [u8; 2] = [0x11, 0x14];
+
+/// The agent id by which a caller asks for itself.
+const THE_CALLER: u32 = 0xffff_ffff;
+
+/// The agent id of the platform.
+const PLATFORM: u32 = 0;
+
+/// The platform's name, `platform`, as the words of a reply.
+const PLATFORM_NAME: [u32; 4] = [0x7461_6c70, 0x6d72_6f66, 0, 0];
+
+/// The reply to a command that changes nothing, to a caller.
+#[tactic(auto, unfolding(crate::specs::BaseReply::base_reply))]
+pub(crate) fn discover(plan: &Plan, caller: u32, command: BaseCommand) -> Payload
+    requires { changes_nothing command ≡ true }
+    ensures { result.items ≡ base_reply plan.now caller command }
+{
+    match command {
+        BaseCommand::Version => payload_of(&[SUCCESS, VERSION]),
+        BaseCommand::Attributes => attributes(plan),
+        BaseCommand::MessageAttributes { message } => message_attributes(message),
+        BaseCommand::Vendor => named(plan.vendor()),
+        BaseCommand::SubVendor => named(plan.sub_vendor()),
+        BaseCommand::Implementation => payload_of(&[SUCCESS, plan.version()]),
+        BaseCommand::Protocols { skip } => protocols(skip),
+        BaseCommand::Agent { agent } => agent_of(plan, caller, agent),
+        BaseCommand::Permit { .. } | BaseCommand::ResetAgent { .. } => unreachable!(),
+    }
+}
+
+/// 0x1: the number of agents in bits [15:8], the platform not counted (own), and the number of
+/// protocols in [7:0].
+fn attributes(plan: &Plan) -> Payload
+    ensures { result.items ≡ 0 ∷ (length plan.now.agents * 0x100 + 2) ∷ [] }
+{
+    payload_of(&[SUCCESS, plan.agents() << 8 | PROTOCOLS.len() as u32])
+}
+
+/// 0x2: no attributes; NOT_FOUND for an id that the protocol lacks.
+fn message_attributes(message: u32) -> Payload
+    ensures { result.items ≡ message_reply message }
+{
+    match message {
+        0x0..=0x7 | 0x9 | 0xb => payload_of(&[SUCCESS, 0]),
+        _ => refusal(Status::NotFound),
+    }
+}
+
+/// 0x3 and 0x4: a name.
+fn named(name: &Name) -> Payload
+    ensures { result.items ≡ 0 ∷ name_words name.now }
+{
+    let [a, b, c, d] = name_words(name);
+    payload_of(&[SUCCESS, a, b, c, d])
+}
+
+/// 0x6: the number of protocols after the first `skip`, and their ids in one word, of which there is
+/// none where the number is 0; INVALID_PARAMETERS where there are fewer to skip.
+fn protocols(skip: u32) -> Payload
+    ensures { result.items ≡ protocols_reply skip }
+{
+    let Some(listed) = PROTOCOLS.get(skip as usize..) else {
+        return refusal(Status::InvalidParameters);
+    };
+    match listed {
+        [] => payload_of(&[SUCCESS, 0]),
+        _ => payload_of(&[SUCCESS, listed.len() as u32, packed(listed)]),
+    }
+}
+
+/// Up to four bytes in one word, the first lowest.
+fn packed(bytes: &[u8]) -> u32
+    requires { length bytes.now ≤ 4 }
+    ensures { result ≡ little_number 4 bytes.now }
+{
+    let mut word = [0u8; 4];
+    word[..bytes.len()].copy_from_slice(bytes);
+    LittleEndian::read_u32(&word)
+}
+
+/// 0x7: the id and name of an agent, of the platform, or of the caller where it asks for itself
+/// (own); NOT_FOUND for another id.
+fn agent_of(plan: &Plan, caller: u32, asked: u32) -> Payload
+    ensures { result.items ≡ agent_reply plan.now caller asked }
+{
+    let agent = if asked == THE_CALLER { caller } else { asked };
+    if agent > plan.agents() {
+        return refusal(Status::NotFound);
+    }
+    let [a, b, c, d] = agent_name(plan, agent);
+    payload_of(&[SUCCESS, agent, a, b, c, d])
+}
+
+/// The name of an agent or of the platform, as the words of a reply.
+fn agent_name(plan: &Plan, agent: u32) -> [u32; 4]
+    requires { agent ≤ length plan.now.agents }
+    ensures { result ≡ name_words (agent_name plan.now agent) }
+{
+    if agent == PLATFORM {
+        PLATFORM_NAME
+    } else {
+        name_words(plan.agent(agent))
+    }
+}

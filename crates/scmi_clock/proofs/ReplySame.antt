@@ -1,0 +1,40 @@
+-- Views that agree on the board's clocks give the same replies.
+use Rattle.std.proofs.Common.{◌≡◌, ◌⊎◌, inl, inr, ℕ, ◌+◌, ◌<◌, ◌≤◌, nat_le, Bool, true, false, List, ◌∷◌, [], length, refl, sym, ap, ◌∙◌, arith}
+use Rattle.std.proofs.lemmas.Bool.{leb-false, cases_Bool}
+use Rattle.scmi_codec.specs.declared.clock_command.ClockCommand.{ClockCommand}
+use Rattle.scmi_codec.specs.declared.clock_command.ClockCommand.TheVariants as clock
+use Rattle.scmi_plan.specs.Board.{Board}
+use Rattle.scmi_clock.specs.ClockReply.{ClockView, clock_reply, no_clock}
+
+pub record SameView (board : Board) (v w : ClockView) : Type 0 where
+  pub rate : (d : ℕ) → d < length board.clocks → v.rate d ≡ w.rate d
+  pub enabled : (d : ℕ) → d < length board.clocks → v.enabled d ≡ w.enabled d
+  pub may : (d : ℕ) → d < length board.clocks → v.may d ≡ w.may d
+  pub busy : (d : ℕ) → d < length board.clocks → v.busy d ≡ w.busy d
+  pub room : v.room ≡ w.room
+
+known : (board : Board) (d : ℕ) → no_clock board d ≡ false → d < length board.clocks
+known board d h = leb-false (length board.clocks) d h
+
+pub clock_reply-same : (board : Board) (v w : ClockView) → SameView board v w → (c : ClockCommand) → clock_reply board v c ≡ clock_reply board w c
+unfolding clock_reply
+clock_reply-same board v w s clock.Version = refl
+clock_reply-same board v w s clock.Attributes = refl
+clock_reply-same board v w s (clock.MessageAttributes message) = refl
+clock_reply-same board v w s (clock.Describe d index) = refl
+clock_reply-same board v w s (clock.ClockAttributes d) = by_clock (cases_Bool (no_clock board d)) where
+  by_clock : ((no_clock board d ≡ true) ⊎ (no_clock board d ≡ false)) → clock_reply board v (clock.ClockAttributes d) ≡ clock_reply board w (clock.ClockAttributes d)
+  by_clock (inl h) = rw h refl
+  by_clock (inr h) = rw (s.enabled d (known board d h)) refl
+clock_reply-same board v w s (clock.SetRate flags d rate) = by_clock (cases_Bool (no_clock board d)) where
+  by_clock : ((no_clock board d ≡ true) ⊎ (no_clock board d ≡ false)) → clock_reply board v (clock.SetRate flags d rate) ≡ clock_reply board w (clock.SetRate flags d rate)
+  by_clock (inl h) = rw h refl
+  by_clock (inr h) = let small = known board d h in rw (s.may d small, s.busy d small, s.room) refl
+clock_reply-same board v w s (clock.GetRate d) = by_clock (cases_Bool (no_clock board d)) where
+  by_clock : ((no_clock board d ≡ true) ⊎ (no_clock board d ≡ false)) → clock_reply board v (clock.GetRate d) ≡ clock_reply board w (clock.GetRate d)
+  by_clock (inl h) = rw h refl
+  by_clock (inr h) = rw (s.rate d (known board d h)) refl
+clock_reply-same board v w s (clock.Config d attributes) = by_clock (cases_Bool (no_clock board d)) where
+  by_clock : ((no_clock board d ≡ true) ⊎ (no_clock board d ≡ false)) → clock_reply board v (clock.Config d attributes) ≡ clock_reply board w (clock.Config d attributes)
+  by_clock (inl h) = rw h refl
+  by_clock (inr h) = rw (s.may d (known board d h)) refl

@@ -1,0 +1,111 @@
+-- The replies of the clock protocol (DEN0056B, clock management protocol), 0x14.
+use Rattle.std.specs.Prelude.{ℕ, ◌+◌, ◌-◌, ◌*◌, ◌/◌, ◌%◌, ◌^◌, ◌==◌, ◌&&◌, ◌||◌, Bool, true, false, not, nat_lt, nat_le, min, if◌then◌else◌, List, [], ◌∷◌, ◌++◌, length, take, drop, get_or, Option, Some, None, is_none}
+use Rattle.std.specs.List.{flat_map}
+use Rattle.scmi_codec.specs.ClockCommand.{clock_table}
+use Rattle.scmi_codec.specs.Row.{is_listed}
+use Rattle.scmi_codec.specs.declared.clock_command.ClockCommand.{ClockCommand}
+use Rattle.scmi_codec.specs.declared.clock_command.ClockCommand.TheVariants as clock
+use Rattle.scmi_codec.specs.declared.payload.TheConstants.{PAYLOAD_WORDS}
+use Rattle.scmi_codec.specs.declared.status.Status.TheVariants.{NotFound, InvalidParameters, OutOfRange, Denied, Busy}
+use Rattle.scmi_plan.specs.Board.{Board, clock_at}
+use Rattle.scmi_plan.specs.declared.clock.Clock.{Clock}
+use Rattle.scmi_plan.specs.declared.rates.Rates.{Rates}
+use Rattle.scmi_plan.specs.declared.rates.Rates.TheVariants as rates
+use Rattle.scmi_codec.specs.Name.{name_words}
+use Rattle.scmi_codec.specs.Rate.{rate_words}
+use Rattle.scmi_codec.specs.Reply.{Check, reply_unless, bit_0, other_bits}
+use Rattle.scmi_clock.specs.Rounding.{round_to}
+use Rattle.scmi_clock.specs.SetFlags.{rounding_of, is_asynchronous, has_unknown_flags}
+
+-- what the replies to a caller depend on, besides the board: of each clock its rate in Hz, whether it is enabled,
+-- whether the caller may change it and whether it has a pending set; and whether another pending set has room
+pub record ClockView : Type 0 where
+  pub rate : ℕ → ℕ
+  pub enabled : ℕ → Bool
+  pub may : ℕ → Bool
+  pub busy : ℕ → Bool
+  pub room : Bool
+
+-- the board has no such clock; they are numbered from 0
+abbrev pub no_clock : Board → ℕ → Bool
+no_clock board c = nat_le (length board.clocks) c
+
+-- the supported rate that a set's flags ask for, if there is one
+abbrev pub rounded : Rates → ℕ → ℕ → Option ℕ
+rounded rates flags asked = round_to (rounding_of flags) rates asked
+
+-- the index is past the end of a list of rates; a triplet is described whatever the index (own)
+abbrev pub past_end : Rates → ℕ → Bool
+past_end (rates.List list) index = nat_le (length list) index
+past_end (rates.Steps low high step) index = false
+
+-- the most rates of one reply: two words each, after the status and the flags word
+abbrev pub most_rates : ℕ
+most_rates = (PAYLOAD_WORDS - 2) / 2
+
+-- the flags word of rates: in bits 31 to 16 those that remain after this reply, in bits 11 to 0 those returned
+abbrev pub rates_word : ℕ → ℕ → ℕ
+rates_word remaining returned = remaining * 2 ^ 16 + returned
+
+-- the flags word of a triplet: bit 12, and three rates
+abbrev pub triplet_word : ℕ
+triplet_word = 2 ^ 12 + 3
+
+-- the flags word of a description, and its rates in Hz: those of a list from an index on, or the lowest, the highest and the step
+abbrev pub described : Rates → ℕ → List ℕ
+described (rates.List list) index =
+    let left = length list - index in
+    let count = min most_rates left in
+    rates_word (left - count) count ∷ flat_map rate_words (take count (drop index list))
+described (rates.Steps low high step) index = triplet_word ∷ flat_map rate_words (low ∷ high ∷ step ∷ [])
+
+-- the most sets that may be pending (own)
+abbrev pub most_pending : ℕ
+most_pending = 8
+
+-- the reply to 0x1: in bits 23 to 16 the most pending sets, in bits 15 to 0 the number of clocks
+abbrev pub attributes_reply : Board → List ℕ
+attributes_reply board = 0 ∷ (most_pending * 2 ^ 16 + length board.clocks) ∷ []
+
+-- the reply to 0x2: an id of the protocol's table is supported, with no attributes
+abbrev pub message_reply : ℕ → List ℕ
+message_reply message = reply_unless ((not (is_listed clock_table message), NotFound) ∷ []) (0 ∷ 0 ∷ [])
+
+-- the reply to 0x3: in bit 0 whether the clock is enabled, and its name
+abbrev pub clock_attributes_reply : Board → Bool → ℕ → List ℕ
+clock_attributes_reply board enabled c =
+    reply_unless ((no_clock board c, NotFound) ∷ []) (0 ∷ (if enabled then 1 else 0) ∷ name_words (clock_at board c).name)
+
+-- the reply to 0x4: the rates from an index on
+abbrev pub describe_reply : Board → ℕ → ℕ → List ℕ
+describe_reply board c index =
+    reply_unless ((no_clock board c, NotFound) ∷ (past_end (clock_at board c).rates index, OutOfRange) ∷ [])
+    (0 ∷ described (clock_at board c).rates index)
+
+-- the checks of 0x5, in order (own): clock, flags and rate, permission, pending sets
+abbrev pub set_checks : Board → Bool → Bool → Bool → ℕ → ℕ → ℕ → List Check
+set_checks board may busy room flags c rate =
+    (no_clock board c, NotFound)
+    ∷ (has_unknown_flags flags || is_none (rounded (clock_at board c).rates flags rate), InvalidParameters)
+    ∷ (not may, Denied)
+    ∷ (busy || (is_asynchronous flags && not room), Busy)
+    ∷ []
+
+-- the reply to 0x6: the rate
+abbrev pub rate_reply : Board → ℕ → ℕ → List ℕ
+rate_reply board rate c = reply_unless ((no_clock board c, NotFound) ∷ []) (0 ∷ rate_words rate)
+
+-- the checks of 0x7, in order (own): clock, attributes, permission
+abbrev pub config_checks : Board → Bool → ℕ → ℕ → List Check
+config_checks board may c attributes = (no_clock board c, NotFound) ∷ (other_bits attributes, InvalidParameters) ∷ (not may, Denied) ∷ []
+
+-- the reply to a command of a caller (DEN0056B, clock management protocol)
+unfoldable pub clock_reply : Board → ClockView → ClockCommand → List ℕ
+clock_reply board v clock.Version = 0 ∷ 0x00010000 ∷ []
+clock_reply board v clock.Attributes = attributes_reply board
+clock_reply board v (clock.MessageAttributes message) = message_reply message
+clock_reply board v (clock.ClockAttributes c) = clock_attributes_reply board (v.enabled c) c
+clock_reply board v (clock.Describe c index) = describe_reply board c index
+clock_reply board v (clock.SetRate flags c rate) = reply_unless (set_checks board (v.may c) (v.busy c) v.room flags c rate) (0 ∷ [])
+clock_reply board v (clock.GetRate c) = rate_reply board (v.rate c) c
+clock_reply board v (clock.Config c attributes) = reply_unless (config_checks board (v.may c) c attributes) (0 ∷ [])

@@ -1,0 +1,86 @@
+-- The tables of clocks, and what a command leaves of them.
+use Rattle.std.specs.Prelude.{◌≡◌, ℕ, ◌/◌, ◌==◌, Bool, true, false, not, if◌then◌else◌, List, length, get_or, Option, Some, None, unwrap_or}
+use Rattle.std.specs.Int.{bit_at}
+use Rattle.scmi_codec.specs.Payload.{begins_with_success}
+use Rattle.scmi_codec.specs.declared.clock_command.ClockCommand.{ClockCommand}
+use Rattle.scmi_codec.specs.declared.clock_command.ClockCommand.TheVariants as clock
+use Rattle.scmi_plan.specs.Board.{Board, clock_at}
+use Rattle.scmi_codec.specs.Reply.{bit_0}
+use Rattle.scmi_plan.specs.declared.load.Load.{Load}
+use Rattle.scmi_plan.specs.declared.resource.Resource.TheVariants as resource
+use Rattle.scmi_base.specs.Permission.{may, is_allowed}
+use Rattle.scmi_clock.specs.ClockReply.{ClockView, rounded}
+use Rattle.scmi_clock.specs.SetFlags.{is_asynchronous, is_response_wanted}
+
+-- the rate of each clock in Hz, and whether it is enabled
+pub record ClockTables : Type 0 where
+  pub rates : List ℕ
+  pub enabled : List Bool
+
+-- a place for each of the most clocks of a board
+pub record IsTable (table : ClockTables) : Type 0 where
+  pub rates : length table.rates ≡ 32
+  pub enabled : length table.enabled ≡ 32
+
+-- the rate of a clock in Hz
+abbrev pub rate_at : ClockTables → ℕ → ℕ
+rate_at table c = get_or table.rates c 0
+
+-- whether a clock is enabled
+abbrev pub enabled_at : ClockTables → ℕ → Bool
+enabled_at table c = get_or table.enabled c false
+
+-- whether a caller may change a clock
+abbrev pub may_change : Board → List (List Bool) → ℕ → ℕ → Bool
+may_change board permissions caller c = may board (λ device. is_allowed permissions caller device) (resource.Clock c)
+
+-- whether a clock has a pending set
+abbrev pub is_pending : Load → ℕ → Bool
+is_pending load c = bit_at load.busy c == 1
+
+-- what a caller's replies read in the tables
+abbrev pub view_of : Board → List (List Bool) → ClockTables → Load → ℕ → ClockView
+view_of board permissions table load caller =
+    record {
+      rate = λ c. rate_at table c;
+      enabled = λ c. enabled_at table c;
+      may = λ c. may_change board permissions caller c;
+      busy = λ c. is_pending load c;
+      room = load.room;
+    }
+
+-- the supported rate that a set asks for
+abbrev pub set_rate : Board → ℕ → ℕ → ℕ → ℕ
+set_rate board flags c rate = unwrap_or (rounded (clock_at board c).rates flags rate) 0
+
+-- the clock and rate that a successful command sets at once
+abbrev pub rate_now : Board → ClockCommand → Option (ℕ × ℕ)
+rate_now board (clock.SetRate flags c rate) = if is_asynchronous flags then None else Some (c, set_rate board flags c rate)
+rate_now board _ = None
+
+-- the clock and rate that it accepts for later, with whether a delayed response is wanted
+abbrev pub rate_later : Board → ClockCommand → Option (ℕ × ℕ × Bool)
+rate_later board (clock.SetRate flags c rate) =
+    if is_asynchronous flags then Some (c, set_rate board flags c rate, is_response_wanted flags) else None
+rate_later board _ = None
+
+-- the clock and enabled bit that it sets
+abbrev pub enabled_now : ClockCommand → Option (ℕ × Bool)
+enabled_now (clock.Config c attributes) = Some (c, bit_0 attributes)
+enabled_now _ = None
+
+-- the rate of a clock after one was set
+abbrev pub set_to : Option (ℕ × ℕ) → ℕ → ℕ → ℕ
+set_to None c old = old
+set_to (Some set) c old = if set.0 == c then set.1 else old
+
+-- whether a clock is enabled after one was configured
+abbrev pub enabled_to : Option (ℕ × Bool) → ℕ → Bool → Bool
+enabled_to None c old = old
+enabled_to (Some set) c old = if set.0 == c then set.1 else old
+
+-- a command that sets nothing
+abbrev pub only_reads : ClockCommand → Bool
+only_reads (clock.SetRate flags c rate) = false
+only_reads (clock.Config c attributes) = false
+only_reads _ = true

@@ -1,0 +1,4 @@
+pub mod Rounding
+pub mod SetFlags
+pub mod ClockReply
+pub mod ClockTable

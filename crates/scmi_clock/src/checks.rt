@@ -1,0 +1,127 @@
+//! The checks of commands, in the order of the profile (own).
+ghost use Rattle.std.specs.Prelude.{◌≡◌, ◌≤◌, ◌<◌, ◌==◌, ◌≢◌, ◌∷◌, ◌&&◌, ◌||◌, not, true, [], if◌then◌else◌, length, Ok, Err, IfOk, IfErr};
+ghost use Rattle.scmi_codec.specs.Reply.{bit_0, reply_unless};
+ghost use Rattle.scmi_codec.specs.Status.{status_word};
+ghost use Rattle.scmi_codec.specs.declared.status.Status.TheVariants.{Success, NotFound, Denied, Busy, OutOfRange};
+ghost use Rattle.scmi_plan.specs.Board.{clock_at};
+ghost use Rattle.scmi_clock.specs.ClockReply.{no_clock, past_end, set_checks, config_checks};
+ghost use Rattle.scmi_clock.specs.ClockTable.{set_rate, may_change, is_pending};
+ghost use Rattle.scmi_clock.specs.SetFlags.{is_asynchronous, is_response_wanted};
+
+use crate::rounding::round;
+use crate::set_flags::SetFlags;
+use scmi_base::BaseState;
+use scmi_codec::{Status, single_flag};
+use scmi_plan::{Load, Plan, Rates, Resource};
+
+/// A rate set that passed its checks: the supported rate in Hz, whether it is asynchronous, and
+/// whether it then wants a delayed response.
+#[derive(Clone, Copy, PartialEq, Eq, Debug)]
+pub(crate) struct RateSet {
+    pub rate: u64,
+    pub asynchronous: bool,
+    pub response_wanted: bool,
+}
+
+/// The checks of 0x5 (DEN0056B, clock management protocol): clock, flags and rate, permission, pending sets.
+pub(crate) fn check_set(
+    plan: &Plan,
+    base: &BaseState,
+    caller: u32,
+    flags: u32,
+    clock: u32,
+    rate: u64,
+    load: Load,
+) -> Result<RateSet, Status>
+    requires first { 1 ≤ caller }
+    requires last { caller ≤ length plan.now.agents }
+    ensures ok { IfOk result (λ set. reply_unless (set_checks plan.now (may_change plan.now base.now caller clock) (is_pending load clock) load.room flags clock rate) (0 ∷ []) ≡ 0 ∷ []) }
+    ensures rate { IfOk result (λ set. set.rate ≡ set_rate plan.now flags clock rate) }
+    ensures asynchronous { IfOk result (λ set. set.asynchronous ≡ is_asynchronous flags) }
+    ensures response_wanted { IfOk result (λ set. set.response_wanted ≡ is_response_wanted flags) }
+    ensures clock { IfOk result (λ set. (clock < length plan.now.clocks) × (clock < 32)) }
+    ensures room { IfOk result (λ set. is_asynchronous flags ≡ true → load.room ≡ true) }
+    ensures err { IfErr result (λ status. reply_unless (set_checks plan.now (may_change plan.now base.now caller clock) (is_pending load clock) load.room flags clock rate) (0 ∷ []) ≡ status_word status ∷ []) }
+    ensures refused { IfErr result (λ status. status ≢ Success) }
+{
+    check_clock(plan, clock)?;
+    let flags = SetFlags::read(flags)?;
+    let rate = round(&plan.clock(clock).rates, rate, flags.rounding).ok_or(
+        Status::InvalidParameters,
+    )?;
+    check_permitted(plan, base, caller, clock)?;
+    check_pending(load, clock, flags.asynchronous)?;
+    Ok(RateSet {
+        rate,
+        asynchronous: flags.asynchronous,
+        response_wanted: flags.response_wanted,
+    })
+}
+
+/// The checks of 0x7 (DEN0056B, clock management protocol): clock, attributes, permission. Answers whether the
+/// clock is to be enabled.
+pub(crate) fn check_config(
+    plan: &Plan,
+    base: &BaseState,
+    caller: u32,
+    clock: u32,
+    attributes: u32,
+) -> Result<bool, Status>
+    requires first { 1 ≤ caller }
+    requires last { caller ≤ length plan.now.agents }
+    ensures ok { IfOk result (λ enable. reply_unless (config_checks plan.now (may_change plan.now base.now caller clock) clock attributes) (0 ∷ []) ≡ 0 ∷ []) }
+    ensures enable { IfOk result (λ enable. enable ≡ bit_0 attributes) }
+    ensures clock { IfOk result (λ enable. (clock < length plan.now.clocks) × (clock < 32)) }
+    ensures err { IfErr result (λ status. reply_unless (config_checks plan.now (may_change plan.now base.now caller clock) clock attributes) (0 ∷ []) ≡ status_word status ∷ []) }
+    ensures refused { IfErr result (λ status. status ≢ Success) }
+{
+    check_clock(plan, clock)?;
+    let enable = single_flag(attributes)?;
+    check_permitted(plan, base, caller, clock)?;
+    Ok(enable)
+}
+
+/// NOT_FOUND where the board has no such clock.
+pub(crate) fn check_clock(plan: &Plan, clock: u32) -> Result<(), Status>
+    ensures first { result ≡ (if no_clock plan.now clock then Err NotFound else Ok tt) }
+    ensures clock { IfOk result (λ u. (clock < length plan.now.clocks) × (clock < 32)) }
+{
+    if clock >= plan.clocks() {
+        return Err(Status::NotFound);
+    }
+    Ok(())
+}
+
+/// OUT_OF_RANGE where an index is past the end of a list of rates.
+pub(crate) fn check_index(rates: &Rates, index: u32) -> Result<(), Status>
+    ensures { result ≡ (if past_end rates.now index then Err OutOfRange else Ok tt) }
+{
+    match rates {
+        Rates::List(list) if index as usize >= list.as_slice().len() => Err(Status::OutOfRange),
+        _ => Ok(()),
+    }
+}
+
+/// DENIED where the caller may not change the clock.
+fn check_permitted(plan: &Plan, base: &BaseState, caller: u32, clock: u32) -> Result<(), Status>
+    requires first { 1 ≤ caller }
+    requires last { caller ≤ length plan.now.agents }
+    requires clock { clock < length plan.now.clocks }
+    ensures { result ≡ (if may_change plan.now base.now caller clock then Ok tt else Err Denied) }
+{
+    if !base.may_change(plan, caller, Resource::Clock(clock)) {
+        return Err(Status::Denied);
+    }
+    Ok(())
+}
+
+/// BUSY where the clock has a pending set, or where an asynchronous set has no room.
+fn check_pending(load: Load, clock: u32, asynchronous: bool) -> Result<(), Status>
+    requires { clock < 32 }
+    ensures { result ≡ (if is_pending load clock || (asynchronous && not load.room) then Err Busy else Ok tt) }
+{
+    if (load.busy >> clock) & 1 == 1 || (asynchronous && !load.room) {
+        return Err(Status::Busy);
+    }
+    Ok(())
+}

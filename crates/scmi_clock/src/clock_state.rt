@@ -1,0 +1,203 @@
+//! The rate of each clock, and whether it is enabled.
+ghost use Rattle.std.specs.Prelude.{◌≡◌, ◌≤◌, ◌<◌, ◌==◌, ◌∷◌, [], ℕ, length, true, if◌then◌else◌, IfSome};
+ghost use Rattle.scmi_codec.specs.Reply.{reply_unless};
+ghost use Rattle.scmi_codec.specs.declared.clock_command.ClockCommand.TheVariants.{SetRate, Config};
+ghost use Rattle.scmi_plan.specs.Board.{clock_at};
+ghost use Rattle.scmi_clock.specs.ClockReply.{clock_reply, config_checks};
+ghost use Rattle.scmi_clock.specs.ClockTable.{view_of, may_change, rate_at, enabled_at, rate_now, rate_later, enabled_now, set_to, enabled_to};
+ghost use Rattle.scmi_codec.specs.Payload.{if_success};
+
+use crate::checks::{RateSet, check_config, check_set};
+use crate::clock_done::ClockDone;
+use crate::discovery::{
+    SUCCESS, attributes, clock_attributes, current_rate, describe, message_attributes, version,
+};
+use scmi_base::BaseState;
+use scmi_codec::{ClockCommand, Payload, payload_of, refusal};
+use scmi_plan::{Load, Plan};
+use std::marker::Model;
+
+/// The most clocks of a board (own).
+const CLOCKS: usize = 32;
+
+/// The rate in Hz of each clock, from 0 on, and whether it is enabled.
+#[derive(Drop, Debug)]
+pub struct ClockState {
+    rates: [u64; CLOCKS],
+    enabled: [bool; CLOCKS],
+}
+
+impl Model for ClockState {
+    ghost use Rattle.scmi_clock.specs.ClockTable.{ClockTables, IsTable};
+
+    ghost Value = { ClockTables };
+
+    ghost view = { λ s. record { rates = s.rates; enabled = s.enabled } };
+
+    ghost invariant = { λ s. IsTable (record { rates = s.rates; enabled = s.enabled }) };
+}
+
+impl ClockState {
+    /// The state of a board at the start: each clock has the rate and the enabled bit of the plan.
+    pub fn new(plan: &Plan) -> ClockState
+        ensures rates { (c : ℕ) → c < length plan.now.clocks → rate_at result c ≡ (clock_at plan.now c).rate }
+        ensures enabled { (c : ℕ) → c < length plan.now.clocks → enabled_at result c ≡ (clock_at plan.now c).enabled }
+    {
+        let mut rates = [0; CLOCKS];
+        let mut enabled = [false; CLOCKS];
+        for clock in 0..plan.clocks() {
+            let row = plan.clock(clock);
+            rates[clock as usize] = row.rate;
+            enabled[clock as usize] = row.enabled;
+        }
+        ClockState { rates, enabled }
+    }
+
+    /// The rate of a clock in Hz.
+    pub fn rate(&self, clock: u32) -> u64
+        requires { clock < 32 }
+        ensures { result ≡ rate_at self.now clock }
+    {
+        self.rates[clock as usize]
+    }
+
+    /// Whether a clock is enabled.
+    pub fn enabled(&self, clock: u32) -> bool
+        requires { clock < 32 }
+        ensures { result ≡ enabled_at self.now clock }
+    {
+        self.enabled[clock as usize]
+    }
+
+    /// Completes a pending set: sets a clock's rate, in Hz.
+    pub fn complete(&mut self, clock: u32, rate: u64)
+        requires { clock < 32 }
+        ensures rates { (c : ℕ) → c < 32 → rate_at self.new c ≡ (if clock == c then rate else rate_at self.old c) }
+        ensures enabled { self.new.enabled ≡ self.old.enabled }
+    {
+        self.rates[clock as usize] = rate;
+    }
+
+    /// Executes a command of a caller. The reply begins with a status: NOT_FOUND for an unknown clock
+    /// or message id; then OUT_OF_RANGE for an index past a list of rates, INVALID_PARAMETERS for
+    /// unknown flags or attributes or where no rate lies in the asked direction; then DENIED where
+    /// the caller may not change the clock; then BUSY for a set while the clock has a pending one, or
+    /// for an asynchronous set that has no room. A set rounds its rate to a supported one. A
+    /// synchronous set and a configuration take effect at once; an asynchronous set changes nothing,
+    /// and is named in `later`. A command that is refused changes nothing.
+    #[tactic(auto, unfolding(crate::specs::ClockReply::clock_reply))]
+    pub fn execute(
+        &mut self,
+        plan: &Plan,
+        base: &BaseState,
+        caller: u32,
+        command: ClockCommand,
+        load: Load,
+    ) -> ClockDone
+        requires first { 1 ≤ caller }
+        requires last { caller ≤ length plan.now.agents }
+        ensures reply { result.reply.items ≡ clock_reply plan.now (view_of plan.now base.now self.old load caller) command }
+        ensures later { result.later ≡ if_success result.reply.items (rate_later plan.now command) }
+        ensures rates { (c : ℕ) → c < 32 → rate_at self.new c ≡ set_to (if_success result.reply.items (rate_now plan.now command)) c (rate_at self.old c) }
+        ensures enabled { (c : ℕ) → c < 32 → enabled_at self.new c ≡ enabled_to (if_success result.reply.items (enabled_now command)) c (enabled_at self.old c) }
+        ensures room { IfSome result.later (λ set. load.room ≡ true) }
+        ensures known_later { IfSome result.later (λ set. set.0 < length plan.now.clocks) }
+        ensures known_now { IfSome (if_success result.reply.items (rate_now plan.now command)) (λ set. set.0 < length plan.now.clocks) }
+        ensures known_enabled { IfSome (if_success result.reply.items (enabled_now command)) (λ set. set.0 < length plan.now.clocks) }
+    {
+        match command {
+            ClockCommand::Version => ClockDone::reply_only(version()),
+            ClockCommand::Attributes => ClockDone::reply_only(attributes(plan)),
+            ClockCommand::MessageAttributes { message } => {
+                ClockDone::reply_only(message_attributes(message))
+            }
+            ClockCommand::ClockAttributes { clock } => {
+                ClockDone::reply_only(clock_attributes(plan, self, clock))
+            }
+            ClockCommand::Describe { clock, index } => {
+                ClockDone::reply_only(describe(plan, clock, index))
+            }
+            ClockCommand::SetRate { flags, clock, rate } => {
+                self.set_rate(plan, base, caller, flags, clock, rate, load)
+            }
+            ClockCommand::GetRate { clock } => {
+                ClockDone::reply_only(current_rate(plan, self, clock))
+            }
+            ClockCommand::Config { clock, attributes } => {
+                ClockDone::reply_only(self.configure(plan, base, caller, clock, attributes))
+            }
+        }
+    }
+
+    /// 0x5: sets a clock's rate at once, or accepts it for later.
+    #[tactic(auto, unfolding(crate::specs::ClockReply::clock_reply))]
+    fn set_rate(
+        &mut self,
+        plan: &Plan,
+        base: &BaseState,
+        caller: u32,
+        flags: u32,
+        clock: u32,
+        rate: u64,
+        load: Load,
+    ) -> ClockDone
+        requires first { 1 ≤ caller }
+        requires last { caller ≤ length plan.now.agents }
+        ensures reply { result.reply.items ≡ clock_reply plan.now (view_of plan.now base.now self.old load caller) (SetRate flags clock rate) }
+        ensures later { result.later ≡ if_success result.reply.items (rate_later plan.now (SetRate flags clock rate)) }
+        ensures rates { (c : ℕ) → c < 32 → rate_at self.new c ≡ set_to (if_success result.reply.items (rate_now plan.now (SetRate flags clock rate))) c (rate_at self.old c) }
+        ensures enabled { self.new.enabled ≡ self.old.enabled }
+        ensures room { IfSome result.later (λ set. load.room ≡ true) }
+        ensures known_later { IfSome result.later (λ set. set.0 < length plan.now.clocks) }
+        ensures known_now { IfSome (if_success result.reply.items (rate_now plan.now (SetRate flags clock rate))) (λ set. set.0 < length plan.now.clocks) }
+    {
+        match check_set(plan, base, caller, flags, clock, rate, load) {
+            Ok(set) => self.accept(clock, set),
+            Err(status) => ClockDone::reply_only(refusal(status)),
+        }
+    }
+
+    /// Sets a rate at once, or leaves an asynchronous set for later.
+    fn accept(&mut self, clock: u32, set: RateSet) -> ClockDone
+        requires { clock < 32 }
+        ensures reply { result.reply.items ≡ 0 ∷ [] }
+        ensures later { result.later ≡ (if set.asynchronous then Some (clock, set.rate, set.response_wanted) else None) }
+        ensures rates { (c : ℕ) → c < 32 → rate_at self.new c ≡ set_to (if set.asynchronous then None else Some (clock, set.rate)) c (rate_at self.old c) }
+        ensures enabled { self.new.enabled ≡ self.old.enabled }
+    {
+        let reply = payload_of(&[SUCCESS]);
+        if set.asynchronous {
+            return ClockDone {
+                reply,
+                later: Some((clock, set.rate, set.response_wanted)),
+            };
+        }
+        self.complete(clock, set.rate);
+        ClockDone::reply_only(reply)
+    }
+
+    /// 0x7: enables or disables a clock.
+    fn configure(
+        &mut self,
+        plan: &Plan,
+        base: &BaseState,
+        caller: u32,
+        clock: u32,
+        attributes: u32,
+    ) -> Payload
+        requires first { 1 ≤ caller }
+        requires last { caller ≤ length plan.now.agents }
+        ensures reply { result.items ≡ reply_unless (config_checks plan.now (may_change plan.now base.now caller clock) clock attributes) (0 ∷ []) }
+        ensures rates { self.new.rates ≡ self.old.rates }
+        ensures enabled { (c : ℕ) → c < 32 → enabled_at self.new c ≡ enabled_to (if_success result.items (enabled_now (Config clock attributes))) c (enabled_at self.old c) }
+        ensures known { IfSome (if_success result.items (enabled_now (Config clock attributes))) (λ set. set.0 < length plan.now.clocks) }
+    {
+        match check_config(plan, base, caller, clock, attributes) {
+            Ok(enable) => {
+                self.enabled[clock as usize] = enable;
+                payload_of(&[SUCCESS])
+            }
+            Err(status) => refusal(status),
+        }
+    }
+}

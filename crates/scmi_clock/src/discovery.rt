@@ -1,0 +1,134 @@
+//! The replies to the commands that change nothing.
+ghost use Rattle.std.specs.Prelude.{◌≡◌, ◌<◌, ◌≤◌, ◌^◌, ◌∷◌, [], length, false};
+ghost use Rattle.scmi_plan.specs.Rates.{HasLawfulRates};
+ghost use Rattle.scmi_plan.specs.declared.rates.Rates.TheVariants.{List, Steps};
+ghost use Rattle.scmi_clock.specs.ClockReply.{attributes_reply, message_reply, clock_attributes_reply, describe_reply, rate_reply, past_end, described, rates_word};
+ghost use Rattle.scmi_clock.specs.ClockTable.{rate_at, enabled_at};
+
+use crate::checks::{check_clock, check_index};
+use crate::clock_state::ClockState;
+use scmi_codec::{PAYLOAD_WORDS, Payload, Status, name_words, payload_of, rate_words, refusal};
+use scmi_plan::{Plan, Rates};
+
+/// The status word of a successful reply.
+pub(crate) const SUCCESS: u32 = 0;
+
+/// The version of the clock protocol: major 1, minor 0 (own).
+const VERSION: u32 = 0x0001_0000;
+
+/// The most sets that may be pending (own).
+const PENDING_SETS: u32 = 8;
+
+/// The most rates of one reply: two words each, after the status and the flags word.
+const MOST_RATES: usize = (PAYLOAD_WORDS - 2) / 2;
+
+/// The flags word of a triplet: bit 12, and three rates.
+const TRIPLET: u32 = 0x1003;
+
+/// 0x0: the version.
+pub(crate) fn version() -> Payload
+    ensures { result.items ≡ 0 ∷ 0x00010000 ∷ [] }
+{
+    payload_of(&[SUCCESS, VERSION])
+}
+
+/// 0x1: the most pending sets in bits [23:16], the number of clocks in [15:0].
+pub(crate) fn attributes(plan: &Plan) -> Payload
+    ensures { result.items ≡ attributes_reply plan.now }
+{
+    payload_of(&[SUCCESS, PENDING_SETS << 16 | plan.clocks()])
+}
+
+/// 0x2: no attributes; NOT_FOUND for an id that the protocol lacks.
+pub(crate) fn message_attributes(message: u32) -> Payload
+    ensures { result.items ≡ message_reply message }
+{
+    match message {
+        0x0..=0x7 => payload_of(&[SUCCESS, 0]),
+        _ => refusal(Status::NotFound),
+    }
+}
+
+/// 0x3: in bit 0 whether the clock is enabled, and its name.
+pub(crate) fn clock_attributes(plan: &Plan, state: &ClockState, clock: u32) -> Payload
+    ensures { result.items ≡ clock_attributes_reply plan.now (enabled_at state.now clock) clock }
+{
+    if let Err(status) = check_clock(plan, clock) {
+        return refusal(status);
+    }
+    let [a, b, c, d] = name_words(&plan.clock(clock).name);
+    payload_of(&[SUCCESS, u32::from(state.enabled(clock)), a, b, c, d])
+}
+
+/// 0x4: the rates of a list from an index on, as many as a reply holds, or a triplet whatever the
+/// index (own).
+pub(crate) fn describe(plan: &Plan, clock: u32, index: u32) -> Payload
+    ensures { result.items ≡ describe_reply plan.now clock index }
+{
+    if let Err(status) = check_clock(plan, clock) {
+        return refusal(status);
+    }
+    let rates = &plan.clock(clock).rates;
+    if let Err(status) = check_index(rates, index) {
+        return refusal(status);
+    }
+    described(rates, index)
+}
+
+/// 0x6: the rate.
+pub(crate) fn current_rate(plan: &Plan, state: &ClockState, clock: u32) -> Payload
+    ensures { result.items ≡ rate_reply plan.now (rate_at state.now clock) clock }
+{
+    if let Err(status) = check_clock(plan, clock) {
+        return refusal(status);
+    }
+    let [low, high] = rate_words(state.rate(clock));
+    payload_of(&[SUCCESS, low, high])
+}
+
+fn described(rates: &Rates, index: u32) -> Payload
+    requires lawful { HasLawfulRates rates.now }
+    requires index { past_end rates.now index ≡ false }
+    ensures { result.items ≡ 0 ∷ described rates.now index }
+{
+    match rates {
+        Rates::List(list) => listed(list.as_slice(), index as usize),
+        Rates::Steps { low, high, step } => triplet(*low, *high, *step),
+    }
+}
+
+/// As many rates from an index on as a reply holds, and how many remain.
+fn listed(list: &[u64], index: usize) -> Payload
+    requires few { length list.now ≤ 64 }
+    requires index { index < length list.now }
+    ensures { result.items ≡ 0 ∷ described (List list.now) index }
+{
+    let left = list.len() - index;
+    let count = left.min(MOST_RATES);
+    let mut reply = payload_of(&[SUCCESS, rates_word(left - count, count)]);
+    let returned = &list[index..index + count];
+    for rate in returned {
+        let [low, high] = rate_words(*rate);
+        reply.push(low);
+        reply.push(high);
+    }
+    reply
+}
+
+/// The flags word of a list: rates that remain in bits [31:16], rates returned in [11:0].
+fn rates_word(remaining: usize, returned: usize) -> u32
+    requires remaining { remaining < 2 ^ 16 }
+    requires returned { returned < 2 ^ 12 }
+    ensures { result ≡ rates_word remaining returned }
+{
+    (remaining as u32) << 16 | returned as u32
+}
+
+fn triplet(low: u64, high: u64, step: u64) -> Payload
+    ensures { result.items ≡ 0 ∷ described (Steps low high step) 0 }
+{
+    let [a, b] = rate_words(low);
+    let [c, d] = rate_words(high);
+    let [e, f] = rate_words(step);
+    payload_of(&[SUCCESS, TRIPLET, a, b, c, d, e, f])
+}

@@ -1,0 +1,19 @@
+-- Names of agents, domains, clocks and vendors.
+use Rattle.std.specs.Prelude.{ℕ, ◌≤◌, List, [], ◌∷◌, length}
+use Rattle.std.specs.List.{All}
+use Rattle.scmi_codec.specs.Word.{word_at}
+use Rattle.scmi_codec.specs.declared.name.TheConstants.{NAME_BYTES}
+
+-- each byte is a printable one of ASCII, and no space
+abbrev pub IsPrintable : List ℕ → Type 0
+IsPrintable bytes = All (λ byte. (0x21 ≤ byte) × (byte ≤ 0x7E)) bytes
+
+-- what a name may be (own)
+pub record IsName (bytes : List ℕ) : Type 0 where
+  pub some : 1 ≤ length bytes
+  pub few : length bytes ≤ NAME_BYTES
+  pub printable : IsPrintable bytes
+
+-- a name in a reply: sixteen bytes, the name's and zeros after them, four to a word, the first lowest
+abbrev pub name_words : List ℕ → List ℕ
+name_words name = word_at 0 name ∷ word_at 4 name ∷ word_at 8 name ∷ word_at 12 name ∷ []

@@ -1,0 +1,40 @@
+-- The commands of the power domain protocol (DEN0056B, power domain management protocol), 0x11.
+use Rattle.std.specs.Prelude.{ℕ, List, [], ◌∷◌, Result, slice_index}
+use Rattle.scmi_codec.specs.Row.{Row, from_table}
+use Rattle.scmi_codec.specs.declared.status.Status.{Status}
+use Rattle.scmi_codec.specs.declared.power_command.PowerCommand.{PowerCommand}
+use Rattle.scmi_codec.specs.declared.power_command.PowerCommand.TheVariants as power
+
+-- the commands by message id, with their payload words in order
+abbrev pub power_table : List (Row PowerCommand)
+power_table =
+    (0x0, 0, λ w. power.Version) ∷ (0x1, 0, λ w. power.Attributes)
+    ∷ (0x2, 1, λ w. power.MessageAttributes (slice_index w 0))
+    ∷ (0x3, 1, λ w. power.DomainAttributes (slice_index w 0))
+    ∷ (0x4, 3, λ w. power.Set (slice_index w 0) (slice_index w 1) (slice_index w 2))
+    ∷ (0x5, 1, λ w. power.Get (slice_index w 0))
+    ∷ (0x6, 2, λ w. power.Notify (slice_index w 0) (slice_index w 1))
+    ∷ []
+
+-- the command of a message id and payload words, or the status of the first check that fails
+abbrev pub power_of : ℕ → List ℕ → Result PowerCommand Status
+power_of id words = from_table power_table id words
+
+-- the message id of a command
+abbrev pub power_id : PowerCommand → ℕ
+power_id power.Version = 0x0
+power_id power.Attributes = 0x1
+power_id (power.MessageAttributes message) = 0x2
+power_id (power.DomainAttributes domain) = 0x3
+power_id (power.Set flags domain state) = 0x4
+power_id (power.Get domain) = 0x5
+power_id (power.Notify domain enable) = 0x6
+
+-- the payload words of a command
+abbrev pub power_words : PowerCommand → List ℕ
+power_words (power.MessageAttributes message) = message ∷ []
+power_words (power.DomainAttributes domain) = domain ∷ []
+power_words (power.Set flags domain state) = flags ∷ domain ∷ state ∷ []
+power_words (power.Get domain) = domain ∷ []
+power_words (power.Notify domain enable) = domain ∷ enable ∷ []
+power_words _ = []

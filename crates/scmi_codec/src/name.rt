@@ -1,0 +1,82 @@
+//! Names of agents, domains, clocks and vendors.
+ghost use Rattle.std.specs.Prelude.{◌≡◌, ◌↔◌, ◌++◌, ◌-◌, IsSome, IfSome, IsTrue, length, replicate};
+ghost use Rattle.scmi_codec.specs.Name.{IsName, IsPrintable, name_words};
+
+use crate::word::read_word;
+use arrayvec::ArrayVec;
+use std::marker::Model;
+
+/// The most bytes of a name, so that one zero at least ends it in a reply (own).
+pub const NAME_BYTES: usize = 15;
+
+/// A name of 1 to `NAME_BYTES` printable bytes, each 0x21 to 0x7E (own).
+#[derive(PartialEq, Eq, Debug, Drop)]
+pub struct Name {
+    bytes: ArrayVec<u8, NAME_BYTES>,
+}
+
+impl Model for Name {
+    ghost use Rattle.std.specs.Prelude.{ℕ, List};
+    ghost use Rattle.scmi_codec.specs.Name.{IsName};
+
+    ghost Value = { List ℕ };
+
+    ghost view = { λ n. n.bytes.items };
+
+    ghost invariant = { λ n. IsName n.bytes.items };
+
+    ghost inverse = { λ v. record { bytes = record { items = v } } };
+}
+
+fn is_printable(bytes: &[u8]) -> bool
+    ensures { IsTrue result ↔ IsPrintable bytes.now }
+{
+    for byte in bytes {
+        if *byte < 0x21 || *byte > 0x7e {
+            return false;
+        }
+    }
+    true
+}
+
+impl Name {
+    /// The name of a text; `None` where the text is empty, longer than `NAME_BYTES`, or has a byte
+    /// that is not printable.
+    pub fn new(text: &str) -> Option<Name>
+        ensures name { IfSome result (λ name. name ≡ text.now) }
+        ensures variant { IsSome result ↔ IsName text.now }
+    {
+        let bytes = text.as_bytes();
+        if bytes.is_empty() || bytes.len() > NAME_BYTES || !is_printable(bytes) {
+            return None;
+        }
+        let mut name = ArrayVec::new();
+        match name.try_extend_from_slice(bytes) {
+            Ok(()) => Some(Name { bytes: name }),
+            Err(_) => None,
+        }
+    }
+}
+
+/// A name as the four words of a reply: its bytes and zeros after them, the first byte lowest.
+pub fn name_words(name: &Name) -> [u32; 4]
+    ensures { result ≡ name_words name.now }
+{
+    let bytes = padded(name);
+    [
+        read_word(&bytes, 0),
+        read_word(&bytes, 4),
+        read_word(&bytes, 8),
+        read_word(&bytes, 12),
+    ]
+}
+
+/// The bytes of a name, and zeros after them.
+fn padded(name: &Name) -> [u8; 16]
+    ensures { result ≡ name.now ++ replicate (16 - length name.now) 0 }
+{
+    let mut bytes = [0u8; 16];
+    let text = name.bytes.as_slice();
+    bytes[..text.len()].copy_from_slice(text);
+    bytes
+}

@@ -1,0 +1,79 @@
+//! The commands of the power domain protocol.
+ghost use Rattle.std.specs.Prelude.{◌≡◌};
+ghost use Rattle.scmi_codec.specs.PowerCommand.{power_of, power_id, power_words};
+
+use crate::payload::{Payload, payload_of};
+use crate::status::Status;
+
+/// The id of the power domain protocol.
+pub const POWER_PROTOCOL: u8 = 0x11;
+
+/// A command of the power domain protocol (DEN0056B, power domain management protocol).
+#[derive(Clone, Copy, PartialEq, Eq, Debug)]
+pub enum PowerCommand {
+    Version,
+    Attributes,
+    MessageAttributes { message: u32 },
+    DomainAttributes { domain: u32 },
+    Set { flags: u32, domain: u32, state: u32 },
+    Get { domain: u32 },
+    Notify { domain: u32, enable: u32 },
+}
+
+impl PowerCommand {
+    /// The command of a message id and payload words: NOT_SUPPORTED for an unknown id, then
+    /// PROTOCOL_ERROR for another number of words than the command has.
+    pub(crate) fn read(id: u8, words: &[u32]) -> Result<PowerCommand, Status>
+        ensures { result ≡ power_of id words.now }
+    {
+        match (id, words) {
+            (0x0, []) => Ok(PowerCommand::Version),
+            (0x1, []) => Ok(PowerCommand::Attributes),
+            (0x2, [message]) => Ok(PowerCommand::MessageAttributes { message: *message }),
+            (0x3, [domain]) => Ok(PowerCommand::DomainAttributes { domain: *domain }),
+            (0x4, [flags, domain, state]) => Ok(PowerCommand::Set {
+                flags: *flags,
+                domain: *domain,
+                state: *state,
+            }),
+            (0x5, [domain]) => Ok(PowerCommand::Get { domain: *domain }),
+            (0x6, [domain, enable]) => Ok(PowerCommand::Notify {
+                domain: *domain,
+                enable: *enable,
+            }),
+            (0x0..=0x6, _) => Err(Status::ProtocolError),
+            _ => Err(Status::NotSupported),
+        }
+    }
+
+    pub(crate) fn id(&self) -> u8
+        ensures { result ≡ power_id self.now }
+    {
+        match self {
+            PowerCommand::Version => 0x0,
+            PowerCommand::Attributes => 0x1,
+            PowerCommand::MessageAttributes { .. } => 0x2,
+            PowerCommand::DomainAttributes { .. } => 0x3,
+            PowerCommand::Set { .. } => 0x4,
+            PowerCommand::Get { .. } => 0x5,
+            PowerCommand::Notify { .. } => 0x6,
+        }
+    }
+
+    pub(crate) fn payload(&self) -> Payload
+        ensures { result.items ≡ power_words self.now }
+    {
+        match self {
+            PowerCommand::MessageAttributes { message } => payload_of(&[*message]),
+            PowerCommand::DomainAttributes { domain } => payload_of(&[*domain]),
+            PowerCommand::Set {
+                flags,
+                domain,
+                state,
+            } => payload_of(&[*flags, *domain, *state]),
+            PowerCommand::Get { domain } => payload_of(&[*domain]),
+            PowerCommand::Notify { domain, enable } => payload_of(&[*domain, *enable]),
+            _ => payload_of(&[]),
+        }
+    }
+}

@@ -1,0 +1,266 @@
+-- In every legal history at most 8 sets are pending, and an outbox and its agent's pending sets are at most 16 together.
+use Rattle.std.proofs.Common.{◌≡◌, ◌≢◌, ◌⊎◌, inl, inr, ℕ, suc, ◌+◌, ◌<◌, ◌≤◌, ◌==◌, ◌&&◌, ◌||◌, nat_lt, Bool, true, false, not, List, [], ◌∷◌, ◌++◌, length, drop, slice_get, Option, Some, None, Result, Ok, Err, option_map, refl, sym, ap, ◌∙◌, subst, arith, if◌then◌else◌}
+use Rattle.std.specs.Option.{option_map_or}
+use Rattle.std.proofs.lemmas.List.{append-nil, length-append, length-drop}
+use Rattle.std.proofs.lemmas.List.Elements.{filter-append}
+use Rattle.std.proofs.lemmas.Bool.{leb-true}
+use Rattle.std.proofs.lemmas.Bool.Decides.{eqb_tells}
+use Rattle.scmi_core.proofs.Steps.{nothing_if}
+use Rattle.scmi_plan.specs.Board.{Board}
+use Rattle.scmi_codec.specs.Reply.{reply_unless, bit_0}
+use Rattle.scmi_codec.specs.Header.{HeaderFields}
+use Rattle.scmi_codec.specs.Command.{command_of}
+use Rattle.scmi_codec.specs.Payload.{begins_with_success}
+use Rattle.scmi_codec.specs.declared.status.Status.{Status}
+use Rattle.scmi_codec.specs.declared.status.Status.TheVariants.{NotFound, InvalidParameters, NotSupported, Denied, Busy}
+use Rattle.scmi_codec.specs.declared.message.Message.{Message}
+use Rattle.scmi_codec.specs.declared.frame.Frame.TheVariants.{Good, Malformed}
+use Rattle.scmi_codec.specs.declared.command.Command as codec
+use Rattle.scmi_codec.specs.declared.command.Command.TheVariants.{Base, Power, Clock}
+use Rattle.scmi_codec.specs.declared.power_command.PowerCommand.{PowerCommand}
+use Rattle.scmi_codec.specs.declared.power_command.PowerCommand.TheVariants as power
+use Rattle.scmi_codec.specs.declared.clock_command.ClockCommand.{ClockCommand}
+use Rattle.scmi_codec.specs.declared.clock_command.ClockCommand.TheVariants as clock
+use Rattle.scmi_power.specs.PowerReply.{PowerView, power_reply}
+use Rattle.scmi_power.specs.PowerTable.{set_later}
+use Rattle.scmi_clock.specs.ClockReply.{ClockView, clock_reply}
+use Rattle.scmi_clock.specs.ClockTable.{rate_later}
+use Rattle.scmi_core.specs.declared.pending_set.PendingSet.{PendingSet}
+use Rattle.scmi_core.specs.declared.event.Event.{Event}
+use Rattle.scmi_core.specs.declared.event.Event.TheVariants.{Command, Advance, Sent}
+use Rattle.scmi_core.specs.declared.tables.Tables.{Tables}
+use Rattle.std.specs.Option.{option_to_list, option_and_then}
+use Rattle.scmi_core.specs.Deed.{Deed, success_with, over}
+use Rattle.scmi_core.specs.Value.{Change, Thing, State, Rate, Enabled, completed, change_by, value}
+use Rattle.scmi_core.specs.Pending.{acceptance, accepted, advances, pending, pending_of, sets_by, is_advance}
+use Rattle.scmi_core.specs.Outbox.{made, made_by, outbox_after, sent, is_sent_by, response_for, response_to, notice_for}
+use Rattle.scmi_core.specs.Subscriptions.{subscribed}
+use Rattle.scmi_core.specs.History.{deeds, deed_after, outbox}
+use Rattle.scmi_core.specs.Legal.{IsLegal}
+use Rattle.scmi_core.specs.Reply.{has_room, reply_words, power_view, clock_view}
+use Rattle.scmi_core.specs.Tables.{load_at}
+use Rattle.scmi_core.specs.Bounds.{HasBounds}
+use Rattle.scmi_core.specs.Agreement.{Agrees}
+use Rattle.scmi_core.proofs.Laws.{added, pending-push, pending-advance, outbox-push, sent-push, made-push}
+use Rattle.scmi_core.proofs.Legal.{Grown, empty, grow, grown, deeds-push, IsLegal-front, advances_le-accepted, sent_le-made}
+
+-- a set that is accepted for later met room
+room_of : (c1 c2 c3 c4 busy later room : Bool)
+    → begins_with_success (reply_unless ((c1, NotFound) ∷ (c2, InvalidParameters) ∷ (c3, NotSupported) ∷ (c4, Denied) ∷ (busy || (later && not room), Busy) ∷ []) (0 ∷ [])) ≡ true → later ≡ true → room ≡ true
+room_of true c2 c3 c4 busy later room ok l = absurd (cc)
+room_of false true c3 c4 busy later room ok l = absurd (cc)
+room_of false false true c4 busy later room ok l = absurd (cc)
+room_of false false false true busy later room ok l = absurd (cc)
+room_of false false false false true later room ok l = absurd (cc)
+room_of false false false false false true true ok l = refl
+room_of false false false false false true false ok l = absurd (cc)
+room_of false false false false false false room ok l = absurd (cc)
+
+room_of_clock : (c1 c2 c4 busy later room : Bool)
+    → begins_with_success (reply_unless ((c1, NotFound) ∷ (c2, InvalidParameters) ∷ (c4, Denied) ∷ (busy || (later && not room), Busy) ∷ []) (0 ∷ [])) ≡ true → later ≡ true → room ≡ true
+room_of_clock true c2 c4 busy later room ok l = absurd (cc)
+room_of_clock false true c4 busy later room ok l = absurd (cc)
+room_of_clock false false true busy later room ok l = absurd (cc)
+room_of_clock false false false true later room ok l = absurd (cc)
+room_of_clock false false false false true true ok l = refl
+room_of_clock false false false false true false ok l = absurd (cc)
+room_of_clock false false false false false room ok l = absurd (cc)
+
+later_bit : {A : Type 0} (b : Bool) (x : A) {y : A} → (if b then Some x else None) ≡ Some y → b ≡ true
+later_bit true x e = refl
+later_bit false x e = absurd (cc)
+
+mapped : {A B : Type 0} (f : A → B) (o : Option A) (y : B) → option_map f o ≡ Some y → (x : A) × (o ≡ Some x) × (f x ≡ y)
+mapped f None y e = absurd (cc)
+mapped f (Some x) y e = (x, refl, ap (λ o. option_map_or (λ z. z) o y) e)
+
+power-room : (board : Board) (v : PowerView) (c : PowerCommand) (set : ℕ × ℕ) → begins_with_success (power_reply board v c) ≡ true → set_later c ≡ Some set → v.room ≡ true
+unfolding power_reply
+power-room board v power.Version set ok e = absurd (cc)
+power-room board v power.Attributes set ok e = absurd (cc)
+power-room board v (power.MessageAttributes message) set ok e = absurd (cc)
+power-room board v (power.DomainAttributes d) set ok e = absurd (cc)
+power-room board v (power.Get d) set ok e = absurd (cc)
+power-room board v (power.Notify d enable) set ok e = absurd (cc)
+power-room board v (power.Set flags d state) set ok e = room_of _ _ _ _ _ (bit_0 flags) v.room ok (later_bit (bit_0 flags) (d, state) e)
+
+clock-room : (board : Board) (v : ClockView) (c : ClockCommand) (set : ℕ × ℕ × Bool) → begins_with_success (clock_reply board v c) ≡ true → rate_later board c ≡ Some set → v.room ≡ true
+unfolding clock_reply
+clock-room board v clock.Version set ok e = absurd (cc)
+clock-room board v clock.Attributes set ok e = absurd (cc)
+clock-room board v (clock.MessageAttributes message) set ok e = absurd (cc)
+clock-room board v (clock.ClockAttributes d) set ok e = absurd (cc)
+clock-room board v (clock.Describe d index) set ok e = absurd (cc)
+clock-room board v (clock.GetRate d) set ok e = absurd (cc)
+clock-room board v (clock.Config d attributes) set ok e = absurd (cc)
+clock-room board v (clock.SetRate flags d rate) set ok e = room_of_clock _ _ _ _ (bit_0 flags) v.room ok (later_bit (bit_0 flags) _ e)
+
+then_some : {A B : Type 0} (b : Bool) (o : Option A) (f : A → Option B) (y : B) → option_and_then f (if b then o else None) ≡ Some y → (b ≡ true) × (option_and_then f o ≡ Some y)
+then_some true o f y e = (refl, e)
+then_some false o f y e = absurd (cc)
+
+accept-room : (board : Board) (b : ℕ) (h : List Deed) (header : HeaderFields) (r : Result codec.Command Status) (p : PendingSet)
+    → option_and_then (acceptance board) (if begins_with_success (reply_words board b h r) then success_with b header r else None) ≡ Some p → (p.agent ≡ b) × (has_room board b h ≡ true)
+unfolding reply_words
+accept-room board b h header (Err s) p e = let two = then_some (begins_with_success (reply_words board b h (Err s))) (success_with b header (Err s)) (acceptance board) p e in let no = two.1 in absurd (cc)
+accept-room board b h header (Ok (Base c)) p e = let two = then_some (begins_with_success (reply_words board b h (Ok (Base c)))) (success_with b header (Ok (Base c))) (acceptance board) p e in let no = two.1 in absurd (cc)
+accept-room board b h header (Ok (Power c)) p e =
+    let two = then_some (begins_with_success (reply_words board b h (Ok (Power c)))) (success_with b header (Ok (Power c))) (acceptance board) p e in
+    let set = mapped _ (set_later c) p two.1 in
+    (sym (ap (λ q. q.agent) set.2), power-room board (power_view board b h) c set.0 two.0 set.1)
+accept-room board b h header (Ok (Clock c)) p e =
+    let two = then_some (begins_with_success (reply_words board b h (Ok (Clock c)))) (success_with b header (Ok (Clock c))) (acceptance board) p e in
+    let set = mapped _ (rate_later board c) p two.1 in
+    (sym (ap (λ q. q.agent) set.2), clock-room board (clock_view board b h) c set.0 two.0 set.1)
+
+both_true : (a b : Bool) → (a && b) ≡ true → (a ≡ true) × (b ≡ true)
+both_true true true e = (refl, refl)
+both_true true false e = absurd (cc)
+both_true false b e = absurd (cc)
+
+-- what room says
+room_says : (board : Board) (a : ℕ) (h : List Deed) → has_room board a h ≡ true → (length (pending board h) < 8) × (length (outbox_after board a h) + length (pending_of board a h) < 16)
+room_says board a h e =
+    let two = both_true _ _ e in
+    (leb-true (suc (length (pending board h))) 8 two.0, leb-true (suc (length (outbox_after board a h) + length (pending_of board a h))) 16 two.1)
+
+-- at most one notification
+one_notice : (board : Board) (a : ℕ) (h : List Deed) (change : Option Change) → length (option_map_or (notice_for board a h) change []) ≤ 1
+one_notice board a h None = omega arith
+one_notice board a h (Some change) = by change.thing where
+  at_most : (b : Bool) (m : Message) → length (if b then m ∷ [] else []) ≤ 1
+  at_most true m = omega arith
+  at_most false m = omega arith
+
+  by : (x : Thing) → length (notice_for board a h (record { thing = x; value = change.value; causer = change.causer })) ≤ 1
+  by (State d) = at_most (not (change.value == value board (State d) h) && subscribed a d h) _
+  by (Rate k) = omega arith
+  by (Enabled k) = omega arith
+
+-- notifications fill no more than there is
+within : (outbox responses notices left : ℕ) → notices ≤ 1 → outbox + responses + left ≤ 16 → (b : Bool) → nat_lt (outbox + responses + left) 16 ≡ b
+    → outbox + (responses + (if b then notices else 0)) + left ≤ 16
+within outbox responses notices left few base true is = let less = leb-true (suc (outbox + responses + left)) 16 is in omega arith
+within outbox responses notices left few base false is = omega arith
+
+length_if : (b : Bool) (xs : List Message) → length (if b then xs else []) ≡ (if b then length xs else 0)
+length_if true xs = refl
+length_if false xs = refl
+
+made-within : (board : Board) (a : ℕ) (h : List Deed) (deed : Deed)
+    → length (outbox_after board a h) + length (option_map_or (response_for a) (completed board h deed.event) []) + length (pending_of board a (h ++ deed ∷ [])) ≤ 16
+    → length (outbox_after board a h) + length (made_by board a h (made board a h) deed) + length (pending_of board a (h ++ deed ∷ [])) ≤ 16
+made-within board a h deed base =
+    let responses = option_map_or (response_for a) (completed board h deed.event) [] in
+    let notices = option_map_or (notice_for board a h) (change_by board h deed) [] in
+    let left = length (pending_of board a (h ++ deed ∷ [])) in
+    let load = length (outbox_after board a h) + length responses + left in
+    let size : length (made_by board a h (made board a h) deed) ≡ length responses + (if nat_lt load 16 then length notices else 0)
+    = length-append responses (if nat_lt load 16 then notices else []) ∙ ap (λ n. length responses + n) (length_if (nat_lt load 16) notices) in
+    rw size (within (length (outbox_after board a h)) (length responses) (length notices) left (one_notice board a h (change_by board h deed)) base (nat_lt load 16) refl)
+
+-- what is pending after a deed that accepts at most one set
+record Fits (board : Board) (h : List Deed) (more : Option PendingSet) : Type 0 where
+  pub few : length (pending board h ++ option_to_list more) ≤ 8
+  pub loads : (a : ℕ) → length (outbox_after board a h) + length (sets_by a (pending board h ++ option_to_list more)) ≤ 16
+
+fits-none : (board : Board) (h : List Deed) → HasBounds board h → Fits board h None
+fits-none board h had = record {
+  few = rw (append-nil (pending board h)) had.pending_sets;
+  loads = λ a. rw (append-nil (pending board h)) (had.loads a);
+}
+
+fits-some : (board : Board) (h : List Deed) (b : ℕ) (p : PendingSet) → HasBounds board h → p.agent ≡ b → has_room board b h ≡ true → Fits board h (Some p)
+fits-some board h b p had by room =
+    let says = room_says board b h room in
+    let less = says.0 in
+    record {
+      few = omega (arith, length-append (pending board h) (p ∷ []));
+      loads = λ a. rw (filter-append (λ q. q.agent == a) (pending board h) (p ∷ []), length-append (sets_by a (pending board h)) (sets_by a (p ∷ []))) (by_agent a (eqb_tells p.agent a));
+    } where
+      by_agent : (a : ℕ) → (((p.agent == a) ≡ true) × (p.agent ≡ a)) ⊎ (((p.agent == a) ≡ false) × (p.agent ≢ a))
+          → length (outbox_after board a h) + (length (sets_by a (pending board h)) + length (sets_by a (p ∷ []))) ≤ 16
+      by_agent a (inl same) =
+          let less : length (outbox_after board a h) + length (pending_of board a h) < 16 = subst (λ x. length (outbox_after board x h) + length (pending_of board x h) < 16) (sym by ∙ same.1) (room_says board b h room).1 in
+          rw same.0 (omega arith)
+      by_agent a (inr other) = let old = had.loads a in rw other.0 (omega arith)
+
+fits : (board : Board) (h : List Deed) (b : ℕ) (header : HeaderFields) (r : Result codec.Command Status) → HasBounds board h → (o : Option PendingSet)
+    → option_and_then (acceptance board) (if begins_with_success (reply_words board b h r) then success_with b header r else None) ≡ o → Fits board h o
+fits board h b header r had None e = fits-none board h had
+fits board h b header r had (Some p) e = let two = accept-room board b h header r p e in fits-some board h b p had two.0 two.1
+
+-- a deed that completes and posts nothing
+settled : (board : Board) (h : List Deed) (deed : Deed) → is_advance deed.event ≡ false → ((a : ℕ) → is_sent_by a deed.event ≡ false) → completed board h deed.event ≡ None
+    → advances h ≤ length (accepted board h) → ((a : ℕ) → sent a h ≤ length (made board a h)) → Fits board h (option_and_then (acceptance board) (added deed)) → HasBounds board (h ++ deed ∷ [])
+settled board h deed stays unsent none enough enough_sent fit =
+    let pend = pending-push board h deed stays enough in
+    record {
+      pending_sets = rw pend fit.few;
+      loads = λ a.
+          let zero_more : length (outbox_after board a h) + 0 ≡ length (outbox_after board a h) = omega arith in
+          let base : length (outbox_after board a h) + length (option_map_or (response_for a) (completed board h deed.event) []) + length (pending_of board a (h ++ deed ∷ [])) ≤ 16
+          = rw (none, pend, zero_more) (fit.loads a) in
+          let all = made-within board a h deed base in
+          rw (outbox-push board a h deed (unsent a) (enough_sent a), length-append (outbox_after board a h) (made_by board a h (made board a h) deed)) all;
+    }
+
+-- a completed set leaves room for its delayed response
+first-left : (a : ℕ) (xs : List PendingSet) → length (option_map_or (response_for a) (slice_get xs 0) []) + length (sets_by a (drop 1 xs)) ≤ length (sets_by a xs)
+first-left a [] = omega arith
+first-left a (p ∷ ps) = by (p.agent == a) p.wanted where
+  by : (is wanted : Bool) → length (if is && wanted then response_to p.header p.setting ∷ [] else []) + length (sets_by a ps) ≤ length (if is then p ∷ sets_by a ps else sets_by a ps)
+  by true true = omega arith
+  by true false = omega arith
+  by false wanted = omega arith
+
+bounds-advance : (board : Board) (h : List Deed) → ((a : ℕ) → sent a h ≤ length (made board a h)) → HasBounds board h → HasBounds board (h ++ record { event = Advance; reply = [] } ∷ [])
+bounds-advance board h enough_sent had =
+    let deed : Deed = record { event = Advance; reply = [] } in
+    let old = had.pending_sets in
+    record {
+      pending_sets = rw (pending-advance board h, length-drop 1 (pending board h)) (omega arith);
+      loads = λ a.
+          let before = had.loads a in
+          let step = first-left a (pending board h) in
+          let base : length (outbox_after board a h) + length (option_map_or (response_for a) (slice_get (pending board h) 0) []) + length (pending_of board a (h ++ deed ∷ [])) ≤ 16
+          = rw (pending-advance board h) (omega arith) in
+          rw (outbox-push board a h deed refl (enough_sent a), length-append (outbox_after board a h) (made_by board a h (made board a h) deed)) (made-within board a h deed base);
+    }
+
+bounds-sent : (board : Board) (h : List Deed) (b : ℕ) → advances h ≤ length (accepted board h) → HasBounds board h → HasBounds board (h ++ record { event = Sent b; reply = [] } ∷ [])
+bounds-sent board h b enough had =
+    let deed : Deed = record { event = Sent b; reply = [] } in
+    let pend = pending-push board h deed refl enough ∙ append-nil (pending board h) in
+    record {
+      pending_sets = rw pend had.pending_sets;
+      loads = λ a.
+          let old = had.loads a in
+          let made_none : made board a (h ++ deed ∷ []) ≡ made board a h = made-push board a h deed
+          ∙ ap (λ ys. made board a h ++ ys) (nothing_if (nat_lt (length (outbox_after board a h) + 0 + length (pending_of board a (h ++ deed ∷ []))) 16)) ∙ append-nil (made board a h) in
+          let size = length-drop (sent a (h ++ deed ∷ [])) (made board a h) in
+          let size' = length-drop (sent a h) (made board a h) in
+          let more = sent-push a h deed in
+          rw (pend, made_none) (omega arith);
+    }
+
+bounds-more : (board : Board) (h : List Deed) (e : Event) → advances h ≤ length (accepted board h) → ((a : ℕ) → sent a h ≤ length (made board a h)) → HasBounds board h → HasBounds board (h ++ deed_after board h e ∷ [])
+bounds-more board h (Command b (Good m)) enough enough_sent had =
+    settled board h (deed_after board h (Command b (Good m))) refl (λ a. refl) refl enough enough_sent (fits board h b m.header (command_of m) had _ refl)
+bounds-more board h (Command b (Malformed len header)) enough enough_sent had =
+    settled board h (deed_after board h (Command b (Malformed len header))) refl (λ a. refl) refl enough enough_sent (fits-none board h had)
+bounds-more board h Advance enough enough_sent had = bounds-advance board h enough_sent had
+bounds-more board h (Sent b) enough enough_sent had = bounds-sent board h b enough had
+
+bounds_of : (board : Board) {h : List Event} → Grown h → IsLegal board h → HasBounds board (deeds board h)
+unfolding deeds over
+bounds_of board empty legal = record { pending_sets = omega arith; loads = λ a. omega arith }
+bounds_of board (grow {xs} g e) legal =
+    let front = IsLegal-front board xs e legal in
+    rw (deeds-push board xs e) (bounds-more board (deeds board xs) e (advances_le-accepted board xs front) (sent_le-made board xs front) (bounds_of board g front))
+
+pub bounds : (board : Board) (h : List Event) → IsLegal board h → HasBounds board (deeds board h)
+bounds board h legal = bounds_of board (grown h) legal
+
+pub load-bound : (board : Board) (t : Tables) (h : List Event) → Agrees board t h → (a : ℕ) → 1 ≤ a → a ≤ length board.agents → load_at t a ≤ 16
+load-bound board t h agrees a lo hi = rw (agrees.outboxes a lo hi, agrees.pending_sets) ((bounds board h agrees.legal).loads a)

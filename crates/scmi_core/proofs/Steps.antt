@@ -1,0 +1,293 @@
+-- What a command or a completion leaves of the tables.
+use Rattle.std.proofs.Common.{◌≡◌, ℕ, ◌+◌, ◌-◌, ◌<◌, ◌≤◌, ◌==◌, ◌&&◌, nat_lt, Bool, true, false, not, List, [], ◌∷◌, ◌++◌, length, drop, get_or, slice_get, remove, Option, Some, None, IfSome, Ok, unwrap_or, option_map, refl, sym, ap, ◌∙◌, subst, arith, if◌then◌else◌}
+use Rattle.std.specs.List.{All}
+use Rattle.std.specs.Int.{bit_at}
+use Rattle.std.specs.Option.{option_map_or}
+use Rattle.std.proofs.lemmas.List.{append_assoc, append-nil, length-append}
+use Rattle.std.proofs.lemmas.List.Elements.{All-append, All-nil, All-cons, All-drop}
+use Rattle.scmi_codec.specs.Header.{HeaderFields}
+use Rattle.scmi_codec.specs.Payload.{begins_with_success}
+use Rattle.scmi_codec.specs.declared.message.Message.{Message}
+use Rattle.scmi_codec.specs.declared.command.Command.TheVariants.{Power}
+use Rattle.scmi_codec.specs.declared.power_command.PowerCommand.{PowerCommand}
+use Rattle.scmi_codec.specs.declared.power_command.PowerCommand.TheVariants as power
+use Rattle.scmi_plan.specs.Board.{Board}
+use Rattle.scmi_codec.specs.Reply.{bit_0}
+use Rattle.scmi_base.specs.Permission.{is_allowed}
+use Rattle.scmi_power.specs.PowerTable.{PowerTables, state_at, is_subscribed, set_to, set_now, set_later, notification}
+use Rattle.scmi_codec.specs.Payload.{if_success}
+use Rattle.scmi_clock.specs.ClockTable.{ClockTables, rate_at, enabled_at}
+use Rattle.scmi_core.specs.declared.pending_set.PendingSet.{PendingSet}
+use Rattle.scmi_core.specs.declared.pending_set.Setting.TheVariants as setting
+use Rattle.scmi_core.specs.declared.tables.Tables.{Tables}
+use Rattle.std.specs.Option.{option_or, option_and_then, option_to_list}
+use Rattle.scmi_core.specs.Deed.{success_with}
+use Rattle.scmi_core.specs.Permissions.{permission_in}
+use Rattle.scmi_core.specs.Subscriptions.{subscription}
+use Rattle.scmi_core.specs.Pending.{acceptance, state_set, sets_by}
+use Rattle.scmi_core.specs.Value.{Change, change_now, Thing, State, Rate, Enabled, bit_value, value_in}
+use Rattle.scmi_core.specs.Outbox.{state_changed, response_for}
+use Rattle.scmi_core.specs.Tables.{outbox_at, load_at, value_at, IsThing, IsOfBoard}
+use Rattle.scmi_core.specs.Step.{notice_at, made_at, success_of, change_of, HasStepped, SameButOutboxes, SameButPending, announced_at, set_domain}
+
+pick : {A : Type 0} (b : Bool) (x old : A) → unwrap_or (if b then Some x else None) old ≡ (if b then x else old)
+pick true x old = refl
+pick false x old = refl
+
+pub nothing_if : {X : Type 0} (b : Bool) → ◌≡◌ {A = List X} (if b then [] else []) []
+nothing_if true = refl
+nothing_if false = refl
+
+abbrev pub state_change : ℕ → ℕ × ℕ → Change
+state_change a set = record { thing = State set.0; value = set.1; causer = a }
+
+-- a notification, said in two ways
+told-notice : (full subscribed same : Bool) (message : Message)
+    → (if same then [] else (if full && subscribed then message ∷ [] else [])) ≡ (if full then (if not same && subscribed then message ∷ [] else []) else [])
+told-notice true true true m = refl
+told-notice true true false m = refl
+told-notice true false true m = refl
+told-notice true false false m = refl
+told-notice false true true m = refl
+told-notice false true false m = refl
+told-notice false false true m = refl
+told-notice false false false m = refl
+
+-- an outbox that is as it was
+pub same_box : (t n : Tables) (x : ℕ) → n.outboxes ≡ t.outboxes → outbox_at n x ≡ outbox_at t x
+same_box t n x boxes = rw boxes refl
+
+-- at most one set
+pub all_none : (P : PendingSet → Type 0) → All P []
+all_none P = All-nil P
+
+pub all_one : (P : PendingSet → Type 0) (p : PendingSet) → P p → All P (p ∷ [])
+all_one P p h = All-cons P p [] h (All-nil P)
+
+-- POWER
+
+change-power : (board : Board) (a : ℕ) (header : HeaderFields) (c : PowerCommand) (reply : List ℕ)
+    → change_of board (success_of a header (Ok (Power c)) reply) None ≡ option_map (state_change a) (if_success reply (set_now c))
+change-power board a header c reply = by (begins_with_success reply) where
+  by : (b : Bool) → option_or None (option_and_then (change_now board) (if b then success_with a header (Ok (Power c)) else None)) ≡ option_map (state_change a) (if b then set_now c else None)
+  by true = refl
+  by false = refl
+
+pending-power : (board : Board) (a : ℕ) (header : HeaderFields) (c : PowerCommand) (reply : List ℕ)
+    → option_and_then (acceptance board) (success_of a header (Ok (Power c)) reply) ≡ option_map (state_set a header) (if_success reply (set_later c))
+pending-power board a header c reply = by (begins_with_success reply) where
+  by : (b : Bool) → option_and_then (acceptance board) (if b then success_with a header (Ok (Power c)) else None) ≡ option_map (state_set a header) (if b then set_later c else None)
+  by true = refl
+  by false = refl
+
+subscription-power : (a : ℕ) (header : HeaderFields) (c : PowerCommand) (reply : List ℕ) (x d : ℕ) (old : Bool)
+    → unwrap_or (option_and_then (subscription x d) (success_of a header (Ok (Power c)) reply)) old ≡ unwrap_or (if_success reply (notification x d a c)) old
+subscription-power a header c reply x d old = by (begins_with_success reply) where
+  by : (b : Bool) → unwrap_or (option_and_then (subscription x d) (if b then success_with a header (Ok (Power c)) else None)) old ≡ unwrap_or (if b then notification x d a c else None) old
+  by true = refl
+  by false = refl
+
+permission-power : (a : ℕ) (header : HeaderFields) (c : PowerCommand) (reply : List ℕ) (x d : ℕ) (old : Bool)
+    → unwrap_or (option_and_then (λ s. permission_in x d s.command) (success_of a header (Ok (Power c)) reply)) old ≡ old
+permission-power a header c reply x d old = by (begins_with_success reply) where
+  by : (b : Bool) → unwrap_or (option_and_then (λ s. permission_in x d s.command) (if b then success_with a header (Ok (Power c)) else None)) old ≡ old
+  by true = refl
+  by false = refl
+
+state-value : (a d old : ℕ) (changed : Option (ℕ × ℕ)) → set_to changed d old ≡ unwrap_or (option_and_then (value_in (State d)) (option_map (state_change a) changed)) old
+state-value a d old None = refl
+state-value a d old (Some set) = sym (pick (set.0 == d) set.1 old)
+
+rate-value : (a k old : ℕ) (changed : Option (ℕ × ℕ)) → old ≡ unwrap_or (option_and_then (value_in (Rate k)) (option_map (state_change a) changed)) old
+rate-value a k old None = refl
+rate-value a k old (Some set) = refl
+
+enabled-value : (a k old : ℕ) (changed : Option (ℕ × ℕ)) → old ≡ unwrap_or (option_and_then (value_in (Enabled k)) (option_map (state_change a) changed)) old
+enabled-value a k old None = refl
+enabled-value a k old (Some set) = refl
+
+changed-known : (board : Board) (a : ℕ) (changed : Option (ℕ × ℕ)) → IfSome changed (λ set. set.0 < length board.domains)
+    → IfSome (option_map (state_change a) changed) (λ change. IsThing board change.thing)
+changed-known board a None h = h
+changed-known board a (Some set) h = h
+
+later-known : (board : Board) (a : ℕ) (header : HeaderFields) (later : Option (ℕ × ℕ)) → 1 ≤ a → a ≤ length board.agents → IfSome later (λ set. set.0 < length board.domains)
+    → All (IsOfBoard board) (option_to_list (option_map (state_set a header) later))
+later-known board a header None lo hi h = all_none (IsOfBoard board)
+later-known board a header (Some set) lo hi h = all_one (IsOfBoard board) (state_set a header set) (record { first = lo; last = hi; thing = h })
+
+-- the domain that a set sets, and that it asks for no notification
+set_of : (c : PowerCommand) (set : ℕ × ℕ) → set_now c ≡ Some set → set_domain c ≡ set.0
+set_of power.Version set e = absurd (cc)
+set_of power.Attributes set e = absurd (cc)
+set_of (power.MessageAttributes message) set e = absurd (cc)
+set_of (power.DomainAttributes domain) set e = absurd (cc)
+set_of (power.Get domain) set e = absurd (cc)
+set_of (power.Notify domain enable) set e = absurd (cc)
+set_of (power.Set flags domain state) set e = by (bit_0 flags) e where
+  by : (b : Bool) → (if b then None else Some (domain, state)) ≡ Some set → domain ≡ set.0
+  by true e = absurd (cc)
+  by false e = ap (λ o. option_map_or (λ s. s.0) o 0) e
+
+no_request : (c : PowerCommand) (set : ℕ × ℕ) (x d a : ℕ) → set_now c ≡ Some set → notification x d a c ≡ None
+no_request power.Version set x d a e = refl
+no_request power.Attributes set x d a e = refl
+no_request (power.MessageAttributes message) set x d a e = refl
+no_request (power.DomainAttributes domain) set x d a e = refl
+no_request (power.Get domain) set x d a e = refl
+no_request (power.Notify domain enable) set x d a e = absurd (cc)
+no_request (power.Set flags domain state) set x d a e = refl
+
+of_success : {A : Type 0} (reply : List ℕ) (o : Option A) (x : A) → Some x ≡ if_success reply o → o ≡ Some x
+of_success reply o x e = by (begins_with_success reply) e where
+  by : {A : Type 0} {o : Option A} {x : A} (b : Bool) → Some x ≡ (if b then o else None) → o ≡ Some x
+  by true e = sym e
+  by false e = absurd (cc)
+
+nothing_asked : (reply : List ℕ) (o : Option Bool) (old : Bool) → o ≡ None → unwrap_or (if_success reply o) old ≡ old
+nothing_asked reply o old e = rw e (by (begins_with_success reply)) where
+  by : (b : Bool) → unwrap_or (if b then None else None) old ≡ old
+  by true = refl
+  by false = refl
+
+-- what is announced is what is made, where no response is
+pub announced-made : (t n : Tables) (left : List PendingSet) (x a : ℕ) (changed : Option (ℕ × ℕ)) (before : ℕ) → n.outboxes ≡ t.outboxes → n.pending.items ≡ left
+    → ((set : ℕ × ℕ) → changed ≡ Some set → (before ≡ state_at t.power set.0) × (is_subscribed n.power x set.0 ≡ is_subscribed t.power x set.0))
+    → announced_at n x a changed before ≡ made_at t left None (option_map (state_change a) changed) x
+announced-made t n left x a None before boxes pend facts = sym (nothing_if (nat_lt (length (outbox_at t x) + 0 + length (sets_by x left)) 16))
+announced-made t n left x a (Some set) before boxes pend facts =
+    let fact = facts set refl in
+    let zero_more : length (outbox_at t x) + 0 ≡ length (outbox_at t x) = omega arith in
+    let box : outbox_at n x ≡ outbox_at t x = same_box t n x boxes in
+    told-notice (nat_lt (load_at n x) 16) (is_subscribed n.power x set.0) (set.1 == before) (state_changed a set.0 set.1)
+    ∙ ap (λ b. if b then (if not (set.1 == before) && is_subscribed n.power x set.0 then state_changed a set.0 set.1 ∷ [] else []) else [])
+    (ap (λ l. nat_lt (l + length (sets_by x n.pending.items)) 16) (ap length box ∙ sym zero_more) ∙ ap (λ p. nat_lt (length (outbox_at t x) + 0 + length (sets_by x p)) 16) pend)
+    ∙ ap (λ v. if nat_lt (length (outbox_at t x) + 0 + length (sets_by x left)) 16 then (if not (set.1 == v) && is_subscribed n.power x set.0 then state_changed a set.0 set.1 ∷ [] else []) else []) fact.0
+    ∙ ap (λ s. if nat_lt (length (outbox_at t x) + 0 + length (sets_by x left)) 16 then (if not (set.1 == state_at t.power set.0) && s then state_changed a set.0 set.1 ∷ [] else []) else []) fact.1
+
+pub power-stepped : (board : Board) (t n new : Tables) (power' : PowerTables) (a : ℕ) (header : HeaderFields) (c : PowerCommand) (reply : List ℕ) (changed later : Option (ℕ × ℕ)) (before : ℕ)
+    → length board.domains ≤ 32 → length board.agents ≤ 8 → 1 ≤ a → a ≤ length board.agents
+    → changed ≡ if_success reply (set_now c) → later ≡ if_success reply (set_later c)
+    → ((d : ℕ) → d < 32 → state_at power' d ≡ set_to changed d (state_at t.power d))
+    → ((x d : ℕ) → 1 ≤ x → x ≤ 8 → d < 32 → is_subscribed power' x d ≡ unwrap_or (if_success reply (notification x d a c)) (is_subscribed t.power x d))
+    → IfSome changed (λ set. set.0 < length board.domains) → IfSome later (λ set. set.0 < length board.domains)
+    → (set_domain c < 32 → before ≡ state_at t.power (set_domain c))
+    → SameButPending (record { base = t.base; power = power'; clocks = t.clocks; pending = t.pending; outboxes = t.outboxes }) n
+    → n.pending.items ≡ t.pending.items ++ option_to_list (option_map (state_set a header) later)
+    → SameButOutboxes n new
+    → ((x : ℕ) → 1 ≤ x → x ≤ length board.agents → outbox_at new x ≡ outbox_at n x ++ announced_at n x a changed before)
+    → HasStepped board t (success_of a header (Ok (Power c)) reply) None new
+power-stepped board t n new power' a header c reply changed later before few few_agents lo hi is_changed is_later states subs known known_later was kept1 pend1 kept2 told2 =
+    let change : change_of board (success_of a header (Ok (Power c)) reply) None ≡ option_map (state_change a) changed = change-power board a header c reply ∙ ap (option_map (state_change a)) (sym is_changed) in
+    let pend : new.pending.items ≡ t.pending.items ++ option_to_list (option_map (state_set a header) later) = ap (λ p. p.items) kept2.pending ∙ pend1 in
+    record {
+      permissions = λ x d lo' small. ap (λ b. is_allowed b x d) (kept2.base ∙ kept1.base) ∙ sym (permission-power a header c reply x d (is_allowed t.base x d));
+      subscriptions = λ x d lo' hi' small. ap (λ p. is_subscribed p x d) (kept2.power ∙ kept1.power) ∙ subs x d lo' hi' small ∙ sym (subscription-power a header c reply x d (is_subscribed t.power x d));
+      values = λ x within. values x within ∙ ap (λ o. unwrap_or (option_and_then (value_in x) o) (value_at t x)) (sym change);
+      known = subst (λ o. IfSome o (λ ch. IsThing board ch.thing)) (sym change) (changed-known board a changed known);
+      pending_sets = pend ∙ ap (λ o. t.pending.items ++ option_to_list o) (ap (option_map (state_set a header)) is_later ∙ sym (pending-power board a header c reply));
+      known_sets = λ all. subst (All (IsOfBoard board)) (sym pend) (All-append (IsOfBoard board) t.pending.items (option_to_list (option_map (state_set a header) later)) all (later-known board a header later lo hi known_later));
+      outboxes = λ x lo' hi'.
+          told2 x lo' hi'
+          ∙ ap (λ b. b ++ announced_at n x a changed before) (same_box t n x kept1.outboxes)
+          ∙ ap (λ b. outbox_at t x ++ b)
+          (announced-made t n new.pending.items x a changed before kept1.outboxes (sym (ap (λ p. p.items) kept2.pending)) (facts x lo' hi')
+          ∙ ap (λ o. made_at t new.pending.items None o x) (sym change));
+    } where
+      values : (x : Thing) → IsThing board x → value_at new x ≡ unwrap_or (option_and_then (value_in x) (option_map (state_change a) changed)) (value_at t x)
+      values (State d) within = ap (λ p. state_at p d) (kept2.power ∙ kept1.power) ∙ states d (omega arith) ∙ state-value a d (state_at t.power d) changed
+      values (Rate k) within = ap (λ p. rate_at p k) (kept2.clocks ∙ kept1.clocks) ∙ rate-value a k (rate_at t.clocks k) changed
+      values (Enabled k) within = ap (λ p. bit_value (enabled_at p k)) (kept2.clocks ∙ kept1.clocks) ∙ enabled-value a k (bit_value (enabled_at t.clocks k)) changed
+
+      facts : (x : ℕ) → 1 ≤ x → x ≤ length board.agents → (set : ℕ × ℕ) → changed ≡ Some set → (before ≡ state_at t.power set.0) × (is_subscribed n.power x set.0 ≡ is_subscribed t.power x set.0)
+      facts x lo' hi' set e =
+          let now : set_now c ≡ Some set = of_success reply (set_now c) set (sym e ∙ is_changed) in
+          let domain : set_domain c ≡ set.0 = set_of c set now in
+          let inside : set.0 < length board.domains = subst (λ o. IfSome o (λ s. s.0 < length board.domains)) e known in (
+            was (omega (arith, few)) ∙ ap (state_at t.power) domain,
+            ap (λ p. is_subscribed p x set.0) kept1.power ∙ subs x set.0 lo' (omega (arith, few_agents)) (omega (arith, few)) ∙ nothing_asked reply (notification x set.0 a c) (is_subscribed t.power x set.0) (no_request c set x set.0 a now),
+          )
+
+-- COMPLETION
+
+-- what is announced after a response
+announced-after : (t m : Tables) (left : List PendingSet) (responses : List Message) (x a d s before : ℕ) (subscribers : List ℕ)
+    → outbox_at m x ≡ outbox_at t x ++ responses → m.pending.items ≡ left → before ≡ state_at t.power d → is_subscribed m.power x d ≡ is_subscribed t.power x d
+    → announced_at m x a (Some (d, s)) before
+    ≡ (if nat_lt (length (outbox_at t x) + length responses + length (sets_by x left)) 16 then notice_at t x (state_change a (d, s)) else [])
+announced-after t m left responses x a d s before subscribers box pend was subs =
+    told-notice (nat_lt (load_at m x) 16) (is_subscribed m.power x d) (s == before) (state_changed a d s)
+    ∙ ap (λ b. if b then (if not (s == before) && is_subscribed m.power x d then state_changed a d s ∷ [] else []) else [])
+    (ap (λ l. nat_lt (l + length (sets_by x m.pending.items)) 16) (ap length box ∙ length-append (outbox_at t x) responses) ∙ ap (λ p. nat_lt (length (outbox_at t x) + length responses + length (sets_by x p)) 16) pend)
+    ∙ ap (λ v. if nat_lt (length (outbox_at t x) + length responses + length (sets_by x left)) 16 then (if not (s == v) && is_subscribed m.power x d then state_changed a d s ∷ [] else []) else []) was
+    ∙ ap (λ b. if nat_lt (length (outbox_at t x) + length responses + length (sets_by x left)) 16 then (if not (s == state_at t.power d) && b then state_changed a d s ∷ [] else []) else []) subs
+
+pub state-completed : (board : Board) (t m new : Tables) (power' : PowerTables) (left : List PendingSet) (a : ℕ) (header : HeaderFields) (wanted : Bool) (d s before : ℕ)
+    → length board.domains ≤ 32 → 1 ≤ a → a ≤ length board.agents → d < length board.domains
+    → slice_get t.pending.items 0 ≡ Some (record { agent = a; setting = setting.State d s; header = header; wanted = wanted })
+    → left ≡ drop 1 t.pending.items
+    → ((e : ℕ) → e < 32 → state_at power' e ≡ (if d == e then s else state_at t.power e))
+    → power'.subscribers ≡ t.power.subscribers
+    → before ≡ state_at t.power d
+    → SameButOutboxes (record { base = t.base; power = power'; clocks = t.clocks; pending = record { items = left }; outboxes = t.outboxes }) m
+    → ((x : ℕ) → 1 ≤ x → outbox_at m x ≡ outbox_at t x ++ response_for x (record { agent = a; setting = setting.State d s; header = header; wanted = wanted }))
+    → SameButOutboxes m new
+    → ((x : ℕ) → 1 ≤ x → x ≤ length board.agents → outbox_at new x ≡ outbox_at m x ++ announced_at m x a (Some (d, s)) before)
+    → HasStepped board t None (slice_get t.pending.items 0) new
+state-completed board t m new power' left a header wanted d s before few lo hi within first rest states subs was kept1 resp kept2 told =
+    let done : PendingSet = record { agent = a; setting = setting.State d s; header = header; wanted = wanted } in
+    let pend : new.pending.items ≡ drop 1 t.pending.items = ap (λ p. p.items) (kept2.pending ∙ kept1.pending) ∙ rest in
+    subst (λ o. HasStepped board t None o new) (sym first) (record {
+      permissions = λ x e lo' small. ap (λ b. is_allowed b x e) (kept2.base ∙ kept1.base);
+      subscriptions = λ x e lo' hi' small. ap (λ p. is_subscribed p x e) (kept2.power ∙ kept1.power) ∙ same_subs x e;
+      values = values;
+      known = within;
+      pending_sets = pend ∙ sym (append-nil (drop 1 t.pending.items));
+      known_sets = λ all. subst (All (IsOfBoard board)) (sym pend) (All-drop (IsOfBoard board) 1 t.pending.items all);
+      outboxes = λ x lo' hi'.
+          told x lo' hi'
+          ∙ ap (λ b. b ++ announced_at m x a (Some (d, s)) before) (resp x lo')
+          ∙ append_assoc (outbox_at t x) (response_for x done) (announced_at m x a (Some (d, s)) before)
+          ∙ ap (λ ys. outbox_at t x ++ (response_for x done ++ ys))
+          (announced-after t m new.pending.items (response_for x done) x a d s before t.power.subscribers (resp x lo') (sym (ap (λ p. p.items) kept2.pending)) was (ap (λ p. is_subscribed p x d) kept1.power ∙ same_subs x d));
+    }) where
+      same_subs : (x e : ℕ) → is_subscribed power' x e ≡ is_subscribed t.power x e
+      same_subs x e = ap (λ l. bit_at (get_or l e 0) (x - 1) == 1) subs
+
+      values : (x : Thing) → IsThing board x → value_at new x ≡ unwrap_or (option_and_then (value_in x) (Some (state_change a (d, s)))) (value_at t x)
+      values (State e) inside = ap (λ p. state_at p e) (kept2.power ∙ kept1.power) ∙ states e (omega arith) ∙ sym (pick (d == e) s (state_at t.power e))
+      values (Rate k) inside = ap (λ p. rate_at p k) (kept2.clocks ∙ kept1.clocks)
+      values (Enabled k) inside = ap (λ p. bit_value (enabled_at p k)) (kept2.clocks ∙ kept1.clocks)
+
+pub rate-completed : (board : Board) (t new : Tables) (clocks' : ClockTables) (left : List PendingSet) (a : ℕ) (header : HeaderFields) (wanted : Bool) (k rate : ℕ)
+    → length board.clocks ≤ 32 → 1 ≤ a → a ≤ length board.agents → k < length board.clocks
+    → slice_get t.pending.items 0 ≡ Some (record { agent = a; setting = setting.Rate k rate; header = header; wanted = wanted })
+    → left ≡ drop 1 t.pending.items
+    → ((e : ℕ) → e < 32 → rate_at clocks' e ≡ (if k == e then rate else rate_at t.clocks e))
+    → clocks'.enabled ≡ t.clocks.enabled
+    → SameButOutboxes (record { base = t.base; power = t.power; clocks = clocks'; pending = record { items = left }; outboxes = t.outboxes }) new
+    → ((x : ℕ) → 1 ≤ x → outbox_at new x ≡ outbox_at t x ++ response_for x (record { agent = a; setting = setting.Rate k rate; header = header; wanted = wanted }))
+    → HasStepped board t None (slice_get t.pending.items 0) new
+rate-completed board t new clocks' left a header wanted k rate few lo hi within first rest rates enabled kept resp =
+    let done : PendingSet = record { agent = a; setting = setting.Rate k rate; header = header; wanted = wanted } in
+    let pend : new.pending.items ≡ drop 1 t.pending.items = ap (λ p. p.items) kept.pending ∙ rest in
+    subst (λ o. HasStepped board t None o new) (sym first) (record {
+      permissions = λ x e lo' small. ap (λ b. is_allowed b x e) kept.base;
+      subscriptions = λ x e lo' hi' small. ap (λ p. is_subscribed p x e) kept.power;
+      values = values;
+      known = within;
+      pending_sets = pend ∙ sym (append-nil (drop 1 t.pending.items));
+      known_sets = λ all. subst (All (IsOfBoard board)) (sym pend) (All-drop (IsOfBoard board) 1 t.pending.items all);
+      outboxes = λ x lo' hi'.
+          resp x lo' ∙ ap (λ ys. outbox_at t x ++ ys) (sym (append-nil (response_for x done))
+          ∙ ap (λ ys. response_for x done ++ ys) (sym (nothing_if (nat_lt (length (outbox_at t x) + length (response_for x done) + length (sets_by x new.pending.items)) 16))));
+    }) where
+      values : (x : Thing) → IsThing board x → value_at new x ≡ unwrap_or (option_and_then (value_in x) (Some (record { thing = Rate k; value = rate; causer = a }))) (value_at t x)
+      values (State e) inside = ap (λ p. state_at p e) kept.power
+      values (Rate e) inside = ap (λ p. rate_at p e) kept.clocks ∙ rates e (omega arith) ∙ sym (pick (k == e) rate (rate_at t.clocks e))
+      values (Enabled e) inside = ap (λ p. bit_value (enabled_at p e)) kept.clocks ∙ ap (λ l. bit_value (get_or l e false)) enabled
+
+-- the first of a list, and the rest
+pub first-rest : (xs : List PendingSet) (x : PendingSet) → 0 < length xs → x ≡ get_or xs 0 x → (slice_get xs 0 ≡ Some x) × (remove xs 0 ≡ drop 1 xs)
+first-rest [] x h is = elim h [ ]
+first-rest (y ∷ ys) x h is = (ap Some (sym is), refl)

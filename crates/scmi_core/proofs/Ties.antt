@@ -1,0 +1,262 @@
+-- Tables that agree with a history, and what one more event leaves of that.
+use Rattle.std.proofs.Common.{◌≡◌, ◌≢◌, ◌⊎◌, inl, inr, ℕ, ◌+◌, ◌<◌, ◌≤◌, ◌==◌, ◌&&◌, nat_lt, Bool, true, false, not, List, [], ◌∷◌, ◌++◌, length, drop, slice_get, Option, Some, None, IfSome, Result, Ok, Err, unwrap_or, refl, sym, ap, ◌∙◌, subst, arith, if◌then◌else◌}
+use Rattle.std.specs.List.{All, list_any}
+use Rattle.std.specs.Option.{option_map_or}
+use Rattle.std.proofs.lemmas.List.{append-nil, drop-drop}
+use Rattle.std.proofs.lemmas.List.Elements.{All-nil}
+use Rattle.std.proofs.lemmas.Bool.{eq-eqb}
+use Rattle.std.proofs.lemmas.Bool.Decides.{eqb_tells}
+use Rattle.scmi_codec.specs.Command.{command_of}
+use Rattle.scmi_codec.specs.declared.status.Status.{Status}
+use Rattle.scmi_codec.specs.declared.message.Message.{Message}
+use Rattle.scmi_codec.specs.declared.frame.Frame.{Frame}
+use Rattle.scmi_codec.specs.declared.frame.Frame.TheVariants.{Good, Malformed}
+use Rattle.scmi_codec.specs.declared.frame.Answer.TheVariants.{Reply}
+use Rattle.scmi_codec.specs.declared.command.Command as codec
+use Rattle.scmi_codec.specs.declared.command.Command.TheVariants.{Base, Power, Clock}
+use Rattle.scmi_plan.specs.Board.{Board}
+use Rattle.scmi_plan.specs.declared.resource.Resource.TheVariants as resource
+use Rattle.scmi_plan.specs.Plan.{IsLawful}
+use Rattle.scmi_base.specs.Permission.{is_allowed}
+use Rattle.scmi_base.proofs.MaySame.{may-same}
+use Rattle.scmi_power.specs.PowerTable.{state_at, is_subscribed}
+use Rattle.scmi_power.proofs.ReplySame as power_same
+use Rattle.scmi_clock.specs.ClockTable.{rate_at, enabled_at}
+use Rattle.scmi_clock.proofs.ReplySame as clock_same
+use Rattle.scmi_core.specs.declared.pending_set.PendingSet.{PendingSet}
+use Rattle.scmi_core.specs.declared.event.Event.{Event}
+use Rattle.scmi_core.specs.declared.event.Event.TheVariants.{Command, Advance, Sent}
+use Rattle.scmi_core.specs.declared.tables.Tables.{Tables}
+use Rattle.std.specs.Option.{option_to_list, option_and_then}
+use Rattle.scmi_core.specs.Deed.{Deed, over}
+use Rattle.scmi_core.specs.Permissions.{permission_in, allowed}
+use Rattle.scmi_core.specs.Subscriptions.{subscription, subscribed}
+use Rattle.scmi_core.specs.Value.{value, Change, change_by, completed, Thing, State, Rate, Enabled, bit_value, value_in, value_at_start}
+use Rattle.scmi_core.specs.Pending.{acceptance, pending, pending_of, sets_by, is_set_by}
+use Rattle.scmi_core.specs.Outbox.{made, made_by, outbox_after, sent, is_sent_by, notice_for, response_for, state_changed}
+use Rattle.scmi_core.specs.History.{answer_to, deeds, outbox}
+use Rattle.scmi_core.specs.Legal.{CanFollow}
+use Rattle.scmi_core.specs.Reply.{reply_words, power_view, clock_view, has_room}
+use Rattle.scmi_core.specs.Tables.{outbox_at, has_room_at, value_at, IsThing, IsOfBoard, frame_answer_at, table_words, power_view_at, clock_view_at}
+use Rattle.scmi_core.specs.Step.{notice_at, made_at, success_of, HasAnswered, change_of, rest_of, HasStepped}
+use Rattle.scmi_core.specs.Agreement.{Agrees}
+use Rattle.scmi_core.proofs.Laws.{added, allowed-push, subscribed-push, value-push, pending-push, pending-advance, outbox-push, IsLegal-push, made-push, sent-push}
+use Rattle.scmi_core.proofs.Legal.{deeds-push, advances_le-accepted, sent_le-made}
+use Rattle.scmi_core.proofs.Steps.{nothing_if}
+
+-- THE REPLY
+
+module _ (board : Board) (t : Tables) (h : List Event) (agrees : Agrees board t h) (law : IsLawful board) (a : ℕ) (lo : 1 ≤ a) (hi : a ≤ length board.agents) where
+  few : a ≤ 8
+  few = omega (arith, law.few_agents)
+
+  room : has_room_at t a ≡ has_room board a (deeds board h)
+  room =
+      ap (λ p. nat_lt (length p) 8 && nat_lt (length (outbox_at t a) + length (sets_by a p)) 16) agrees.pending_sets
+      ∙ ap (λ b. nat_lt (length (pending board (deeds board h))) 8 && nat_lt (length b + length (pending_of board a (deeds board h))) 16) (agrees.outboxes a lo hi)
+
+  pub reply-table : (r : Result codec.Command Status) → table_words board a t r ≡ reply_words board a (deeds board h) r
+  unfolding table_words reply_words
+  reply-table (Err s) = refl
+  reply-table (Ok (Base c)) = refl
+  reply-table (Ok (Power c)) =
+      power_same.power_reply-same board (power_view_at board a t) (power_view board a (deeds board h))
+      (record {
+        state = λ d small. agrees.values (State d) small;
+        may = λ d small. may-same board (λ device. is_allowed t.base a device) (λ device. allowed a device (deeds board h)) (resource.Domain d)
+            (λ device within. agrees.permissions a device lo few (omega (arith, law.few_devices)));
+        busy = λ d small. ap (λ p. list_any (λ q. is_set_by (resource.Domain d) q.setting) p) agrees.pending_sets;
+        room = room;
+      }) c
+  reply-table (Ok (Clock c)) =
+      clock_same.clock_reply-same board (clock_view_at board a t) (clock_view board a (deeds board h))
+      (record {
+        rate = λ k small. agrees.values (Rate k) small;
+        enabled = λ k small. said (enabled_at t.clocks k) ∙ ap (λ n. n == 1) (agrees.values (Enabled k) small);
+        may = λ k small. may-same board (λ device. is_allowed t.base a device) (λ device. allowed a device (deeds board h)) (resource.Clock k)
+            (λ device within. agrees.permissions a device lo few (omega (arith, law.few_devices)));
+        busy = λ k small. ap (λ p. list_any (λ q. is_set_by (resource.Clock k) q.setting) p) agrees.pending_sets;
+        room = room;
+      }) c where
+        said : (b : Bool) → b ≡ (bit_value b == 1)
+        said true = refl
+        said false = refl
+
+-- ONE MORE EVENT
+
+-- the notification by tables is the history's
+notice-same : (board : Board) (t : Tables) (h : List Event) → Agrees board t h → length board.agents ≤ 8 → length board.domains ≤ 32 → (a : ℕ) → 1 ≤ a → a ≤ length board.agents
+    → (change : Change) → IsThing board change.thing → notice_at t a change ≡ notice_for board a (deeds board h) change
+notice-same board t h agrees few domains a lo hi change known = by change.thing known where
+  by : (x : Thing) → IsThing board x → notice_at t a (record { thing = x; value = change.value; causer = change.causer }) ≡ notice_for board a (deeds board h) (record { thing = x; value = change.value; causer = change.causer })
+  by (State d) within =
+      ap (λ v. if not (change.value == v) && is_subscribed t.power a d then state_changed change.causer d change.value ∷ [] else []) (agrees.values (State d) within)
+      ∙ ap (λ b. if not (change.value == value board (State d) (deeds board h)) && b then state_changed change.causer d change.value ∷ [] else []) (agrees.subscriptions a d lo (omega (arith, few)) (omega (arith, domains)))
+  by (Rate k) within = refl
+  by (Enabled k) within = refl
+
+notices-same : (board : Board) (t : Tables) (h : List Event) → Agrees board t h → length board.agents ≤ 8 → length board.domains ≤ 32 → (a : ℕ) → 1 ≤ a → a ≤ length board.agents
+    → (change : Option Change) → IfSome change (λ ch. IsThing board ch.thing) → option_map_or (notice_at t a) change [] ≡ option_map_or (notice_for board a (deeds board h)) change []
+notices-same board t h agrees few_agents domains a lo hi None known = refl
+notices-same board t h agrees few_agents domains a lo hi (Some change) known = notice-same board t h agrees few_agents domains a lo hi change known
+
+-- a deed, and the tables that it leaves
+module _ (board : Board) (t new : Tables) (h : List Event) (deed : Deed) (agrees : Agrees board t h) (law : IsLawful board)
+    (stepped : HasStepped board t (added deed) (completed board (deeds board h) deed.event) new)
+    (pend : new.pending.items ≡ pending board (deeds board h ++ deed ∷ [])) where
+  made-same : (a : ℕ) → 1 ≤ a → a ≤ length board.agents
+      → made_at t new.pending.items (completed board (deeds board h) deed.event) (change_of board (added deed) (completed board (deeds board h) deed.event)) a
+      ≡ made_by board a (deeds board h) (made board a (deeds board h)) deed
+  made-same a lo hi =
+      let done = completed board (deeds board h) deed.event in
+      let change = change_of board (added deed) done in
+      let responses = option_map_or (response_for a) done [] in
+      ap (λ b. responses ++ (if nat_lt (length b + length responses + length (sets_by a new.pending.items)) 16 then option_map_or (notice_at t a) change [] else [])) (agrees.outboxes a lo hi)
+      ∙ ap (λ p. responses ++ (if nat_lt (length (outbox board a h) + length responses + length (sets_by a p)) 16 then option_map_or (notice_at t a) change [] else [])) pend
+      ∙ ap (λ n. responses ++ (if nat_lt (length (outbox board a h) + length responses + length (sets_by a (pending board (deeds board h ++ deed ∷ [])))) 16 then n else []))
+      (notices-same board t h agrees law.few_agents law.few_domains a lo hi change stepped.known)
+
+  Agrees-deed : (e : Event) → deeds board (h ++ e ∷ []) ≡ deeds board h ++ deed ∷ [] → CanFollow board h e → ((a : ℕ) → is_sent_by a deed.event ≡ false) → Agrees board new (h ++ e ∷ [])
+  Agrees-deed e more follows unsent = record {
+    legal = IsLegal-push board h e agrees.legal follows;
+    permissions = λ a d lo hi small.
+        stepped.permissions a d lo small
+        ∙ ap (unwrap_or (option_and_then (λ s. permission_in a d s.command) (added deed))) (agrees.permissions a d lo hi small)
+        ∙ sym (ap (allowed a d) more ∙ allowed-push a d (deeds board h) deed);
+    subscriptions = λ a d lo hi small.
+        stepped.subscriptions a d lo hi small
+        ∙ ap (unwrap_or (option_and_then (subscription a d) (added deed))) (agrees.subscriptions a d lo hi small)
+        ∙ sym (ap (subscribed a d) more ∙ subscribed-push a d (deeds board h) deed);
+    values = λ x within.
+        stepped.values x within
+        ∙ ap (unwrap_or (option_and_then (value_in x) (change_by board (deeds board h) deed))) (agrees.values x within)
+        ∙ sym (ap (value board x) more ∙ value-push board x (deeds board h) deed);
+    pending_sets = pend ∙ sym (ap (pending board) more);
+    known = stepped.known_sets agrees.known;
+    outboxes = λ a lo hi.
+        stepped.outboxes a lo hi
+        ∙ ap (λ b. b ++ made_at t new.pending.items (completed board (deeds board h) deed.event) (change_of board (added deed) (completed board (deeds board h) deed.event)) a) (agrees.outboxes a lo hi)
+        ∙ ap (λ b. outbox board a h ++ b) (made-same a lo hi)
+        ∙ sym (ap (outbox_after board a) more ∙ outbox-push board a (deeds board h) deed (unsent a) (sent_le-made board h agrees.legal a));
+  }
+
+-- a command
+pub Agrees-command : (board : Board) (t new : Tables) (h : List Event) (a : ℕ) (m : Message) (reply : List ℕ) → Agrees board t h → IsLawful board → 1 ≤ a → a ≤ length board.agents
+    → reply ≡ table_words board a t (command_of m) → HasStepped board t (success_of a m.header (command_of m) reply) None new
+    → Agrees board new (h ++ Command a (Good m) ∷ [])
+Agrees-command board t new h a m reply agrees law lo hi is stepped =
+    let words : reply ≡ reply_words board a (deeds board h) (command_of m) = is ∙ reply-table board t h agrees law a lo hi (command_of m) in
+    let deed : Deed = record { event = Command a (Good m); reply = reply_words board a (deeds board h) (command_of m) } in
+    let stepped' : HasStepped board t (success_of a m.header (command_of m) (reply_words board a (deeds board h) (command_of m))) None new = subst (λ r. HasStepped board t (success_of a m.header (command_of m) r) None new) words stepped in
+    Agrees-deed board t new h deed agrees law stepped'
+    (stepped'.pending_sets ∙ ap (λ p. p ++ option_to_list (option_and_then (acceptance board) (added deed))) agrees.pending_sets ∙ sym (pending-push board (deeds board h) deed refl (advances_le-accepted board h agrees.legal)))
+    (Command a (Good m)) (deeds-push board h (Command a (Good m))) (lo, hi) (λ x. refl)
+
+-- an event that is neither a success nor a completion
+nothing-stepped : (board : Board) (t : Tables) → HasStepped board t None None t
+nothing-stepped board t = record {
+  permissions = λ a d lo small. refl;
+  subscriptions = λ a d lo hi small. refl;
+  values = λ x within. refl;
+  known = tt;
+  pending_sets = sym (append-nil t.pending.items);
+  known_sets = λ all. all;
+  outboxes = λ a lo hi. sym (append-nil (outbox_at t a)) ∙ ap (λ ys. outbox_at t a ++ ys) (sym (nothing_if (nat_lt (length (outbox_at t a) + 0 + length (sets_by a t.pending.items)) 16)));
+}
+
+-- a malformed frame
+pub Agrees-malformed : (board : Board) (t : Tables) (h : List Event) (a len header : ℕ) → Agrees board t h → IsLawful board → 1 ≤ a → a ≤ length board.agents
+    → Agrees board t (h ++ Command a (Malformed len header) ∷ [])
+Agrees-malformed board t h a len header agrees law lo hi =
+    let deed : Deed = record { event = Command a (Malformed len header); reply = [] } in
+    Agrees-deed board t t h deed agrees law (nothing-stepped board t)
+    (sym (append-nil t.pending.items) ∙ ap (λ p. p ++ []) agrees.pending_sets ∙ sym (pending-push board (deeds board h) deed refl (advances_le-accepted board h agrees.legal)))
+    (Command a (Malformed len header)) (deeds-push board h (Command a (Malformed len header))) (lo, hi) (λ x. refl)
+
+-- a frame that was answered
+pub Agrees-answered : (board : Board) (t new : Tables) (h : List Event) (a : ℕ) (frame : Frame) → Agrees board t h → IsLawful board → 1 ≤ a → a ≤ length board.agents
+    → HasAnswered board a frame t new → Agrees board new (h ++ Command a frame ∷ [])
+Agrees-answered board t new h a (Good m) agrees law lo hi answered =
+    Agrees-command board t new h a m (table_words board a t (command_of m)) agrees law lo hi refl answered
+Agrees-answered board t new h a (Malformed len header) agrees law lo hi answered =
+    subst (λ s. Agrees board s (h ++ Command a (Malformed len header) ∷ [])) (sym answered) (Agrees-malformed board t h a len header agrees law lo hi)
+
+-- the answer of the tables is that of the history
+pub answer-table : (board : Board) (t : Tables) (h : List Event) (a : ℕ) (frame : Frame) → Agrees board t h → IsLawful board → 1 ≤ a → a ≤ length board.agents
+    → frame_answer_at board a t frame ≡ answer_to board a frame h
+answer-table board t h a (Good m) agrees law lo hi =
+    ap (λ words. Reply (record { header = m.header; payload = record { items = words } })) (reply-table board t h agrees law a lo hi (command_of m))
+answer-table board t h a (Malformed len header) agrees law lo hi = refl
+
+rest-drop : (t : Tables) (p : List PendingSet) → 0 < length p → rest_of t (slice_get p 0) ++ [] ≡ drop 1 t.pending.items
+rest-drop t [] waiting = elim waiting [ ]
+rest-drop t (x ∷ xs) waiting = append-nil (drop 1 t.pending.items)
+
+-- a completion
+pub Agrees-advance : (board : Board) (t new : Tables) (h : List Event) → Agrees board t h → IsLawful board → 0 < length t.pending.items
+    → HasStepped board t None (slice_get t.pending.items 0) new → Agrees board new (h ++ Advance ∷ [])
+Agrees-advance board t new h agrees law waiting stepped =
+    let deed : Deed = record { event = Advance; reply = [] } in
+    let follows : 0 < length (pending board (deeds board h)) = subst (λ p. 0 < length p) agrees.pending_sets waiting in
+    let stepped' : HasStepped board t None (completed board (deeds board h) Advance) new = subst (λ p. HasStepped board t None (slice_get p 0) new) agrees.pending_sets stepped in
+    Agrees-deed board t new h deed agrees law stepped'
+    (stepped.pending_sets ∙ rest-drop t t.pending.items waiting ∙ ap (drop 1) agrees.pending_sets ∙ sym (pending-advance board (deeds board h)))
+    Advance (deeds-push board h Advance) follows (λ x. refl)
+
+-- a message that was posted
+pub Agrees-sent : (board : Board) (t new : Tables) (h : List Event) (a : ℕ) → Agrees board t h → IsLawful board → 1 ≤ a → a ≤ length board.agents → 0 < length (outbox_at t a)
+    → new.base ≡ t.base → new.power ≡ t.power → new.clocks ≡ t.clocks → new.pending ≡ t.pending
+    → outbox_at new a ≡ drop 1 (outbox_at t a) → ((x : ℕ) → 1 ≤ x → x ≢ a → outbox_at new x ≡ outbox_at t x)
+    → Agrees board new (h ++ Sent a ∷ [])
+Agrees-sent board t new h a agrees law lo hi waiting bases powers clocks pends front others =
+    let deed : Deed = record { event = Sent a; reply = [] } in
+    let more = deeds-push board h (Sent a) in
+    let follows : 0 < length (outbox board a h) = subst (λ b. 0 < length b) (agrees.outboxes a lo hi) waiting in
+    record {
+      legal = IsLegal-push board h (Sent a) agrees.legal (lo, hi, follows);
+      permissions = λ x d lo' hi' small. ap (λ b. is_allowed b x d) bases ∙ agrees.permissions x d lo' hi' small ∙ sym (ap (allowed x d) more ∙ allowed-push x d (deeds board h) deed);
+      subscriptions = λ x d lo' hi' small. ap (λ p. is_subscribed p x d) powers ∙ agrees.subscriptions x d lo' hi' small ∙ sym (ap (subscribed x d) more ∙ subscribed-push x d (deeds board h) deed);
+      values = λ x within. same_value x ∙ agrees.values x within ∙ sym (ap (value board x) more ∙ value-push board x (deeds board h) deed);
+      pending_sets = ap (λ p. p.items) pends ∙ agrees.pending_sets ∙ sym (append-nil (pending board (deeds board h)))
+          ∙ sym (ap (pending board) more ∙ pending-push board (deeds board h) deed refl (advances_le-accepted board h agrees.legal));
+      known = subst (λ p. All (IsOfBoard board) p.items) (sym pends) agrees.known;
+      outboxes = λ x lo' hi'. by_agent x lo' hi' (eqb_tells x a);
+    } where
+      same_value : (x : Thing) → value_at new x ≡ value_at t x
+      same_value (State d) = ap (λ p. state_at p d) powers
+      same_value (Rate k) = ap (λ p. rate_at p k) clocks
+      same_value (Enabled k) = ap (λ p. bit_value (enabled_at p k)) clocks
+
+      made_more : (x : ℕ) → made board x (deeds board h ++ record { event = Sent a; reply = [] } ∷ []) ≡ made board x (deeds board h)
+      made_more x = made-push board x (deeds board h) (record { event = Sent a; reply = [] }) ∙ ap (λ ys. made board x (deeds board h) ++ ys) (nothing_if (nat_lt (length (outbox_after board x (deeds board h)) + 0 + length (pending_of board x (deeds board h ++ record { event = Sent a; reply = [] } ∷ []))) 16)) ∙ append-nil (made board x (deeds board h))
+
+      by_agent : (x : ℕ) → 1 ≤ x → x ≤ length board.agents → (((x == a) ≡ true) × (x ≡ a)) ⊎ (((x == a) ≡ false) × (x ≢ a)) → outbox_at new x ≡ outbox board x (h ++ Sent a ∷ [])
+      by_agent x lo' hi' (inl same) =
+          let deed : Deed = record { event = Sent a; reply = [] } in
+          rw same.1 (front ∙ ap (drop 1) (agrees.outboxes a lo hi)
+          ∙ drop-drop 1 (sent a (deeds board h)) (made board a (deeds board h))
+          ∙ sym (ap (outbox_after board a) (deeds-push board h (Sent a)) ∙ ap (drop (sent a (deeds board h ++ deed ∷ []))) (made_more a)
+          ∙ ap (λ n. drop n (made board a (deeds board h))) (sent-push a (deeds board h) deed ∙ ap (λ b. sent a (deeds board h) + (if b then 1 else 0)) (eq-eqb a a refl))))
+      by_agent x lo' hi' (inr other) =
+          let deed : Deed = record { event = Sent a; reply = [] } in
+          let zero_more : sent x (deeds board h) + 0 ≡ sent x (deeds board h) = omega arith in
+          others x lo' other.1 ∙ agrees.outboxes x lo' hi'
+          ∙ sym (ap (outbox_after board x) (deeds-push board h (Sent a)) ∙ ap (drop (sent x (deeds board h ++ deed ∷ []))) (made_more x)
+          ∙ ap (λ n. drop n (made board x (deeds board h))) (sent-push x (deeds board h) deed ∙ ap (λ b. sent x (deeds board h) + (if b then 1 else 0)) other.0 ∙ zero_more))
+
+-- the tables of a new controller
+pub Agrees-new : (board : Board) (t : Tables) → ((a d : ℕ) → is_allowed t.base a d ≡ true) → ((a d : ℕ) → is_subscribed t.power a d ≡ false)
+    → ((x : Thing) → IsThing board x → value_at t x ≡ value_at_start board x) → t.pending.items ≡ [] → ((a : ℕ) → outbox_at t a ≡ []) → Agrees board t []
+unfolding deeds over
+Agrees-new board t all none values pends boxes = record {
+  legal = record { each = λ before after event is. nothing before after event is };
+  permissions = λ a d lo hi small. all a d;
+  subscriptions = λ a d lo hi small. none a d;
+  values = values;
+  pending_sets = pends;
+  known = subst (All (IsOfBoard board)) (sym pends) (All-nil (IsOfBoard board));
+  outboxes = λ a lo hi. boxes a;
+} where
+  nothing : (before after : List Event) (event : Event) → [] ≡ before ++ event ∷ after → CanFollow board before event
+  nothing [] after event is = absurd (cc)
+  nothing (x ∷ xs) after event is = absurd (cc)

@@ -1,0 +1,22 @@
+use Rattle.std.proofs.Common.{◌∙◌, arith}
+use Rattle.scmi_core.proofs.Replies.{power-reply}
+use Rattle.scmi_core.proofs.Steps.{power-stepped}
+use Rattle.scmi_core.proofs.tables.Tables.execute_power.Goals as goal
+
+pub returns-clause-reply : goal.returns-clause-reply
+returns-clause-reply c =
+    c.execute-done.ensures.reply
+    ∙ power-reply c.args.plan.now c.args.self.now c.args.agent c.domain_load-load.result c.args.command c.agents-agents.ensures.lawful.few_domains c.domain_load-load.ensures.busy c.domain_load-load.ensures.room
+
+pub returns-clause-stepped : goal.returns-clause-stepped
+returns-clause-stepped c =
+    let law = c.agents-agents.ensures.lawful in
+    let count = c.agents-agents.ensures.count in
+    power-stepped c.args.plan.now c.args.self.now c.accept_state.new.self c.announce.new.self c.execute-done.new.self c.args.agent c.args.header c.args.command
+    c.execute-done.result.reply.items c.execute-done.result.changed c.execute-done.result.later c.state_before-before.result
+    law.few_domains law.few_agents c.requires.first c.requires.last
+    c.execute-done.ensures.changed c.execute-done.ensures.later c.execute-done.ensures.states c.execute-done.ensures.subscribed
+    c.execute-done.ensures.known_now c.execute-done.ensures.known_later
+    (rw (← c.set_domain.ensures) c.state_before-before.ensures)
+    c.accept_state.ensures.kept c.accept_state.ensures.pending c.announce.ensures.kept
+    (λ x lo hi. c.announce.ensures.told x lo (omega (arith, count)))

@@ -1,0 +1,32 @@
+-- What one agent did and was told.
+use Rattle.std.specs.Prelude.{ℕ, ◌==◌, if◌then◌else◌, List, [], ◌∷◌, length, Option, Some, None, ◌≤◌}
+use Rattle.std.specs.List.{filter_map}
+use Rattle.scmi_codec.specs.declared.frame.Frame.{Frame}
+use Rattle.scmi_codec.specs.declared.frame.Answer.{Answer}
+use Rattle.scmi_plan.specs.Board.{Board}
+use Rattle.scmi_core.specs.declared.event.Event.{Event}
+use Rattle.scmi_core.specs.declared.event.Event.TheVariants.{Command}
+use Rattle.scmi_core.specs.History.{answer_to}
+use Rattle.scmi_core.specs.Deed.{gathered}
+
+-- agents are numbered from 1; 0 is the platform
+abbrev pub IsAgent : ℕ → Board → Type 0
+IsAgent a board = (1 ≤ a) × (a ≤ length board.agents)
+
+-- the frame of an event, if it is a command of agent a
+abbrev pub frame_from : ℕ → Event → Option Frame
+frame_from a (Command b frame) = if a == b then Some frame else None
+frame_from a _ = None
+
+-- the frames that agent a had executed, in order
+abbrev pub frames_of : ℕ → List Event → List Frame
+frames_of a h = filter_map (frame_from a) h
+
+-- the answer to an event after a history, if it is a command of agent a
+abbrev pub answer_for : Board → ℕ → List Event → Event → List Answer
+answer_for board a before (Command b frame) = if a == b then answer_to board b frame before ∷ [] else []
+answer_for board a before _ = []
+
+-- the answers to the frames of agent a, in order
+abbrev pub answers_to : Board → ℕ → List Event → List Answer
+answers_to board a h = gathered (answer_for board a) h

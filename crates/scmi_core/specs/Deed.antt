@@ -1,0 +1,50 @@
+-- Deeds: events with the replies that they got. A history of deeds is a list of them, oldest first.
+use Rattle.std.specs.Prelude.{ℕ, if◌then◌else◌, List, [], ◌∷◌, ◌++◌, Option, Some, None, Result, Ok, Err}
+use Rattle.std.specs.List.{filter_map}
+use Rattle.scmi_codec.specs.Header.{HeaderFields}
+use Rattle.scmi_codec.specs.Command.{command_of}
+use Rattle.scmi_codec.specs.Payload.{begins_with_success}
+use Rattle.scmi_codec.specs.declared.status.Status.{Status}
+use Rattle.scmi_codec.specs.declared.frame.Frame.TheVariants.{Good}
+use Rattle.scmi_codec.specs.declared.command.Command as codec
+use Rattle.scmi_core.specs.declared.event.Event.{Event}
+use Rattle.scmi_core.specs.declared.event.Event.TheVariants.{Command}
+
+-- an event, and the payload words of its reply; none where the event is no well-formed command
+pub record Deed : Type 0 where
+  pub event : Event
+  pub reply : List ℕ
+
+-- the last item of a list, d where there is none
+abbrev pub latest : {A : Type 0} → A → List A → A
+latest d [] = d
+latest d (x ∷ xs) = latest x xs
+
+-- what `step` makes of s over the items of a list, each given the items before it
+unfoldable pub over : {X S : Type 0} → (List X → S → X → S) → List X → S → List X → S
+over step before s [] = s
+over step before s (x ∷ xs) = over step (before ++ x ∷ []) (step before s x) xs
+
+-- what each item adds to a list, given the items before it
+abbrev pub gathered : {X A : Type 0} → (List X → X → List A) → List X → List A
+gathered adds xs = over (λ before so_far x. so_far ++ adds before x) [] [] xs
+
+-- a command that was answered with status 0
+pub record Success : Type 0 where
+  pub caller : ℕ
+  pub header : HeaderFields
+  pub command : codec.Command
+
+-- a message that was read as a command, as a success of its caller
+abbrev pub success_with : ℕ → HeaderFields → Result codec.Command Status → Option Success
+success_with a header (Ok c) = Some (record { caller = a; header = header; command = c })
+success_with a header (Err e) = None
+
+-- the success that an event with this reply is
+abbrev pub success_at : Event → List ℕ → Option Success
+success_at (Command a (Good m)) reply = if begins_with_success reply then success_with a m.header (command_of m) else None
+success_at _ reply = None
+
+-- the successful commands, in order
+abbrev pub successes : List Deed → List Success
+successes h = filter_map (λ deed. success_at deed.event deed.reply) h

@@ -1,0 +1,75 @@
+-- The messages that the platform makes for an agent, and those that are not yet posted.
+use Rattle.std.specs.Prelude.{ℕ, ◌+◌, ◌==◌, ◌&&◌, Bool, false, not, nat_lt, if◌then◌else◌, List, [], ◌∷◌, ◌++◌, length, drop, count_by}
+use Rattle.std.specs.Option.{option_map_or}
+use Rattle.scmi_codec.specs.Header.{HeaderFields}
+use Rattle.scmi_codec.specs.declared.message.Message.{Message}
+use Rattle.scmi_codec.specs.Rate.{rate_words}
+use Rattle.scmi_plan.specs.Board.{Board}
+use Rattle.scmi_core.specs.declared.pending_set.PendingSet.{PendingSet}
+use Rattle.scmi_core.specs.declared.pending_set.Setting.{Setting}
+use Rattle.scmi_core.specs.declared.event.Event.{Event}
+use Rattle.scmi_core.specs.declared.event.Event.TheVariants.{Sent}
+use Rattle.scmi_core.specs.Value.{Change, State, Thing, change_by, completed, value}
+use Rattle.scmi_core.specs.Deed.{Deed, over}
+use Rattle.scmi_core.specs.Pending.{pending_of}
+use Rattle.scmi_core.specs.Subscriptions.{subscribed}
+use Rattle.scmi_core.specs.declared.pending_set.Setting.TheVariants as setting
+
+-- the payload of a delayed response: status 0, the domain or clock, and the value that was set (own)
+abbrev pub delayed_words : Setting → List ℕ
+delayed_words (setting.State d state) = 0 ∷ d ∷ state ∷ []
+delayed_words (setting.Rate c rate) = 0 ∷ c ∷ rate_words rate
+
+-- the delayed response to a set: its command's token, protocol and id, type 2 (DEN0056B, message header)
+abbrev pub response_to : HeaderFields → Setting → Message
+response_to header setting =
+    record {
+      header = record { reserved = 0; token = header.token; protocol = header.protocol; kind = 2; id = header.id };
+      payload = record { items = delayed_words setting };
+    }
+
+-- POWER_STATE_CHANGED: type 3, id 0, token 0 (own), the causer, the domain and its state (DEN0056B, power domain management protocol)
+abbrev pub state_changed : ℕ → ℕ → ℕ → Message
+state_changed causer d state =
+    record {
+      header = record { reserved = 0; token = 0; protocol = 0x11; kind = 3; id = 0 };
+      payload = record { items = causer ∷ d ∷ state ∷ [] };
+    }
+
+-- the delayed response that a completed set makes for agent a: to its own agent, if it is wanted
+abbrev pub response_for : ℕ → PendingSet → List Message
+response_for a p = if p.agent == a && p.wanted then response_to p.header p.setting ∷ [] else []
+
+-- the notification that a change makes for agent a: of a state that is another than before, where a asked to be told; the causer is told as well (own)
+abbrev pub notice_for : Board → ℕ → List Deed → Change → List Message
+notice_for board a before change = notice change.thing where
+  notice : Thing → List Message
+  notice (State d) =
+      if not (change.value == value board (State d) before) && subscribed a d before
+      then state_changed change.causer d change.value ∷ [] else []
+  notice _ = []
+
+-- whether an event is the posting of a message to agent a
+abbrev pub is_sent_by : ℕ → Event → Bool
+is_sent_by a (Sent b) = a == b
+is_sent_by a _ = false
+
+-- how many messages were posted to agent a
+abbrev pub sent : ℕ → List Deed → ℕ
+sent a h = count_by (λ deed. is_sent_by a deed.event) h
+
+-- what a deed makes for agent a, given the deeds before it and what they made: the delayed response, and then the notification if outbox and pending sets are below 16 (own)
+abbrev pub made_by : Board → ℕ → List Deed → List Message → Deed → List Message
+made_by board a before so_far deed =
+    let responses = option_map_or (response_for a) (completed board before deed.event) [] in
+    let notices = option_map_or (notice_for board a before) (change_by board before deed) [] in
+    let load = length (drop (sent a before) so_far) + length responses + length (pending_of board a (before ++ deed ∷ [])) in
+    responses ++ (if nat_lt load 16 then notices else [])
+
+-- all messages made for agent a, in order
+abbrev pub made : Board → ℕ → List Deed → List Message
+made board a h = over (λ before so_far deed. so_far ++ made_by board a before so_far deed) [] [] h
+
+-- the messages made for agent a and not yet posted
+abbrev pub outbox_after : Board → ℕ → List Deed → List Message
+outbox_after board a h = drop (sent a h) (made board a h)

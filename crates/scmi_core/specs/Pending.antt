@@ -1,0 +1,68 @@
+-- Sets that are accepted for later, and those of them that are pending (own).
+use Rattle.std.specs.Prelude.{ℕ, ◌==◌, Bool, true, false, List, drop, filter, count_by, Option, None, option_map}
+use Rattle.std.specs.List.{filter_map, list_any}
+use Rattle.scmi_codec.specs.Header.{HeaderFields}
+use Rattle.scmi_codec.specs.declared.command.Command.TheVariants.{Base, Power, Clock}
+use Rattle.scmi_codec.specs.declared.command.Command as codec
+use Rattle.scmi_plan.specs.Board.{Board}
+use Rattle.scmi_plan.specs.declared.resource.Resource.{Resource}
+use Rattle.scmi_plan.specs.declared.resource.Resource.TheVariants as resource
+use Rattle.scmi_power.specs.PowerTable.{set_later}
+use Rattle.scmi_clock.specs.ClockTable.{rate_later}
+use Rattle.scmi_core.specs.declared.pending_set.PendingSet.{PendingSet}
+use Rattle.scmi_core.specs.declared.pending_set.Setting.{Setting}
+use Rattle.scmi_core.specs.declared.event.Event.{Event}
+use Rattle.scmi_core.specs.declared.event.Event.TheVariants.{Advance}
+use Rattle.scmi_core.specs.Deed.{Deed, Success, successes}
+use Rattle.scmi_core.specs.declared.pending_set.Setting.TheVariants as setting
+
+-- a domain's set that is accepted for later: domain and state; it always wants a delayed response (own)
+abbrev pub state_set : ℕ → HeaderFields → ℕ × ℕ → PendingSet
+state_set a header set = record { agent = a; setting = setting.State set.0 set.1; header = header; wanted = true }
+
+-- a clock's set that is accepted for later: clock, rounded rate, and whether a delayed response is wanted (DEN0056B, clock management protocol)
+abbrev pub rate_set : ℕ → HeaderFields → ℕ × ℕ × Bool → PendingSet
+rate_set a header set = record { agent = a; setting = setting.Rate set.0 set.1; header = header; wanted = set.2 }
+
+-- the set that a success leaves pending
+abbrev pub acceptance : Board → Success → Option PendingSet
+acceptance board s = accepted_by s.command where
+  accepted_by : codec.Command → Option PendingSet
+  accepted_by (Power c) = option_map (state_set s.caller s.header) (set_later c)
+  accepted_by (Clock c) = option_map (rate_set s.caller s.header) (rate_later board c)
+  accepted_by (Base c) = None
+
+-- the sets that were accepted for later, in order of acceptance
+abbrev pub accepted : Board → List Deed → List PendingSet
+accepted board h = filter_map (acceptance board) (successes h)
+
+-- whether an event completes a set
+abbrev pub is_advance : Event → Bool
+is_advance Advance = true
+is_advance _ = false
+
+-- how many sets are complete
+abbrev pub advances : List Deed → ℕ
+advances h = count_by (λ deed. is_advance deed.event) h
+
+-- sets complete in order of acceptance, one per advance; the others are pending (own)
+abbrev pub pending : Board → List Deed → List PendingSet
+pending board h = drop (advances h) (accepted board h)
+
+-- the sets of agent a
+abbrev pub sets_by : ℕ → List PendingSet → List PendingSet
+sets_by a sets = filter (λ p. p.agent == a) sets
+
+-- the pending sets of agent a
+abbrev pub pending_of : Board → ℕ → List Deed → List PendingSet
+pending_of board a h = sets_by a (pending board h)
+
+-- whether a setting is one of this domain or clock
+abbrev pub is_set_by : Resource → Setting → Bool
+is_set_by (resource.Domain d) (setting.State e state) = d == e
+is_set_by (resource.Clock c) (setting.Rate e rate) = c == e
+is_set_by _ _ = false
+
+-- whether a domain or clock has a pending set
+abbrev pub is_pending : Board → Resource → List Deed → Bool
+is_pending board r h = list_any (λ p. is_set_by r p.setting) (pending board h)

@@ -1,0 +1,98 @@
+-- What an event leaves of the tables.
+use Rattle.std.specs.Prelude.{◌≡◌, ℕ, ◌+◌, ◌==◌, ◌&&◌, not, nat_lt, if◌then◌else◌, List, [], ◌∷◌, ◌++◌, length, drop, Option, Some, None, unwrap_or, option_map, Result, ◌<◌, ◌≤◌, IfSome}
+use Rattle.std.specs.Option.{option_map_or, option_and_then, option_or, option_to_list}
+use Rattle.std.specs.List.{All}
+use Rattle.scmi_codec.specs.Header.{HeaderFields}
+use Rattle.scmi_codec.specs.Command.{command_of}
+use Rattle.scmi_codec.specs.Payload.{begins_with_success}
+use Rattle.scmi_codec.specs.declared.status.Status.{Status}
+use Rattle.scmi_codec.specs.declared.message.Message.{Message}
+use Rattle.scmi_codec.specs.declared.frame.Frame.{Frame}
+use Rattle.scmi_codec.specs.declared.frame.Frame.TheVariants.{Good, Malformed}
+use Rattle.scmi_codec.specs.declared.power_command.PowerCommand.{PowerCommand}
+use Rattle.scmi_codec.specs.declared.command.Command as codec
+use Rattle.scmi_codec.specs.declared.power_command.PowerCommand.TheVariants as power
+use Rattle.scmi_plan.specs.Board.{Board}
+use Rattle.scmi_base.specs.Permission.{is_allowed}
+use Rattle.scmi_power.specs.PowerTable.{state_at, is_subscribed}
+use Rattle.scmi_core.specs.declared.pending_set.PendingSet.{PendingSet}
+use Rattle.scmi_core.specs.declared.tables.Tables.{Tables}
+use Rattle.scmi_core.specs.Value.{Change, State, Thing, change_now, completion, value_in}
+use Rattle.scmi_core.specs.Tables.{IsOfBoard, IsThing, load_at, outbox_at, table_words, value_at}
+use Rattle.scmi_core.specs.Deed.{Success, success_with}
+use Rattle.scmi_core.specs.Pending.{acceptance, sets_by}
+use Rattle.scmi_core.specs.Permissions.{permission_in}
+use Rattle.scmi_core.specs.Outbox.{response_for, state_changed}
+use Rattle.scmi_core.specs.Subscriptions.{subscription}
+
+-- the notification that a change makes for agent a
+abbrev pub notice_at : Tables → ℕ → Change → List Message
+notice_at t a change = notice change.thing where
+  notice : Thing → List Message
+  notice (State d) =
+      if not (change.value == state_at t.power d) && is_subscribed t.power a d
+      then state_changed change.causer d change.value ∷ [] else []
+  notice _ = []
+
+-- what an event makes for agent a: a delayed response, and then a notification if there is room for it beside the sets still pending
+abbrev pub made_at : Tables → List PendingSet → Option PendingSet → Option Change → ℕ → List Message
+made_at t left done change a =
+    let responses = option_map_or (response_for a) done [] in
+    let notices = option_map_or (notice_at t a) change [] in
+    let load = length (outbox_at t a) + length responses + length (sets_by a left) in
+    responses ++ (if nat_lt load 16 then notices else [])
+
+-- a message that got this reply, as a success
+abbrev pub success_of : ℕ → HeaderFields → Result codec.Command Status → List ℕ → Option Success
+success_of a header r reply = if begins_with_success reply then success_with a header r else None
+
+-- the change that a success or a completed set makes
+abbrev pub change_of : Board → Option Success → Option PendingSet → Option Change
+change_of board success done = option_or (option_map completion done) (option_and_then (change_now board) success)
+
+-- the pending sets that stay after an event that may complete the first
+abbrev pub rest_of : Tables → Option PendingSet → List PendingSet
+rest_of t None = t.pending.items
+rest_of t (Some p) = drop 1 t.pending.items
+
+-- what an event leaves that was a success, or completed a set
+pub record HasStepped (board : Board) (t : Tables) (success : Option Success) (done : Option PendingSet) (new : Tables) : Type 0 where
+  pub permissions : (a d : ℕ) → 1 ≤ a → d < 32 → is_allowed new.base a d ≡ unwrap_or (option_and_then (λ s. permission_in a d s.command) success) (is_allowed t.base a d)
+  pub subscriptions : (a d : ℕ) → 1 ≤ a → a ≤ 8 → d < 32 → is_subscribed new.power a d ≡ unwrap_or (option_and_then (subscription a d) success) (is_subscribed t.power a d)
+  pub values : (x : Thing) → IsThing board x → value_at new x ≡ unwrap_or (option_and_then (value_in x) (change_of board success done)) (value_at t x)
+  pub known : IfSome (change_of board success done) (λ change. IsThing board change.thing)
+  pub pending_sets : new.pending.items ≡ rest_of t done ++ option_to_list (option_and_then (acceptance board) success)
+  pub known_sets : All (IsOfBoard board) t.pending.items → All (IsOfBoard board) new.pending.items
+  pub outboxes : (a : ℕ) → 1 ≤ a → a ≤ length board.agents → outbox_at new a ≡ outbox_at t a ++ made_at t new.pending.items done (change_of board success done) a
+
+-- what a frame of agent a leaves; one that is malformed changes nothing
+abbrev pub HasAnswered : Board → ℕ → Frame → Tables → Tables → Type 0
+HasAnswered board a (Good m) t new = HasStepped board t (success_of a m.header (command_of m) (table_words board a t (command_of m))) None new
+HasAnswered board a (Malformed len header) t new = new ≡ t
+
+-- nothing but outboxes changed
+pub record SameButOutboxes (t new : Tables) : Type 0 where
+  pub base : new.base ≡ t.base
+  pub power : new.power ≡ t.power
+  pub clocks : new.clocks ≡ t.clocks
+  pub pending : new.pending ≡ t.pending
+
+-- nothing but pending sets changed
+pub record SameButPending (t new : Tables) : Type 0 where
+  pub base : new.base ≡ t.base
+  pub power : new.power ≡ t.power
+  pub clocks : new.clocks ≡ t.clocks
+  pub outboxes : new.outboxes ≡ t.outboxes
+
+-- the domain that a command sets, 0 where it sets none
+abbrev pub set_domain : PowerCommand → ℕ
+set_domain (power.Set flags d state) = d
+set_domain _ = 0
+
+-- the notification of a domain's new state to agent a, if it asked for that and has room
+abbrev pub told_at : Tables → ℕ → ℕ → ℕ → ℕ → List Message
+told_at t a causer d state = if nat_lt (load_at t a) 16 && is_subscribed t.power a d then state_changed causer d state ∷ [] else []
+
+-- the notification of a set to agent a, if the state is another than before
+abbrev pub announced_at : Tables → ℕ → ℕ → Option (ℕ × ℕ) → ℕ → List Message
+announced_at t a causer changed before = option_map_or (λ set. if set.1 == before then [] else told_at t a causer set.0 set.1) changed []

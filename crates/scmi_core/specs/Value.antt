@@ -1,0 +1,88 @@
+-- Values of domains and clocks, and the events that change them.
+use Rattle.std.specs.Prelude.{ℕ, ◌==◌, Bool, false, if◌then◌else◌, List, slice_get, Option, Some, None, option_map}
+use Rattle.std.specs.List.{filter_map}
+use Rattle.std.specs.Option.{option_and_then, option_or, option_to_list}
+use Rattle.scmi_codec.specs.declared.command.Command.TheVariants.{Base, Power, Clock}
+use Rattle.scmi_codec.specs.declared.command.Command as codec
+use Rattle.scmi_plan.specs.Board.{Board, domain_at, clock_at}
+use Rattle.scmi_power.specs.PowerReply.{state_on, state_off}
+use Rattle.scmi_power.specs.PowerTable.{set_now}
+use Rattle.scmi_clock.specs.ClockTable.{rate_now, enabled_now}
+use Rattle.scmi_core.specs.declared.pending_set.PendingSet.{PendingSet}
+use Rattle.scmi_core.specs.declared.pending_set.Setting.{Setting}
+use Rattle.scmi_core.specs.declared.event.Event.{Event}
+use Rattle.scmi_core.specs.declared.event.Event.TheVariants.{Advance}
+use Rattle.scmi_core.specs.Deed.{Deed, Success, gathered, latest, success_at}
+use Rattle.scmi_core.specs.Pending.{pending}
+use Rattle.scmi_core.specs.declared.pending_set.Setting.TheVariants as setting
+
+-- what has a value: a domain's state, a clock's rate in Hz, a clock's enabled bit
+pub data Thing : Type 0 where
+  State : (domain : ℕ) → Thing
+  Rate : (clock : ℕ) → Thing
+  Enabled : (clock : ℕ) → Thing
+
+-- whether two things are the same
+abbrev pub same_thing : Thing → Thing → Bool
+same_thing (State d) (State e) = d == e
+same_thing (Rate c) (Rate e) = c == e
+same_thing (Enabled c) (Enabled e) = c == e
+same_thing _ _ = false
+
+-- a value that an agent gave to a thing
+pub record Change : Type 0 where
+  pub thing : Thing
+  pub value : ℕ
+  pub causer : ℕ
+
+-- a setting of agent a, as a change
+abbrev pub set_to_change : ℕ → Setting → Change
+set_to_change a (setting.State d state) = record { thing = State d; value = state; causer = a }
+set_to_change a (setting.Rate c rate) = record { thing = Rate c; value = rate; causer = a }
+
+-- the change that a pending set makes when it completes
+abbrev pub completion : PendingSet → Change
+completion p = set_to_change p.agent p.setting
+
+-- a bit as a number
+abbrev pub bit_value : Bool → ℕ
+bit_value b = if b then 1 else 0
+
+-- the change that a success makes at once: a synchronous set, or a clock configuration
+abbrev pub change_now : Board → Success → Option Change
+change_now board s = changed_by s.command where
+  changed_by : codec.Command → Option Change
+  changed_by (Power c) = option_map (λ set. record { thing = State set.0; value = set.1; causer = s.caller }) (set_now c)
+  changed_by (Clock c) =
+      option_or (option_map (λ set. record { thing = Rate set.0; value = set.1; causer = s.caller }) (rate_now board c))
+      (option_map (λ set. record { thing = Enabled set.0; value = bit_value set.1; causer = s.caller }) (enabled_now c))
+  changed_by (Base c) = None
+
+-- the set that an event completes: the first that is pending before it
+abbrev pub completed : Board → List Deed → Event → Option PendingSet
+completed board before Advance = slice_get (pending board before) 0
+completed board before _ = None
+
+-- the change that a deed makes, given the deeds before it
+abbrev pub change_by : Board → List Deed → Deed → Option Change
+change_by board before deed =
+    option_or (option_map completion (completed board before deed.event))
+    (option_and_then (change_now board) (success_at deed.event deed.reply))
+
+-- the changes of a history, in order
+abbrev pub changes : Board → List Deed → List Change
+changes board h = gathered (λ before deed. option_to_list (change_by board before deed)) h
+
+-- a thing's value on the board
+abbrev pub value_at_start : Board → Thing → ℕ
+value_at_start board (State d) = if (domain_at board d).on then state_on else state_off
+value_at_start board (Rate c) = (clock_at board c).rate
+value_at_start board (Enabled c) = bit_value (clock_at board c).enabled
+
+-- the value that a change gives to a thing, if it is that one
+abbrev pub value_in : Thing → Change → Option ℕ
+value_in t change = if same_thing change.thing t then Some change.value else None
+
+-- a thing's value: the latest that a change gave it, else the board's
+abbrev pub value : Board → Thing → List Deed → ℕ
+value board t h = latest (value_at_start board t) (filter_map (value_in t) (changes board h))

@@ -1,0 +1,47 @@
+//! Which domains and clocks have a pending set.
+ghost use Rattle.std.specs.Prelude.{◌≡◌, ◌<◌, ◌==◌, ◌||◌, ℕ};
+ghost use Rattle.std.specs.List.{list_any};
+ghost use Rattle.std.specs.Int.{bit_at};
+ghost use Rattle.scmi_plan.specs.declared.resource.Resource.TheVariants as resource;
+ghost use Rattle.scmi_core.specs.Pending.{is_set_by};
+
+use crate::pending_set::{PendingSet, Setting};
+
+/// Which domains have a pending set.
+pub fn busy_domains(sets: &[PendingSet]) -> u32
+    ensures { (d : ℕ) → d < 32 → (bit_at result d == 1) ≡ list_any (λ p. is_set_by (resource.Domain d) p.setting) sets.now }
+{
+    let mut busy = 0;
+    for set in sets {
+        match set.setting {
+            Setting::State(domain, _) => busy = mark(busy, domain),
+            Setting::Rate(_, _) => {}
+        }
+    }
+    busy
+}
+
+/// Which clocks have a pending set.
+pub fn busy_clocks(sets: &[PendingSet]) -> u32
+    ensures { (c : ℕ) → c < 32 → (bit_at result c == 1) ≡ list_any (λ p. is_set_by (resource.Clock c) p.setting) sets.now }
+{
+    let mut busy = 0;
+    for set in sets {
+        match set.setting {
+            Setting::Rate(clock, _) => busy = mark(busy, clock),
+            Setting::State(_, _) => {}
+        }
+    }
+    busy
+}
+
+/// A mask with one more bit, if it is one of the 32.
+fn mark(busy: u32, number: u32) -> u32
+    ensures { (d : ℕ) → d < 32 → (bit_at result d == 1) ≡ ((d == number) || (bit_at busy d == 1)) }
+{
+    if number < 32 {
+        busy | (1u32 << number)
+    } else {
+        busy
+    }
+}

@@ -1,0 +1,121 @@
+//! The messages that the platform has for each agent.
+ghost use Rattle.std.specs.Prelude.{◌≡◌, ◌≢◌, ◌↔◌, ◌≤◌, ◌<◌, ◌++◌, ◌∷◌, [], ℕ, length, true, false, drop, slice_get, IfSome};
+ghost use Rattle.scmi_core.specs.Outbox.{response_for};
+ghost use Rattle.scmi_core.specs.Tables.{outbox_at};
+ghost use Rattle.scmi_core.specs.Step.{told_at, announced_at, SameButOutboxes};
+
+use crate::p2a_message::{response_to, state_changed};
+use crate::pending_set::Setting;
+use crate::tables::Tables;
+use arrayvec::ArrayVec;
+use scmi_codec::{Header, Message};
+
+/// The most that an agent's outbox and its pending sets are together (own), and so the room of an
+/// outbox.
+pub const OUTBOX_ROOM: usize = 16;
+
+/// The messages for an agent that are not posted yet, the oldest first. It takes no memory.
+pub type Outbox = ArrayVec<Message, OUTBOX_ROOM>;
+
+impl Tables {
+    /// The first message of an agent's outbox.
+    pub fn front(&self, agent: u32) -> Option<Message>
+        requires first { 1 ≤ agent }
+        requires last { agent ≤ 8 }
+        ensures { result ≡ slice_get (outbox_at self.now agent) 0 }
+    {
+        match self.outboxes[agent as usize - 1].as_slice().first() {
+            Some(message) => Some(message.copy()),
+            None => None,
+        }
+    }
+
+    /// Whether an agent's outbox is empty.
+    pub fn is_empty(&self, agent: u32) -> bool
+        requires first { 1 ≤ agent }
+        requires last { agent ≤ 8 }
+        ensures empty { (result ≡ true) ↔ (outbox_at self.now agent ≡ []) }
+        ensures some { result ≡ false → 0 < length (outbox_at self.now agent) }
+    {
+        self.outboxes[agent as usize - 1].len() == 0
+    }
+
+    /// Takes the first message off an agent's outbox.
+    pub fn take(&mut self, agent: u32)
+        requires first { 1 ≤ agent }
+        requires last { agent ≤ 8 }
+        requires some { 0 < length (outbox_at self.now agent) }
+        ensures taken { outbox_at self.new agent ≡ drop 1 (outbox_at self.old agent) }
+        ensures others { (a : ℕ) → 1 ≤ a → a ≢ agent → outbox_at self.new a ≡ outbox_at self.old a }
+        ensures kept { SameButOutboxes self.old self.new }
+    {
+        self.outboxes[agent as usize - 1].remove(0);
+    }
+
+    /// Puts the delayed response to a set into its agent's outbox, if it is wanted.
+    pub fn respond(&mut self, agent: u32, setting: Setting, header: Header, wanted: bool)
+        requires first { 1 ≤ agent }
+        requires last { agent ≤ 8 }
+        requires room { length (outbox_at self.now agent) < 16 }
+        ensures responded { (a : ℕ) → 1 ≤ a → outbox_at self.new a ≡ outbox_at self.old a ++ response_for a (record { agent = agent; setting = setting; header = header; wanted = wanted }) }
+        ensures kept { SameButOutboxes self.old self.new }
+    {
+        if wanted {
+            self.put(agent, response_to(header, setting));
+        }
+    }
+
+    /// Tells subscribers of a domain's state that was set, if it is another than before.
+    pub fn announce(&mut self, agents: u32, causer: u32, changed: Option<(u32, u32)>, before: u32)
+        requires agents { agents ≤ 8 }
+        requires domain { IfSome changed (λ set. set.0 < 32) }
+        ensures kept { SameButOutboxes self.old self.new }
+        ensures told { (a : ℕ) → 1 ≤ a → a ≤ agents → outbox_at self.new a ≡ outbox_at self.old a ++ announced_at self.old a causer changed before }
+    {
+        if let Some((domain, state)) = changed {
+            if state != before {
+                self.notify(agents, causer, domain, state);
+            }
+        }
+    }
+
+    /// Tells the subscribers of a domain its new state, by rising agent number.
+    fn notify(&mut self, agents: u32, causer: u32, domain: u32, state: u32)
+        requires agents { agents ≤ 8 }
+        requires domain { domain < 32 }
+        ensures kept { SameButOutboxes self.old self.new }
+        ensures told { (a : ℕ) → 1 ≤ a → a ≤ agents → outbox_at self.new a ≡ outbox_at self.old a ++ told_at self.old a causer domain state }
+    {
+        for agent in 0..agents {
+            self.tell(agent + 1, causer, domain, state);
+        }
+    }
+
+    /// Tells an agent a domain's new state, if it asked for that and its outbox has room.
+    fn tell(&mut self, agent: u32, causer: u32, domain: u32, state: u32)
+        requires first { 1 ≤ agent }
+        requires last { agent ≤ 8 }
+        requires domain { domain < 32 }
+        ensures told { outbox_at self.new agent ≡ outbox_at self.old agent ++ told_at self.old agent causer domain state }
+        ensures others { (a : ℕ) → 1 ≤ a → a ≢ agent → outbox_at self.new a ≡ outbox_at self.old a }
+        ensures kept { SameButOutboxes self.old self.new }
+    {
+        if self.load(agent) < OUTBOX_ROOM
+            && (self.power.subscribers(domain) >> (agent - 1)) & 1 == 1
+        {
+            self.put(agent, state_changed(causer, domain, state));
+        }
+    }
+
+    /// Puts a message into an agent's outbox.
+    pub fn put(&mut self, agent: u32, message: Message)
+        requires first { 1 ≤ agent }
+        requires last { agent ≤ 8 }
+        requires room { length (outbox_at self.now agent) < 16 }
+        ensures put { outbox_at self.new agent ≡ outbox_at self.old agent ++ message ∷ [] }
+        ensures others { (a : ℕ) → 1 ≤ a → a ≢ agent → outbox_at self.new a ≡ outbox_at self.old a }
+        ensures kept { SameButOutboxes self.old self.new }
+    {
+        self.outboxes[agent as usize - 1].push(message);
+    }
+}

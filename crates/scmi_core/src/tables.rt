@@ -1,0 +1,271 @@
+//! What a controller keeps besides its history.
+ghost use Rattle.std.specs.Prelude.{◌≡◌, ◌≤◌, ◌<◌, ◌-◌, ◌++◌, [], ℕ, length, true, false, Ok, Err, None, Some, slice_get, IfSome, option_map, unwrap_or};
+ghost use Rattle.std.specs.List.{All};
+ghost use Rattle.scmi_base.specs.Permission.{is_allowed};
+ghost use Rattle.scmi_codec.specs.Command.{command_of};
+ghost use Rattle.scmi_codec.specs.declared.command.Command.TheVariants.{Base, Power, Clock};
+ghost use Rattle.scmi_power.specs.PowerTable.{state_at, is_subscribed};
+ghost use Rattle.scmi_plan.specs.Plan.{IsLawful};
+ghost use Rattle.std.specs.Option.{option_to_list};
+ghost use Rattle.scmi_core.specs.Value.{Thing, value_at_start};
+ghost use Rattle.scmi_core.specs.Pending.{state_set, rate_set};
+ghost use Rattle.scmi_core.specs.Subscriptions.{ended};
+ghost use Rattle.scmi_core.specs.Tables.{outbox_at, load_at, value_at, IsThing, table_words, IsOfBoard, frame_answer_at};
+ghost use Rattle.scmi_core.specs.Step.{success_of, HasStepped, HasAnswered, set_domain, SameButPending};
+
+use crate::outbox::Outbox;
+use crate::pending_set::{PENDING_SETS, PendingSet, Setting};
+use arrayvec::ArrayVec;
+use scmi_base::{BaseDone, BaseState};
+use scmi_clock::{ClockDone, ClockState};
+use scmi_codec::{
+    Answer, BaseCommand, ClockCommand, Command, Frame, Header, Message, Payload, PowerCommand,
+    payload_of,
+};
+use scmi_plan::Plan;
+use scmi_power::{PowerDone, PowerState};
+
+/// The most agents of a board (own).
+pub const AGENTS: usize = 8;
+
+/// The tables of the protocols, the sets that are pending, and each agent's outbox.
+#[derive(Drop, Debug)]
+pub struct Tables {
+    pub base: BaseState,
+    pub power: PowerState,
+    pub clocks: ClockState,
+    // In order of acceptance.
+    pub pending: ArrayVec<PendingSet, PENDING_SETS>,
+    // That of agent a at index a - 1.
+    pub outboxes: [Outbox; AGENTS],
+}
+
+impl Tables {
+    /// The tables at the start.
+    pub fn new(plan: &Plan) -> Tables
+        ensures base { (a d : ℕ) → is_allowed result.base a d ≡ true }
+        ensures subscriptions { (a d : ℕ) → is_subscribed result.power a d ≡ false }
+        ensures values { (x : Thing) → IsThing plan.now x → value_at result x ≡ value_at_start plan.now x }
+        ensures pending { result.pending.items ≡ [] }
+        ensures outboxes { (a : ℕ) → outbox_at result a ≡ [] }
+    {
+        Tables {
+            base: BaseState::new(plan),
+            power: PowerState::new(plan),
+            clocks: ClockState::new(plan),
+            pending: ArrayVec::new(),
+            outboxes: [
+                ArrayVec::new(),
+                ArrayVec::new(),
+                ArrayVec::new(),
+                ArrayVec::new(),
+                ArrayVec::new(),
+                ArrayVec::new(),
+                ArrayVec::new(),
+                ArrayVec::new(),
+            ],
+        }
+    }
+
+    /// Executes a frame of an agent, and gives the answer.
+    pub fn answer(&mut self, plan: &Plan, agent: u32, frame: &Frame) -> Answer
+        requires first { 1 ≤ agent }
+        requires last { agent ≤ length plan.now.agents }
+        requires lawful { IsLawful plan.now }
+        ensures answer { result ≡ frame_answer_at plan.now agent self.old frame.now }
+        ensures stepped { HasAnswered plan.now agent frame.now self.old self.new }
+    {
+        match frame {
+            Frame::Good(message) => Answer::Reply(Message {
+                header: message.header,
+                payload: self.execute(plan, agent, message),
+            }),
+            Frame::Malformed { .. } => Answer::ChannelError,
+        }
+    }
+
+    /// Executes a message of an agent, and gives the payload of its reply.
+    #[tactic(auto, unfolding(crate::specs::Tables::table_words))]
+    fn execute(&mut self, plan: &Plan, agent: u32, message: &Message) -> Payload
+        requires first { 1 ≤ agent }
+        requires last { agent ≤ length plan.now.agents }
+        requires lawful { IsLawful plan.now }
+        ensures reply { result.items ≡ table_words plan.now agent self.old (command_of message.now) }
+        ensures stepped { HasStepped plan.now self.old (success_of agent message.now.header (command_of message.now) result.items) None self.new }
+    {
+        match Command::read(message) {
+            Ok(Command::Base(command)) => self.execute_base(plan, agent, message.header, command),
+            Ok(Command::Power(command)) => self.execute_power(plan, agent, message.header, command),
+            Ok(Command::Clock(command)) => self.execute_clock(plan, agent, message.header, command),
+            Err(status) => payload_of(&[status.word()]),
+        }
+    }
+
+    /// Executes a command of the base protocol.
+    fn execute_base(
+        &mut self,
+        plan: &Plan,
+        agent: u32,
+        header: Header,
+        command: BaseCommand,
+    ) -> Payload
+        requires first { 1 ≤ agent }
+        requires last { agent ≤ length plan.now.agents }
+        requires lawful { IsLawful plan.now }
+        ensures reply { result.items ≡ table_words plan.now agent self.old (Ok (Base command)) }
+        ensures stepped { HasStepped plan.now self.old (success_of agent header (Ok (Base command)) result.items) None self.new }
+    {
+        let done = self.base.execute(plan, agent, command);
+        let BaseDone { reply, reset } = done;
+        self.end_requests(reset);
+        reply
+    }
+
+    /// Executes a command of the power domain protocol.
+    fn execute_power(
+        &mut self,
+        plan: &Plan,
+        agent: u32,
+        header: Header,
+        command: PowerCommand,
+    ) -> Payload
+        requires first { 1 ≤ agent }
+        requires last { agent ≤ length plan.now.agents }
+        requires lawful { IsLawful plan.now }
+        ensures reply { result.items ≡ table_words plan.now agent self.old (Ok (Power command)) }
+        ensures stepped { HasStepped plan.now self.old (success_of agent header (Ok (Power command)) result.items) None self.new }
+    {
+        let agents = plan.agents();
+        // A set is reported also where the state stays equal, so the state is read before it.
+        let before = self.state_before(set_domain(command));
+        let load = self.domain_load(agent);
+        let done = self.power.execute(plan, &self.base, agent, command, load);
+        let PowerDone {
+            reply,
+            changed,
+            later,
+        } = done;
+        self.accept_state(agent, header, later);
+        self.announce(agents, agent, changed, before);
+        reply
+    }
+
+    /// Executes a command of the clock protocol.
+    fn execute_clock(
+        &mut self,
+        plan: &Plan,
+        agent: u32,
+        header: Header,
+        command: ClockCommand,
+    ) -> Payload
+        requires first { 1 ≤ agent }
+        requires last { agent ≤ length plan.now.agents }
+        requires lawful { IsLawful plan.now }
+        ensures reply { result.items ≡ table_words plan.now agent self.old (Ok (Clock command)) }
+        ensures stepped { HasStepped plan.now self.old (success_of agent header (Ok (Clock command)) result.items) None self.new }
+    {
+        let load = self.clock_load(agent);
+        let done = self.clocks.execute(plan, &self.base, agent, command, load);
+        let ClockDone { reply, later } = done;
+        self.accept_rate(agent, header, later);
+        reply
+    }
+
+    /// Completes the first pending set.
+    pub fn complete(&mut self, plan: &Plan)
+        requires waiting { 0 < length self.now.pending.items }
+        requires known { All (IsOfBoard plan.now) self.now.pending.items }
+        requires room { (a : ℕ) → 1 ≤ a → a ≤ length plan.now.agents → load_at self.now a ≤ 16 }
+        ensures lawful { IsLawful plan.now }
+        ensures stepped { HasStepped plan.now self.old None (slice_get self.old.pending.items 0) self.new }
+    {
+        let agents = plan.agents();
+        let done = self.pending.remove(0);
+        let PendingSet {
+            agent,
+            setting,
+            header,
+            wanted,
+        } = done;
+        match setting {
+            Setting::State(domain, state) => {
+                let before = self.power.state(domain);
+                self.power.complete(domain, state);
+                self.respond(agent, setting, header, wanted);
+                self.announce(agents, agent, Some((domain, state)), before);
+            }
+            Setting::Rate(clock, rate) => {
+                self.clocks.complete(clock, rate);
+                self.respond(agent, setting, header, wanted);
+            }
+        }
+    }
+
+    /// Ends the requests of an agent that was reset, if one was.
+    fn end_requests(&mut self, reset: Option<u32>)
+        requires { IfSome reset (λ agent. (1 ≤ agent) × (agent ≤ 8)) }
+        ensures subscriptions { (a d : ℕ) → 1 ≤ a → a ≤ 8 → d < 32 → is_subscribed self.new.power a d ≡ unwrap_or (ended a reset) (is_subscribed self.old.power a d) }
+        ensures states { self.new.power.states ≡ self.old.power.states }
+        ensures base { self.new.base ≡ self.old.base }
+        ensures clocks { self.new.clocks ≡ self.old.clocks }
+        ensures pending { self.new.pending ≡ self.old.pending }
+        ensures outboxes { self.new.outboxes ≡ self.old.outboxes }
+    {
+        if let Some(agent) = reset {
+            self.power.reset(agent);
+        }
+    }
+
+    /// Adds a domain's set that was accepted for later, if there is one.
+    fn accept_state(&mut self, agent: u32, header: Header, later: Option<(u32, u32)>)
+        requires { IfSome later (λ set. length self.now.pending.items < 8) }
+        ensures kept { SameButPending self.old self.new }
+        ensures pending { self.new.pending.items ≡ self.old.pending.items ++ option_to_list (option_map (state_set agent header) later) }
+    {
+        if let Some((domain, state)) = later {
+            self.pending.push(PendingSet {
+                agent,
+                setting: Setting::State(domain, state),
+                header,
+                wanted: true,
+            });
+        }
+    }
+
+    /// Adds a clock's set that was accepted for later, if there is one.
+    fn accept_rate(&mut self, agent: u32, header: Header, later: Option<(u32, u64, bool)>)
+        requires { IfSome later (λ set. length self.now.pending.items < 8) }
+        ensures kept { SameButPending self.old self.new }
+        ensures pending { self.new.pending.items ≡ self.old.pending.items ++ option_to_list (option_map (rate_set agent header) later) }
+    {
+        if let Some((clock, rate, wanted)) = later {
+            self.pending.push(PendingSet {
+                agent,
+                setting: Setting::Rate(clock, rate),
+                header,
+                wanted,
+            });
+        }
+    }
+
+    /// A domain's state, if there is such a domain.
+    fn state_before(&self, domain: u32) -> u32
+        ensures { domain < 32 → result ≡ state_at self.now.power domain }
+    {
+        if domain < 32 {
+            self.power.state(domain)
+        } else {
+            0
+        }
+    }
+}
+
+/// The domain that a command sets.
+fn set_domain(command: PowerCommand) -> u32
+    ensures { result ≡ set_domain command }
+{
+    match command {
+        PowerCommand::Set { domain, .. } => domain,
+        _ => 0,
+    }
+}

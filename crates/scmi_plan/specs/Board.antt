@@ -1,0 +1,42 @@
+-- The board that a platform controller serves, and what a device holds.
+use Rattle.std.specs.Prelude.{ℕ, ◌<◌, ◌==◌, Bool, false, List, [], length, get_or}
+use Rattle.std.specs.Int.{bit_at}
+use Rattle.scmi_plan.specs.declared.domain.Domain.{Domain}
+use Rattle.scmi_plan.specs.declared.clock.Clock.{Clock}
+use Rattle.scmi_plan.specs.declared.device.Device.{Device}
+use Rattle.scmi_plan.specs.declared.rates.Rates.TheVariants as rates
+use Rattle.scmi_plan.specs.declared.resource.Resource.{Resource}
+use Rattle.scmi_plan.specs.declared.resource.Resource.TheVariants as resource
+
+-- the whole table of a board; agents are numbered from 1, all else from 0
+pub record Board : Type 0 where
+  pub vendor : List ℕ
+  pub sub_vendor : List ℕ
+  pub version : ℕ
+  pub trusted : ℕ
+  pub agents : List (List ℕ)
+  pub domains : List Domain
+  pub clocks : List Clock
+  pub devices : List Device
+
+-- whether a device holds a resource
+abbrev pub holds : Device → Resource → Bool
+holds device (resource.Domain d) = bit_at device.domains d == 1
+holds device (resource.Clock c) = bit_at device.clocks c == 1
+
+-- a domain by its number
+abbrev pub domain_at : Board → ℕ → Domain
+domain_at board d = get_or board.domains d (record { name = []; on = false; synchronous = false; asynchronous = false; notify = false })
+
+-- a clock by its number
+abbrev pub clock_at : Board → ℕ → Clock
+clock_at board c = get_or board.clocks c (record { name = []; enabled = false; rate = 0; rates = rates.List [] })
+
+-- a device by its number
+abbrev pub device_at : Board → ℕ → Device
+device_at board d = get_or board.devices d (record { domains = 0; clocks = 0 })
+
+-- a domain or clock of the board
+abbrev pub IsOnBoard : Board → Resource → Type 0
+IsOnBoard board (resource.Domain d) = d < length board.domains
+IsOnBoard board (resource.Clock c) = c < length board.clocks

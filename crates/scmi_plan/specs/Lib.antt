@@ -1,0 +1,5 @@
+pub mod Rates
+pub mod Board
+pub mod RawPlan
+pub mod PlanError
+pub mod Plan

@@ -1,0 +1,76 @@
+-- The rules that a board has to keep, each as a test, and the first one that a board breaks.
+use Rattle.std.specs.Prelude.{ℕ, ◌-◌, ◌^◌, ◌%◌, ◌==◌, nat_le, nat_lt, Bool, true, not, ◌&&◌, if◌then◌else◌, List, ◌∷◌, length, Option, Some, None}
+use Rattle.std.specs.List.{list_all, list_any}
+use Rattle.scmi_codec.specs.declared.name.TheConstants.{NAME_BYTES}
+use Rattle.scmi_plan.specs.Board.{Board}
+use Rattle.scmi_plan.specs.declared.rates.Rates.{Rates}
+use Rattle.scmi_plan.specs.declared.rates.Rates.TheVariants as rates
+use Rattle.scmi_plan.specs.declared.plan_error.PlanError.{PlanError}
+use Rattle.scmi_plan.specs.declared.plan_error.PlanError.TheVariants as error
+
+-- 1 to 8 agents, and at most 32 domains, clocks and devices (own)
+abbrev pub has_lawful_counts : Board → Bool
+has_lawful_counts board =
+    nat_le 1 (length board.agents) && nat_le (length board.agents) 8
+    && nat_le (length board.domains) 32 && nat_le (length board.clocks) 32 && nat_le (length board.devices) 32
+
+-- 1 to 15 bytes, each 0x21 to 0x7E (own)
+abbrev pub is_name : List ℕ → Bool
+is_name bytes = nat_le 1 (length bytes) && nat_le (length bytes) NAME_BYTES && list_all (λ byte. nat_le 0x21 byte && nat_le byte 0x7E) bytes
+
+-- each name of the board is one (own)
+abbrev pub has_lawful_names : Board → Bool
+has_lawful_names board =
+    is_name board.vendor && is_name board.sub_vendor && list_all is_name board.agents
+    && list_all (λ domain. is_name domain.name) board.domains && list_all (λ clock. is_name clock.name) board.clocks
+
+-- each rate is below the next
+abbrev pub rises : List ℕ → Bool
+rises (first ∷ second ∷ rest) = nat_lt first second && rises (second ∷ rest)
+rises _ = true
+
+-- 1 to 64 rates that rise (own)
+abbrev pub is_lawful_list : List ℕ → Bool
+is_lawful_list list = nat_le 1 (length list) && nat_le (length list) 64 && rises list
+
+-- a lawful list, or steps that end at the highest rate (own)
+abbrev pub is_lawful : Rates → Bool
+is_lawful (rates.List list) = is_lawful_list list
+is_lawful (rates.Steps low high step) = nat_le 1 step && nat_le low high && (high - low) % step == 0
+
+-- a rate is one of the list, or a number of steps above the lowest
+abbrev pub supports : Rates → ℕ → Bool
+supports (rates.List list) rate = list_any (λ r. r == rate) list
+supports (rates.Steps low high step) rate = nat_le low rate && nat_le rate high && (rate - low) % step == 0
+
+-- each clock has lawful rates, and starts at one of them (own)
+abbrev pub has_lawful_clocks : Board → Bool
+has_lawful_clocks board = list_all (λ clock. is_lawful clock.rates && supports clock.rates clock.rate) board.clocks
+
+-- each device holds only domains and clocks of the board (own)
+abbrev pub has_lawful_devices : Board → Bool
+has_lawful_devices board =
+    list_all (λ device. nat_lt device.domains (2 ^ length board.domains) && nat_lt device.clocks (2 ^ length board.clocks)) board.devices
+
+-- the trusted agent is one of the board's (own)
+abbrev pub has_trusted_agent : Board → Bool
+has_trusted_agent board = nat_le 1 board.trusted && nat_le board.trusted (length board.agents)
+
+-- the first rule that a board breaks (own)
+abbrev pub first_fault : Board → Option PlanError
+first_fault board =
+    if not (has_lawful_counts board) then Some error.Count
+    else if not (has_lawful_names board) then Some error.Name
+    else if not (has_lawful_clocks board) then Some error.Rates
+    else if not (has_lawful_devices board) then Some error.Device
+    else if not (has_trusted_agent board) then Some error.Trusted
+    else None
+
+-- the number of an error (own)
+abbrev pub number : PlanError → ℕ
+number error.Count = 1
+number error.Name = 2
+number error.Rates = 3
+number error.Device = 4
+number error.Trusted = 5
+number error.Memory = 6

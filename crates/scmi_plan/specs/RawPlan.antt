@@ -1,0 +1,37 @@
+-- The board that a raw plan writes down.
+use Rattle.std.specs.Prelude.{map, string_bytes}
+use Rattle.scmi_plan.specs.Board.{Board}
+use Rattle.scmi_plan.specs.declared.domain.Domain.{Domain}
+use Rattle.scmi_plan.specs.declared.clock.Clock.{Clock}
+use Rattle.scmi_plan.specs.declared.raw_plan.RawPlan.{RawPlan}
+use Rattle.scmi_plan.specs.declared.raw_plan.RawDomain.{RawDomain}
+use Rattle.scmi_plan.specs.declared.raw_plan.RawClock.{RawClock}
+
+-- a domain with its name as bytes
+abbrev pub asked_domain : RawDomain → Domain
+asked_domain raw =
+    record {
+      name = string_bytes raw.name;
+      on = raw.on;
+      synchronous = raw.synchronous;
+      asynchronous = raw.asynchronous;
+      notify = raw.notify;
+    }
+
+-- a clock with its name as bytes
+abbrev pub asked_clock : RawClock → Clock
+asked_clock raw = record { name = string_bytes raw.name; enabled = raw.enabled; rate = raw.rate; rates = raw.rates }
+
+-- the board with its names as bytes
+abbrev pub asked_board : RawPlan → Board
+asked_board raw =
+    record {
+      vendor = string_bytes raw.vendor;
+      sub_vendor = string_bytes raw.sub_vendor;
+      version = raw.version;
+      trusted = raw.trusted;
+      agents = map string_bytes raw.agents.items;
+      domains = map asked_domain raw.domains.items;
+      clocks = map asked_clock raw.clocks.items;
+      devices = raw.devices.items;
+    }

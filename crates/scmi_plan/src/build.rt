@@ -1,0 +1,82 @@
+//! Builds the rows of a lawful board. The only error is a growth of memory that was refused.
+ghost use Rattle.std.specs.Prelude.{◌≡◌, map, IfOk, All, string_bytes};
+ghost use Rattle.scmi_codec.specs.Name.{IsName};
+ghost use Rattle.scmi_plan.specs.RawPlan.{asked_domain, asked_clock};
+
+use crate::clock::Clock;
+use crate::device::Device;
+use crate::domain::Domain;
+use crate::raw_plan::{RawClock, RawDomain};
+use scmi_codec::Name;
+use std::alloc::{AllocError, Global};
+
+pub(crate) fn build_name(text: &str) -> Name
+    requires { IsName text.now }
+    ensures { result ≡ text.now }
+{
+    Name::new(text).unwrap()
+}
+
+pub(crate) fn build_agents(alloc: Global, raw: &[String]) -> Result<Vec<Name>, AllocError>
+    requires { All (λ agent. IsName (string_bytes agent)) raw.now }
+    ensures { IfOk result (λ agents. agents.items ≡ map string_bytes raw.now) }
+{
+    let mut agents = Vec::with_capacity(alloc, raw.len())?;
+    for agent in raw {
+        agents.push(build_name(agent))?;
+    }
+    Ok(agents)
+}
+
+pub(crate) fn build_domains(alloc: Global, raw: &[RawDomain]) -> Result<Vec<Domain>, AllocError>
+    requires { All (λ domain. IsName (string_bytes domain.name)) raw.now }
+    ensures { IfOk result (λ domains. domains.items ≡ map asked_domain raw.now) }
+{
+    let mut domains = Vec::with_capacity(alloc, raw.len())?;
+    for domain in raw {
+        domains.push(build_domain(domain))?;
+    }
+    Ok(domains)
+}
+
+fn build_domain(raw: &RawDomain) -> Domain
+    requires { IsName (string_bytes raw.now.name) }
+    ensures { result ≡ asked_domain raw.now }
+{
+    Domain {
+        name: build_name(&raw.name),
+        on: raw.on,
+        synchronous: raw.synchronous,
+        asynchronous: raw.asynchronous,
+        notify: raw.notify,
+    }
+}
+
+pub(crate) fn build_clocks(alloc: Global, raw: &[RawClock]) -> Result<Vec<Clock>, AllocError>
+    requires { All (λ clock. IsName (string_bytes clock.name)) raw.now }
+    ensures { IfOk result (λ clocks. clocks.items ≡ map asked_clock raw.now) }
+{
+    let mut clocks = Vec::with_capacity(alloc, raw.len())?;
+    for clock in raw {
+        clocks.push(build_clock(clock)?)?;
+    }
+    Ok(clocks)
+}
+
+fn build_clock(raw: &RawClock) -> Result<Clock, AllocError>
+    requires { IsName (string_bytes raw.now.name) }
+    ensures { IfOk result (λ clock. clock ≡ asked_clock raw.now) }
+{
+    Ok(Clock {
+        name: build_name(&raw.name),
+        enabled: raw.enabled,
+        rate: raw.rate,
+        rates: raw.rates.clone()?,
+    })
+}
+
+pub(crate) fn build_devices(alloc: Global, raw: &[Device]) -> Result<Vec<Device>, AllocError>
+    ensures { IfOk result (λ devices. devices.items ≡ raw.now) }
+{
+    Vec::from_slice(alloc, raw)
+}

@@ -1,0 +1,148 @@
+//! The rules that a board has to keep, in the order of their numbers. None takes memory.
+ghost use Rattle.std.specs.Prelude.{◌≡◌, ◌≢◌, ◌^◌, nat_lt, IfSome, true, map, string_bytes};
+ghost use Rattle.std.specs.List.{list_all};
+ghost use Rattle.scmi_plan.specs.RawPlan.{asked_board, asked_domain, asked_clock};
+ghost use Rattle.scmi_plan.specs.PlanError.{first_fault, has_lawful_counts, has_lawful_names, has_lawful_clocks, has_lawful_devices, has_trusted_agent, is_name, is_lawful, is_lawful_list, supports, rises};
+ghost use Rattle.scmi_plan.specs.declared.plan_error.PlanError.TheVariants.{Memory};
+
+use crate::plan_error::PlanError;
+use crate::rates::Rates;
+use crate::raw_plan::{RawClock, RawDomain, RawPlan};
+use scmi_codec::Name;
+
+/// The most agents of a board (own).
+const AGENTS: usize = 8;
+
+/// The most domains, clocks and devices of a board, each (own).
+const ROWS: usize = 32;
+
+/// The most rates of a list (own).
+const RATES: usize = 64;
+
+/// The first rule that a board breaks.
+pub(crate) fn first_fault(raw: &RawPlan) -> Option<PlanError>
+    ensures fault { result ≡ first_fault (asked_board raw.now) }
+    ensures rule { IfSome result (λ fault. fault ≢ Memory) }
+{
+    if !has_lawful_counts(raw) {
+        Some(PlanError::Count)
+    } else if !has_lawful_names(raw) {
+        Some(PlanError::Name)
+    } else if !has_lawful_clocks(raw) {
+        Some(PlanError::Rates)
+    } else if !has_lawful_devices(raw) {
+        Some(PlanError::Device)
+    } else if !has_trusted_agent(raw) {
+        Some(PlanError::Trusted)
+    } else {
+        None
+    }
+}
+
+fn has_lawful_counts(raw: &RawPlan) -> bool
+    ensures { result ≡ has_lawful_counts (asked_board raw.now) }
+{
+    let agents = raw.agents.len();
+    1 <= agents
+        && agents <= AGENTS
+        && raw.domains.len() <= ROWS
+        && raw.clocks.len() <= ROWS
+        && raw.devices.len() <= ROWS
+}
+
+fn has_lawful_names(raw: &RawPlan) -> bool
+    ensures { result ≡ has_lawful_names (asked_board raw.now) }
+{
+    is_name(&raw.vendor)
+        && is_name(&raw.sub_vendor)
+        && are_agents_named(&raw.agents)
+        && are_domains_named(&raw.domains)
+        && are_clocks_named(&raw.clocks)
+}
+
+fn are_agents_named(agents: &[String]) -> bool
+    ensures { result ≡ list_all is_name (map string_bytes agents.now) }
+{
+    agents.iter().all(|agent| is_name(agent))
+}
+
+fn are_domains_named(domains: &[RawDomain]) -> bool
+    ensures { result ≡ list_all (λ domain. is_name domain.name) (map asked_domain domains.now) }
+{
+    domains.iter().all(|domain| is_name(&domain.name))
+}
+
+fn are_clocks_named(clocks: &[RawClock]) -> bool
+    ensures { result ≡ list_all (λ clock. is_name clock.name) (map asked_clock clocks.now) }
+{
+    clocks.iter().all(|clock| is_name(&clock.name))
+}
+
+fn is_name(text: &str) -> bool
+    ensures { result ≡ is_name text.now }
+{
+    Name::new(text).is_some()
+}
+
+fn has_lawful_clocks(raw: &RawPlan) -> bool
+    ensures { result ≡ has_lawful_clocks (asked_board raw.now) }
+{
+    raw.clocks.iter().all(|clock| is_lawful(&clock.rates) && supports(&clock.rates, clock.rate))
+}
+
+fn is_lawful(rates: &Rates) -> bool
+    ensures { result ≡ is_lawful rates.now }
+{
+    match rates {
+        Rates::List(list) => is_lawful_list(list.as_slice()),
+        Rates::Steps { low, high, step } => {
+            *step != 0 && low <= high && (*high - *low) % *step == 0
+        }
+    }
+}
+
+fn is_lawful_list(rates: &[u64]) -> bool
+    ensures { result ≡ is_lawful_list rates.now }
+{
+    1 <= rates.len() && rates.len() <= RATES && rises(rates)
+}
+
+fn rises(rates: &[u64]) -> bool
+    ensures { result ≡ rises rates.now }
+{
+    rates.is_sorted_by(|rate, next| *rate < *next)
+}
+
+fn supports(rates: &Rates, rate: u64) -> bool
+    requires { is_lawful rates.now ≡ true }
+    ensures { result ≡ supports rates.now rate }
+{
+    match rates {
+        Rates::List(list) => list.as_slice().contains(&rate),
+        Rates::Steps { low, high, step } => {
+            *low <= rate && rate <= *high && (rate - *low) % *step == 0
+        }
+    }
+}
+
+fn has_lawful_devices(raw: &RawPlan) -> bool
+    ensures { result ≡ has_lawful_devices (asked_board raw.now) }
+{
+    let domains = raw.domains.len();
+    let clocks = raw.clocks.len();
+    raw.devices.iter().all(|device| is_within(device.domains, domains)
+        && is_within(device.clocks, clocks))
+}
+
+/// Whether a set has only members below a count.
+fn is_within(set: u32, count: usize) -> bool
+    ensures { result ≡ nat_lt set (2 ^ count) }
+{
+    count >= 32 || set >> count == 0
+}
+
+fn has_trusted_agent(raw: &RawPlan) -> bool
+    ensures { result ≡ has_trusted_agent (asked_board raw.now) }
+{
+    1 <= raw.trusted && raw.trusted as usize <= raw.agents.len()
+}

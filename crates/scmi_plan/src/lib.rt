@@ -1,0 +1,30 @@
+//! The board that a platform controller serves: agents, power domains, clocks and devices.
+//!
+//! The main type is `Plan`, a board that keeps the limits and rules of the profile. The main theorem
+//! is the contract of `Plan::check`: it answers the plan of a lawful board, and of another board the
+//! first rule that it breaks; want of memory comes last.
+#![tactic(auto)]
+
+mod build;
+mod clock;
+mod device;
+mod domain;
+mod fault;
+mod load;
+mod plan;
+mod plan_error;
+mod rates;
+mod raw_plan;
+mod resource;
+#[cfg(test)]
+mod tests;
+
+pub use clock::Clock;
+pub use device::Device;
+pub use domain::Domain;
+pub use load::Load;
+pub use plan::Plan;
+pub use plan_error::PlanError;
+pub use rates::{RateList, Rates};
+pub use raw_plan::{RawClock, RawDomain, RawPlan};
+pub use resource::Resource;

@@ -1,0 +1,189 @@
+//! A lawful board.
+ghost use Rattle.std.specs.Prelude.{◌≡◌, ◌≢◌, ◌↔◌, ◌<◌, ◌≤◌, ◌-◌, length, get_or, [], None, Some, Err, IfOk, IfErr, OnOk, IsOkUnless, IsErrOf};
+ghost use Rattle.scmi_plan.specs.Board.{holds, IsOnBoard, domain_at, clock_at, device_at};
+ghost use Rattle.scmi_plan.specs.Plan.{IsLawful};
+ghost use Rattle.scmi_plan.specs.PlanError.{first_fault};
+ghost use Rattle.scmi_plan.specs.RawPlan.{asked_board};
+ghost use Rattle.scmi_plan.specs.Rates.{HasLawfulRates};
+ghost use Rattle.scmi_plan.specs.declared.plan_error.PlanError.TheVariants.{Memory};
+
+use crate::build::{build_agents, build_clocks, build_devices, build_domains, build_name};
+use crate::clock::Clock;
+use crate::device::Device;
+use crate::domain::Domain;
+use crate::fault::first_fault;
+use crate::plan_error::PlanError;
+use crate::raw_plan::RawPlan;
+use crate::resource::Resource;
+use scmi_codec::Name;
+use std::alloc::{AllocError, Global};
+use std::marker::Model;
+
+/// A board that keeps the limits and rules of the profile.
+#[derive(Debug, Drop)]
+pub struct Plan {
+    vendor: Name,
+    sub_vendor: Name,
+    version: u32,
+    trusted: u32,
+    agents: Vec<Name>,
+    domains: Vec<Domain>,
+    clocks: Vec<Clock>,
+    devices: Vec<Device>,
+}
+
+impl Model for Plan {
+    ghost use Rattle.scmi_plan.specs.Board.{Board};
+
+    ghost Value = { Board };
+
+    ghost use Rattle.scmi_plan.specs.Plan.{board_of, IsLawful};
+
+    ghost view = { board_of };
+
+    ghost invariant = { λ p. IsLawful (board_of p) };
+}
+
+impl Plan {
+    /// The plan of a board that was written down. Where the board breaks rules of the profile, the
+    /// error is the first of them in the order of the numbers of `PlanError` (own). `Memory` comes
+    /// only where the board keeps every rule and a growth of memory was refused. The board stays
+    /// with the caller.
+    pub fn check(alloc: Global, raw: &RawPlan) -> Result<Plan, PlanError>
+        ensures ok { IfOk result (λ plan. plan ≡ asked_board raw.now) }
+        ensures no_fault { OnOk result (first_fault (asked_board raw.now) ≡ None) }
+        ensures fault { IfErr result (λ e. e ≢ Memory → first_fault (asked_board raw.now) ≡ Some e) }
+        ensures memory { IsErrOf result Memory → first_fault (asked_board raw.now) ≡ None }
+        ensures accepted { IsLawful (asked_board raw.now) → IsOkUnless result Memory }
+        // The rules and a lawful board are one thing.
+        ensures rules { (first_fault (asked_board raw.now) ≡ None) ↔ IsLawful (asked_board raw.now) }
+    {
+        match first_fault(raw) {
+            Some(fault) => Err(fault),
+            None => Ok(Plan::build(alloc, raw)?),
+        }
+    }
+
+    fn build(alloc: Global, raw: &RawPlan) -> Result<Plan, AllocError>
+        requires { IsLawful (asked_board raw.now) }
+        ensures { IfOk result (λ plan. plan ≡ asked_board raw.now) }
+    {
+        Ok(Plan {
+            vendor: build_name(&raw.vendor),
+            sub_vendor: build_name(&raw.sub_vendor),
+            version: raw.version,
+            trusted: raw.trusted,
+            agents: build_agents(alloc, &raw.agents)?,
+            domains: build_domains(alloc, &raw.domains)?,
+            clocks: build_clocks(alloc, &raw.clocks)?,
+            devices: build_devices(alloc, &raw.devices)?,
+        })
+    }
+
+    /// The vendor's name.
+    pub fn vendor(&self) -> &Name
+        ensures { result.now ≡ self.now.vendor }
+    {
+        &self.vendor
+    }
+
+    /// The sub-vendor's name.
+    pub fn sub_vendor(&self) -> &Name
+        ensures { result.now ≡ self.now.sub_vendor }
+    {
+        &self.sub_vendor
+    }
+
+    /// The version of the board's firmware.
+    pub fn version(&self) -> u32
+        ensures { result ≡ self.now.version }
+    {
+        self.version
+    }
+
+    /// The number of the trusted agent.
+    pub fn trusted(&self) -> u32
+        ensures { result ≡ self.now.trusted }
+    {
+        self.trusted
+    }
+
+    /// The number of agents, 1 to 8. They are numbered from 1.
+    pub fn agents(&self) -> u32
+        ensures count { result ≡ length self.now.agents }
+        ensures lawful { IsLawful self.now }
+    {
+        self.agents.len() as u32
+    }
+
+    /// The name of an agent.
+    pub fn agent(&self, agent: u32) -> &Name
+        requires first { 1 ≤ agent }
+        requires last { agent ≤ length self.now.agents }
+        ensures { result.now ≡ get_or self.now.agents (agent - 1) [] }
+    {
+        &self.agents[agent as usize - 1]
+    }
+
+    /// The number of power domains, at most 32. They are numbered from 0.
+    pub fn domains(&self) -> u32
+        ensures count { result ≡ length self.now.domains }
+        ensures lawful { IsLawful self.now }
+    {
+        self.domains.len() as u32
+    }
+
+    /// A power domain.
+    pub fn domain(&self, domain: u32) -> &Domain
+        requires { domain < length self.now.domains }
+        ensures { result.now ≡ domain_at self.now domain }
+    {
+        &self.domains[domain as usize]
+    }
+
+    /// The number of clocks, at most 32. They are numbered from 0.
+    pub fn clocks(&self) -> u32
+        ensures count { result ≡ length self.now.clocks }
+        ensures lawful { IsLawful self.now }
+    {
+        self.clocks.len() as u32
+    }
+
+    /// A clock.
+    pub fn clock(&self, clock: u32) -> &Clock
+        requires { clock < length self.now.clocks }
+        ensures row { result.now ≡ clock_at self.now clock }
+        ensures lawful { HasLawfulRates (clock_at self.now clock).rates }
+    {
+        &self.clocks[clock as usize]
+    }
+
+    /// The number of devices, at most 32. They are numbered from 0.
+    pub fn devices(&self) -> u32
+        ensures count { result ≡ length self.now.devices }
+        ensures lawful { IsLawful self.now }
+    {
+        self.devices.len() as u32
+    }
+
+    /// A device.
+    pub fn device(&self, device: u32) -> Device
+        requires { device < length self.now.devices }
+        ensures { result ≡ device_at self.now device }
+    {
+        self.devices[device as usize]
+    }
+
+    /// Whether a device holds a domain or clock of the board.
+    pub fn holds(&self, device: u32, resource: Resource) -> bool
+        requires device { device < length self.now.devices }
+        requires resource { IsOnBoard self.now resource }
+        ensures { result ≡ holds (device_at self.now device) resource }
+    {
+        let device = self.devices[device as usize];
+        match resource {
+            Resource::Domain(domain) => (device.domains >> domain) & 1 == 1,
+            Resource::Clock(clock) => (device.clocks >> clock) & 1 == 1,
+        }
+    }
+}

@@ -1,0 +1,2 @@
+pub mod ReplySame
+pub mod AgentBits

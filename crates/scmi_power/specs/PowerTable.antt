@@ -1,0 +1,83 @@
+-- The table of power states and of requests for notifications, and what a command leaves of it.
+use Rattle.std.specs.Prelude.{◌≡◌, ℕ, ◌-◌, ◌==◌, ◌&&◌, Bool, true, false, if◌then◌else◌, List, length, get_or, Option, Some, None}
+use Rattle.std.specs.Int.{bit_at}
+use Rattle.scmi_codec.specs.Payload.{begins_with_success}
+use Rattle.scmi_codec.specs.declared.power_command.PowerCommand.{PowerCommand}
+use Rattle.scmi_codec.specs.declared.power_command.PowerCommand.TheVariants as power
+use Rattle.scmi_plan.specs.Board.{Board, domain_at}
+use Rattle.scmi_plan.specs.declared.domain.Domain.{Domain}
+use Rattle.scmi_power.specs.PowerReply.{PowerView, state_on, state_off}
+use Rattle.scmi_codec.specs.Reply.{bit_0}
+use Rattle.scmi_plan.specs.declared.load.Load.{Load}
+use Rattle.scmi_plan.specs.declared.resource.Resource.TheVariants as resource
+use Rattle.scmi_base.specs.Permission.{may, is_allowed}
+
+-- the state of each domain, and who is told of its changes, bit a - 1 for agent a
+pub record PowerTables : Type 0 where
+  pub states : List ℕ
+  pub subscribers : List ℕ
+
+-- the table has a place for each domain that a board may have (own)
+pub record IsTable (table : PowerTables) : Type 0 where
+  pub states : length table.states ≡ 32
+  pub subscribers : length table.subscribers ≡ 32
+
+-- the state of a domain
+abbrev pub state_at : PowerTables → ℕ → ℕ
+state_at table d = get_or table.states d 0
+
+-- whether an agent is told of a domain's changes
+abbrev pub is_subscribed : PowerTables → ℕ → ℕ → Bool
+is_subscribed table a d = bit_at (get_or table.subscribers d 0) (a - 1) == 1
+
+-- the state that a domain's row starts it in
+abbrev pub starting_state : Domain → ℕ
+starting_state row = if row.on then state_on else state_off
+
+-- the state of a board's domain at the start
+abbrev pub state_at_start : Board → ℕ → ℕ
+state_at_start board d = starting_state (domain_at board d)
+
+-- whether a caller may change a domain, by a table of permissions
+abbrev pub may_change : Board → List (List Bool) → (caller d : ℕ) → Bool
+may_change board permissions caller d = may board (λ device. is_allowed permissions caller device) (resource.Domain d)
+
+-- whether a domain has a pending set
+abbrev pub is_busy : Load → ℕ → Bool
+is_busy load d = bit_at load.busy d == 1
+
+-- what a caller's replies read in the tables
+abbrev pub view_of : Board → List (List Bool) → PowerTables → Load → ℕ → PowerView
+view_of board permissions table load caller =
+    record {
+      state = λ d. state_at table d;
+      may = may_change board permissions caller;
+      busy = is_busy load;
+      room = load.room;
+    }
+
+-- the domain and state that a successful command sets at once
+abbrev pub set_now : PowerCommand → Option (ℕ × ℕ)
+set_now (power.Set flags d state) = if bit_0 flags then None else Some (d, state)
+set_now _ = None
+
+-- the domain and state that a successful command accepts for later
+abbrev pub set_later : PowerCommand → Option (ℕ × ℕ)
+set_later (power.Set flags d state) = if bit_0 flags then Some (d, state) else None
+set_later _ = None
+
+-- what a caller's successful command says of the subscription of agent a to domain d
+abbrev pub notification : ℕ → ℕ → ℕ → PowerCommand → Option Bool
+notification a d caller (power.Notify domain enable) = if caller == a && domain == d then Some (bit_0 enable) else None
+notification a d caller _ = None
+
+-- a domain's state after a set, if there is one
+abbrev pub set_to : Option (ℕ × ℕ) → ℕ → ℕ → ℕ
+set_to None d old = old
+set_to (Some set) d old = if set.0 == d then set.1 else old
+
+-- a command that sets nothing and asks for no notification
+abbrev pub only_reads : PowerCommand → Bool
+only_reads (power.Set flags d state) = false
+only_reads (power.Notify d enable) = false
+only_reads _ = true

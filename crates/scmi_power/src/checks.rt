@@ -1,0 +1,131 @@
+//! The checks of the commands on a domain, in the order of the profile (own).
+ghost use Rattle.std.specs.Prelude.{◌≡◌, ◌≢◌, ◌≤◌, ◌<◌, ◌&&◌, ◌||◌, ◌∷◌, [], not, true, length, if◌then◌else◌, Ok, Err, IfOk, IfErr};
+ghost use Rattle.scmi_codec.specs.Reply.{bit_0};
+ghost use Rattle.scmi_codec.specs.Status.{status_word};
+ghost use Rattle.scmi_codec.specs.declared.status.Status.TheVariants.{Success, NotFound, NotSupported, Denied, Busy};
+ghost use Rattle.scmi_plan.specs.Plan.{IsLawful};
+ghost use Rattle.scmi_power.specs.PowerReply.{set_reply, notify_reply, no_domain, supports};
+ghost use Rattle.scmi_power.specs.PowerTable.{may_change, is_busy};
+
+use crate::domain_state::check_state;
+use scmi_base::BaseState;
+use scmi_codec::{Status, single_flag};
+use scmi_plan::{Domain, Load, Plan, Resource};
+
+/// The checks of 0x4 (DEN0056B, power domain management protocol): domain, flags, state, kind of set, permission,
+/// pending sets. Answers whether the set is asynchronous.
+pub(crate) fn check_set(
+    plan: &Plan,
+    base: &BaseState,
+    caller: u32,
+    flags: u32,
+    domain: u32,
+    state: u32,
+    load: Load,
+) -> Result<bool, Status>
+    requires first { 1 ≤ caller }
+    requires last { caller ≤ length plan.now.agents }
+    ensures ok { IfOk result (λ asynchronous. set_reply plan.now (may_change plan.now base.now caller domain) (is_busy load domain) load.room flags domain state ≡ 0 ∷ []) }
+    ensures asynchronous { IfOk result (λ asynchronous. asynchronous ≡ bit_0 flags) }
+    ensures known { IfOk result (λ asynchronous. domain < length plan.now.domains) }
+    ensures domain { IfOk result (λ asynchronous. domain < 32) }
+    ensures room { IfOk result (λ asynchronous. asynchronous ≡ true → load.room ≡ true) }
+    ensures err { IfErr result (λ status. set_reply plan.now (may_change plan.now base.now caller domain) (is_busy load domain) load.room flags domain state ≡ status_word status ∷ []) }
+    ensures refused { IfErr result (λ status. status ≢ Success) }
+{
+    check_domain(plan, domain)?;
+    let asynchronous = single_flag(flags)?;
+    check_state(state)?;
+    check_kind(plan.domain(domain), asynchronous)?;
+    check_permission(plan, base, caller, domain)?;
+    check_free(domain, asynchronous, load)?;
+    Ok(asynchronous)
+}
+
+/// The checks of 0x6 (DEN0056B, power domain management protocol): domain, flags, support, permission. Answers
+/// whether notifications are to be enabled.
+pub(crate) fn check_notify(
+    plan: &Plan,
+    base: &BaseState,
+    caller: u32,
+    domain: u32,
+    enable: u32,
+) -> Result<bool, Status>
+    requires first { 1 ≤ caller }
+    requires last { caller ≤ length plan.now.agents }
+    ensures ok { IfOk result (λ enabled. notify_reply plan.now (may_change plan.now base.now caller domain) domain enable ≡ 0 ∷ []) }
+    ensures enabled { IfOk result (λ enabled. enabled ≡ bit_0 enable) }
+    ensures domain { IfOk result (λ enabled. domain < 32) }
+    ensures agent { IfOk result (λ enabled. caller ≤ 8) }
+    ensures err { IfErr result (λ status. notify_reply plan.now (may_change plan.now base.now caller domain) domain enable ≡ status_word status ∷ []) }
+    ensures refused { IfErr result (λ status. status ≢ Success) }
+{
+    check_domain(plan, domain)?;
+    let enabled = single_flag(enable)?;
+    check_notifications(plan.domain(domain))?;
+    check_permission(plan, base, caller, domain)?;
+    Ok(enabled)
+}
+
+/// NOT_FOUND where the board has no such domain.
+pub(crate) fn check_domain(plan: &Plan, domain: u32) -> Result<(), Status>
+    ensures first { result ≡ (if no_domain plan.now domain then Err NotFound else Ok tt) }
+    ensures known { IfOk result (λ u. domain < length plan.now.domains) }
+    ensures domain { IfOk result (λ u. domain < 32) }
+    ensures lawful { IsLawful plan.now }
+{
+    if domain >= plan.domains() {
+        return Err(Status::NotFound);
+    }
+    Ok(())
+}
+
+/// NOT_SUPPORTED where a domain has no sets of a kind.
+fn check_kind(row: &Domain, asynchronous: bool) -> Result<(), Status>
+    ensures { result ≡ (if supports row.now asynchronous then Ok tt else Err NotSupported) }
+{
+    let supported = if asynchronous {
+        row.asynchronous
+    } else {
+        row.synchronous
+    };
+    if !supported {
+        return Err(Status::NotSupported);
+    }
+    Ok(())
+}
+
+/// NOT_SUPPORTED where a domain has no notifications.
+fn check_notifications(row: &Domain) -> Result<(), Status>
+    ensures { result ≡ (if row.now.notify then Ok tt else Err NotSupported) }
+{
+    if !row.notify {
+        return Err(Status::NotSupported);
+    }
+    Ok(())
+}
+
+/// DENIED where the caller may not change a domain.
+fn check_permission(plan: &Plan, base: &BaseState, caller: u32, domain: u32) -> Result<(), Status>
+    requires first { 1 ≤ caller }
+    requires last { caller ≤ length plan.now.agents }
+    requires domain { domain < length plan.now.domains }
+    ensures { result ≡ (if may_change plan.now base.now caller domain then Ok tt else Err Denied) }
+{
+    if !base.may_change(plan, caller, Resource::Domain(domain)) {
+        return Err(Status::Denied);
+    }
+    Ok(())
+}
+
+/// BUSY where a domain has a pending set, or where an asynchronous set has no room.
+fn check_free(domain: u32, asynchronous: bool, load: Load) -> Result<(), Status>
+    requires { domain < 32 }
+    ensures { result ≡ (if is_busy load domain || (asynchronous && not load.room) then Err Busy else Ok tt) }
+{
+    let is_busy = (load.busy >> domain) & 1 == 1;
+    if is_busy || (asynchronous && !load.room) {
+        return Err(Status::Busy);
+    }
+    Ok(())
+}

@@ -1,0 +1,221 @@
+//! The state of each power domain, and who is told of its changes.
+ghost use Rattle.std.specs.Prelude.{◌≡◌, ◌≤◌, ◌<◌, ◌-◌, ◌==◌, ℕ, length, true, false, not, if◌then◌else◌, unwrap_or, IfSome};
+ghost use Rattle.std.specs.Int.{bit_at};
+ghost use Rattle.scmi_codec.specs.Payload.{begins_with_success};
+ghost use Rattle.scmi_codec.specs.declared.power_command.PowerCommand.TheVariants.{Set, Notify};
+ghost use Rattle.scmi_power.specs.PowerReply.{power_reply, set_reply, get_reply, notify_reply};
+ghost use Rattle.scmi_power.specs.PowerTable.{view_of, may_change, is_busy, state_at, state_at_start, set_now, set_later, set_to, is_subscribed, notification, only_reads};
+ghost use Rattle.scmi_codec.specs.Payload.{if_success};
+
+use crate::checks::{check_domain, check_notify, check_set};
+use crate::discovery::{attributes, domain_attributes, message_attributes, version};
+use crate::domain_state::starting_state;
+use crate::power_done::{PowerDone, SUCCESS};
+use crate::subscribers::with_subscriber;
+use scmi_base::BaseState;
+use scmi_codec::{Payload, PowerCommand, payload_of, refusal};
+use scmi_plan::{Load, Plan};
+use std::marker::Model;
+
+/// The most power domains of a board (own).
+const DOMAINS: usize = 32;
+
+/// The state of each domain, as the word that a reply has, and the agents that are told of its
+/// changes: bit a - 1 stands for agent a.
+#[derive(Drop, Debug)]
+pub struct PowerState {
+    states: [u32; DOMAINS],
+    subscribers: [u8; DOMAINS],
+}
+
+impl Model for PowerState {
+    ghost use Rattle.scmi_power.specs.PowerTable.{PowerTables, IsTable};
+
+    ghost Value = { PowerTables };
+
+    ghost view = { λ s. record { states = s.states; subscribers = s.subscribers } };
+
+    ghost invariant = { λ s. IsTable (record { states = s.states; subscribers = s.subscribers }) };
+}
+
+impl PowerState {
+    /// The state of a board at the start: each domain as the plan says, and no agent told of changes.
+    pub fn new(plan: &Plan) -> PowerState
+        ensures states { (d : ℕ) → d < length plan.now.domains → state_at result d ≡ state_at_start plan.now d }
+        ensures subscribed { (a d : ℕ) → is_subscribed result a d ≡ false }
+    {
+        let mut states = [0; DOMAINS];
+        for domain in 0..plan.domains() {
+            let state = starting_state(plan.domain(domain));
+            states[domain as usize] = state;
+        }
+        PowerState {
+            states,
+            subscribers: [0; DOMAINS],
+        }
+    }
+
+    /// Executes a command of a caller. The reply begins with a status: NOT_FOUND for an unknown domain
+    /// or message id; then INVALID_PARAMETERS for flag bits besides bit 0 or for a word that is no
+    /// state; then NOT_SUPPORTED for a kind of set, or notifications, that the domain lacks; then
+    /// DENIED for a domain that the caller may not change; then BUSY for a set of a domain that has a
+    /// pending set, or for an asynchronous set without room. A command that is refused changes
+    /// nothing. A synchronous set takes effect here; an asynchronous one is only named, for `complete`.
+    #[tactic(auto, unfolding(crate::specs::PowerReply::power_reply))]
+    pub fn execute(
+        &mut self,
+        plan: &Plan,
+        base: &BaseState,
+        caller: u32,
+        command: PowerCommand,
+        load: Load,
+    ) -> PowerDone
+        requires first { 1 ≤ caller }
+        requires last { caller ≤ length plan.now.agents }
+        ensures reply { result.reply.items ≡ power_reply plan.now (view_of plan.now base.now self.old load caller) command }
+        ensures changed { result.changed ≡ if_success result.reply.items (set_now command) }
+        ensures later { result.later ≡ if_success result.reply.items (set_later command) }
+        ensures states { (d : ℕ) → d < 32 → state_at self.new d ≡ set_to result.changed d (state_at self.old d) }
+        ensures subscribed { (a d : ℕ) → 1 ≤ a → a ≤ 8 → d < 32 → is_subscribed self.new a d
+            ≡ unwrap_or (if_success result.reply.items (notification a d caller command)) (is_subscribed self.old a d) }
+        ensures known_now { IfSome result.changed (λ set. set.0 < length plan.now.domains) }
+        ensures room { IfSome result.later (λ set. load.room ≡ true) }
+        ensures known_later { IfSome result.later (λ set. set.0 < length plan.now.domains) }
+        ensures refused { begins_with_success result.reply.items ≡ false → self.new ≡ self.old }
+        ensures read { only_reads command ≡ true → self.new ≡ self.old }
+    {
+        match command {
+            PowerCommand::Version => PowerDone::replied(version()),
+            PowerCommand::Attributes => PowerDone::replied(attributes(plan)),
+            PowerCommand::MessageAttributes { message } => {
+                PowerDone::replied(message_attributes(message))
+            }
+            PowerCommand::DomainAttributes { domain } => {
+                PowerDone::replied(domain_attributes(plan, domain))
+            }
+            PowerCommand::Set {
+                flags,
+                domain,
+                state,
+            } => self.set(plan, base, caller, flags, domain, state, load),
+            PowerCommand::Get { domain } => PowerDone::replied(self.get(plan, domain)),
+            PowerCommand::Notify { domain, enable } => {
+                PowerDone::replied(self.notify(plan, base, caller, domain, enable))
+            }
+        }
+    }
+
+    /// Gives a domain the state of a set that takes effect now, and answers whether it was another
+    /// before.
+    pub fn complete(&mut self, domain: u32, state: u32) -> bool
+        requires { domain < 32 }
+        ensures changed { result ≡ not (state == state_at self.old domain) }
+        ensures states { (d : ℕ) → d < 32 → state_at self.new d ≡ (if domain == d then state else state_at self.old d) }
+        ensures subscribed { self.new.subscribers ≡ self.old.subscribers }
+    {
+        let place = domain as usize;
+        let changed = self.states[place] != state;
+        self.states[place] = state;
+        changed
+    }
+
+    /// Who is told of a domain's changes: bit a - 1 stands for agent a.
+    pub fn subscribers(&self, domain: u32) -> u8
+        requires { domain < 32 }
+        ensures { (a : ℕ) → (bit_at result (a - 1) == 1) ≡ is_subscribed self.now a domain }
+    {
+        self.subscribers[domain as usize]
+    }
+
+    /// Ends an agent's requests for notifications, of every domain.
+    pub fn reset(&mut self, agent: u32)
+        requires first { 1 ≤ agent }
+        requires last { agent ≤ 8 }
+        ensures subscribed { (a d : ℕ) → 1 ≤ a → a ≤ 8 → d < 32 → is_subscribed self.new a d ≡ (if agent == a then false else is_subscribed self.old a d) }
+        ensures states { self.new.states ≡ self.old.states }
+    {
+        let mut subscribers = self.subscribers;
+        for domain in 0..DOMAINS {
+            subscribers[domain] = with_subscriber(subscribers[domain], agent, false);
+        }
+        self.subscribers = subscribers;
+    }
+
+    /// The state of a domain: 0 is ON, 0x40000000 is OFF.
+    pub fn state(&self, domain: u32) -> u32
+        requires { domain < 32 }
+        ensures { result ≡ state_at self.now domain }
+    {
+        self.states[domain as usize]
+    }
+
+    /// 0x4: sets a domain's state, now or later.
+    fn set(
+        &mut self,
+        plan: &Plan,
+        base: &BaseState,
+        caller: u32,
+        flags: u32,
+        domain: u32,
+        state: u32,
+        load: Load,
+    ) -> PowerDone
+        requires first { 1 ≤ caller }
+        requires last { caller ≤ length plan.now.agents }
+        ensures reply { result.reply.items ≡ set_reply plan.now (may_change plan.now base.now caller domain) (is_busy load domain) load.room flags domain state }
+        ensures changed { result.changed ≡ if_success result.reply.items (set_now (Set flags domain state)) }
+        ensures later { result.later ≡ if_success result.reply.items (set_later (Set flags domain state)) }
+        ensures states { (d : ℕ) → d < 32 → state_at self.new d ≡ set_to result.changed d (state_at self.old d) }
+        ensures subscribed { self.new.subscribers ≡ self.old.subscribers }
+        ensures known_now { IfSome result.changed (λ set. set.0 < length plan.now.domains) }
+        ensures room { IfSome result.later (λ set. load.room ≡ true) }
+        ensures known_later { IfSome result.later (λ set. set.0 < length plan.now.domains) }
+        ensures refused { begins_with_success result.reply.items ≡ false → self.new ≡ self.old }
+    {
+        match check_set(plan, base, caller, flags, domain, state, load) {
+            Ok(true) => PowerDone::accepted(domain, state),
+            Ok(false) => {
+                self.complete(domain, state);
+                PowerDone::set(domain, state)
+            }
+            Err(status) => PowerDone::refused(status),
+        }
+    }
+
+    /// 0x5: a domain's state; NOT_FOUND for a domain that the board lacks.
+    fn get(&self, plan: &Plan, domain: u32) -> Payload
+        ensures { result.items ≡ get_reply plan.now domain (state_at self.now domain) }
+    {
+        match check_domain(plan, domain) {
+            Ok(()) => payload_of(&[SUCCESS, self.state(domain)]),
+            Err(status) => refusal(status),
+        }
+    }
+
+    /// 0x6: enables or disables the caller's notifications of a domain's changes.
+    fn notify(
+        &mut self,
+        plan: &Plan,
+        base: &BaseState,
+        caller: u32,
+        domain: u32,
+        enable: u32,
+    ) -> Payload
+        requires first { 1 ≤ caller }
+        requires last { caller ≤ length plan.now.agents }
+        ensures reply { result.items ≡ notify_reply plan.now (may_change plan.now base.now caller domain) domain enable }
+        ensures states { self.new.states ≡ self.old.states }
+        ensures subscribed { (a d : ℕ) → 1 ≤ a → a ≤ 8 → d < 32 → is_subscribed self.new a d
+            ≡ unwrap_or (if_success result.items (notification a d caller (Notify domain enable))) (is_subscribed self.old a d) }
+        ensures refused { begins_with_success result.items ≡ false → self.new ≡ self.old }
+    {
+        match check_notify(plan, base, caller, domain, enable) {
+            Ok(enabled) => {
+                let place = domain as usize;
+                self.subscribers[place] = with_subscriber(self.subscribers[place], caller, enabled);
+                payload_of(&[SUCCESS])
+            }
+            Err(status) => refusal(status),
+        }
+    }
+}
