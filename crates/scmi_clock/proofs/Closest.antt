@@ -1,10 +1,9 @@
 -- The rates below and above are the closest on their side, and the nearest is closest of all.
-use Rattle.std.proofs.Common.{◌≡◌, ◌⊎◌, inl, inr, ◌↔◌, IfSome, IsNone, ℕ, zero, suc, ◌+◌, ◌-◌, ◌*◌, ◌/◌, ◌%◌, ◌<◌, ◌≤◌, nat_le, Bool, true, false, List, length, get_or, map, Option, Some, None, refl, sym, ap, ◌∙◌, subst, arith, if◌then◌else◌}
-use Rattle.std.specs.List.{Contains, filter, find, last_or, range_with_len}
+use Rattle.std.proofs.Common.{◌≡◌, ◌⊎◌, inl, inr, ℕ, ◌+◌, ◌-◌, ◌*◌, ◌/◌, ◌<◌, ◌≤◌, nat_le, Bool, true, false, List, length, get_or, map, Option, Some, None, refl, ap, ◌∙◌, subst, arith, if◌then◌else◌}
+use Rattle.std.specs.List.{range_with_len}
 use Rattle.std.specs.Int.{abs_diff}
 use Rattle.std.proofs.Math.Nat.{mul-le-mul_right}
-use Rattle.std.proofs.lemmas.Bool.{le-leb, leb-true, leb-false, cases_lt, cases_order}
-use Rattle.std.proofs.lemmas.Bool.Decides.{leb_tells}
+use Rattle.std.proofs.lemmas.Bool.{leb-true, leb-false, cases_lt, cases_order}
 use Rattle.std.proofs.lemmas.List.{get_or_default}
 use Rattle.std.proofs.lemmas.List.Elements.{Contains-get_or}
 use Rattle.std.proofs.lemmas.List.FromFn.{length-map-range_with_len, get_or-map-range_with_len}
@@ -12,9 +11,7 @@ use Rattle.std.proofs.lemmas.List.Kept.{AllPairs-from_increasing}
 use Rattle.scmi_plan.specs.declared.rates.Rates.{Rates}
 use Rattle.scmi_plan.specs.declared.rates.Rates.TheVariants as rates
 use Rattle.scmi_plan.specs.Rates.{members, HasLawfulRates, IsSupported}
-use Rattle.scmi_clock.specs.declared.rounding.Rounding.{Rounding}
-use Rattle.scmi_clock.specs.declared.rounding.Rounding.TheVariants as rounding
-use Rattle.scmi_clock.specs.Rounding.{IsRoundedDown, IsRoundedUp, IsNearest, IsRounded, HasNoRate, rate_below, rate_above, nearer, round_to}
+use Rattle.scmi_clock.specs.Rounding.{IsRoundedDown, IsRoundedUp, IsNearest, rate_below, rate_above, nearer}
 use Rattle.scmi_clock.proofs.Passing.{PassesNowhere, IsLast, IsFirst, last_cases, first_cases}
 
 -- rates that don't fall along the list, of which there is one at least
@@ -48,9 +45,6 @@ ladder (rates.Steps low high step) lawful = record { some = by_some; rises = by 
       let at_j : get_or (members (rates.Steps low high step)) j 0 ≡ low + j * step = step_at low step ((high - low) / step + 1) j wide in
       let up : i * step ≤ j * step = mul-le-mul_right step upto in
       omega arith
-
-fails_above : (asked x : ℕ) → nat_le x asked ≡ false → asked < x
-fails_above asked x h = leb-false x asked h
 
 module _ (r : Rates) (lawful : HasLawfulRates r) (asked : ℕ) where
   -- a supported rate, at its place

@@ -1,16 +1,14 @@
 -- The rates below and above in a list, from the place that divides it.
-use Rattle.std.proofs.Common.{◌≡◌, ℕ, suc, ◌+◌, ◌-◌, ◌<◌, ◌≤◌, nat_le, nat_lt, Bool, true, false, List, length, get_or, Option, Some, None, Bor, refl, sym, ap, ◌∙◌, subst, arith}
-use Rattle.std.specs.List.{AllWithin}
+use Rattle.std.proofs.Common.{◌≡◌, ℕ, ◌-◌, ◌<◌, ◌≤◌, nat_le, nat_lt, true, false, List, length, get_or, Option, Some, None, Bor, refl, sym, ◌∙◌, arith}
 use Rattle.std.specs.List.Sorted.{IsPartitionPoint, IsNonDecreasingBy}
 use Rattle.std.specs.Option.{option_copied}
 use Rattle.std.specs.Slice.{IsItemAt}
-use Rattle.std.proofs.lemmas.Bool.{leb-true, leb-false, le-leb, ltb-true, ltb-false}
+use Rattle.std.proofs.lemmas.Bool.{le-leb, ltb-true, ltb-false}
 use Rattle.std.proofs.lemmas.List.{get_or_default}
-use Rattle.scmi_plan.specs.declared.rates.Rates.{Rates}
 use Rattle.scmi_plan.specs.declared.rates.Rates.TheVariants as rates
 use Rattle.scmi_plan.specs.Rates.{HasLawfulRates}
 use Rattle.scmi_clock.specs.Rounding.{rate_below, rate_above}
-use Rattle.scmi_clock.proofs.Passing.{PassesNowhere, IsLast, IsFirst, no_last, no_first, last_is, first_is}
+use Rattle.scmi_clock.proofs.Passing.{no_last, no_first, last_is, first_is}
 use Rattle.scmi_clock.proofs.Closest.{ladder}
 use Rattle.scmi_clock.proofs.StepRates.{above_fails}
 

@@ -1,10 +1,10 @@
 -- What `round` answers, in the words of its contract.
-use Rattle.std.proofs.Common.{◌≡◌, ◌⊎◌, inl, inr, ◌↔◌, IfSome, IsNone, ℕ, ◌<◌, ◌≤◌, Option, Some, None, refl, ap, sym, subst, arith}
+use Rattle.std.proofs.Common.{◌≡◌, ◌⊎◌, inl, inr, ◌↔◌, IfSome, IsNone, ℕ, ◌≤◌, Option, Some, None, refl, sym, subst, arith}
 use Rattle.scmi_plan.specs.declared.rates.Rates.{Rates}
-use Rattle.scmi_plan.specs.Rates.{HasLawfulRates, IsSupported}
+use Rattle.scmi_plan.specs.Rates.{HasLawfulRates}
 use Rattle.scmi_clock.specs.declared.rounding.Rounding.{Rounding}
 use Rattle.scmi_clock.specs.declared.rounding.Rounding.TheVariants as rounding
-use Rattle.scmi_clock.specs.Rounding.{IsRoundedDown, IsRoundedUp, IsNearest, IsRounded, HasNoRate, rate_below, rate_above, round_to}
+use Rattle.scmi_clock.specs.Rounding.{IsRoundedDown, IsRoundedUp, IsRounded, HasNoRate, rate_below, rate_above, round_to}
 use Rattle.scmi_clock.proofs.Closest.{below_cases, above_cases, nearest_cases}
 
 -- the rate that is answered, or why there is none

@@ -1,15 +1,14 @@
 -- The rates below and above among rates that rise by steps.
-use Rattle.std.proofs.Common.{◌≡◌, ◌⊎◌, inl, inr, ℕ, zero, suc, ◌+◌, ◌-◌, ◌*◌, ◌/◌, ◌%◌, ◌<◌, ◌≤◌, nat_le, Bool, true, false, List, length, get_or, Option, Some, None, refl, sym, ap, ◌∙◌, subst, arith}
+use Rattle.std.proofs.Common.{◌≡◌, ◌⊎◌, inl, inr, ℕ, suc, ◌+◌, ◌-◌, ◌*◌, ◌/◌, ◌%◌, ◌<◌, ◌≤◌, nat_le, true, false, length, get_or, Some, None, sym, ap, ◌∙◌, subst, arith}
 use Rattle.std.proofs.Math.Nat.{mod-lt, mul-div_left, mul-le-mul_right}
 use Rattle.std.proofs.lemmas.Bool.{le-leb}
 use Rattle.std.proofs.lemmas.Bool.Decides.{leb_tells}
 use Rattle.std.proofs.lemmas.Nat.{div-add-mod', le-div, div_below}
 use Rattle.std.proofs.lemmas.List.FromFn.{length-map-range_with_len}
-use Rattle.scmi_plan.specs.declared.rates.Rates.{Rates}
 use Rattle.scmi_plan.specs.declared.rates.Rates.TheVariants as rates
 use Rattle.scmi_plan.specs.Rates.{members, HasLawfulRates}
 use Rattle.scmi_clock.specs.Rounding.{rate_below, rate_above}
-use Rattle.scmi_clock.proofs.Passing.{PassesNowhere, IsLast, IsFirst, no_last, no_first, last_is, first_is}
+use Rattle.scmi_clock.proofs.Passing.{no_last, no_first, last_is, first_is}
 use Rattle.scmi_clock.proofs.Closest.{step_at}
 
 pub above_fails : (asked x : ℕ) → asked < x → nat_le x asked ≡ false

@@ -1,5 +1,5 @@
 -- The replies of the clock protocol (DEN0056B, clock management protocol), 0x14.
-use Rattle.std.specs.Prelude.{ℕ, ◌+◌, ◌-◌, ◌*◌, ◌/◌, ◌%◌, ◌^◌, ◌==◌, ◌&&◌, ◌||◌, Bool, true, false, not, nat_lt, nat_le, min, if◌then◌else◌, List, [], ◌∷◌, ◌++◌, length, take, drop, get_or, Option, Some, None, is_none}
+use Rattle.std.specs.Prelude.{ℕ, ◌+◌, ◌-◌, ◌*◌, ◌/◌, ◌^◌, ◌&&◌, ◌||◌, Bool, false, not, nat_le, min, if◌then◌else◌, List, [], ◌∷◌, length, take, drop, Option, is_none}
 use Rattle.std.specs.List.{flat_map}
 use Rattle.scmi_codec.specs.ClockCommand.{clock_table}
 use Rattle.scmi_codec.specs.Row.{is_listed}
@@ -8,12 +8,11 @@ use Rattle.scmi_codec.specs.declared.clock_command.ClockCommand.TheVariants as c
 use Rattle.scmi_codec.specs.declared.payload.TheConstants.{PAYLOAD_WORDS}
 use Rattle.scmi_codec.specs.declared.status.Status.TheVariants.{NotFound, InvalidParameters, OutOfRange, Denied, Busy}
 use Rattle.scmi_plan.specs.Board.{Board, clock_at}
-use Rattle.scmi_plan.specs.declared.clock.Clock.{Clock}
 use Rattle.scmi_plan.specs.declared.rates.Rates.{Rates}
 use Rattle.scmi_plan.specs.declared.rates.Rates.TheVariants as rates
 use Rattle.scmi_codec.specs.Name.{name_words}
 use Rattle.scmi_codec.specs.Rate.{rate_words}
-use Rattle.scmi_codec.specs.Reply.{Check, reply_unless, bit_0, other_bits}
+use Rattle.scmi_codec.specs.Reply.{Check, reply_unless, other_bits}
 use Rattle.scmi_clock.specs.Rounding.{round_to}
 use Rattle.scmi_clock.specs.SetFlags.{rounding_of, is_asynchronous, has_unknown_flags}
 

@@ -1,6 +1,6 @@
 -- Rounding to a supported rate (DEN0056B, clock management protocol), in Hz.
-use Rattle.std.specs.Prelude.{◌≡◌, ℕ, ◌+◌, ◌-◌, ◌*◌, ◌/◌, ◌<◌, ◌≤◌, nat_le, if◌then◌else◌, List, map, Option, Some, None}
-use Rattle.std.specs.List.{filter, find, last_or, range_with_len}
+use Rattle.std.specs.Prelude.{◌≡◌, ℕ, ◌-◌, ◌<◌, ◌≤◌, nat_le, if◌then◌else◌, Option, Some, None}
+use Rattle.std.specs.List.{filter, find, last_or}
 use Rattle.std.specs.Int.{abs_diff}
 use Rattle.scmi_plan.specs.declared.rates.Rates.{Rates}
 use Rattle.scmi_plan.specs.Rates.{members, IsSupported}

@@ -1,9 +1,8 @@
 //! The checks of commands, in the order of the profile (own).
-ghost use Rattle.std.specs.Prelude.{◌≡◌, ◌≤◌, ◌<◌, ◌==◌, ◌≢◌, ◌∷◌, ◌&&◌, ◌||◌, not, true, [], if◌then◌else◌, length, Ok, Err, IfOk, IfErr};
+ghost use Rattle.std.specs.Prelude.{◌≡◌, ◌≤◌, ◌<◌, ◌≢◌, ◌∷◌, ◌&&◌, ◌||◌, not, true, [], if◌then◌else◌, length, Ok, Err, IfOk, IfErr};
 ghost use Rattle.scmi_codec.specs.Reply.{bit_0, reply_unless};
 ghost use Rattle.scmi_codec.specs.Status.{status_word};
 ghost use Rattle.scmi_codec.specs.declared.status.Status.TheVariants.{Success, NotFound, Denied, Busy, OutOfRange};
-ghost use Rattle.scmi_plan.specs.Board.{clock_at};
 ghost use Rattle.scmi_clock.specs.ClockReply.{no_clock, past_end, set_checks, config_checks};
 ghost use Rattle.scmi_clock.specs.ClockTable.{set_rate, may_change, is_pending};
 ghost use Rattle.scmi_clock.specs.SetFlags.{is_asynchronous, is_response_wanted};

@@ -1,4 +1,4 @@
-use Rattle.std.proofs.Common.{rules, arith, nat_lt, ◌∙◌}
+use Rattle.std.proofs.Common.{rules, nat_lt, ◌∙◌}
 use Rattle.std.proofs.lemmas.List.Sorted.{IsPartitionPoint-from_clause, IsPartitionedBy-ltb}
 use Rattle.scmi_clock.proofs.ListRates.{rising, above_item}
 use Rattle.scmi_clock.proofs.rounding.list_above.Goals as goal
