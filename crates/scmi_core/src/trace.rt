@@ -14,12 +14,12 @@ pub struct Trace {
 }
 
 impl Model for Trace {
-    ghost use Rattle.std.specs.Prelude.{◌-◌};
+    ghost use Rattle.std.specs.Prelude.{◌-◌, vec_len, vec_capacity};
     ghost use Rattle.scmi_core.specs.Trace.{Recorded};
 
     ghost Value = { Recorded };
 
-    ghost view = { λ t. record { events = t.events.items; room = t.events.cap - t.events.len } };
+    ghost view = { λ t. record { events = t.events.items; room = vec_capacity t.events - vec_len t.events } };
 }
 
 impl Trace {

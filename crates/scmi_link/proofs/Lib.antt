@@ -1,0 +1,4 @@
+pub mod NoteLemmas
+pub mod RingNames
+pub mod RingSteps
+pub mod RingsAgree

@@ -1,0 +1,60 @@
+-- How the notes read after one more, and what stands after the closing note.
+use Rattle.std.proofs.Common.{◌≡◌, true, false, List, [], ◌∷◌, ◌++◌, refl, ap}
+use Rattle.scmi_codec.specs.declared.frame.Answer.{Answer}
+use Rattle.scmi_link.specs.declared.note.Note.{Note}
+use Rattle.scmi_link.specs.declared.note.Note.TheVariants.{Said, Closing}
+use Rattle.scmi_link.specs.Note.{said, has_closing, ends_well, is_nil}
+
+pub said-said : (ns : List Note) (a : Answer) → said (ns ++ Said a ∷ []) ≡ said ns ++ a ∷ []
+said-said [] a = refl
+said-said (Said b ∷ ns) a = ap (λ xs. b ∷ xs) (said-said ns a)
+said-said (Closing ∷ ns) a = said-said ns a
+
+pub said-closing : (ns : List Note) → said (ns ++ Closing ∷ []) ≡ said ns
+said-closing [] = refl
+said-closing (Said b ∷ ns) = ap (λ xs. b ∷ xs) (said-closing ns)
+said-closing (Closing ∷ ns) = said-closing ns
+
+pub said-append : (ns ms : List Note) → said (ns ++ ms) ≡ said ns ++ said ms
+said-append [] ms = refl
+said-append (Said b ∷ ns) ms = ap (λ xs. b ∷ xs) (said-append ns ms)
+said-append (Closing ∷ ns) ms = said-append ns ms
+
+pub has_closing-said : (ns : List Note) (a : Answer) → has_closing (ns ++ Said a ∷ []) ≡ has_closing ns
+has_closing-said [] a = refl
+has_closing-said (Said b ∷ ns) a = has_closing-said ns a
+has_closing-said (Closing ∷ ns) a = refl
+
+pub has_closing-closing : (ns : List Note) → has_closing (ns ++ Closing ∷ []) ≡ true
+has_closing-closing [] = refl
+has_closing-closing (Said b ∷ ns) = has_closing-closing ns
+has_closing-closing (Closing ∷ ns) = refl
+
+pub has_closing-front : (ns ms : List Note) → has_closing ns ≡ true → has_closing (ns ++ ms) ≡ true
+has_closing-front [] ms h = cc
+has_closing-front (Said b ∷ ns) ms h = has_closing-front ns ms h
+has_closing-front (Closing ∷ ns) ms h = refl
+
+pub ends_well-said : (ns : List Note) (a : Answer) → has_closing ns ≡ false → ends_well (ns ++ Said a ∷ []) ≡ true
+ends_well-said [] a h = refl
+ends_well-said (Said b ∷ ns) a h = ends_well-said ns a h
+ends_well-said (Closing ∷ ns) a h = cc
+
+pub ends_well-closing : (ns : List Note) → has_closing ns ≡ false → ends_well (ns ++ Closing ∷ []) ≡ true
+ends_well-closing [] h = refl
+ends_well-closing (Said b ∷ ns) h = ends_well-closing ns h
+ends_well-closing (Closing ∷ ns) h = cc
+
+nil : (ms : List Note) → is_nil ms ≡ true → ms ≡ []
+nil [] h = refl
+nil (m ∷ ms) h = cc
+
+left_of : (ns ms : List Note) → is_nil (ns ++ ms) ≡ true → ms ≡ []
+left_of [] ms h = nil ms h
+left_of (n ∷ ns) ms h = cc
+
+-- once the closing note was seen, nothing is left
+pub all_seen : (ns ms : List Note) → ends_well (ns ++ ms) ≡ true → has_closing ns ≡ true → ms ≡ []
+all_seen [] ms e h = cc
+all_seen (Said b ∷ ns) ms e h = all_seen ns ms e h
+all_seen (Closing ∷ ns) ms e h = left_of ns ms e

@@ -1,0 +1,7 @@
+-- Truth values as numbers.
+use Rattle.std.specs.Prelude.{ℕ, Bool, true, false}
+
+-- 1 for true
+abbrev pub bit : Bool → ℕ
+bit false = 0
+bit true = 1

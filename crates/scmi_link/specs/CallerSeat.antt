@@ -1,0 +1,31 @@
+-- What a contract sees of the caller's ends of a pair of rings.
+use Rattle.std.specs.Prelude.{◌≡◌, ℕ, List}
+use Rattle.rtrb.specs.Ring.{sent, received, SameProducer, SameConsumer, IsPair}
+use Rattle.scmi_link.specs.View.{CallerView}
+use Rattle.scmi_link.specs.Note.{said}
+use Rattle.scmi_link.specs.Rings.{rings_name}
+use Rattle.scmi_link.specs.declared.rings.Rings.{Rings}
+use Rattle.scmi_link.specs.declared.caller_seat.CallerSeat.{CallerSeat}
+
+-- what the caller has done
+abbrev pub caller_seat_view : CallerSeat → CallerView
+caller_seat_view c =
+    record {
+      posted = sent c.frames;
+      read = said (received c.answers);
+      closed = c.closed;
+      told = c.told;
+      left = c.left;
+      collects = c.collects;
+    }
+
+-- the ends of the same two rings
+abbrev pub SameCallerRings : CallerSeat → CallerSeat → Type 0
+SameCallerRings a b = SameProducer a.frames b.frames × SameConsumer a.answers b.answers
+
+-- the caller's ends are ends of the rings of this name
+pub record IsCallerOf (name : List ℕ) (c : CallerSeat) : Type 0 where
+  pub rings : Rings
+  pub name_is : rings_name rings ≡ name
+  pub posts_into : SameProducer rings.frames.value c.frames
+  pub reads_from : IsPair rings.answers.value c.answers

@@ -1,0 +1,11 @@
+pub mod View
+pub mod Calls
+pub mod Gathered
+pub mod Bit
+pub mod Note
+pub mod Rings
+pub mod CallerSeat
+pub mod CalleeSeat
+pub mod RingChannel
+pub mod RingCaller
+pub mod RingCallee

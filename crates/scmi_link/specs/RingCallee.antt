@@ -1,0 +1,13 @@
+-- What a contract sees of the callee's end of a ring channel.
+use Rattle.std.specs.Prelude.{ℕ, List}
+use Rattle.scmi_link.specs.View.{CalleeView}
+use Rattle.scmi_link.specs.CalleeSeat.{callee_seat_view}
+use Rattle.scmi_link.specs.declared.ring_callee.RingCallee.{RingCallee}
+
+-- what the callee has done
+abbrev pub ring_callee_view : RingCallee → CalleeView
+ring_callee_view c = callee_seat_view c.seat
+
+-- the name of the channel that made it
+abbrev pub ring_callee_name : RingCallee → List ℕ
+ring_callee_name c = c.name.numbers

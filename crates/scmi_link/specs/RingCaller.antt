@@ -1,0 +1,13 @@
+-- What a contract sees of the caller's end of a ring channel.
+use Rattle.std.specs.Prelude.{ℕ, List}
+use Rattle.scmi_link.specs.View.{CallerView}
+use Rattle.scmi_link.specs.CallerSeat.{caller_seat_view}
+use Rattle.scmi_link.specs.declared.ring_caller.RingCaller.{RingCaller}
+
+-- what the caller has done
+abbrev pub ring_caller_view : RingCaller → CallerView
+ring_caller_view c = caller_seat_view c.seat
+
+-- the name of the channel that made it
+abbrev pub ring_caller_name : RingCaller → List ℕ
+ring_caller_name c = c.name.numbers

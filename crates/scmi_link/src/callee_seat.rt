@@ -1,0 +1,76 @@
+//! The callee's ends of a pair of rings, and what the callee has done.
+ghost use Rattle.std.specs.Prelude.{◌≡◌, ◌+◌, ◌<◌, true, false, length};
+ghost use Rattle.rtrb.specs.Ring.{sent, received, known_free};
+ghost use Rattle.scmi_link.specs.Note.{said, has_closing, ends_well};
+ghost use Rattle.scmi_link.specs.Bit.{bit};
+
+use crate::close_error::CloseError;
+use crate::note::Note;
+use rtrb::{Consumer, Producer};
+use scmi_codec::{Answer, Frame};
+
+/// The callee's ends of a pair of rings, and what the callee has done.
+#[derive(Drop)]
+pub struct CalleeSeat {
+    pub(crate) frames: Consumer<Frame>,
+    pub(crate) answers: Producer<Note>,
+    pub(crate) closed: bool,
+    // The frame taken last has no answer yet.
+    pub(crate) owing: bool,
+    // Its calls of `take`, modulo 2^64.
+    pub(crate) takes: u64,
+    ghost counted: { length (received frames) ≡ length (said (sent answers)) + bit owing },
+    ghost room: { owing ≡ true → 0 < known_free answers },
+    ghost noted: { has_closing (sent answers) ≡ true → closed ≡ true },
+    ghost last: { ends_well (sent answers) ≡ true },
+    ghost done: { closed ≡ true → owing ≡ false },
+}
+
+impl CalleeSeat {
+    ghost use Rattle.std.specs.Prelude.{◌≡◌, ◌++◌, ◌∷◌, [], ◌↔◌, true, OnOk, OnErr};
+    ghost use Rattle.scmi_link.specs.View.{Owes};
+    ghost use Rattle.scmi_link.specs.Calls.{Takes};
+    ghost use Rattle.scmi_link.specs.CalleeSeat.{callee_seat_view, SameCalleeRings};
+
+    // A frame is taken only where a place for its answer is known to be free.
+    pub(crate) fn take(&mut self) -> Option<Frame>
+        ensures rings { SameCalleeRings self.old self.new }
+        ensures takes { Takes (callee_seat_view self.old) result (callee_seat_view self.new) }
+    {
+        self.takes = self.takes.wrapping_add(1);
+        if self.closed || self.owing || self.answers.is_full() {
+            return None;
+        }
+        let frame = self.frames.pop().ok()?;
+        self.owing = true;
+        Some(frame)
+    }
+
+    // Puts the answer that is owed into the ring, where it has a place.
+    pub(crate) fn answer(&mut self, answer: &Answer)
+        requires { Owes (callee_seat_view self.old) }
+        ensures rings { SameCalleeRings self.old self.new }
+        ensures answered { callee_seat_view self.new ≡ record (callee_seat_view self.old) { answered = (callee_seat_view self.old).answered ++ answer.now ∷ [] } }
+    {
+        self.answers.push_reserved(Note::Said(answer.copy()));
+        self.owing = false;
+    }
+
+    // The close holds also where the ring takes no note.
+    pub(crate) fn close(&mut self) -> Result<(), CloseError>
+        ensures rings { SameCalleeRings self.old self.new }
+        ensures ok { OnOk result (callee_seat_view self.new ≡ record (callee_seat_view self.old) { closed = true }) }
+        ensures in_service { (result ≡ Err CloseError.InService) ↔ Owes (callee_seat_view self.old) }
+        ensures reply_waiting { ¬ (result ≡ Err CloseError.ReplyWaiting) }
+        ensures err { OnErr result (callee_seat_view self.new ≡ callee_seat_view self.old) }
+    {
+        if self.owing {
+            return Err(CloseError::InService);
+        }
+        if !self.closed {
+            self.closed = true;
+            let _ = self.answers.push(Note::Closing);
+        }
+        Ok(())
+    }
+}

@@ -1,0 +1,133 @@
+//! The caller's ends of a pair of rings, and what the caller has done.
+ghost use Rattle.std.specs.Prelude.{◌≡◌, ◌+◌, true, false, length};
+ghost use Rattle.rtrb.specs.Ring.{sent, received};
+ghost use Rattle.scmi_link.specs.Note.{said, has_closing};
+ghost use Rattle.scmi_link.specs.Bit.{bit};
+
+use crate::close_error::CloseError;
+use crate::closing::Closing;
+use crate::collected::Collected;
+use crate::note::Note;
+use crate::post_error::PostError;
+use rtrb::{Consumer, Producer};
+use scmi_codec::Frame;
+
+/// The caller's ends of a pair of rings, and what the caller has done.
+#[derive(Drop)]
+pub struct CallerSeat {
+    pub(crate) frames: Producer<Frame>,
+    pub(crate) answers: Consumer<Note>,
+    pub(crate) closed: bool,
+    // It has taken the closing note.
+    pub(crate) told: bool,
+    // A post waits for its answer.
+    pub(crate) waiting: bool,
+    // The last post was given up.
+    pub(crate) left: bool,
+    // Its calls of `collect`, modulo 2^64.
+    pub(crate) collects: u64,
+    ghost counted: { length (sent frames) ≡ length (said (received answers)) + (bit waiting + bit left) },
+    ghost one: { waiting ≡ true → left ≡ false },
+    ghost quiet: { closed ≡ true → waiting ≡ false },
+    ghost heard: { told ≡ has_closing (received answers) },
+    ghost gone: { left ≡ true → told ≡ true },
+}
+
+impl CallerSeat {
+    ghost use Rattle.std.specs.Prelude.{◌≡◌, ◌++◌, ◌∷◌, [], ◌↔◌, true, false, OnOk, OnErr};
+    ghost use Rattle.scmi_link.specs.View.{IsOutstanding, is_shut};
+    ghost use Rattle.scmi_link.specs.Calls.{IsRefused, Collects};
+    ghost use Rattle.scmi_link.specs.CallerSeat.{caller_seat_view, SameCallerRings};
+
+    // Posts a frame, good or malformed.
+    pub(crate) fn post(&mut self, frame: Frame) -> Result<(), PostError>
+        ensures rings { SameCallerRings self.old self.new }
+        ensures ok { OnOk result (caller_seat_view self.new ≡ record (caller_seat_view self.old) { posted = (caller_seat_view self.old).posted ++ frame ∷ [] }) }
+        ensures unshut { OnOk result (is_shut (caller_seat_view self.old) ≡ false) }
+        ensures outstanding { (result ≡ Err PostError.Outstanding) ↔ IsOutstanding (caller_seat_view self.old) }
+        ensures unchanged { result ≡ Err PostError.Outstanding → caller_seat_view self.new ≡ caller_seat_view self.old }
+        ensures closed { result ≡ Err PostError.Closed → IsRefused (caller_seat_view self.old) (caller_seat_view self.new) }
+        ensures full { result ≡ Err PostError.Full → (is_shut (caller_seat_view self.old) ≡ false) × (caller_seat_view self.new ≡ caller_seat_view self.old) }
+        ensures well_formed { ¬ (result ≡ Err PostError.WellFormed) }
+    {
+        if self.waiting {
+            return Err(PostError::Outstanding);
+        }
+        if self.closed || self.see_closing_note() {
+            return Err(PostError::Closed);
+        }
+        match self.frames.push(frame) {
+            Ok(()) => {
+                self.waiting = true;
+                Ok(())
+            }
+            Err(_) => Err(PostError::Full),
+        }
+    }
+
+    // What the ring of answers has for the caller.
+    pub(crate) fn collect(&mut self) -> Collected
+        ensures rings { SameCallerRings self.old self.new }
+        ensures collects { Collects (caller_seat_view self.old) result (caller_seat_view self.new) }
+        ensures shut { is_shut (caller_seat_view self.old) ≡ true → ¬ IsOutstanding (caller_seat_view self.old) → result ≡ Collected.Closed }
+    {
+        self.collects = self.collects.wrapping_add(1);
+        if !self.waiting {
+            return if self.closed || self.see_closing_note() {
+                Collected::Closed
+            } else {
+                Collected::Nothing
+            };
+        }
+        match self.answers.pop() {
+            Ok(Note::Said(answer)) => {
+                self.waiting = false;
+                Collected::Got(answer)
+            }
+            Ok(Note::Closing) => {
+                self.told = true;
+                self.waiting = false;
+                self.left = true;
+                Collected::Closed
+            }
+            Err(_) => Collected::Nothing,
+        }
+    }
+
+    // Takes the closing note where it stands first, and says whether it was ever taken. With nothing
+    // outstanding no other note is taken out of the ring.
+    fn see_closing_note(&mut self) -> bool
+        requires { self.old.waiting ≡ false }
+        ensures rings { SameCallerRings self.old self.new }
+        ensures view { caller_seat_view self.new ≡ record (caller_seat_view self.old) { told = result } }
+        ensures kept { self.old.told ≡ true → result ≡ true }
+    {
+        if self.told || self.answers.is_empty() {
+            return self.told;
+        }
+        if let Note::Said(_) = self.answers.peek_known() {
+            return false;
+        }
+        match self.answers.pop_known() {
+            Note::Closing => {
+                self.told = true;
+                true
+            }
+            Note::Said(_) => unreachable!(),
+        }
+    }
+
+    // A frame in the ring cannot be taken back, so a close waits for its answer.
+    pub(crate) fn close(&mut self) -> Result<Closing, CloseError>
+        ensures rings { SameCallerRings self.old self.new }
+        ensures idle { result ≡ Ok Closing.Idle → ¬ IsOutstanding (caller_seat_view self.old) × (caller_seat_view self.new ≡ record (caller_seat_view self.old) { closed = true }) }
+        ensures withdrawn { ¬ (result ≡ Ok Closing.Withdrawn) }
+        ensures err { OnErr result (IsOutstanding (caller_seat_view self.old) × (caller_seat_view self.new ≡ caller_seat_view self.old)) }
+    {
+        if self.waiting {
+            return Err(CloseError::InService);
+        }
+        self.closed = true;
+        Ok(Closing::Idle)
+    }
+}

@@ -1,0 +1,155 @@
+//! What a channel promises, whatever it is made of.
+ghost use Rattle.std.specs.Prelude.{◌≡◌, ◌↔◌, ◌⊎◌, ℕ, Bool, true, false, List, [], ◌∷◌, ◌++◌, IsTrue, OnOk, OnErr, IfOk};
+ghost use Rattle.scmi_codec.specs.Area.{is_well_formed};
+ghost use Rattle.scmi_codec.specs.declared.frame.Frame.TheVariants.{Good, Malformed};
+ghost use Rattle.scmi_link.specs.View.{CallerView, CalleeView, IsOutstanding, Owes, new_caller, new_callee, is_shut};
+ghost use Rattle.scmi_link.specs.Calls.{IsRefused, Collects, Takes};
+ghost use Rattle.scmi_link.specs.Gathered.{Agree, Closed};
+
+use crate::close_error::CloseError;
+use crate::closing::Closing;
+use crate::collected::Collected;
+use crate::link_error::LinkError;
+use crate::post_error::PostError;
+use scmi_codec::{Answer, Frame, Message};
+use std::alloc::Global;
+
+/// A channel of one place between a caller and a callee (own).
+///
+/// The channel is shared, and each of its two ends belongs to one thread. Condition of every call:
+/// the end was made by this channel. None of the calls but `make` takes memory, and none waits.
+///
+/// A contract sees an end as what it has done: the frames and answers that went through it, whether
+/// it has closed, whether it was told that the other end has, and how often it looked.
+pub trait Channel: Sync + Drop {
+    /// The end that posts frames and collects their answers.
+    type Caller: Send + Drop;
+
+    /// The end that takes frames and answers them.
+    type Callee: Send + Drop;
+
+    /// What is left once both ends are gathered.
+    type Rest: Send + Drop;
+
+    ghost FULL: { Bool };
+
+    /// Whether a post may find no place. Where it is false, no post answers `Full`.
+    const FULL: bool;
+
+    // An end has the name of the channel that made it.
+    ghost name: { Self → List ℕ };
+
+    ghost caller_name: { Self.Caller → List ℕ };
+
+    ghost callee_name: { Self.Callee → List ℕ };
+
+    // What an end has done.
+    ghost caller_view: { Self.Caller → CallerView };
+
+    ghost callee_view: { Self.Callee → CalleeView };
+
+    /// A channel and its two ends, with nothing posted. `Memory` where there was none for it.
+    fn make(alloc: Global) -> Result<(Self, Self::Caller, Self::Callee), LinkError>
+        ensures made { IfOk result (λ r. (caller_name r.1 ≡ name r.0) × (callee_name r.2 ≡ name r.0)) }
+        ensures fresh { IfOk result (λ r. (caller_view r.1 ≡ new_caller) × (callee_view r.2 ≡ new_callee)) };
+
+    /// Posts a message.
+    ///
+    /// The first that applies: `Outstanding` where the answer to the post before was not collected;
+    /// `Closed` where the caller has closed, or is now told that the callee has; `Full` where the
+    /// representation has no place. After `Closed` the caller knows of the close, if it did not
+    /// close itself, and nothing else changed; after the others nothing did.
+    fn post(&self, caller: &mut Self::Caller, message: &Message) -> Result<(), PostError>
+        requires { caller_name caller.old ≡ name self.now }
+        ensures name { caller_name caller.new ≡ caller_name caller.old }
+        ensures ok { OnOk result (caller_view caller.new ≡ record (caller_view caller.old) { posted = (caller_view caller.old).posted ++ Good message.now ∷ [] }) }
+        ensures unshut { OnOk result (is_shut (caller_view caller.old) ≡ false) }
+        ensures outstanding { (result ≡ Err PostError.Outstanding) ↔ IsOutstanding (caller_view caller.old) }
+        ensures unchanged { result ≡ Err PostError.Outstanding → caller_view caller.new ≡ caller_view caller.old }
+        ensures closed { result ≡ Err PostError.Closed → IsRefused (caller_view caller.old) (caller_view caller.new) }
+        ensures full { result ≡ Err PostError.Full → (FULL ≡ true) × (is_shut (caller_view caller.old) ≡ false) × (caller_view caller.new ≡ caller_view caller.old) }
+        ensures well_formed { ¬ (result ≡ Err PostError.WellFormed) };
+
+    /// Posts a frame whose length in bytes is not well formed.
+    ///
+    /// `WellFormed` where the length is well formed, and then nothing changed. Else as `post`.
+    fn post_malformed(
+        &self,
+        caller: &mut Self::Caller,
+        length: u32,
+        header: u32,
+    ) -> Result<(), PostError>
+        requires { caller_name caller.old ≡ name self.now }
+        ensures name { caller_name caller.new ≡ caller_name caller.old }
+        ensures ok { OnOk result (caller_view caller.new ≡ record (caller_view caller.old) { posted = (caller_view caller.old).posted ++ Malformed length header ∷ [] }) }
+        ensures unshut { OnOk result (is_shut (caller_view caller.old) ≡ false) }
+        ensures well_formed { (result ≡ Err PostError.WellFormed) ↔ (is_well_formed length ≡ true) }
+        ensures outstanding { is_well_formed length ≡ false → (result ≡ Err PostError.Outstanding) ↔ IsOutstanding (caller_view caller.old) }
+        ensures unchanged { (result ≡ Err PostError.Outstanding) ⊎ (result ≡ Err PostError.WellFormed) → caller_view caller.new ≡ caller_view caller.old }
+        ensures closed { result ≡ Err PostError.Closed → IsRefused (caller_view caller.old) (caller_view caller.new) }
+        ensures full { result ≡ Err PostError.Full → (FULL ≡ true) × (is_shut (caller_view caller.old) ≡ false) × (caller_view caller.new ≡ caller_view caller.old) };
+
+    /// Whether the answer to the last post was not collected, and the post was neither withdrawn nor
+    /// given up.
+    fn outstanding(caller: &Self::Caller) -> bool
+        ensures { IsTrue result ↔ IsOutstanding (caller_view caller.now) };
+
+    /// What the channel has for the caller. An answer that stands is given first.
+    ///
+    /// `Closed`: an end has closed and no answer stands to be read. An outstanding post is then given
+    /// up: it counts as left untaken, and is outstanding no more. After one `Closed` every later call
+    /// gives `Closed`.
+    fn collect(&self, caller: &mut Self::Caller) -> Collected
+        requires { caller_name caller.old ≡ name self.now }
+        ensures name { caller_name caller.new ≡ caller_name caller.old }
+        ensures collects { Collects (caller_view caller.old) result (caller_view caller.new) }
+        ensures shut { is_shut (caller_view caller.old) ≡ true → ¬ IsOutstanding (caller_view caller.old) → result ≡ Collected.Closed };
+
+    /// The frame that is posted. `None` where nothing is posted, an end has closed, or the callee
+    /// still owes an answer.
+    fn take(&self, callee: &mut Self::Callee) -> Option<Frame>
+        requires { callee_name callee.old ≡ name self.now }
+        ensures name { callee_name callee.new ≡ callee_name callee.old }
+        ensures takes { Takes (callee_view callee.old) result (callee_view callee.new) };
+
+    /// Whether the last frame that was taken has no answer yet.
+    fn owes(callee: &Self::Callee) -> bool
+        ensures { IsTrue result ↔ Owes (callee_view callee.now) };
+
+    /// Answers the frame that was taken last. Condition: the callee owes an answer. It never fails.
+    fn answer(&self, callee: &mut Self::Callee, answer: &Answer)
+        requires name { callee_name callee.old ≡ name self.now }
+        requires owes { Owes (callee_view callee.old) }
+        ensures name { callee_name callee.new ≡ callee_name callee.old }
+        ensures answered { callee_view callee.new ≡ record (callee_view callee.old) { answered = (callee_view callee.old).answered ++ answer.now ∷ [] } };
+
+    /// Closes the caller's end.
+    ///
+    /// `Idle` where nothing was outstanding or the end is closed already; `Withdrawn` where the
+    /// outstanding frame was not taken and never will be: it is outstanding no more. `InService`
+    /// where the outstanding frame was taken, or the channel cannot take it back; `ReplyWaiting`
+    /// where its answer stands to be collected. After a refusal the end is not closed.
+    fn close_caller(&self, caller: &mut Self::Caller) -> Result<Closing, CloseError>
+        requires { caller_name caller.old ≡ name self.now }
+        ensures name { caller_name caller.new ≡ caller_name caller.old }
+        ensures idle { result ≡ Ok Closing.Idle → ¬ IsOutstanding (caller_view caller.old) × (caller_view caller.new ≡ record (caller_view caller.old) { closed = true }) }
+        ensures withdrawn { result ≡ Ok Closing.Withdrawn → IsOutstanding (caller_view caller.old) × (caller_view caller.new ≡ record (caller_view caller.old) { closed = true; left = true }) }
+        ensures err { OnErr result (IsOutstanding (caller_view caller.old) × (caller_view caller.new ≡ caller_view caller.old)) };
+
+    /// Closes the callee's end. `InService` where the callee owes an answer, and then the end is not
+    /// closed. Closing twice is `Ok`.
+    fn close_callee(&self, callee: &mut Self::Callee) -> Result<(), CloseError>
+        requires { callee_name callee.old ≡ name self.now }
+        ensures name { callee_name callee.new ≡ callee_name callee.old }
+        ensures ok { OnOk result (callee_view callee.new ≡ record (callee_view callee.old) { closed = true }) }
+        ensures in_service { (result ≡ Err CloseError.InService) ↔ Owes (callee_view callee.old) }
+        ensures reply_waiting { ¬ (result ≡ Err CloseError.ReplyWaiting) }
+        ensures err { OnErr result (callee_view callee.new ≡ callee_view callee.old) };
+
+    /// Ends the channel, with both of its ends at hand: what each has done is then known to agree.
+    fn gather(self, caller: Self::Caller, callee: Self::Callee) -> Self::Rest
+        requires caller { caller_name caller ≡ name self }
+        requires callee { callee_name callee ≡ name self }
+        ensures agree { Agree (caller_view caller) (callee_view callee) }
+        ensures closed { Closed (caller_view caller) (callee_view callee) };
+}

@@ -1,0 +1,14 @@
+//! The caller's end of a ring channel.
+ghost use Rattle.scmi_link.specs.CallerSeat.{IsCallerOf};
+
+use crate::caller_seat::CallerSeat;
+use boxcar::tag::Tag;
+
+/// The end of a `RingChannel` that posts frames and collects their answers.
+#[derive(Drop)]
+pub struct RingCaller {
+    // The name of the channel that made this end. It has no bytes.
+    pub(crate) name: Tag,
+    pub(crate) seat: CallerSeat,
+    ghost named: { ∥ IsCallerOf name.numbers seat ∥₁ },
+}

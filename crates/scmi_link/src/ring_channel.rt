@@ -1,0 +1,160 @@
+//! A channel of two rings.
+ghost use Rattle.std.specs.Prelude.{true};
+
+use crate::callee_seat::CalleeSeat;
+use crate::caller_seat::CallerSeat;
+use crate::channel::Channel;
+use crate::close_error::CloseError;
+use crate::closing::Closing;
+use crate::collected::Collected;
+use crate::link_error::LinkError;
+use crate::note::Note;
+use crate::post_error::PostError;
+use crate::ring_callee::RingCallee;
+use crate::ring_caller::RingCaller;
+use crate::rings::{RingNames, Rings};
+use boxcar::tag::Tag;
+use rtrb::RingBuffer;
+use scmi_codec::{Answer, Frame, Message, is_well_formed};
+use std::alloc::Global;
+use std::snapshot::Snapshot;
+
+// The places of the ring of frames.
+const FRAME_PLACES: usize = 1;
+
+// The places of the ring of answers: one for an answer, and one for the callee's closing note.
+const ANSWER_PLACES: usize = 2;
+
+/// A channel of two rings: one place for frames, and two for answers and the callee's closing note.
+///
+/// A callee learns of the caller's close by no message, and need not: a caller closes only where
+/// nothing is outstanding. Until the caller has seen the closing note of a callee that closed, `post`
+/// may succeed and `collect` be `Nothing`. A caller's close is `Idle` or `InService` only.
+///
+/// It has no bytes, since the ends hold the rings: to a contract it is a name.
+#[derive(Drop)]
+pub struct RingChannel {
+    pub(crate) name: Tag,
+}
+
+impl Channel for RingChannel {
+    type Caller = RingCaller;
+
+    type Callee = RingCallee;
+
+    type Rest = ();
+
+    ghost use Rattle.scmi_link.specs.RingChannel.{ring_name};
+    ghost use Rattle.scmi_link.specs.RingCaller.{ring_caller_view, ring_caller_name};
+    ghost use Rattle.scmi_link.specs.RingCallee.{ring_callee_view, ring_callee_name};
+
+    ghost FULL = { true };
+
+    const FULL: bool = true;
+
+    ghost name = { ring_name };
+
+    ghost caller_name = { ring_caller_name };
+
+    ghost callee_name = { ring_callee_name };
+
+    ghost caller_view = { ring_caller_view };
+
+    ghost callee_view = { ring_callee_view };
+
+    fn make(alloc: Global) -> Result<(RingChannel, RingCaller, RingCallee), LinkError> {
+        let Ok((frames, posted)) = RingBuffer::<Frame>::new(alloc, FRAME_PLACES) else {
+            return Err(LinkError::Memory);
+        };
+        let Ok((notes, answers)) = RingBuffer::<Note>::new(alloc, ANSWER_PLACES) else {
+            return Err(LinkError::Memory);
+        };
+        let rings = Rings {
+            frames: Snapshot::of(&frames),
+            answers: Snapshot::of(&notes),
+        };
+        let channel = RingChannel {
+            name: Tag::of::<Rings, RingNames>(&rings),
+        };
+        let caller = RingCaller {
+            name: Tag::of::<Rings, RingNames>(&rings),
+            seat: CallerSeat {
+                frames,
+                answers,
+                closed: false,
+                told: false,
+                waiting: false,
+                left: false,
+                collects: 0,
+            },
+        };
+        let callee = RingCallee {
+            name: Tag::of::<Rings, RingNames>(&rings),
+            seat: CalleeSeat {
+                frames: posted,
+                answers: notes,
+                closed: false,
+                owing: false,
+                takes: 0,
+            },
+        };
+        Ok((channel, caller, callee))
+    }
+
+    fn post(&self, caller: &mut RingCaller, message: &Message) -> Result<(), PostError> {
+        caller.seat.post(Frame::Good(message.copy()))
+    }
+
+    fn post_malformed(
+        &self,
+        caller: &mut RingCaller,
+        length: u32,
+        header: u32,
+    ) -> Result<(), PostError> {
+        if is_well_formed(length) {
+            return Err(PostError::WellFormed);
+        }
+        caller.seat.post(Frame::Malformed { length, header })
+    }
+
+    fn outstanding(caller: &RingCaller) -> bool {
+        caller.seat.waiting
+    }
+
+    fn collect(&self, caller: &mut RingCaller) -> Collected {
+        caller.seat.collect()
+    }
+
+    fn take(&self, callee: &mut RingCallee) -> Option<Frame> {
+        callee.seat.take()
+    }
+
+    fn owes(callee: &RingCallee) -> bool {
+        callee.seat.owing
+    }
+
+    fn answer(&self, callee: &mut RingCallee, answer: &Answer) {
+        callee.seat.answer(answer);
+    }
+
+    fn close_caller(&self, caller: &mut RingCaller) -> Result<Closing, CloseError> {
+        caller.seat.close()
+    }
+
+    fn close_callee(&self, callee: &mut RingCallee) -> Result<(), CloseError> {
+        callee.seat.close()
+    }
+
+    fn gather(self, caller: RingCaller, callee: RingCallee) {
+        let RingCaller {
+            name: _,
+            seat: mut caller,
+        } = caller;
+        let RingCallee {
+            name: _,
+            seat: mut callee,
+        } = callee;
+        let _ = callee.frames.slots_beside(&mut caller.frames);
+        let _ = caller.answers.slots_beside(&mut callee.answers);
+    }
+}

@@ -1,0 +1,23 @@
+//! The two rings of a channel, as they were made.
+
+use crate::note::Note;
+use boxcar::tag::Names;
+use rtrb::Producer;
+use scmi_codec::Frame;
+use std::snapshot::Snapshot;
+
+/// The ring of frames and the ring of answers, as they were made. It has no bytes.
+#[derive(Drop)]
+pub struct Rings {
+    pub(crate) frames: Snapshot<Producer<Frame>>,
+    pub(crate) answers: Snapshot<Producer<Note>>,
+}
+
+/// How a channel of two rings is named.
+pub struct RingNames;
+
+impl Names<Rings> for RingNames {
+    ghost use Rattle.scmi_link.specs.Rings.{rings_name};
+
+    ghost numbers = { rings_name };
+}
