@@ -7,16 +7,10 @@ ghost use Rattle.scmi_codec.specs.declared.base_command.BaseCommand.TheVariants.
 
 use crate::base_done::BaseDone;
 use crate::checks::{check_permit, check_reset};
-use crate::discovery::{SUCCESS, discover};
-use scmi_codec::{BaseCommand, Payload, payload_of, refusal};
-use scmi_plan::{Plan, Resource};
+use crate::discovery::discover;
+use scmi_codec::{BaseCommand, Payload, SUCCESS, payload_of, refusal};
+use scmi_plan::{AGENTS, DEVICES, Plan, Resource};
 use std::marker::Model;
-
-/// The most agents of a board (own).
-const AGENTS: usize = 8;
-
-/// The most devices of a board (own).
-const DEVICES: usize = 32;
 
 /// Which agent is allowed on which device: a row for each agent from 1 on, in it a yes or no for each
 /// device from 0 on.

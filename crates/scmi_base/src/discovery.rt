@@ -6,17 +6,17 @@ ghost use Rattle.scmi_base.specs.Permission.{changes_nothing};
 ghost use Rattle.scmi_codec.specs.Name.{name_words};
 
 use byteorder::{ByteOrder, LittleEndian};
-use scmi_codec::{BaseCommand, Name, Payload, Status, name_words, payload_of, refusal};
+use scmi_codec::{
+    BaseCommand, CLOCK_PROTOCOL, Name, POWER_PROTOCOL, Payload, SUCCESS, Status, name_words,
+    payload_of, refusal,
+};
 use scmi_plan::Plan;
-
-/// The status word of a successful reply.
-pub(crate) const SUCCESS: u32 = 0;
 
 /// The version of the base protocol: major 2, minor 0.
 const VERSION: u32 = 0x0002_0000;
 
 /// The protocols besides this one: power domains and clocks.
-const PROTOCOLS: [u8; 2] = [0x11, 0x14];
+const PROTOCOLS: [u8; 2] = [POWER_PROTOCOL, CLOCK_PROTOCOL];
 
 /// The agent id by which a caller asks for itself.
 const THE_CALLER: u32 = 0xffff_ffff;

@@ -10,15 +10,12 @@ ghost use Rattle.scmi_codec.specs.Payload.{if_success};
 use crate::checks::{RateSet, check_config, check_set};
 use crate::clock_done::ClockDone;
 use crate::discovery::{
-    SUCCESS, attributes, clock_attributes, current_rate, describe, message_attributes, version,
+    attributes, clock_attributes, current_rate, describe, message_attributes, version,
 };
 use scmi_base::BaseState;
-use scmi_codec::{ClockCommand, Payload, payload_of, refusal};
-use scmi_plan::{Load, Plan};
+use scmi_codec::{ClockCommand, Payload, SUCCESS, payload_of, refusal};
+use scmi_plan::{CLOCKS, Load, Plan};
 use std::marker::Model;
-
-/// The most clocks of a board (own).
-const CLOCKS: usize = 32;
 
 /// The rate in Hz of each clock, from 0 on, and whether it is enabled.
 #[derive(Drop, Debug)]

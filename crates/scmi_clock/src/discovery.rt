@@ -7,11 +7,10 @@ ghost use Rattle.scmi_clock.specs.ClockTable.{rate_at, enabled_at};
 
 use crate::checks::{check_clock, check_index};
 use crate::clock_state::ClockState;
-use scmi_codec::{PAYLOAD_WORDS, Payload, Status, name_words, payload_of, rate_words, refusal};
+use scmi_codec::{
+    PAYLOAD_WORDS, Payload, SUCCESS, Status, name_words, payload_of, rate_words, refusal,
+};
 use scmi_plan::{Plan, Rates};
-
-/// The status word of a successful reply.
-pub(crate) const SUCCESS: u32 = 0;
 
 /// The version of the clock protocol: major 1, minor 0 (own).
 const VERSION: u32 = 0x0001_0000;

@@ -34,7 +34,7 @@ pub use frame::{Answer, Frame};
 pub use header::Header;
 pub use message::Message;
 pub use name::{NAME_BYTES, Name, name_words};
-pub use payload::{PAYLOAD_WORDS, Payload, is_success, payload_of, refusal};
+pub use payload::{PAYLOAD_WORDS, Payload, SUCCESS, is_success, payload_of, refusal};
 pub use power_command::{POWER_PROTOCOL, PowerCommand};
 pub use rate::{rate_of, rate_words};
 pub use rate_flags::RateFlags;

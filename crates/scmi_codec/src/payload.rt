@@ -10,6 +10,9 @@ use arrayvec::ArrayVec;
 /// The most words of a payload (own).
 pub const PAYLOAD_WORDS: usize = 32;
 
+/// The status word of a successful response.
+pub const SUCCESS: u32 = 0;
+
 /// The payload words of a message.
 pub type Payload = ArrayVec<u32, PAYLOAD_WORDS>;
 
@@ -35,7 +38,7 @@ pub fn is_success(payload: &Payload) -> bool
     ensures { result ≡ begins_with_success payload.now.items }
 {
     match payload.as_slice() {
-        [status, ..] => *status == 0,
+        [status, ..] => *status == SUCCESS,
         [] => false,
     }
 }

@@ -3,16 +3,12 @@ ghost use Rattle.std.specs.Prelude.{◌≡◌};
 ghost use Rattle.scmi_core.specs.Outbox.{state_changed, response_to};
 
 use crate::pending_set::Setting;
-use scmi_codec::{Header, Message, payload_of, rate_words};
+use scmi_codec::{Header, Message, POWER_PROTOCOL, SUCCESS, payload_of, rate_words};
 
 // Message types (DEN0056B, message header).
 const DELAYED_RESPONSE: u8 = 2;
 
 const NOTIFICATION: u8 = 3;
-
-const POWER_DOMAINS: u8 = 0x11;
-
-const SUCCESS: u32 = 0;
 
 /// The notification that an agent set a domain to a state.
 pub fn state_changed(causer: u32, domain: u32, state: u32) -> Message
@@ -22,7 +18,7 @@ pub fn state_changed(causer: u32, domain: u32, state: u32) -> Message
         header: Header {
             reserved: 0,
             token: 0,
-            protocol: POWER_DOMAINS,
+            protocol: POWER_PROTOCOL,
             kind: NOTIFICATION,
             id: 0,
         },

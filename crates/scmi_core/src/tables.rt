@@ -22,11 +22,8 @@ use scmi_codec::{
     Answer, BaseCommand, ClockCommand, Command, Frame, Header, Message, Payload, PowerCommand,
     payload_of,
 };
-use scmi_plan::Plan;
+use scmi_plan::{AGENTS, Plan};
 use scmi_power::{PowerDone, PowerState};
-
-/// The most agents of a board (own).
-pub const AGENTS: usize = 8;
 
 /// The tables of the protocols, the sets that are pending, and each agent's outbox.
 #[derive(Drop, Debug)]

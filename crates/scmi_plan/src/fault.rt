@@ -5,19 +5,11 @@ ghost use Rattle.scmi_plan.specs.RawPlan.{asked_board, asked_domain, asked_clock
 ghost use Rattle.scmi_plan.specs.PlanError.{first_fault, has_lawful_counts, has_lawful_names, has_lawful_clocks, has_lawful_devices, has_trusted_agent, is_name, is_lawful, is_lawful_list, supports, rises};
 ghost use Rattle.scmi_plan.specs.declared.plan_error.PlanError.TheVariants.{Memory};
 
+use crate::limits::{AGENTS, CLOCKS, DEVICES, DOMAINS, RATES};
 use crate::plan_error::PlanError;
 use crate::rates::Rates;
 use crate::raw_plan::{RawClock, RawDomain, RawPlan};
 use scmi_codec::Name;
-
-/// The most agents of a board (own).
-const AGENTS: usize = 8;
-
-/// The most domains, clocks and devices of a board, each (own).
-const ROWS: usize = 32;
-
-/// The most rates of a list (own).
-const RATES: usize = 64;
 
 /// The first rule that a board breaks.
 pub(crate) fn first_fault(raw: &RawPlan) -> Option<PlanError>
@@ -45,9 +37,9 @@ fn has_lawful_counts(raw: &RawPlan) -> bool
     let agents = raw.agents.len();
     1 <= agents
         && agents <= AGENTS
-        && raw.domains.len() <= ROWS
-        && raw.clocks.len() <= ROWS
-        && raw.devices.len() <= ROWS
+        && raw.domains.len() <= DOMAINS
+        && raw.clocks.len() <= CLOCKS
+        && raw.devices.len() <= DEVICES
 }
 
 fn has_lawful_names(raw: &RawPlan) -> bool

@@ -4,8 +4,7 @@ ghost use Rattle.scmi_power.specs.PowerReply.{message_reply, domain_reply};
 
 use crate::checks::check_domain;
 use crate::domain_attributes::attributes_of;
-use crate::power_done::SUCCESS;
-use scmi_codec::{Payload, Status, name_words, payload_of, refusal};
+use scmi_codec::{Payload, SUCCESS, Status, name_words, payload_of, refusal};
 use scmi_plan::Plan;
 
 /// The version of the power domain protocol: major 2, minor 0.

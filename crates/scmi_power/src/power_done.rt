@@ -2,10 +2,7 @@
 ghost use Rattle.std.specs.Prelude.{◌≡◌, ◌∷◌, [], None, Some};
 ghost use Rattle.scmi_codec.specs.Status.{status_word};
 
-use scmi_codec::{Payload, Status, payload_of, refusal};
-
-/// The status word of a successful reply.
-pub(crate) const SUCCESS: u32 = 0;
+use scmi_codec::{Payload, SUCCESS, Status, payload_of, refusal};
 
 /// The reply to a command; the domain and state that it set now, be it to an equal state; and the
 /// domain and state that it accepted for later. A command that is refused has neither.

@@ -10,15 +10,12 @@ ghost use Rattle.scmi_codec.specs.Payload.{if_success};
 use crate::checks::{check_domain, check_notify, check_set};
 use crate::discovery::{attributes, domain_attributes, message_attributes, version};
 use crate::domain_state::starting_state;
-use crate::power_done::{PowerDone, SUCCESS};
+use crate::power_done::PowerDone;
 use crate::subscribers::with_subscriber;
 use scmi_base::BaseState;
-use scmi_codec::{Payload, PowerCommand, payload_of, refusal};
-use scmi_plan::{Load, Plan};
+use scmi_codec::{Payload, PowerCommand, SUCCESS, payload_of, refusal};
+use scmi_plan::{DOMAINS, Load, Plan};
 use std::marker::Model;
-
-/// The most power domains of a board (own).
-const DOMAINS: usize = 32;
 
 /// The state of each domain, as the word that a reply has, and the agents that are told of its
 /// changes: bit a - 1 stands for agent a.

@@ -1,0 +1,16 @@
+//! The limits of a board.
+
+/// The most agents of a board (own). They are numbered from 1.
+pub const AGENTS: usize = 8;
+
+/// The most power domains of a board (own).
+pub const DOMAINS: usize = 32;
+
+/// The most clocks of a board (own).
+pub const CLOCKS: usize = 32;
+
+/// The most devices of a board (own).
+pub const DEVICES: usize = 32;
+
+/// The most rates of a list (own).
+pub const RATES: usize = 64;
