@@ -1,4 +1,5 @@
 pub mod RunError
+pub mod Input
 pub mod Lines
 pub mod Mode
 pub mod Once

@@ -10,6 +10,7 @@ use arrayvec::ArrayVec;
 use std::alloc::Global;
 use std::io;
 use std::io::Read;
+use std::marker::Model;
 
 /// The most bytes of the first line, without its line feed, and of what follows it (own).
 pub const INPUT_BYTES: usize = 1_048_576;
@@ -17,18 +18,27 @@ pub const INPUT_BYTES: usize = 1_048_576;
 /// The most bytes of a first line that are kept: more than any mode's text has.
 pub const KEPT_BYTES: usize = 16;
 
-/// A reader, and how often it was read.
+/// A reader, and how often it was read. A contract sees the bytes that it has left, where they are
+/// known, and the number of reads.
 #[derive(Drop)]
 pub struct Input<'a, R: Read> {
-    pub reader: &'a mut R,
-    pub reads: u64,
+    reader: &'a mut R,
+    reads: u64,
+}
+
+impl<'a, R: Read> Model for Input<'a, R> {
+    ghost use Rattle.scmi_run.specs.Input.{InputView};
+
+    ghost Value = { InputView };
+
+    ghost view = { λ i. record { left = R.remaining i.reader.now; reads = i.reads } };
 }
 
 impl<'a, R: Read> Input<'a, R> {
     /// A reader that was not read yet.
     pub fn new(reader: &'a mut R) -> Input<'a, R>
         ensures reads { result.reads ≡ 0 }
-        ensures reader { R.remaining result.reader.now ≡ R.remaining reader.old }
+        ensures left { result.left ≡ R.remaining reader.old }
     {
         Input { reader, reads: 0 }
     }
@@ -38,7 +48,7 @@ impl<'a, R: Read> Input<'a, R> {
         requires { self.old.reads + 1 < 2 ^ 64 }
         ensures reads { self.new.reads ≡ self.old.reads + 1 }
         ensures bound { ReadsAtMost result buffer.new }
-        ensures bytes { ReadConsumes (R.remaining self.old.reader.now) (R.remaining self.new.reader.now) result buffer.new }
+        ensures bytes { ReadConsumes self.old.left self.new.left result buffer.new }
     {
         self.reads += 1;
         self.reader.read(buffer)
@@ -48,7 +58,7 @@ impl<'a, R: Read> Input<'a, R> {
     fn read_byte(&mut self) -> Result<Option<u8>, RunError>
         requires { self.old.reads + 1 < 2 ^ 64 }
         ensures reads { self.new.reads ≡ self.old.reads + 1 }
-        ensures byte { IfOk result (λ next. MatchOption next (Consumes (R.remaining self.old.reader.now) (R.remaining self.new.reader.now) [] × IsAtEnd (R.remaining self.new.reader.now)) (λ byte. Consumes (R.remaining self.old.reader.now) (R.remaining self.new.reader.now) (byte ∷ []))) }
+        ensures byte { IfOk result (λ next. MatchOption next (Consumes self.old.left self.new.left [] × IsAtEnd self.new.left) (λ byte. Consumes self.old.left self.new.left (byte ∷ []))) }
         ensures errors { IfErr result (λ e. e ≡ RunError.Read) }
     {
         let mut byte = [0u8; 1];
@@ -64,10 +74,11 @@ impl<'a, R: Read> Input<'a, R> {
     /// `Size` where the line is longer than `INPUT_BYTES`; `Read` at a read that fails.
     pub fn read_first_line(&mut self) -> Result<ArrayVec<u8, KEPT_BYTES>, RunError>
         requires { self.old.reads < 2 ^ 32 }
+        ensures counted { self.old.reads ≤ self.new.reads }
         ensures reads { self.new.reads ≤ self.old.reads + (INPUT_BYTES + 1) }
-        ensures line { IfOk result (λ kept. IfSome (R.remaining self.old.reader.now) (λ input. kept.items ≡ take KEPT_BYTES (before_first is_line_feed input))) }
-        ensures rest { OnOk result (IfSome (R.remaining self.old.reader.now) (λ input. R.remaining self.new.reader.now ≡ Some (after_first is_line_feed input))) }
-        ensures size { IsErrOf result RunError.Size → IfSome (R.remaining self.old.reader.now) (λ input. INPUT_BYTES < length (before_first is_line_feed input)) }
+        ensures line { IfOk result (λ kept. IfSome self.old.left (λ input. kept.items ≡ take KEPT_BYTES (before_first is_line_feed input))) }
+        ensures rest { OnOk result (IfSome self.old.left (λ input. self.new.left ≡ Some (after_first is_line_feed input))) }
+        ensures size { IsErrOf result RunError.Size → IfSome self.old.left (λ input. INPUT_BYTES < length (before_first is_line_feed input)) }
         ensures errors { IfErr result (λ e. (e ≡ RunError.Size) ⊎ (e ≡ RunError.Read)) }
     {
         let mut kept = ArrayVec::new();
@@ -87,10 +98,11 @@ impl<'a, R: Read> Input<'a, R> {
     /// `INPUT_BYTES`; `Read` at a read that fails; `Memory` where memory is refused.
     pub fn read_rest(&mut self, alloc: Global) -> Result<Vec<u8>, RunError>
         requires { self.old.reads < 2 ^ 32 }
+        ensures counted { self.old.reads ≤ self.new.reads }
         ensures reads { self.new.reads ≤ self.old.reads + (INPUT_BYTES + 1) }
-        ensures whole { IfOk result (λ all. IfSome (R.remaining self.old.reader.now) (λ input. all.items ≡ input)) }
+        ensures whole { IfOk result (λ all. IfSome self.old.left (λ input. all.items ≡ input)) }
         ensures small { IfOk result (λ all. vec_len all ≤ INPUT_BYTES) }
-        ensures size { IsErrOf result RunError.Size → IfSome (R.remaining self.old.reader.now) (λ input. INPUT_BYTES < length input) }
+        ensures size { IsErrOf result RunError.Size → IfSome self.old.left (λ input. INPUT_BYTES < length input) }
         ensures errors { IfErr result (λ e. (e ≡ RunError.Size) ⊎ (e ≡ RunError.Read) ⊎ (e ≡ RunError.Memory)) }
     {
         let mut all = Vec::new(alloc);

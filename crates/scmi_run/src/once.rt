@@ -39,9 +39,9 @@ pub fn answer_input<R: Read, W: Write>(
     writer: &mut W,
 ) -> Result<(), RunError>
     requires { input.old.reads < 2 ^ 32 }
-    ensures answer { OnOk result (IfSome (R.remaining input.old.reader.now) (λ bytes. IsSomeAnd (area_of bytes) (λ area. Appends (W.contents writer.old) (W.contents writer.new) (area_text (answered_area area))))) }
-    ensures area { IsErrOf result RunError.Area → IfSome (R.remaining input.old.reader.now) (λ bytes. area_of bytes ≡ None) }
-    ensures size { IsErrOf result RunError.Size → IfSome (R.remaining input.old.reader.now) (λ bytes. INPUT_BYTES < length bytes) }
+    ensures answer { OnOk result (IfSome input.old.left (λ bytes. IsSomeAnd (area_of bytes) (λ area. Appends (W.contents writer.old) (W.contents writer.new) (area_text (answered_area area))))) }
+    ensures area { IsErrOf result RunError.Area → IfSome input.old.left (λ bytes. area_of bytes ≡ None) }
+    ensures size { IsErrOf result RunError.Size → IfSome input.old.left (λ bytes. INPUT_BYTES < length bytes) }
     ensures kept { IfErr result (λ e. e ≢ RunError.Write → writer.new ≡ writer.old) }
 {
     let bytes = input.read_rest(alloc)?;

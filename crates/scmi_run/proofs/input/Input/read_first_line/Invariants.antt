@@ -4,6 +4,6 @@ use Rattle.scmi_run.proofs.input.Input.read_first_line.Given as goal
 
 abbrev pub invariant-bytes : goal.invariant-bytes
 invariant-bytes g l = record {
-  seen : IfSome (g.R.Read.remaining l.fn.self.reader.now) (λ input. IsSeen input l.counter (g.R.Read.remaining l.self.reader.now) l.kept.items);
+  seen : IfSome l.fn.self.left (λ input. IsSeen input l.counter l.self.left l.kept.items);
   count : l.self.reads ≡ l.fn.self.reads + l.counter;
 }

@@ -5,7 +5,7 @@ use Rattle.scmi_run.proofs.input.Input.read_rest.Given as goal
 
 abbrev pub invariant-reads : goal.invariant-reads
 invariant-reads g l = record {
-  read : Consumes (g.R.Read.remaining l.fn.self.reader.now) (g.R.Read.remaining l.self.reader.now) l.all.items;
+  read : Consumes l.fn.self.left l.self.left l.all.items;
   small : vec_len l.all ≤ INPUT_BYTES;
   bytes : l.counter ≤ vec_len l.all;
   count : l.self.reads ≡ l.fn.self.reads + l.counter;
