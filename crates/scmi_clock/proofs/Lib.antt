@@ -5,3 +5,4 @@ pub mod StepRates
 pub mod ListRates
 pub mod Flags
 pub mod ReplySame
+pub mod RoundingExamples
