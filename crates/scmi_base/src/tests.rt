@@ -94,27 +94,35 @@ fn reset_agent(agent: u32, flags: u32) -> BaseCommand {
 fn permissions_and_resets(rt: HostRuntime) -> Result<(), Fail> {
     let plan = board(rt.alloc(), &TWO_DEVICES)?;
     let mut state = BaseState::new(&plan);
-    // Caller, command, status, agent reset; then who may change the domain afterwards.
-    let steps = [
-        (1, permit(2, 1, 0), 0x0, None, (2, 1, false)),
-        (2, permit(2, 1, 1), 0xffff_fffd, None, (2, 0, true)),
-        (1, permit(1, 1, 0), 0x0, None, (1, 1, false)),
-        (1, reset_agent(2, 0), 0x0, Some(2), (2, 1, false)),
-        (1, reset_agent(2, 1), 0x0, Some(2), (2, 1, true)),
-        (1, reset_agent(0, 2), 0xffff_fffc, None, (1, 1, false)),
-        (1, permit(3, 0, 2), 0xffff_fffc, None, (2, 2, true)),
-        (1, permit(2, 2, 0), 0xffff_fffc, None, (2, 2, true)),
-        (2, permit(2, 0, 2), 0xffff_fffe, None, (2, 0, true)),
+    // Caller, command, status, agent reset; then for which domains which agent may change what.
+    let steps: [(u32, BaseCommand, u32, Option<u32>, &[(u32, u32, bool)]); 9] = [
+        (
+            1,
+            permit(2, 1, 0),
+            0x0,
+            None,
+            &[(2, 1, false), (2, 0, true), (2, 2, true)],
+        ),
+        (2, permit(2, 1, 1), 0xffff_fffd, None, &[(2, 1, false)]),
+        (1, permit(1, 1, 0), 0x0, None, &[(1, 1, false)]),
+        (1, reset_agent(2, 0), 0x0, Some(2), &[(2, 1, false)]),
+        (1, reset_agent(2, 1), 0x0, Some(2), &[(2, 1, true)]),
+        (1, reset_agent(0, 2), 0xffff_fffc, None, &[(1, 1, false)]),
+        (1, permit(3, 0, 2), 0xffff_fffc, None, &[]),
+        (1, permit(2, 2, 0), 0xffff_fffc, None, &[]),
+        (2, permit(2, 0, 2), 0xffff_fffe, None, &[(2, 0, true)]),
     ];
-    for (caller, command, status, reset, (agent, domain, may)) in steps {
+    for (caller, command, status, reset, rights) in steps {
         let done = state.execute(&plan, caller, command);
         assert_eq!(rt; done.reply.as_slice(), [status].as_slice(), "{command:?}");
         assert_eq!(rt; done.reset, reset, "{command:?}");
-        assert_eq!(rt;
-            may_change(&state, &plan, agent, domain),
-            Some(may),
-            "{command:?}"
-        );
+        for (agent, domain, may) in rights {
+            assert_eq!(rt;
+                may_change(&state, &plan, *agent, *domain),
+                Some(*may),
+                "{command:?}"
+            );
+        }
     }
     Ok(())
 }

@@ -1,3 +1,5 @@
+mod refused_boards;
+
 use crate::{
     Clock, Device, Domain, Plan, PlanError, RateList, Rates, RawClock, RawDomain, RawPlan, Resource,
 };
