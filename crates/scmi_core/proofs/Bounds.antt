@@ -41,7 +41,7 @@ use Rattle.scmi_core.specs.Reply.{has_room, reply_words, power_view, clock_view}
 use Rattle.scmi_core.specs.Tables.{load_at}
 use Rattle.scmi_core.specs.Bounds.{HasBounds}
 use Rattle.scmi_core.specs.Agreement.{Agrees}
-use Rattle.scmi_core.proofs.Laws.{added, pending-push, pending-advance, outbox-push, sent-push, made-push}
+use Rattle.scmi_core.proofs.Deeds.{added, pending-push, pending-advance, outbox-push, sent-push, made-push}
 use Rattle.scmi_core.proofs.Legal.{Grown, empty, grow, grown, deeds-push, IsLegal-front, advances_le-accepted, sent_le-made}
 
 -- a set that is accepted for later met room
@@ -263,4 +263,5 @@ pub bounds : (board : Board) (h : List Event) → IsLegal board h → HasBounds 
 bounds board h legal = bounds_of board (grown h) legal
 
 pub load-bound : (board : Board) (t : Tables) (h : List Event) → Agrees board t h → (a : ℕ) → 1 ≤ a → a ≤ length board.agents → load_at t a ≤ 16
+unfolding outbox
 load-bound board t h agrees a lo hi = rw (agrees.outboxes a lo hi, agrees.pending_sets) ((bounds board h agrees.legal).loads a)

@@ -1,143 +1,114 @@
--- What one more deed adds to subscriptions, pending sets and outboxes, and when a history stays legal.
-use Rattle.std.proofs.Common.{◌≡◌, ℕ, ◌+◌, ◌≤◌, true, false, List, [], ◌∷◌, ◌++◌, length, drop, Option, Some, None, unwrap_or, refl, sym, ap, ◌∙◌, subst, arith, if◌then◌else◌}
+-- What one more event adds to what an agent did, was answered and was sent, for those who keep its ends.
+use Rattle.std.proofs.Common.{◌≡◌, ◌≢◌, ℕ, false, List, [], ◌∷◌, ◌++◌, length, take, slice_get, Some, None, refl, ap, ◌∙◌, if◌then◌else◌}
 use Rattle.std.specs.List.{filter_map, cons_option}
-use Rattle.std.proofs.lemmas.List.{append_assoc, append-nil, drop-append-le, drop-drop, same_from_push}
+use Rattle.std.proofs.lemmas.List.{append-nil, take-append-drop}
 use Rattle.std.proofs.lemmas.List.Elements.{filter_map-append}
-use Rattle.std.proofs.lemmas.Grind.{fold-append}
+use Rattle.std.proofs.lemmas.Bool.{eq-eqb, ne_eqb}
+use Rattle.scmi_codec.specs.declared.message.Message.{Message}
+use Rattle.scmi_codec.specs.declared.frame.Frame.{Frame}
 use Rattle.scmi_plan.specs.Board.{Board}
 use Rattle.scmi_core.specs.declared.event.Event.{Event}
-use Rattle.scmi_core.specs.declared.event.Event.TheVariants.{Advance}
-use Rattle.std.specs.Option.{option_to_list, option_and_then}
-use Rattle.scmi_core.specs.Deed.{Deed, Success, over, latest, successes, success_at}
-use Rattle.scmi_core.specs.Value.{Thing, changes, change_by, value, value_at_start, value_in}
-use Rattle.scmi_core.specs.Permissions.{allowed, permission_in}
-use Rattle.scmi_core.specs.Subscriptions.{subscription, subscribed}
-use Rattle.scmi_core.specs.Pending.{acceptance, accepted, advances, is_advance, pending}
-use Rattle.scmi_core.specs.Outbox.{made, made_by, outbox_after, sent, is_sent_by}
-use Rattle.scmi_core.specs.Legal.{IsLegal, CanFollow}
+use Rattle.scmi_core.specs.declared.event.Event.TheVariants.{Command, Advance, Sent}
+use Rattle.scmi_core.specs.Deed.{over}
+use Rattle.scmi_core.specs.Outbox.{made, sent, is_sent_by}
+use Rattle.scmi_core.specs.History.{answer_to, deeds, deed_after, made_for, delivered, outbox}
+use Rattle.scmi_core.specs.Agents.{frame_from, frames_of, answer_for, answers_to}
+use Rattle.scmi_core.specs.Legal.{IsLegal}
+use Rattle.scmi_core.proofs.Deeds.{over-push, posted-kept, posted-front}
+use Rattle.scmi_core.proofs.Legal.{IsLegal-nil, deed-event, deeds-push, sent_le-made}
+use Rattle.scmi_core.proofs.Agents.{answers-length}
 
-pub over-push : {X S : Type 0} (step : List X → S → X → S) (before : List X) (s : S) (xs : List X) (x : X) → over step before s (xs ++ x ∷ []) ≡ step (before ++ xs) (over step before s xs) x
-unfolding over
-over-push step before s [] x = ap (λ b. step b s x) (sym (append-nil before))
-over-push step before s (y ∷ ys) x =
-    over-push step (before ++ y ∷ []) (step before s y) ys x
-    ∙ ap (λ b. step b (over step (before ++ y ∷ []) (step before s y) ys) x) (append_assoc before (y ∷ []) ys)
+-- a command of an agent adds its frame to the agent's frames
+pub frames_own : (a : ℕ) (h : List Event) (f : Frame) → frames_of a (h ++ Command a f ∷ []) ≡ frames_of a h ++ f ∷ []
+unfolding frames_of
+frames_own a h f =
+    filter_map-append (frame_from a) h (Command a f ∷ [])
+    ∙ ap (λ same. filter_map (frame_from a) h ++ cons_option (if same then Some f else None) []) (eq-eqb a a refl)
 
-pub latest-append : {A : Type 0} (d : A) (xs : List A) (o : Option A) → latest d (xs ++ option_to_list o) ≡ unwrap_or o (latest d xs)
-latest-append d [] None = refl
-latest-append d [] (Some x) = refl
-latest-append d (y ∷ ys) o = latest-append y ys o
+-- and none to another agent's
+pub frames_other : (b a : ℕ) (h : List Event) (f : Frame) → b ≢ a → frames_of b (h ++ Command a f ∷ []) ≡ frames_of b h
+unfolding frames_of
+frames_other b a h f differ =
+    filter_map-append (frame_from b) h (Command a f ∷ [])
+    ∙ ap (λ same. filter_map (frame_from b) h ++ cons_option (if same then Some f else None) []) (ne_eqb b a differ)
+    ∙ append-nil (filter_map (frame_from b) h)
 
-cons-to_list : {Y : Type 0} (o : Option Y) → cons_option o [] ≡ option_to_list o
-cons-to_list None = refl
-cons-to_list (Some y) = refl
+-- a command of an agent adds the answer to its frame, at its place in the history
+pub answers_own : (board : Board) (a : ℕ) (h : List Event) (f : Frame) → answers_to board a (h ++ Command a f ∷ []) ≡ answers_to board a h ++ answer_to board a f h ∷ []
+unfolding answers_to
+answers_own board a h f =
+    over-push (λ before so_far event. so_far ++ answer_for board a before event) [] [] h (Command a f)
+    ∙ ap (λ same. answers_to board a h ++ (if same then answer_to board a f h ∷ [] else [])) (eq-eqb a a refl)
 
-pub filter_map-to_list : {X Y : Type 0} (f : X → Option Y) (o : Option X) → filter_map f (option_to_list o) ≡ option_to_list (option_and_then f o)
-filter_map-to_list f None = refl
-filter_map-to_list f (Some x) = cons-to_list (f x)
+-- and none for another agent
+pub answers_other : (board : Board) (b a : ℕ) (h : List Event) (f : Frame) → b ≢ a → answers_to board b (h ++ Command a f ∷ []) ≡ answers_to board b h
+unfolding answers_to
+answers_other board b a h f differ =
+    over-push (λ before so_far event. so_far ++ answer_for board b before event) [] [] h (Command a f)
+    ∙ ap (λ same. answers_to board b h ++ (if same then answer_to board a f h ∷ [] else [])) (ne_eqb b a differ)
+    ∙ append-nil (answers_to board b h)
 
--- the last of a filter, after at most one more
-pub latest-filter_map : {X Y : Type 0} (f : X → Option Y) (d : Y) (xs : List X) (o : Option X)
-    → latest d (filter_map f (xs ++ option_to_list o)) ≡ unwrap_or (option_and_then f o) (latest d (filter_map f xs))
-latest-filter_map f d xs o =
-    ap (latest d) (filter_map-append f xs (option_to_list o) ∙ ap (λ ys. filter_map f xs ++ ys) (filter_map-to_list f o))
-    ∙ latest-append d (filter_map f xs) (option_and_then f o)
+-- an event that is no command
+pub data IsQuiet : Event → Type 0 where
+  advance : IsQuiet Advance
+  sent_to : (b : ℕ) → IsQuiet (Sent b)
 
--- what a deed adds to the successes
-abbrev pub added : Deed → Option Success
-added deed = success_at deed.event deed.reply
+-- an event that is no command adds no frame
+pub frames_quiet : (a : ℕ) (h : List Event) (e : Event) → IsQuiet e → frames_of a (h ++ e ∷ []) ≡ frames_of a h
+unfolding frames_of
+frames_quiet a h e advance = filter_map-append (frame_from a) h (Advance ∷ []) ∙ append-nil (filter_map (frame_from a) h)
+frames_quiet a h e (sent_to b) = filter_map-append (frame_from a) h (Sent b ∷ []) ∙ append-nil (filter_map (frame_from a) h)
 
-pub successes-push : (h : List Deed) (deed : Deed) → successes (h ++ deed ∷ []) ≡ successes h ++ option_to_list (added deed)
-successes-push h deed =
-    filter_map-append (λ e. success_at e.event e.reply) h (deed ∷ [])
-    ∙ ap (λ ys. successes h ++ ys) (cons-to_list (added deed))
+-- and no answer
+pub answers_quiet : (board : Board) (a : ℕ) (h : List Event) (e : Event) → IsQuiet e → answers_to board a (h ++ e ∷ []) ≡ answers_to board a h
+unfolding answers_to
+answers_quiet board a h e advance =
+    over-push (λ before so_far event. so_far ++ answer_for board a before event) [] [] h Advance ∙ append-nil (answers_to board a h)
+answers_quiet board a h e (sent_to b) =
+    over-push (λ before so_far event. so_far ++ answer_for board a before event) [] [] h (Sent b) ∙ append-nil (answers_to board a h)
 
-pub allowed-push : (a d : ℕ) (h : List Deed) (deed : Deed)
-    → allowed a d (h ++ deed ∷ []) ≡ unwrap_or (option_and_then (λ s. permission_in a d s.command) (added deed)) (allowed a d h)
-allowed-push a d h deed =
-    ap (λ ss. latest true (filter_map (λ s. permission_in a d s.command) ss)) (successes-push h deed)
-    ∙ latest-filter_map (λ s. permission_in a d s.command) true (successes h) (added deed)
+-- an agent has as many answers as frames
+pub as_many : (board : Board) (a : ℕ) (h : List Event) → length (answers_to board a h) ≡ length (frames_of a h)
+as_many board a h = answers-length board a h
 
-changes-push : (board : Board) (h : List Deed) (deed : Deed) → changes board (h ++ deed ∷ []) ≡ changes board h ++ option_to_list (change_by board h deed)
-changes-push board h deed = over-push (λ before so_far x. so_far ++ option_to_list (change_by board before x)) [] [] h deed
+-- what is not posted to an agent leaves what was posted to it
+pub delivered_kept : (board : Board) (a : ℕ) (h : List Event) (e : Event) → IsLegal board h → is_sent_by a e ≡ false → delivered board a (h ++ e ∷ []) ≡ delivered board a h
+unfolding delivered
+delivered_kept board a h e legal other =
+    ap (λ ds. take (sent a ds) (made board a ds)) (deeds-push board h e)
+    ∙ posted-kept board a (deeds board h) (deed_after board (deeds board h) e) (ap (is_sent_by a) (deed-event board (deeds board h) e) ∙ other) (sent_le-made board h legal a)
 
-pub value-push : (board : Board) (t : Thing) (h : List Deed) (deed : Deed)
-    → value board t (h ++ deed ∷ []) ≡ unwrap_or (option_and_then (value_in t) (change_by board h deed)) (value board t h)
-value-push board t h deed =
-    ap (λ cs. latest (value_at_start board t) (filter_map (value_in t) cs)) (changes-push board h deed)
-    ∙ latest-filter_map (value_in t) (value_at_start board t) (changes board h) (change_by board h deed)
+-- a posting to an agent adds the first message of its outbox
+pub delivered_sent : (board : Board) (a : ℕ) (h : List Event) (m : Message) → slice_get (outbox board a h) 0 ≡ Some m → delivered board a (h ++ Sent a ∷ []) ≡ delivered board a h ++ m ∷ []
+unfolding delivered outbox
+delivered_sent board a h m first =
+    ap (λ ds. take (sent a ds) (made board a ds)) (deeds-push board h (Sent a))
+    ∙ posted-front board a (deeds board h) (deed_after board (deeds board h) (Sent a)) m (eq-eqb a a refl) first
 
-pub subscribed-push : (a d : ℕ) (h : List Deed) (deed : Deed) → subscribed a d (h ++ deed ∷ []) ≡ unwrap_or (option_and_then (subscription a d) (added deed)) (subscribed a d h)
-subscribed-push a d h deed =
-    ap (λ ss. latest false (filter_map (subscription a d) ss)) (successes-push h deed)
-    ∙ latest-filter_map (subscription a d) false (successes h) (added deed)
+-- and none to another agent
+pub delivered_other : (board : Board) (b a : ℕ) (h : List Event) → IsLegal board h → b ≢ a → delivered board b (h ++ Sent a ∷ []) ≡ delivered board b h
+delivered_other board b a h legal differ = delivered_kept board b h (Sent a) legal (ne_eqb b a differ)
 
-pub accepted-push : (board : Board) (h : List Deed) (deed : Deed) → accepted board (h ++ deed ∷ []) ≡ accepted board h ++ option_to_list (option_and_then (acceptance board) (added deed))
-accepted-push board h deed =
-    ap (filter_map (acceptance board)) (successes-push h deed)
-    ∙ filter_map-append (acceptance board) (successes h) (option_to_list (added deed))
-    ∙ ap (λ ys. accepted board h ++ ys) (filter_map-to_list (acceptance board) (added deed))
+-- what was made for an agent is what was posted to it, and then its outbox
+pub made_is : (board : Board) (a : ℕ) (h : List Event) → delivered board a h ++ outbox board a h ≡ made_for board a h
+unfolding delivered outbox made_for
+made_is board a h = take-append-drop (sent a (deeds board h)) (made board a (deeds board h))
 
-pub made-push : (board : Board) (a : ℕ) (h : List Deed) (deed : Deed) → made board a (h ++ deed ∷ []) ≡ made board a h ++ made_by board a h (made board a h) deed
-made-push board a h deed = over-push (λ before so_far x. so_far ++ made_by board a before so_far x) [] [] h deed
+-- at the start no agent has a frame
+pub frames_empty : (a : ℕ) → frames_of a [] ≡ []
+unfolding frames_of
+frames_empty a = refl
 
-pub advances-push : (h : List Deed) (deed : Deed) → advances (h ++ deed ∷ []) ≡ advances h + (if is_advance deed.event then 1 else 0)
-advances-push h deed = fold-append (λ n e. n + (if is_advance e.event then 1 else 0)) 0 h (deed ∷ [])
+-- nor an answer
+pub answers_empty : (board : Board) (a : ℕ) → answers_to board a [] ≡ []
+unfolding answers_to over
+answers_empty board a = refl
 
--- an event that is no Advance leaves the pending sets, and may add one
-pub pending-push : (board : Board) (h : List Deed) (deed : Deed) → is_advance deed.event ≡ false → advances h ≤ length (accepted board h)
-    → pending board (h ++ deed ∷ []) ≡ pending board h ++ option_to_list (option_and_then (acceptance board) (added deed))
-pending-push board h deed other enough =
-    let zero_more : advances h + 0 ≡ advances h = omega arith in
-    let same : advances (h ++ deed ∷ []) ≡ advances h = advances-push h deed ∙ ap (λ b. advances h + (if b then 1 else 0)) other ∙ zero_more in
-    ap (λ n. drop n (accepted board (h ++ deed ∷ []))) same
-    ∙ ap (drop (advances h)) (accepted-push board h deed)
-    ∙ drop-append-le (advances h) (accepted board h) (option_to_list (option_and_then (acceptance board) (added deed))) enough
+-- and nothing was posted to it
+pub delivered_empty : (board : Board) (a : ℕ) → delivered board a [] ≡ []
+unfolding delivered deeds over
+delivered_empty board a = refl
 
-abbrev advance : Deed
-advance = record { event = Advance; reply = [] }
-
--- an Advance takes the first
-pub pending-advance : (board : Board) (h : List Deed) → pending board (h ++ advance ∷ []) ≡ drop 1 (pending board h)
-pending-advance board h =
-    ap (λ n. drop n (accepted board (h ++ advance ∷ []))) (advances-push h advance)
-    ∙ ap (drop (advances h + 1)) (accepted-push board h advance ∙ append-nil (accepted board h))
-    ∙ sym (drop-drop 1 (advances h) (accepted board h))
-
-pub sent-push : (a : ℕ) (h : List Deed) (deed : Deed) → sent a (h ++ deed ∷ []) ≡ sent a h + (if is_sent_by a deed.event then 1 else 0)
-sent-push a h deed = fold-append (λ n e. n + (if is_sent_by a e.event then 1 else 0)) 0 h (deed ∷ [])
-
--- an event that is no Sent of a adds to a's outbox what it makes
-pub outbox-push : (board : Board) (a : ℕ) (h : List Deed) (deed : Deed) → is_sent_by a deed.event ≡ false → sent a h ≤ length (made board a h)
-    → outbox_after board a (h ++ deed ∷ []) ≡ outbox_after board a h ++ made_by board a h (made board a h) deed
-outbox-push board a h deed other enough =
-    let zero_more : sent a h + 0 ≡ sent a h = omega arith in
-    let same : sent a (h ++ deed ∷ []) ≡ sent a h = sent-push a h deed ∙ ap (λ b. sent a h + (if b then 1 else 0)) other ∙ zero_more in
-    ap (λ n. drop n (made board a (h ++ deed ∷ []))) same
-    ∙ ap (drop (sent a h)) (made-push board a h deed)
-    ∙ drop-append-le (sent a h) (made board a h) (made_by board a h (made board a h) deed) enough
-
--- a list is empty or has a last item
-data Snoc {X : Type 0} : List X → Type 0 where
-  nothing : Snoc []
-  last : (xs : List X) (x : X) → Snoc (xs ++ x ∷ [])
-
-snoc : {X : Type 0} (xs : List X) → Snoc xs
-snoc [] = nothing
-snoc (x ∷ xs) = onto x (snoc xs) where
-  onto : {X : Type 0} (x : X) {xs : List X} → Snoc xs → Snoc (x ∷ xs)
-  onto x nothing = last [] x
-  onto x (last ys y) = last (x ∷ ys) y
-
--- a legal history stays legal with an event that may follow
-pub IsLegal-push : (board : Board) (h : List Event) (e : Event) → IsLegal board h → CanFollow board h e → IsLegal board (h ++ e ∷ [])
-IsLegal-push board h e legal follows = record {
-  each = λ before after event is. at before after event (snoc after) is;
-} where
-  at : (before after : List Event) (event : Event) → Snoc after → h ++ e ∷ [] ≡ before ++ event ∷ after → CanFollow board before event
-  at before [] event nothing is =
-      let same = same_from_push h before e event is in
-      subst (λ b. CanFollow board b event) same.0 (subst (λ x. CanFollow board h x) same.1 follows)
-  at before after event (last xs x) is =
-      let shifted : h ++ e ∷ [] ≡ (before ++ event ∷ xs) ++ x ∷ [] = is ∙ sym (append_assoc before (event ∷ xs) (x ∷ [])) in
-      legal.each before xs event (same_from_push h (before ++ event ∷ xs) e x shifted).0
+-- the empty history is legal
+pub empty_is_legal : (board : Board) → IsLegal board []
+empty_is_legal board = IsLegal-nil board

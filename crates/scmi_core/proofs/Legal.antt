@@ -11,9 +11,9 @@ use Rattle.std.specs.Option.{option_to_list, option_and_then}
 use Rattle.scmi_core.specs.Deed.{Deed}
 use Rattle.scmi_core.specs.Pending.{accepted, advances, is_advance, pending, acceptance}
 use Rattle.scmi_core.specs.Outbox.{sent, made, made_by, outbox_after, is_sent_by}
-use Rattle.scmi_core.specs.History.{deeds, deed_after}
+use Rattle.scmi_core.specs.History.{deeds, deed_after, outbox}
 use Rattle.scmi_core.specs.Legal.{IsLegal, CanFollow}
-use Rattle.scmi_core.proofs.Laws.{added, accepted-push, advances-push, sent-push, made-push}
+use Rattle.scmi_core.proofs.Deeds.{added, accepted-push, advances-push, sent-push, made-push}
 
 -- a list grown at its end
 pub data Grown {X : Type 0} : List X → Type 0 where
@@ -31,6 +31,20 @@ grown (x ∷ xs) = onto x (grown xs)
 pub deeds-push : (board : Board) (h : List Event) (e : Event) → deeds board (h ++ e ∷ []) ≡ deeds board h ++ deed_after board (deeds board h) e ∷ []
 unfolding deeds
 deeds-push board h e = fold-append (λ before event. before ++ deed_after board before event ∷ []) [] h (e ∷ [])
+
+-- a deed is of its event
+pub deed-event : (board : Board) (h : List Deed) (e : Event) → (deed_after board h e).event ≡ e
+deed-event board h (Command a (Good m)) = refl
+deed-event board h (Command a (Malformed len header)) = refl
+deed-event board h Advance = refl
+deed-event board h (Sent a) = refl
+
+-- no event is in the empty history
+pub IsLegal-nil : (board : Board) → IsLegal board []
+IsLegal-nil board = record { each = nothing } where
+  nothing : (before after : List Event) (event : Event) → [] ≡ before ++ event ∷ after → CanFollow board before event
+  nothing [] after event is = absurd (cc)
+  nothing (x ∷ xs) after event is = absurd (cc)
 
 pub IsLegal-front : (board : Board) (h : List Event) (e : Event) → IsLegal board (h ++ e ∷ []) → IsLegal board h
 IsLegal-front board h e legal = record {
@@ -84,6 +98,7 @@ sent_more board a h (Sent b) enough waits = by_case (cases_Bool (a == b)) where
   by_case (inr other) = rw (sent-push, made-push, other) (omega (arith, length-append (made board a h) (made_by board a h (made board a h) (deed_after board h (Sent b)))))
 
 front_at : (board : Board) (a : ℕ) (h : List Event) (e : Event) → CanFollow board h e → is_sent_by a e ≡ true → 0 < length (outbox_after board a (deeds board h))
+unfolding outbox
 front_at board a h (Sent b) follows is = subst (λ x. 0 < length (outbox_after board x (deeds board h))) (sym (eqb-true a b is)) follows.2
 front_at board a h (Command b frame) follows is = absurd (cc)
 front_at board a h Advance follows is = absurd (cc)

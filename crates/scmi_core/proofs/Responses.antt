@@ -19,7 +19,7 @@ use Rattle.scmi_core.specs.Subscriptions.{subscribed}
 use Rattle.scmi_core.specs.History.{deeds, deed_after}
 use Rattle.scmi_core.specs.Legal.{IsLegal}
 use Rattle.scmi_core.specs.Bounds.{HasResponses, completed_sets}
-use Rattle.scmi_core.proofs.Laws.{added, accepted-push, advances-push, made-push}
+use Rattle.scmi_core.proofs.Deeds.{added, accepted-push, advances-push, made-push}
 use Rattle.scmi_core.proofs.Legal.{Grown, empty, grow, grown, deeds-push, IsLegal-front, advances_le-accepted}
 
 delayed : List Message → List Message

@@ -6,7 +6,9 @@ use Rattle.std.proofs.lemmas.List.{append-nil, drop-drop}
 use Rattle.std.proofs.lemmas.List.Elements.{All-nil}
 use Rattle.std.proofs.lemmas.Bool.{eq-eqb}
 use Rattle.std.proofs.lemmas.Bool.Decides.{eqb_tells}
+use Rattle.scmi_codec.specs.Header.{HeaderFields}
 use Rattle.scmi_codec.specs.Command.{command_of}
+use Rattle.scmi_codec.specs.Payload.{begins_with_success}
 use Rattle.scmi_codec.specs.declared.status.Status.{Status}
 use Rattle.scmi_codec.specs.declared.message.Message.{Message}
 use Rattle.scmi_codec.specs.declared.frame.Frame.{Frame}
@@ -28,7 +30,7 @@ use Rattle.scmi_core.specs.declared.event.Event.{Event}
 use Rattle.scmi_core.specs.declared.event.Event.TheVariants.{Command, Advance, Sent}
 use Rattle.scmi_core.specs.declared.tables.Tables.{Tables}
 use Rattle.std.specs.Option.{option_to_list, option_and_then}
-use Rattle.scmi_core.specs.Deed.{Deed, over}
+use Rattle.scmi_core.specs.Deed.{Deed, success_with, over}
 use Rattle.scmi_core.specs.Permissions.{permission_in, allowed}
 use Rattle.scmi_core.specs.Subscriptions.{subscription, subscribed}
 use Rattle.scmi_core.specs.Value.{value, Change, change_by, completed, Thing, State, Rate, Enabled, bit_value, value_in, value_at_start}
@@ -40,8 +42,8 @@ use Rattle.scmi_core.specs.Reply.{reply_words, power_view, clock_view, has_room}
 use Rattle.scmi_core.specs.Tables.{outbox_at, has_room_at, value_at, IsThing, IsOfBoard, frame_answer_at, table_words, power_view_at, clock_view_at}
 use Rattle.scmi_core.specs.Step.{notice_at, made_at, success_of, HasAnswered, change_of, rest_of, HasStepped}
 use Rattle.scmi_core.specs.Agreement.{Agrees}
-use Rattle.scmi_core.proofs.Laws.{added, allowed-push, subscribed-push, value-push, pending-push, pending-advance, outbox-push, IsLegal-push, made-push, sent-push}
-use Rattle.scmi_core.proofs.Legal.{deeds-push, advances_le-accepted, sent_le-made}
+use Rattle.scmi_core.proofs.Deeds.{added, allowed-push, subscribed-push, value-push, pending-push, pending-advance, outbox-push, IsLegal-push, made-push, sent-push}
+use Rattle.scmi_core.proofs.Legal.{IsLegal-nil, deeds-push, advances_le-accepted, sent_le-made}
 use Rattle.scmi_core.proofs.Steps.{nothing_if}
 
 -- THE REPLY
@@ -51,6 +53,7 @@ module _ (board : Board) (t : Tables) (h : List Event) (agrees : Agrees board t 
   few = omega (arith, law.few_agents)
 
   room : has_room_at t a ≡ has_room board a (deeds board h)
+  unfolding outbox
   room =
       ap (λ p. nat_lt (length p) 8 && nat_lt (length (outbox_at t a) + length (sets_by a p)) 16) agrees.pending_sets
       ∙ ap (λ b. nat_lt (length (pending board (deeds board h))) 8 && nat_lt (length b + length (pending_of board a (deeds board h))) 16) (agrees.outboxes a lo hi)
@@ -107,6 +110,7 @@ module _ (board : Board) (t new : Tables) (h : List Event) (deed : Deed) (agrees
   made-same : (a : ℕ) → 1 ≤ a → a ≤ length board.agents
       → made_at t new.pending.items (completed board (deeds board h) deed.event) (change_of board (added deed) (completed board (deeds board h) deed.event)) a
       ≡ made_by board a (deeds board h) (made board a (deeds board h)) deed
+  unfolding outbox
   made-same a lo hi =
       let done = completed board (deeds board h) deed.event in
       let change = change_of board (added deed) done in
@@ -117,6 +121,7 @@ module _ (board : Board) (t new : Tables) (h : List Event) (deed : Deed) (agrees
       (notices-same board t h agrees law.few_agents law.few_domains a lo hi change stepped.known)
 
   Agrees-deed : (e : Event) → deeds board (h ++ e ∷ []) ≡ deeds board h ++ deed ∷ [] → CanFollow board h e → ((a : ℕ) → is_sent_by a deed.event ≡ false) → Agrees board new (h ++ e ∷ [])
+  unfolding outbox
   Agrees-deed e more follows unsent = record {
     legal = IsLegal-push board h e agrees.legal follows;
     permissions = λ a d lo hi small.
@@ -164,6 +169,13 @@ nothing-stepped board t = record {
   outboxes = λ a lo hi. sym (append-nil (outbox_at t a)) ∙ ap (λ ys. outbox_at t a ++ ys) (sym (nothing_if (nat_lt (length (outbox_at t a) + 0 + length (sets_by a t.pending.items)) 16)));
 }
 
+-- a message that is no command
+pub unread-stepped : (board : Board) (t : Tables) (a : ℕ) (header : HeaderFields) (s : Status) (reply : List ℕ) → HasStepped board t (success_of a header (Err s) reply) None t
+unread-stepped board t a header s reply = by (begins_with_success reply) where
+  by : (b : Bool) → HasStepped board t (if b then success_with a header (Err s) else None) None t
+  by true = nothing-stepped board t
+  by false = nothing-stepped board t
+
 -- a malformed frame
 pub Agrees-malformed : (board : Board) (t : Tables) (h : List Event) (a len header : ℕ) → Agrees board t h → IsLawful board → 1 ≤ a → a ≤ length board.agents
     → Agrees board t (h ++ Command a (Malformed len header) ∷ [])
@@ -208,6 +220,7 @@ pub Agrees-sent : (board : Board) (t new : Tables) (h : List Event) (a : ℕ) �
     → new.base ≡ t.base → new.power ≡ t.power → new.clocks ≡ t.clocks → new.pending ≡ t.pending
     → outbox_at new a ≡ drop 1 (outbox_at t a) → ((x : ℕ) → 1 ≤ x → x ≢ a → outbox_at new x ≡ outbox_at t x)
     → Agrees board new (h ++ Sent a ∷ [])
+unfolding outbox
 Agrees-sent board t new h a agrees law lo hi waiting bases powers clocks pends front others =
     let deed : Deed = record { event = Sent a; reply = [] } in
     let more = deeds-push board h (Sent a) in
@@ -247,16 +260,13 @@ Agrees-sent board t new h a agrees law lo hi waiting bases powers clocks pends f
 -- the tables of a new controller
 pub Agrees-new : (board : Board) (t : Tables) → ((a d : ℕ) → is_allowed t.base a d ≡ true) → ((a d : ℕ) → is_subscribed t.power a d ≡ false)
     → ((x : Thing) → IsThing board x → value_at t x ≡ value_at_start board x) → t.pending.items ≡ [] → ((a : ℕ) → outbox_at t a ≡ []) → Agrees board t []
-unfolding deeds over
+unfolding deeds over outbox
 Agrees-new board t all none values pends boxes = record {
-  legal = record { each = λ before after event is. nothing before after event is };
+  legal = IsLegal-nil board;
   permissions = λ a d lo hi small. all a d;
   subscriptions = λ a d lo hi small. none a d;
   values = values;
   pending_sets = pends;
   known = subst (All (IsOfBoard board)) (sym pends) (All-nil (IsOfBoard board));
   outboxes = λ a lo hi. boxes a;
-} where
-  nothing : (before after : List Event) (event : Event) → [] ≡ before ++ event ∷ after → CanFollow board before event
-  nothing [] after event is = absurd (cc)
-  nothing (x ∷ xs) after event is = absurd (cc)
+}

@@ -19,7 +19,7 @@ frame_from a (Command b frame) = if a == b then Some frame else None
 frame_from a _ = None
 
 -- the frames that agent a had executed, in order
-abbrev pub frames_of : ℕ → List Event → List Frame
+unfoldable pub frames_of : ℕ → List Event → List Frame
 frames_of a h = filter_map (frame_from a) h
 
 -- the answer to an event after a history, if it is a command of agent a
@@ -28,5 +28,5 @@ answer_for board a before (Command b frame) = if a == b then answer_to board b f
 answer_for board a before _ = []
 
 -- the answers to the frames of agent a, in order
-abbrev pub answers_to : Board → ℕ → List Event → List Answer
+unfoldable pub answers_to : Board → ℕ → List Event → List Answer
 answers_to board a h = gathered (answer_for board a) h

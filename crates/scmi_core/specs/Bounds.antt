@@ -6,6 +6,8 @@ use Rattle.scmi_core.specs.declared.pending_set.PendingSet.{PendingSet}
 use Rattle.scmi_core.specs.Deed.{Deed}
 use Rattle.scmi_core.specs.Pending.{accepted, advances, pending, pending_of}
 use Rattle.scmi_core.specs.Outbox.{outbox_after, made, response_to}
+use Rattle.scmi_core.specs.declared.pending_set.TheConstants.{PENDING_SETS}
+use Rattle.scmi_core.specs.declared.outbox.TheConstants.{OUTBOX_ROOM}
 
 -- the sets that are complete, in order
 abbrev pub completed_sets : Board → List Deed → List PendingSet
@@ -13,8 +15,8 @@ completed_sets board h = take (advances h) (accepted board h)
 
 -- at most 8 sets are pending, and an agent's outbox and its pending sets are at most 16 together (own)
 pub record HasBounds (board : Board) (h : List Deed) : Type 0 where
-  pub pending_sets : length (pending board h) ≤ 8
-  pub loads : (a : ℕ) → length (outbox_after board a h) + length (pending_of board a h) ≤ 16
+  pub pending_sets : length (pending board h) ≤ PENDING_SETS
+  pub loads : (a : ℕ) → length (outbox_after board a h) + length (pending_of board a h) ≤ OUTBOX_ROOM
 
 -- no delayed response is lost: those made for an agent are one for each set of it that completed and wanted one, in order of acceptance
 pub record HasResponses (board : Board) (h : List Deed) : Type 0 where

@@ -12,7 +12,7 @@ use Rattle.scmi_plan.specs.Board.{Board}
 use Rattle.scmi_core.specs.declared.event.Event.{Event}
 use Rattle.scmi_core.specs.declared.event.Event.TheVariants.{Command}
 use Rattle.scmi_core.specs.Deed.{Deed}
-use Rattle.scmi_core.specs.Outbox.{outbox_after}
+use Rattle.scmi_core.specs.Outbox.{made, outbox_after, sent}
 use Rattle.scmi_core.specs.Reply.{reply_after, reply_words}
 
 -- an event with the payload of its reply, after these deeds
@@ -42,6 +42,14 @@ answer_of_event board h _ = None
 abbrev pub answer_at : Board → List Event → ℕ → Option Answer
 answer_at board h n = option_and_then (answer_of_event board (take n h)) (slice_get h n)
 
+-- all messages made for agent a in a history, in order
+unfoldable pub made_for : Board → ℕ → List Event → List Message
+made_for board a h = made board a (deeds board h)
+
+-- the messages that were posted to agent a: the first of those made for it
+unfoldable pub delivered : Board → ℕ → List Event → List Message
+delivered board a h = take (sent a (deeds board h)) (made board a (deeds board h))
+
 -- the outbox of agent a after a history
-abbrev pub outbox : Board → ℕ → List Event → List Message
+unfoldable pub outbox : Board → ℕ → List Event → List Message
 outbox board a h = outbox_after board a (deeds board h)

@@ -14,6 +14,7 @@ use Rattle.scmi_core.specs.Deed.{Deed, over}
 use Rattle.scmi_core.specs.Pending.{pending_of}
 use Rattle.scmi_core.specs.Subscriptions.{subscribed}
 use Rattle.scmi_core.specs.declared.pending_set.Setting.TheVariants as setting
+use Rattle.scmi_core.specs.declared.outbox.TheConstants.{OUTBOX_ROOM}
 
 -- the payload of a delayed response: status 0, the domain or clock, and the value that was set (own)
 abbrev pub delayed_words : Setting → List ℕ
@@ -64,7 +65,7 @@ made_by board a before so_far deed =
     let responses = option_map_or (response_for a) (completed board before deed.event) [] in
     let notices = option_map_or (notice_for board a before) (change_by board before deed) [] in
     let load = length (drop (sent a before) so_far) + length responses + length (pending_of board a (before ++ deed ∷ [])) in
-    responses ++ (if nat_lt load 16 then notices else [])
+    responses ++ (if nat_lt load OUTBOX_ROOM then notices else [])
 
 -- all messages made for agent a, in order
 abbrev pub made : Board → ℕ → List Deed → List Message

@@ -17,12 +17,14 @@ use Rattle.scmi_core.specs.Value.{Enabled, Rate, State, value}
 use Rattle.scmi_core.specs.Permissions.{allowed}
 use Rattle.scmi_core.specs.Pending.{is_pending, pending, pending_of}
 use Rattle.scmi_core.specs.Outbox.{outbox_after}
+use Rattle.scmi_core.specs.declared.pending_set.TheConstants.{PENDING_SETS}
+use Rattle.scmi_core.specs.declared.outbox.TheConstants.{OUTBOX_ROOM}
 
 -- an asynchronous set of agent a has room where fewer than 8 sets are pending in all, and outbox and pending sets of a are fewer than 16 (own)
 abbrev pub has_room : Board → ℕ → List Deed → Bool
 has_room board a h =
-    nat_lt (length (pending board h)) 8
-    && nat_lt (length (outbox_after board a h) + length (pending_of board a h)) 16
+    nat_lt (length (pending board h)) PENDING_SETS
+    && nat_lt (length (outbox_after board a h) + length (pending_of board a h)) OUTBOX_ROOM
 
 -- what the replies of the power domain protocol to agent a read in a history
 abbrev pub power_view : Board → ℕ → List Deed → PowerView

@@ -13,6 +13,7 @@ use Rattle.scmi_codec.specs.declared.power_command.PowerCommand.{PowerCommand}
 use Rattle.scmi_codec.specs.declared.command.Command as codec
 use Rattle.scmi_codec.specs.declared.power_command.PowerCommand.TheVariants as power
 use Rattle.scmi_plan.specs.Board.{Board}
+use Rattle.scmi_plan.specs.declared.limits.TheConstants.{AGENTS, DEVICES, DOMAINS}
 use Rattle.scmi_base.specs.Permission.{is_allowed}
 use Rattle.scmi_power.specs.PowerTable.{state_at, is_subscribed}
 use Rattle.scmi_core.specs.declared.pending_set.PendingSet.{PendingSet}
@@ -24,6 +25,7 @@ use Rattle.scmi_core.specs.Pending.{acceptance, sets_by}
 use Rattle.scmi_core.specs.Permissions.{permission_in}
 use Rattle.scmi_core.specs.Outbox.{response_for, state_changed}
 use Rattle.scmi_core.specs.Subscriptions.{subscription}
+use Rattle.scmi_core.specs.declared.outbox.TheConstants.{OUTBOX_ROOM}
 
 -- the notification that a change makes for agent a
 abbrev pub notice_at : Tables → ℕ → Change → List Message
@@ -40,7 +42,7 @@ made_at t left done change a =
     let responses = option_map_or (response_for a) done [] in
     let notices = option_map_or (notice_at t a) change [] in
     let load = length (outbox_at t a) + length responses + length (sets_by a left) in
-    responses ++ (if nat_lt load 16 then notices else [])
+    responses ++ (if nat_lt load OUTBOX_ROOM then notices else [])
 
 -- a message that got this reply, as a success
 abbrev pub success_of : ℕ → HeaderFields → Result codec.Command Status → List ℕ → Option Success
@@ -57,8 +59,8 @@ rest_of t (Some p) = drop 1 t.pending.items
 
 -- what an event leaves that was a success, or completed a set
 pub record HasStepped (board : Board) (t : Tables) (success : Option Success) (done : Option PendingSet) (new : Tables) : Type 0 where
-  pub permissions : (a d : ℕ) → 1 ≤ a → d < 32 → is_allowed new.base a d ≡ unwrap_or (option_and_then (λ s. permission_in a d s.command) success) (is_allowed t.base a d)
-  pub subscriptions : (a d : ℕ) → 1 ≤ a → a ≤ 8 → d < 32 → is_subscribed new.power a d ≡ unwrap_or (option_and_then (subscription a d) success) (is_subscribed t.power a d)
+  pub permissions : (a d : ℕ) → 1 ≤ a → d < DEVICES → is_allowed new.base a d ≡ unwrap_or (option_and_then (λ s. permission_in a d s.command) success) (is_allowed t.base a d)
+  pub subscriptions : (a d : ℕ) → 1 ≤ a → a ≤ AGENTS → d < DOMAINS → is_subscribed new.power a d ≡ unwrap_or (option_and_then (subscription a d) success) (is_subscribed t.power a d)
   pub values : (x : Thing) → IsThing board x → value_at new x ≡ unwrap_or (option_and_then (value_in x) (change_of board success done)) (value_at t x)
   pub known : IfSome (change_of board success done) (λ change. IsThing board change.thing)
   pub pending_sets : new.pending.items ≡ rest_of t done ++ option_to_list (option_and_then (acceptance board) success)
@@ -91,7 +93,7 @@ set_domain _ = 0
 
 -- the notification of a domain's new state to agent a, if it asked for that and has room
 abbrev pub told_at : Tables → ℕ → ℕ → ℕ → ℕ → List Message
-told_at t a causer d state = if nat_lt (load_at t a) 16 && is_subscribed t.power a d then state_changed causer d state ∷ [] else []
+told_at t a causer d state = if nat_lt (load_at t a) OUTBOX_ROOM && is_subscribed t.power a d then state_changed causer d state ∷ [] else []
 
 -- the notification of a set to agent a, if the state is another than before
 abbrev pub announced_at : Tables → ℕ → ℕ → Option (ℕ × ℕ) → ℕ → List Message

@@ -23,6 +23,8 @@ use Rattle.scmi_core.specs.declared.pending_set.PendingSet.{PendingSet}
 use Rattle.scmi_core.specs.declared.tables.Tables.{Tables}
 use Rattle.scmi_core.specs.Value.{Enabled, Rate, State, Thing, bit_value, completion}
 use Rattle.scmi_core.specs.Pending.{is_set_by, sets_by}
+use Rattle.scmi_core.specs.declared.pending_set.TheConstants.{PENDING_SETS}
+use Rattle.scmi_core.specs.declared.outbox.TheConstants.{OUTBOX_ROOM}
 
 -- an agent's outbox
 abbrev pub outbox_at : Tables → ℕ → List Message
@@ -34,7 +36,7 @@ load_at t a = length (outbox_at t a) + length (sets_by a t.pending.items)
 
 -- whether an asynchronous set of agent a has room (own)
 abbrev pub has_room_at : Tables → ℕ → Bool
-has_room_at t a = nat_lt (length t.pending.items) 8 && nat_lt (load_at t a) 16
+has_room_at t a = nat_lt (length t.pending.items) PENDING_SETS && nat_lt (load_at t a) OUTBOX_ROOM
 
 -- what the replies of the power domain protocol to agent a read in the tables
 abbrev pub power_view_at : Board → ℕ → Tables → PowerView

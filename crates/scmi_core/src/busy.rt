@@ -3,13 +3,14 @@ ghost use Rattle.std.specs.Prelude.{◌≡◌, ◌<◌, ◌==◌, ◌||◌, ℕ}
 ghost use Rattle.std.specs.List.{list_any};
 ghost use Rattle.std.specs.Int.{bit_at};
 ghost use Rattle.scmi_plan.specs.declared.resource.Resource.TheVariants as resource;
+ghost use Rattle.scmi_plan.specs.declared.limits.TheConstants.{CLOCKS, DOMAINS};
 ghost use Rattle.scmi_core.specs.Pending.{is_set_by};
 
 use crate::pending_set::{PendingSet, Setting};
 
 /// Which domains have a pending set.
 pub fn busy_domains(sets: &[PendingSet]) -> u32
-    ensures { (d : ℕ) → d < 32 → (bit_at result d == 1) ≡ list_any (λ p. is_set_by (resource.Domain d) p.setting) sets.now }
+    ensures { (d : ℕ) → d < DOMAINS → (bit_at result d == 1) ≡ list_any (λ p. is_set_by (resource.Domain d) p.setting) sets.now }
 {
     let mut busy = 0;
     for set in sets {
@@ -23,7 +24,7 @@ pub fn busy_domains(sets: &[PendingSet]) -> u32
 
 /// Which clocks have a pending set.
 pub fn busy_clocks(sets: &[PendingSet]) -> u32
-    ensures { (c : ℕ) → c < 32 → (bit_at result c == 1) ≡ list_any (λ p. is_set_by (resource.Clock c) p.setting) sets.now }
+    ensures { (c : ℕ) → c < CLOCKS → (bit_at result c == 1) ≡ list_any (λ p. is_set_by (resource.Clock c) p.setting) sets.now }
 {
     let mut busy = 0;
     for set in sets {

@@ -3,6 +3,7 @@ ghost use Rattle.std.specs.Prelude.{◌≡◌, ◌≤◌, ◌<◌, ◌==◌, ℕ
 ghost use Rattle.std.specs.List.{list_any};
 ghost use Rattle.std.specs.Int.{bit_at};
 ghost use Rattle.scmi_plan.specs.declared.resource.Resource.TheVariants as resource;
+ghost use Rattle.scmi_plan.specs.declared.limits.TheConstants.{AGENTS, CLOCKS, DOMAINS};
 ghost use Rattle.scmi_core.specs.Pending.{sets_by, is_set_by};
 ghost use Rattle.scmi_core.specs.Tables.{load_at, has_room_at};
 
@@ -16,8 +17,8 @@ impl Tables {
     /// The load that a power command meets.
     pub fn domain_load(&self, agent: u32) -> Load
         requires first { 1 ≤ agent }
-        requires last { agent ≤ 8 }
-        ensures busy { (d : ℕ) → d < 32 → (bit_at result.busy d == 1) ≡ list_any (λ p. is_set_by (resource.Domain d) p.setting) self.now.pending.items }
+        requires last { agent ≤ AGENTS }
+        ensures busy { (d : ℕ) → d < DOMAINS → (bit_at result.busy d == 1) ≡ list_any (λ p. is_set_by (resource.Domain d) p.setting) self.now.pending.items }
         ensures room { result.room ≡ has_room_at self.now agent }
     {
         Load {
@@ -29,8 +30,8 @@ impl Tables {
     /// The load that a clock command meets.
     pub fn clock_load(&self, agent: u32) -> Load
         requires first { 1 ≤ agent }
-        requires last { agent ≤ 8 }
-        ensures busy { (c : ℕ) → c < 32 → (bit_at result.busy c == 1) ≡ list_any (λ p. is_set_by (resource.Clock c) p.setting) self.now.pending.items }
+        requires last { agent ≤ AGENTS }
+        ensures busy { (c : ℕ) → c < CLOCKS → (bit_at result.busy c == 1) ≡ list_any (λ p. is_set_by (resource.Clock c) p.setting) self.now.pending.items }
         ensures room { result.room ≡ has_room_at self.now agent }
     {
         Load {
@@ -42,7 +43,7 @@ impl Tables {
     /// Whether an asynchronous set of an agent has room.
     fn has_room(&self, agent: u32) -> bool
         requires first { 1 ≤ agent }
-        requires last { agent ≤ 8 }
+        requires last { agent ≤ AGENTS }
         ensures { result ≡ has_room_at self.now agent }
     {
         self.pending.len() < PENDING_SETS && self.load(agent) < OUTBOX_ROOM
@@ -51,7 +52,7 @@ impl Tables {
     /// The length of an agent's outbox and its pending sets.
     pub fn load(&self, agent: u32) -> usize
         requires first { 1 ≤ agent }
-        requires last { agent ≤ 8 }
+        requires last { agent ≤ AGENTS }
         ensures { result ≡ load_at self.now agent }
     {
         self.outboxes[agent as usize - 1].len() + count_of(self.pending.as_slice(), agent)

@@ -1,8 +1,10 @@
 //! The messages that the platform has for each agent.
 ghost use Rattle.std.specs.Prelude.{◌≡◌, ◌≢◌, ◌↔◌, ◌≤◌, ◌<◌, ◌++◌, ◌∷◌, [], ℕ, length, true, false, drop, slice_get, IfSome};
+ghost use Rattle.scmi_plan.specs.declared.limits.TheConstants.{AGENTS, DOMAINS};
 ghost use Rattle.scmi_core.specs.Outbox.{response_for};
 ghost use Rattle.scmi_core.specs.Tables.{outbox_at};
 ghost use Rattle.scmi_core.specs.Step.{told_at, announced_at, SameButOutboxes};
+ghost use Rattle.scmi_core.specs.declared.outbox.TheConstants.{OUTBOX_ROOM};
 
 use crate::p2a_message::{response_to, state_changed};
 use crate::pending_set::Setting;
@@ -21,7 +23,7 @@ impl Tables {
     /// The first message of an agent's outbox.
     pub fn front(&self, agent: u32) -> Option<Message>
         requires first { 1 ≤ agent }
-        requires last { agent ≤ 8 }
+        requires last { agent ≤ AGENTS }
         ensures { result ≡ slice_get (outbox_at self.now agent) 0 }
     {
         match self.outboxes[agent as usize - 1].as_slice().first() {
@@ -33,7 +35,7 @@ impl Tables {
     /// Whether an agent's outbox is empty.
     pub fn is_empty(&self, agent: u32) -> bool
         requires first { 1 ≤ agent }
-        requires last { agent ≤ 8 }
+        requires last { agent ≤ AGENTS }
         ensures empty { (result ≡ true) ↔ (outbox_at self.now agent ≡ []) }
         ensures some { result ≡ false → 0 < length (outbox_at self.now agent) }
     {
@@ -43,7 +45,7 @@ impl Tables {
     /// Takes the first message off an agent's outbox.
     pub fn take(&mut self, agent: u32)
         requires first { 1 ≤ agent }
-        requires last { agent ≤ 8 }
+        requires last { agent ≤ AGENTS }
         requires some { 0 < length (outbox_at self.now agent) }
         ensures taken { outbox_at self.new agent ≡ drop 1 (outbox_at self.old agent) }
         ensures others { (a : ℕ) → 1 ≤ a → a ≢ agent → outbox_at self.new a ≡ outbox_at self.old a }
@@ -55,8 +57,8 @@ impl Tables {
     /// Puts the delayed response to a set into its agent's outbox, if it is wanted.
     pub fn respond(&mut self, agent: u32, setting: Setting, header: Header, wanted: bool)
         requires first { 1 ≤ agent }
-        requires last { agent ≤ 8 }
-        requires room { length (outbox_at self.now agent) < 16 }
+        requires last { agent ≤ AGENTS }
+        requires room { length (outbox_at self.now agent) < OUTBOX_ROOM }
         ensures responded { (a : ℕ) → 1 ≤ a → outbox_at self.new a ≡ outbox_at self.old a ++ response_for a (record { agent = agent; setting = setting; header = header; wanted = wanted }) }
         ensures kept { SameButOutboxes self.old self.new }
     {
@@ -67,8 +69,8 @@ impl Tables {
 
     /// Tells subscribers of a domain's state that was set, if it is another than before.
     pub fn announce(&mut self, agents: u32, causer: u32, changed: Option<(u32, u32)>, before: u32)
-        requires agents { agents ≤ 8 }
-        requires domain { IfSome changed (λ set. set.0 < 32) }
+        requires agents { agents ≤ AGENTS }
+        requires domain { IfSome changed (λ set. set.0 < DOMAINS) }
         ensures kept { SameButOutboxes self.old self.new }
         ensures told { (a : ℕ) → 1 ≤ a → a ≤ agents → outbox_at self.new a ≡ outbox_at self.old a ++ announced_at self.old a causer changed before }
     {
@@ -81,8 +83,8 @@ impl Tables {
 
     /// Tells the subscribers of a domain its new state, by rising agent number.
     fn notify(&mut self, agents: u32, causer: u32, domain: u32, state: u32)
-        requires agents { agents ≤ 8 }
-        requires domain { domain < 32 }
+        requires agents { agents ≤ AGENTS }
+        requires domain { domain < DOMAINS }
         ensures kept { SameButOutboxes self.old self.new }
         ensures told { (a : ℕ) → 1 ≤ a → a ≤ agents → outbox_at self.new a ≡ outbox_at self.old a ++ told_at self.old a causer domain state }
     {
@@ -94,8 +96,8 @@ impl Tables {
     /// Tells an agent a domain's new state, if it asked for that and its outbox has room.
     fn tell(&mut self, agent: u32, causer: u32, domain: u32, state: u32)
         requires first { 1 ≤ agent }
-        requires last { agent ≤ 8 }
-        requires domain { domain < 32 }
+        requires last { agent ≤ AGENTS }
+        requires domain { domain < DOMAINS }
         ensures told { outbox_at self.new agent ≡ outbox_at self.old agent ++ told_at self.old agent causer domain state }
         ensures others { (a : ℕ) → 1 ≤ a → a ≢ agent → outbox_at self.new a ≡ outbox_at self.old a }
         ensures kept { SameButOutboxes self.old self.new }
@@ -110,8 +112,8 @@ impl Tables {
     /// Puts a message into an agent's outbox.
     pub fn put(&mut self, agent: u32, message: Message)
         requires first { 1 ≤ agent }
-        requires last { agent ≤ 8 }
-        requires room { length (outbox_at self.now agent) < 16 }
+        requires last { agent ≤ AGENTS }
+        requires room { length (outbox_at self.now agent) < OUTBOX_ROOM }
         ensures put { outbox_at self.new agent ≡ outbox_at self.old agent ++ message ∷ [] }
         ensures others { (a : ℕ) → 1 ≤ a → a ≢ agent → outbox_at self.new a ≡ outbox_at self.old a }
         ensures kept { SameButOutboxes self.old self.new }

@@ -81,6 +81,7 @@ impl Core {
         ensures answer { IfOk result (λ x. x ≡ answer_to self.old.board agent frame.now self.old.history) }
         ensures event { OnOk result (self.new.history ≡ self.old.history ++ Called agent frame.now ∷ []) }
         ensures board { self.new.board ≡ self.old.board }
+        ensures legal { IsLegal self.new.board self.new.history }
         ensures no_agent { (result ≡ Err CoreError.NoAgent) ↔ ((agent ≡ 0) ⊎ (length self.old.board.agents < agent)) }
         ensures memory { 0 < self.old.room → result ≢ Err CoreError.Memory }
         ensures not_nothing { result ≢ Err CoreError.Nothing }
@@ -101,6 +102,7 @@ impl Core {
         ensures event { IfOk result (λ did. did ≡ true → self.new.history ≡ self.old.history ++ Advance ∷ []) }
         ensures same { IfOk result (λ did. did ≡ false → self.new ≡ self.old) }
         ensures board { self.new.board ≡ self.old.board }
+        ensures legal { IsLegal self.new.board self.new.history }
         ensures memory { IfErr result (λ e. (e ≡ CoreError.Memory) × (self.old.room ≡ 0)) }
         ensures err { OnErr result (self.new ≡ self.old) }
     {
@@ -130,6 +132,7 @@ impl Core {
     pub fn sent(&mut self, agent: u32) -> Result<(), CoreError>
         ensures event { OnOk result (self.new.history ≡ self.old.history ++ Sent agent ∷ []) }
         ensures board { self.new.board ≡ self.old.board }
+        ensures legal { IsLegal self.new.board self.new.history }
         ensures no_agent { (result ≡ Err CoreError.NoAgent) ↔ ((agent ≡ 0) ⊎ (length self.old.board.agents < agent)) }
         ensures nothing { (result ≡ Err CoreError.Nothing) ↔ ((1 ≤ agent) × (agent ≤ length self.old.board.agents) × (outbox self.old.board agent self.old.history ≡ [])) }
         ensures memory { 0 < self.old.room → result ≢ Err CoreError.Memory }

@@ -6,12 +6,15 @@ ghost use Rattle.scmi_codec.specs.Command.{command_of};
 ghost use Rattle.scmi_codec.specs.declared.command.Command.TheVariants.{Base, Power, Clock};
 ghost use Rattle.scmi_power.specs.PowerTable.{state_at, is_subscribed};
 ghost use Rattle.scmi_plan.specs.Plan.{IsLawful};
+ghost use Rattle.scmi_plan.specs.declared.limits.TheConstants.{AGENTS, DOMAINS};
 ghost use Rattle.std.specs.Option.{option_to_list};
 ghost use Rattle.scmi_core.specs.Value.{Thing, value_at_start};
 ghost use Rattle.scmi_core.specs.Pending.{state_set, rate_set};
 ghost use Rattle.scmi_core.specs.Subscriptions.{ended};
 ghost use Rattle.scmi_core.specs.Tables.{outbox_at, load_at, value_at, IsThing, table_words, IsOfBoard, frame_answer_at};
 ghost use Rattle.scmi_core.specs.Step.{success_of, HasStepped, HasAnswered, set_domain, SameButPending};
+ghost use Rattle.scmi_core.specs.declared.outbox.TheConstants.{OUTBOX_ROOM};
+ghost use Rattle.scmi_core.specs.declared.pending_set.TheConstants.{PENDING_SETS};
 
 use crate::outbox::Outbox;
 use crate::pending_set::{PENDING_SETS, PendingSet, Setting};
@@ -20,9 +23,9 @@ use scmi_base::{BaseDone, BaseState};
 use scmi_clock::{ClockDone, ClockState};
 use scmi_codec::{
     Answer, BaseCommand, ClockCommand, Command, Frame, Header, Message, Payload, PowerCommand,
-    payload_of,
+    refusal,
 };
-use scmi_plan::{AGENTS, Plan};
+use scmi_plan::{AGENTS, DOMAINS, Plan};
 use scmi_power::{PowerDone, PowerState};
 
 /// The tables of the protocols, the sets that are pending, and each agent's outbox.
@@ -94,7 +97,7 @@ impl Tables {
             Ok(Command::Base(command)) => self.execute_base(plan, agent, message.header, command),
             Ok(Command::Power(command)) => self.execute_power(plan, agent, message.header, command),
             Ok(Command::Clock(command)) => self.execute_clock(plan, agent, message.header, command),
-            Err(status) => payload_of(&[status.word()]),
+            Err(status) => refusal(status),
         }
     }
 
@@ -172,7 +175,7 @@ impl Tables {
     pub fn complete(&mut self, plan: &Plan)
         requires waiting { 0 < length self.now.pending.items }
         requires known { All (IsOfBoard plan.now) self.now.pending.items }
-        requires room { (a : ℕ) → 1 ≤ a → a ≤ length plan.now.agents → load_at self.now a ≤ 16 }
+        requires room { (a : ℕ) → 1 ≤ a → a ≤ length plan.now.agents → load_at self.now a ≤ OUTBOX_ROOM }
         ensures lawful { IsLawful plan.now }
         ensures stepped { HasStepped plan.now self.old None (slice_get self.old.pending.items 0) self.new }
     {
@@ -200,8 +203,8 @@ impl Tables {
 
     /// Ends the requests of an agent that was reset, if one was.
     fn end_requests(&mut self, reset: Option<u32>)
-        requires { IfSome reset (λ agent. (1 ≤ agent) × (agent ≤ 8)) }
-        ensures subscriptions { (a d : ℕ) → 1 ≤ a → a ≤ 8 → d < 32 → is_subscribed self.new.power a d ≡ unwrap_or (ended a reset) (is_subscribed self.old.power a d) }
+        requires { IfSome reset (λ agent. (1 ≤ agent) × (agent ≤ AGENTS)) }
+        ensures subscriptions { (a d : ℕ) → 1 ≤ a → a ≤ AGENTS → d < DOMAINS → is_subscribed self.new.power a d ≡ unwrap_or (ended a reset) (is_subscribed self.old.power a d) }
         ensures states { self.new.power.states ≡ self.old.power.states }
         ensures base { self.new.base ≡ self.old.base }
         ensures clocks { self.new.clocks ≡ self.old.clocks }
@@ -215,7 +218,7 @@ impl Tables {
 
     /// Adds a domain's set that was accepted for later, if there is one.
     fn accept_state(&mut self, agent: u32, header: Header, later: Option<(u32, u32)>)
-        requires { IfSome later (λ set. length self.now.pending.items < 8) }
+        requires { IfSome later (λ set. length self.now.pending.items < PENDING_SETS) }
         ensures kept { SameButPending self.old self.new }
         ensures pending { self.new.pending.items ≡ self.old.pending.items ++ option_to_list (option_map (state_set agent header) later) }
     {
@@ -231,7 +234,7 @@ impl Tables {
 
     /// Adds a clock's set that was accepted for later, if there is one.
     fn accept_rate(&mut self, agent: u32, header: Header, later: Option<(u32, u64, bool)>)
-        requires { IfSome later (λ set. length self.now.pending.items < 8) }
+        requires { IfSome later (λ set. length self.now.pending.items < PENDING_SETS) }
         ensures kept { SameButPending self.old self.new }
         ensures pending { self.new.pending.items ≡ self.old.pending.items ++ option_to_list (option_map (rate_set agent header) later) }
     {
@@ -247,9 +250,9 @@ impl Tables {
 
     /// A domain's state, if there is such a domain.
     fn state_before(&self, domain: u32) -> u32
-        ensures { domain < 32 → result ≡ state_at self.now.power domain }
+        ensures { domain < DOMAINS → result ≡ state_at self.now.power domain }
     {
-        if domain < 32 {
+        if (domain as usize) < DOMAINS {
             self.power.state(domain)
         } else {
             0

@@ -6,6 +6,23 @@ use super::script::run;
 use crate::Core;
 use std::test::Fail;
 
+// The rates 1 to 15 of twenty, each two words, where five are left.
+const FIFTEEN: [u32; 32] = [
+    0, 0x5_000f, 1, 0, 2, 0, 3, 0, 4, 0, 5, 0, 6, 0, 7, 0, 8, 0, 9, 0, 10, 0, 11, 0, 12, 0, 13, 0,
+    14, 0, 15, 0,
+];
+
+// The last five.
+const FIVE: [u32; 12] = [0, 5, 16, 0, 17, 0, 18, 0, 19, 0, 20, 0];
+
+// From 1000 to 4000 by 500.
+const STEPS: [u32; 8] = [0, 0x1003, 1000, 0, 4000, 0, 500, 0];
+
+// The attributes of clock `bus`.
+const BUS_DISABLED: [u32; 6] = [0, 0, 0x0073_7562, 0, 0, 0];
+
+const BUS_ENABLED: [u32; 6] = [0, 1, 0x0073_7562, 0, 0, 0];
+
 // Rates that are rounded, and set now or later.
 #[test]
 fn rates_are_rounded(rt: HostRuntime) -> Result<(), Fail> {
@@ -41,82 +58,14 @@ fn rates_are_described(rt: HostRuntime) -> Result<(), Fail> {
         &rt,
         core,
         &[
-            Do(
-                1,
-                0x14,
-                0x4,
-                &[2, 0],
-                0x0000_5004,
-                &[
-                    0,
-                    0x0005_000f,
-                    1,
-                    0,
-                    2,
-                    0,
-                    3,
-                    0,
-                    4,
-                    0,
-                    5,
-                    0,
-                    6,
-                    0,
-                    7,
-                    0,
-                    8,
-                    0,
-                    9,
-                    0,
-                    10,
-                    0,
-                    11,
-                    0,
-                    12,
-                    0,
-                    13,
-                    0,
-                    14,
-                    0,
-                    15,
-                    0,
-                ],
-            ),
-            Do(
-                1,
-                0x14,
-                0x4,
-                &[2, 15],
-                0x0004_5004,
-                &[0, 5, 16, 0, 17, 0, 18, 0, 19, 0, 20, 0],
-            ),
+            Do(1, 0x14, 0x4, &[2, 0], 0x0000_5004, &FIFTEEN),
+            Do(1, 0x14, 0x4, &[2, 15], 0x0004_5004, &FIVE),
             Do(1, 0x14, 0x4, &[2, 20], 0x0008_5004, &[0xffff_fffb]),
-            Do(
-                1,
-                0x14,
-                0x4,
-                &[1, 7],
-                0x000c_5004,
-                &[0, 0x1003, 0x3e8, 0, 0xfa0, 0, 500, 0],
-            ),
-            Do(
-                1,
-                0x14,
-                0x3,
-                &[1],
-                0x0010_5003,
-                &[0, 0, 0x0073_7562, 0, 0, 0],
-            ),
+            Do(1, 0x14, 0x4, &[1, 7], 0x000c_5004, &STEPS),
+            Do(1, 0x14, 0x3, &[1], 0x0010_5003, &BUS_DISABLED),
             Do(1, 0x14, 0x1, &[], 0x0014_5001, &[0, 0x0008_0003]),
             Do(1, 0x14, 0x7, &[1, 1], 0x0018_5007, &[0]),
-            Do(
-                1,
-                0x14,
-                0x3,
-                &[1],
-                0x001c_5003,
-                &[0, 1, 0x0073_7562, 0, 0, 0],
-            ),
+            Do(1, 0x14, 0x3, &[1], 0x001c_5003, &BUS_ENABLED),
             Trace(8),
         ],
     )

@@ -11,3 +11,6 @@ invariant_of-self-2 c =
     let waiting : 0 < length c.self.inside.tables.pending.items = search (rules, arith, c.is_empty.ensures, c.if-is_empty.false) in
     rw (c.push.ensures.events, c.reserve.ensures.events)
     (Agrees-advance c.self.inside.plan c.self.inside.tables c.complete.new.self c.self.inside.trace.events c.self.invariant c.complete.ensures.lawful waiting c.complete.ensures.stepped)
+
+pub returns-clause-legal : goal.returns-clause-legal
+returns-clause-legal c = (invariant_of-self-2 c).legal

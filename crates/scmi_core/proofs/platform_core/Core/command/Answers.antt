@@ -21,3 +21,6 @@ returns-clause-answer c =
     rw (← c.self.view_is)
     (c.answer-answer.ensures.answer
     ∙ answer-table c.self.inside.plan c.self.inside.tables c.self.inside.trace.events c.args.agent c.args.frame.now c.self.invariant law agent.0 agent.1)
+
+pub returns-clause-legal : goal.returns-clause-legal
+returns-clause-legal c = (invariant_of-self-2 c).legal

@@ -13,3 +13,6 @@ invariant_of-self-2 c =
     rw (c.push.ensures.events, c.reserve.ensures.events)
     (Agrees-sent c.self.inside.plan c.self.inside.tables c.take.new.self c.self.inside.trace.events c.args.agent c.self.invariant law agent.0 agent.1 (c.is_empty.ensures.some c.if-is_empty.false)
     kept.base kept.power kept.clocks kept.pending c.take.ensures.taken c.take.ensures.others)
+
+pub returns-clause-legal : goal.returns-clause-legal
+returns-clause-legal c = (invariant_of-self-2 c).legal
