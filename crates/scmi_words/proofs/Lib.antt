@@ -1,0 +1,17 @@
+mod Picks
+mod Status
+mod TableNames
+mod TableWords
+mod FrameWords
+mod Views
+mod Loads
+mod Making
+mod CallerSteps
+mod CallerLooks
+mod CallerCloses
+mod CalleeSteps
+mod CalleeCloses
+mod Collects
+mod Gathers
+mod AreaWords
+mod LastArea

@@ -1,0 +1,12 @@
+pub mod StatusWord
+pub mod Area
+pub mod Phase
+pub mod Mailbox
+pub mod View
+pub mod CallerSteps
+pub mod CalleeSteps
+pub mod Remembers
+pub mod WordCaller
+pub mod WordCallee
+pub mod WordChannel
+pub mod WordImage

@@ -1,0 +1,47 @@
+-- What a contract sees of the callee's end of a word channel.
+use Rattle.std.specs.Prelude.{◌≡◌, ◌≢◌, ◌⊎◌, ℕ, ◌+◌, true, List, Option, Some, None}
+use Rattle.scmi_codec.specs.declared.frame.Frame.{Frame}
+use Rattle.scmi_link.specs.View.{CalleeView, Owes, is_callee_shut}
+use Rattle.scmi_words.specs.declared.status_word.TheConstants.{POSTED}
+use Rattle.scmi_words.specs.declared.view.CalleeHalf.{CalleeHalf}
+use Rattle.scmi_words.specs.declared.word_callee.WordCallee.{WordCallee}
+use Rattle.scmi_words.specs.Area.{frame_size}
+use Rattle.scmi_words.specs.View.{callee_of}
+use Rattle.scmi_words.specs.WordChannel.{table_name}
+
+-- what the callee has done, and how many steps that took
+abbrev pub callee_half : WordCallee → CalleeHalf
+callee_half callee = callee_of callee.seat
+
+-- what the callee has done, as every channel shows it
+abbrev pub word_callee_view : WordCallee → CalleeView
+word_callee_view callee = record {
+  taken = (callee_half callee).state.taken;
+  answered = (callee_half callee).state.answered;
+  closed = callee.closed;
+  told = callee.told;
+  takes = callee.takes;
+}
+
+-- the name of the channel that made it
+abbrev pub word_callee_name : WordCallee → List ℕ
+word_callee_name callee = table_name callee.seat.table_id
+
+-- the same seat at the same table
+abbrev pub IsSameCallee : WordCallee → WordCallee → Type 0
+IsSameCallee old new = (new.seat.table_id ≡ old.seat.table_id) × (new.seat.id ≡ old.seat.id)
+
+-- the most steps that a take makes
+abbrev pub take_steps : Option Frame → ℕ
+take_steps (Some f) = frame_size f + 3
+take_steps None = 1
+
+-- one look was made, which saw another status than posted
+pub record SawUnposted (old new : CalleeHalf) : Type 0 where
+  pub looked : new.looks ≡ old.looks + 1
+  pub unposted : new.saw ≢ POSTED
+
+-- why a take gives nothing: before it an answer was owed, or the end had closed or knew of the caller's close; or one look of it saw another status than posted
+abbrev pub WhyNone : WordCallee → Option Frame → WordCallee → Type 0
+WhyNone old (Some f) new = Unit {0}
+WhyNone old None new = Owes (word_callee_view old) ⊎ ((is_callee_shut (word_callee_view old) ≡ true) ⊎ SawUnposted (callee_half old) (callee_half new))

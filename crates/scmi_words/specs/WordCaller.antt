@@ -1,0 +1,64 @@
+-- What a contract sees of the caller's end of a word channel.
+use Rattle.std.specs.Prelude.{◌≡◌, ℕ, ◌+◌, ◌%◌, ◌<◌, List, [], length, Result, Ok, Err}
+use Rattle.scmi_link.specs.View.{CallerView, IsOutstanding}
+use Rattle.scmi_link.specs.declared.closing.Closing.{Closing}
+use Rattle.scmi_link.specs.declared.close_error.CloseError.{CloseError}
+use Rattle.scmi_link.specs.declared.close_error.CloseError.TheVariants.{InService, ReplyWaiting}
+use Rattle.scmi_link.specs.declared.collected.Collected.{Collected}
+use Rattle.scmi_link.specs.declared.collected.Collected.TheVariants.{Nothing, Got}
+use Rattle.scmi_words.specs.declared.status_word.TheConstants.{CLOSED}
+use Rattle.scmi_words.specs.declared.view.CallerHalf.{CallerHalf}
+use Rattle.scmi_words.specs.declared.word_caller.WordCaller.{WordCaller}
+use Rattle.scmi_words.specs.Area.{answer_size}
+use Rattle.scmi_words.specs.Phase.{is_left}
+use Rattle.scmi_words.specs.View.{caller_of}
+use Rattle.scmi_words.specs.WordChannel.{table_name}
+
+-- what the caller has done, and how many steps that took
+abbrev pub caller_half : WordCaller → CallerHalf
+caller_half caller = caller_of caller.seat
+
+-- what the caller has done, as every channel shows it
+abbrev pub word_caller_view : WordCaller → CallerView
+word_caller_view caller = record {
+  posted = (caller_half caller).state.posted;
+  read = (caller_half caller).state.read;
+  closed = caller.closed;
+  told = caller.told;
+  left = is_left caller.phase;
+  collects = caller.collects;
+}
+
+-- the name of the channel that made it
+abbrev pub word_caller_name : WordCaller → List ℕ
+word_caller_name caller = table_name caller.seat.table_id
+
+-- the same seat at the same table
+abbrev pub IsSameCaller : WordCaller → WordCaller → Type 0
+IsSameCaller old new = (new.seat.table_id ≡ old.seat.table_id) × (new.seat.id ≡ old.seat.id)
+
+-- no word is stored that was not posted
+abbrev pub HasNoDraft : WordCaller → Type 0
+HasNoDraft caller = (caller_half caller).state.draft ≡ []
+
+-- the most steps that a collect makes
+abbrev pub collect_steps : Collected → ℕ
+collect_steps (Got x) = answer_size x + 3
+collect_steps _ = 1
+
+-- one look was made, which saw no closed mark, and with a post outstanding a channel that is not free
+pub record SawNothing (old new : WordCaller) : Type 0 where
+  pub looked : (caller_half new).looks ≡ (caller_half old).looks + 1
+  pub unclosed : (caller_half new).saw < CLOSED
+  pub busy : IsOutstanding (word_caller_view old) → (caller_half new).saw % 2 ≡ 0
+
+-- why a collect gives nothing
+abbrev pub WhyNothing : WordCaller → Collected → WordCaller → Type 0
+WhyNothing old Nothing new = SawNothing old new
+WhyNothing old _ new = Unit {0}
+
+-- a refused close shows that the last post was taken, or that it was answered
+abbrev pub CloseShows : Result Closing CloseError → WordCaller → Type 0
+CloseShows (Ok closing) caller = Unit {0}
+CloseShows (Err InService) caller = (caller_half caller).shown_taken ≡ length (caller_half caller).state.posted
+CloseShows (Err ReplyWaiting) caller = (caller_half caller).shown_answered ≡ length (caller_half caller).state.posted

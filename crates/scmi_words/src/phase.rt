@@ -1,0 +1,17 @@
+//! Where the caller is with its last post.
+
+/// Where the caller is with its last post.
+#[derive(Clone, Copy, PartialEq, Eq, Debug)]
+pub enum Phase {
+    /// Nothing is outstanding.
+    Idle,
+    /// A post is outstanding.
+    Waiting,
+    /// A post is outstanding, and the callee has closed and will not take it. An end is in this phase
+    /// only inside of its close.
+    Stranded,
+    /// The last post was withdrawn.
+    Withdrawn,
+    /// The last post was given up.
+    GivenUp,
+}

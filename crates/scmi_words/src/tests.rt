@@ -1,0 +1,5 @@
+//! Worked examples of a word channel.
+
+mod closes;
+mod exchanges;
+mod script;
