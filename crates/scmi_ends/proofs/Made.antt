@@ -1,0 +1,29 @@
+-- What `connect` makes keeps the empty history.
+use Rattle.std.proofs.Common.{◌≡◌, ℕ, zero, suc, ◌+◌, List, [], ◌∷◌, length, map, replicate, arith, sym, ap, refl, ◌∙◌}
+use Rattle.std.proofs.lemmas.List.{length-replicate}
+use Rattle.scmi_codec.specs.declared.frame.Frame.TheVariants.{Good}
+use Rattle.scmi_link.specs.View.{CallerView, CalleeView, new_caller, new_callee}
+use Rattle.scmi_plan.specs.Board.{Board}
+use Rattle.scmi_core.proofs.Laws.{frames_empty, answers_empty, delivered_empty, empty_is_legal}
+use Rattle.scmi_ends.specs.Each.{AllFrom}
+use Rattle.scmi_ends.specs.Kept.{IsServed, IsDelivered, Keeps}
+
+-- new ends of A2P
+served_new : (board : Board) (n k : ℕ) → AllFrom (IsServed board []) n (replicate k new_callee)
+served_new board n zero = tt
+served_new board n (suc k) = (record { taken = sym (frames_empty n); answered = sym (answers_empty board n) }, served_new board (n + 1) k)
+
+-- new ends of P2A
+delivers_new : (board : Board) (n k : ℕ) → AllFrom (IsDelivered board []) n (replicate k new_caller)
+delivers_new board n zero = tt
+delivers_new board n (suc k) = (ap (map Good) (sym (delivered_empty board n)), delivers_new board (n + 1) k)
+
+-- the whole of them
+pub kept_new : (board : Board) (k : ℕ) → k ≡ length board.agents → Keeps board [] (replicate k new_callee) (replicate k new_caller)
+kept_new board k e = record {
+  legal = empty_is_legal board;
+  callees_count = length-replicate k new_callee ∙ e;
+  callers_count = length-replicate k new_caller ∙ e;
+  served = served_new board 1 k;
+  delivers = delivers_new board 1 k;
+}

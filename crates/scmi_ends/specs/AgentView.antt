@@ -1,0 +1,24 @@
+-- What a contract sees of an agent's end, whatever its channels are made of.
+use Rattle.std.specs.Prelude.{◌≡◌, ℕ, List}
+use Rattle.scmi_link.specs.View.{CallerView, CalleeView, new_caller, new_callee}
+
+-- what the agent has done at its two channels, and their names
+pub record AgentView : Type 0 where
+  pub id : ℕ
+  pub token : ℕ  -- of its next command
+  pub caller : CallerView  -- its end of A2P
+  pub callee : CalleeView  -- its end of P2A
+  pub a2p_name : List ℕ
+  pub p2a_name : List ℕ
+
+-- the agent's ends are those of the channels with these names
+pub record IsOfLink (a2p_name p2a_name : List ℕ) (agent : AgentView) : Type 0 where
+  pub of_a2p : agent.a2p_name ≡ a2p_name
+  pub of_p2a : agent.p2a_name ≡ p2a_name
+
+-- agent n, which has done nothing yet
+pub record IsNewAgent (n : ℕ) (agent : AgentView) : Type 0 where
+  pub id : agent.id ≡ n
+  pub token : agent.token ≡ 0
+  pub caller : agent.caller ≡ new_caller
+  pub callee : agent.callee ≡ new_callee

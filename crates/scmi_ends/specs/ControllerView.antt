@@ -1,0 +1,27 @@
+-- What a contract sees of the platform's side, whatever its channels are made of.
+use Rattle.std.specs.Prelude.{◌≡◌, ℕ, ◌-◌, List, slice_index_or}
+use Rattle.scmi_link.specs.View.{CallerView, CalleeView, new_caller, new_callee}
+use Rattle.scmi_plan.specs.Board.{Board}
+use Rattle.scmi_core.specs.declared.event.Event.{Event}
+
+-- the history of the platform, what it has done at its ends of each agent's channels, and their names
+pub record ControllerView : Type 0 where
+  pub board : Board
+  pub history : List Event
+  pub callees : List CalleeView  -- its end of each agent's A2P
+  pub callers : List CallerView  -- its end of each agent's P2A
+  pub a2p_names : List (List ℕ)
+  pub p2a_names : List (List ℕ)
+
+-- the platform's ends are those of the channels with these names, in order
+pub record IsOfLinks (a2p_names p2a_names : List (List ℕ)) (platform : ControllerView) : Type 0 where
+  pub of_a2p : platform.a2p_names ≡ a2p_names
+  pub of_p2a : platform.p2a_names ≡ p2a_names
+
+-- the platform's end of agent a's A2P channel
+abbrev pub callee_of : ControllerView → ℕ → CalleeView
+callee_of platform a = slice_index_or platform.callees (a - 1) new_callee
+
+-- the platform's end of agent a's P2A channel
+abbrev pub caller_of : ControllerView → ℕ → CallerView
+caller_of platform a = slice_index_or platform.callers (a - 1) new_caller

@@ -1,0 +1,9 @@
+pub mod Each
+pub mod AgentView
+pub mod ControllerView
+pub mod Kept
+pub mod Poll
+pub mod Serve
+pub mod Flush
+pub mod Shut
+pub mod Headline

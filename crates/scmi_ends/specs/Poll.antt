@@ -1,0 +1,28 @@
+-- What an agent's looking leaves.
+use Rattle.std.specs.Prelude.{◌≡◌, ℕ, ◌<◌, false, zero, suc, [], ◌∷◌, ◌++◌, Option, Some, None}
+use Rattle.scmi_codec.specs.declared.frame.Frame.{Frame}
+use Rattle.scmi_codec.specs.declared.frame.Answer.TheVariants.{Released}
+use Rattle.scmi_link.specs.View.{CallerView, CalleeView, is_callee_shut, one_more}
+use Rattle.scmi_link.specs.Calls.{TakesNone, Collects}
+use Rattle.scmi_link.specs.declared.collected.Collected.{Collected}
+use Rattle.scmi_link.specs.declared.collected.Collected.TheVariants as collected
+
+-- one `take` on P2A; what it gives is released at once
+abbrev pub Receives : CalleeView → Option Frame → CalleeView → Type 0
+Receives old None new = TakesNone old new
+Receives old (Some frame) new = (is_callee_shut old ≡ false) × (new ≡ record old { taken = old.taken ++ frame ∷ []; answered = old.answered ++ Released ∷ []; takes = one_more old.takes })
+
+-- a count of calls of `collect`, after n more of them
+unfoldable pub more_collects : ℕ → ℕ → ℕ
+more_collects zero collects = collects
+more_collects (suc n) collects = one_more (more_collects n collects)
+
+-- after n calls of `collect` that gave `Nothing`
+abbrev pub polled : ℕ → CallerView → CallerView
+polled n old = record old { collects = more_collects n old.collects }
+
+-- at most so many calls of `collect`, all but the last of which gave `Nothing`; `Nothing` only after all of them
+abbrev pub Waits : ℕ → CallerView → Collected → CallerView → Type 0
+Waits turns old collected.Nothing new = new ≡ polled turns old
+Waits turns old (collected.Got answer) new = (n : ℕ) × (n < turns) × Collects (polled n old) (collected.Got answer) new
+Waits turns old collected.Closed new = (n : ℕ) × (n < turns) × Collects (polled n old) collected.Closed new

@@ -1,0 +1,34 @@
+-- What closing an agent's channels leaves.
+use Rattle.std.specs.Prelude.{◌≡◌, ◌⊎◌, ℕ, ◌-◌, true, slice_set, Result, Ok, Err}
+use Rattle.scmi_link.specs.View.{CallerView, IsOutstanding}
+use Rattle.scmi_link.specs.Calls.{Collects}
+use Rattle.scmi_link.specs.declared.collected.Collected.{Collected}
+use Rattle.scmi_ends.specs.declared.shut_error.ShutError.{ShutError}
+use Rattle.scmi_ends.specs.declared.shut_error.ShutError.TheVariants as shut
+use Rattle.scmi_ends.specs.ControllerView.{ControllerView, callee_of, caller_of}
+
+-- a caller closes; a post that is outstanding is withdrawn
+abbrev pub Closes : CallerView → CallerView → Type 0
+Closes old new =
+    ((¬ (IsOutstanding old)) × (new ≡ record old { closed = true }))
+    ⊎ (IsOutstanding old × (new ≡ record old { closed = true; left = true }))
+
+-- what follows the `collect` at the end of an agent's P2A channel: it closes, or a post is still outstanding
+abbrev pub ShutsOne : CallerView → Result (Unit {0}) ShutError → CallerView → Type 0
+ShutsOne old (Ok done) new = Closes old new
+ShutsOne old (Err shut.NoAgent) new = ⊥
+ShutsOne old (Err shut.InService) new = IsOutstanding old × (new ≡ old)
+ShutsOne old (Err shut.ReplyWaiting) new = IsOutstanding old × (new ≡ old)
+
+-- one `collect` at the end of an agent's P2A channel, and then this
+pub record CollectsAndShuts (old : CallerView) (result : Result (Unit {0}) ShutError) (new : CallerView) : Type 0 where
+  pub answer : Collected
+  pub collected : CallerView
+  pub collects : Collects old answer collected
+  pub step : ShutsOne collected result new
+
+-- at the place of agent a the end of A2P closes, whatever the answer, and this happens at that of P2A; nothing else changes
+pub record Shuts (a : ℕ) (old : ControllerView) (result : Result (Unit {0}) ShutError) (new : ControllerView) : Type 0 where
+  pub caller : CallerView
+  pub step : CollectsAndShuts (caller_of old a) result caller
+  pub same : new ≡ record old { callees = slice_set old.callees (a - 1) (record (callee_of old a) { closed = true }); callers = slice_set old.callers (a - 1) caller }

@@ -1,0 +1,190 @@
+//! The agent's side of its two channels.
+ghost use Rattle.std.specs.Prelude.{◌≡◌, ◌≢◌, ◌+◌, ◌%◌, ◌<◌, ◌++◌, ◌∷◌, ◌⊎◌, ◌↔◌, [], true, false, IfOk, OnErr, OnOk};
+ghost use Rattle.scmi_codec.specs.Area.{is_well_formed};
+ghost use Rattle.scmi_codec.specs.declared.frame.Frame.TheVariants.{Good, Malformed};
+ghost use Rattle.scmi_link.specs.View.{IsOutstanding, is_shut, new_caller, new_callee};
+ghost use Rattle.scmi_link.specs.Calls.{IsRefused, Collects};
+
+use crate::link::Link;
+use scmi_codec::{Answer, Frame, Header, Message, Payload, payload_of};
+use scmi_link::{Channel, CloseError, Closing, Collected, PostError};
+use std::marker::Model;
+
+/// The tokens of a message header: 10 bits (DEN0056B, message header).
+const TOKENS: u16 = 1024;
+
+/// What one agent holds: its ends of its two channels, its number, and the token of its next command.
+///
+/// Condition of each call that is given a link: it is the agent's own. No call takes memory, and none
+/// but `wait_reply` waits.
+#[derive(Drop)]
+pub struct AgentEnd<C: Channel> {
+    caller: C::Caller,
+    callee: C::Callee,
+    id: u32,
+    token: u16,
+}
+
+impl<C: Channel> Model for AgentEnd<C> {
+    ghost use Rattle.std.specs.Prelude.{◌≡◌, ◌<◌, length};
+    ghost use Rattle.scmi_ends.specs.AgentView.{AgentView};
+
+    ghost Value = { AgentView };
+
+    ghost view = { λ agent. record { id = agent.id; token = agent.token; caller = C.caller_view agent.caller; callee = C.callee_view agent.callee; a2p_name = C.caller_name agent.caller; p2a_name = C.callee_name agent.callee } };
+
+    // It owes no release.
+    ghost invariant = { λ agent. (agent.token < 1024) × (length (C.callee_view agent.callee).taken ≡ length (C.callee_view agent.callee).answered) };
+}
+
+impl<C: Channel> AgentEnd<C> {
+    ghost use Rattle.scmi_ends.specs.AgentView.{IsOfLink, IsNewAgent};
+    ghost use Rattle.scmi_ends.specs.Poll.{Receives};
+
+    pub(crate) fn new(caller: C::Caller, callee: C::Callee, id: u32) -> AgentEnd<C>
+        requires caller { C.caller_view caller ≡ new_caller }
+        requires callee { C.callee_view callee ≡ new_callee }
+        ensures fresh { IsNewAgent id result }
+        ensures names { IsOfLink (C.caller_name caller) (C.callee_name callee) result }
+    {
+        AgentEnd {
+            caller,
+            callee,
+            id,
+            token: 0,
+        }
+    }
+
+    // The ends of A2P and of P2A.
+    pub(crate) fn into_ends(self) -> (C::Caller, C::Callee)
+        ensures views { (C.caller_view result.0 ≡ self.caller) × (C.callee_view result.1 ≡ self.callee) }
+        ensures names { (C.caller_name result.0 ≡ self.a2p_name) × (C.callee_name result.1 ≡ self.p2a_name) }
+    {
+        (self.caller, self.callee)
+    }
+
+    /// The agent's number. Agents are numbered from 1 (DEN0056B, base protocol).
+    pub fn id(&self) -> u32
+        ensures { result ≡ self.now.id }
+    {
+        self.id
+    }
+
+    /// Posts a command of this protocol, message id and payload on A2P, and gives its token.
+    ///
+    /// Tokens are counted from 0, and only a successful call moves them on, by one modulo 1,024 (own).
+    /// The first that applies: `Outstanding` where the answer to the post before was not collected;
+    /// `Closed` where the agent has closed, or is now told that the platform has; `Full` where the
+    /// channel has no place. After `Closed` the agent knows of the close; nothing else changed.
+    pub fn call(
+        &mut self,
+        link: &Link<C>,
+        protocol: u8,
+        id: u8,
+        payload: &Payload,
+    ) -> Result<u16, PostError>
+        requires { IsOfLink (C.name link.now.a2p) (C.name link.now.p2a) self.old }
+        ensures token { IfOk result (λ token. token ≡ self.old.token) }
+        ensures ok { OnOk result (self.new ≡ record self.old { token = (self.old.token + 1) % 1024; caller = record (self.old.caller) { posted = self.old.caller.posted ++ Good (record { header = record { reserved = 0; token = self.old.token; protocol = protocol; kind = 0; id = id }; payload = payload.now }) ∷ [] } }) }
+        ensures unshut { OnOk result (is_shut self.old.caller ≡ false) }
+        ensures outstanding { (result ≡ Err PostError.Outstanding) ↔ IsOutstanding self.old.caller }
+        ensures unchanged { result ≡ Err PostError.Outstanding → self.new ≡ self.old }
+        ensures closed { result ≡ Err PostError.Closed → IsRefused self.old.caller self.new.caller × (self.new ≡ record self.old { caller = self.new.caller }) }
+        ensures full { result ≡ Err PostError.Full → (C.FULL ≡ true) × (is_shut self.old.caller ≡ false) × (self.new ≡ self.old) }
+        ensures well_formed { result ≢ Err PostError.WellFormed }
+    {
+        let token = self.token;
+        let message = Message {
+            header: Header {
+                reserved: 0,
+                token,
+                protocol,
+                kind: 0,
+                id,
+            },
+            payload: payload_of(payload.as_slice()),
+        };
+        link.a2p.post(&mut self.caller, &message)?;
+        self.token = (token + 1) % TOKENS;
+        Ok(token)
+    }
+
+    /// Posts a message on A2P as it stands, with its own token. It is refused as `call` is.
+    pub fn post(&mut self, link: &Link<C>, message: &Message) -> Result<(), PostError>
+        requires { IsOfLink (C.name link.now.a2p) (C.name link.now.p2a) self.old }
+        ensures ok { OnOk result (self.new ≡ record self.old { caller = record (self.old.caller) { posted = self.old.caller.posted ++ Good message.now ∷ [] } }) }
+        ensures unshut { OnOk result (is_shut self.old.caller ≡ false) }
+        ensures outstanding { (result ≡ Err PostError.Outstanding) ↔ IsOutstanding self.old.caller }
+        ensures unchanged { result ≡ Err PostError.Outstanding → self.new ≡ self.old }
+        ensures closed { result ≡ Err PostError.Closed → IsRefused self.old.caller self.new.caller × (self.new ≡ record self.old { caller = self.new.caller }) }
+        ensures full { result ≡ Err PostError.Full → (C.FULL ≡ true) × (is_shut self.old.caller ≡ false) × (self.new ≡ self.old) }
+        ensures well_formed { result ≢ Err PostError.WellFormed }
+    {
+        link.a2p.post(&mut self.caller, message)
+    }
+
+    /// Posts a frame on A2P whose length in bytes is not well formed (own).
+    ///
+    /// `WellFormed` where the length is 4 + 4k with k from 0 to 32, and then nothing changed. Else it
+    /// is refused as `call` is.
+    pub fn post_malformed(
+        &mut self,
+        link: &Link<C>,
+        length: u32,
+        header: u32,
+    ) -> Result<(), PostError>
+        requires { IsOfLink (C.name link.now.a2p) (C.name link.now.p2a) self.old }
+        ensures ok { OnOk result (self.new ≡ record self.old { caller = record (self.old.caller) { posted = self.old.caller.posted ++ Malformed length header ∷ [] } }) }
+        ensures unshut { OnOk result (is_shut self.old.caller ≡ false) }
+        ensures well_formed { (result ≡ Err PostError.WellFormed) ↔ (is_well_formed length ≡ true) }
+        ensures outstanding { is_well_formed length ≡ false → (result ≡ Err PostError.Outstanding) ↔ IsOutstanding self.old.caller }
+        ensures unchanged { (result ≡ Err PostError.Outstanding) ⊎ (result ≡ Err PostError.WellFormed) → self.new ≡ self.old }
+        ensures closed { result ≡ Err PostError.Closed → IsRefused self.old.caller self.new.caller × (self.new ≡ record self.old { caller = self.new.caller }) }
+        ensures full { result ≡ Err PostError.Full → (C.FULL ≡ true) × (is_shut self.old.caller ≡ false) × (self.new ≡ self.old) }
+    {
+        link.a2p.post_malformed(&mut self.caller, length, header)
+    }
+
+    /// Looks once for the answer to the post on A2P; an answer that stands is given first.
+    ///
+    /// `Closed`: one of the two sides has closed and no answer stands; an outstanding command is then
+    /// given up, and was not executed. After one `Closed` every later call gives `Closed`.
+    pub fn collect(&mut self, link: &Link<C>) -> Collected
+        requires { IsOfLink (C.name link.now.a2p) (C.name link.now.p2a) self.old }
+        ensures same { self.new ≡ record self.old { caller = self.new.caller } }
+        ensures collects { Collects self.old.caller result self.new.caller }
+        ensures shut { is_shut self.old.caller ≡ true → ¬ (IsOutstanding self.old.caller) → result ≡ Collected.Closed }
+    {
+        link.a2p.collect(&mut self.caller)
+    }
+
+    /// Takes the platform's message off P2A, if one is posted, and releases it at once. `None` where
+    /// none is posted, or one of the two sides has closed.
+    pub fn next_p2a(&mut self, link: &Link<C>) -> Option<Frame>
+        requires { IsOfLink (C.name link.now.a2p) (C.name link.now.p2a) self.old }
+        ensures same { self.new ≡ record self.old { callee = self.new.callee } }
+        ensures receives { Receives self.old.callee result self.new.callee }
+    {
+        let frame = link.p2a.take(&mut self.callee)?;
+        link.p2a.answer(&mut self.callee, &Answer::Released);
+        Some(frame)
+    }
+
+    /// Closes A2P, and then P2A.
+    ///
+    /// `Withdrawn` where the outstanding command was not executed and never will be; `Idle` where none
+    /// was outstanding. `InService` and `ReplyWaiting` come only where a command is outstanding: it was
+    /// taken or cannot be taken back, or its answer stands. After an error neither is closed.
+    pub fn close(&mut self, link: &Link<C>) -> Result<Closing, CloseError>
+        requires { IsOfLink (C.name link.now.a2p) (C.name link.now.p2a) self.old }
+        ensures idle { result ≡ Ok Closing.Idle → ¬ (IsOutstanding self.old.caller) × (self.new ≡ record self.old { caller = record (self.old.caller) { closed = true }; callee = record (self.old.callee) { closed = true } }) }
+        ensures withdrawn { result ≡ Ok Closing.Withdrawn → IsOutstanding self.old.caller × (self.new ≡ record self.old { caller = record (self.old.caller) { closed = true; left = true }; callee = record (self.old.callee) { closed = true } }) }
+        ensures err { OnErr result (IsOutstanding self.old.caller × (self.new ≡ self.old)) }
+    {
+        let closing = link.a2p.close_caller(&mut self.caller)?;
+        let Ok(()) = link.p2a.close_callee(&mut self.callee) else {
+            unreachable!()
+        };
+        Ok(closing)
+    }
+}

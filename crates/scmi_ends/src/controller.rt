@@ -1,0 +1,155 @@
+//! The platform's side of all agents' channels.
+ghost use Rattle.std.specs.Prelude.{◌≡◌, ◌≢◌, ◌<◌, ◌++◌, ◌∷◌, ◌↔◌, ◌⊎◌, [], length, map, IfOk, OnErr, IfErr, IsTrue};
+ghost use Rattle.scmi_core.specs.History.{deeds};
+ghost use Rattle.scmi_core.specs.Pending.{pending};
+ghost use Rattle.scmi_core.specs.declared.event.Event.TheVariants as event;
+
+use crate::flushed::Flushed;
+use crate::link::Link;
+use crate::one_agent::{flush_one, serve_one, shut_one};
+use crate::serve_error::ServeError;
+use crate::served::Served;
+use crate::shut_error::ShutError;
+use scmi_core::Core;
+use scmi_link::Channel;
+use std::marker::Model;
+
+/// The platform: its core, and its ends of each agent's two channels.
+///
+/// Condition of each call that is given links: they are the whole list of `connect`, in order. Agents
+/// are numbered from 1. Between any two calls the commands taken off each agent's A2P channel are those
+/// of the history, each answered as the history says, and the messages posted on its P2A channel are
+/// those delivered to it. No call waits, and `close` takes no memory.
+#[derive(Drop)]
+pub struct Controller<C: Channel> {
+    pub(crate) core: Core,
+    pub(crate) callees: Vec<C::Callee>,
+    pub(crate) callers: Vec<C::Caller>,
+}
+
+impl<C: Channel> Model for Controller<C> {
+    ghost use Rattle.std.specs.Prelude.{map};
+    ghost use Rattle.scmi_ends.specs.ControllerView.{ControllerView};
+    ghost use Rattle.scmi_ends.specs.Kept.{Keeps};
+
+    ghost Value = { ControllerView };
+
+    ghost view = { λ platform. record { board = platform.core.board; history = platform.core.history; callees = map C.callee_view platform.callees.items; callers = map C.caller_view platform.callers.items; a2p_names = map C.callee_name platform.callees.items; p2a_names = map C.caller_name platform.callers.items } };
+
+    ghost invariant = { λ platform. Keeps platform.core.board platform.core.history (map C.callee_view platform.callees.items) (map C.caller_view platform.callers.items) };
+}
+
+impl<C: Channel> Controller<C> {
+    ghost use Rattle.scmi_ends.specs.ControllerView.{IsOfLinks};
+    ghost use Rattle.scmi_ends.specs.Kept.{IsKept};
+    ghost use Rattle.scmi_ends.specs.Serve.{Serves};
+    ghost use Rattle.scmi_ends.specs.Flush.{Flushes};
+    ghost use Rattle.scmi_ends.specs.Shut.{Shuts};
+
+    /// Makes room in the trace, takes one frame off an agent's A2P channel, executes it and answers it.
+    ///
+    /// `Done` adds the command to the history. `Nothing` where the take gave none, and then the history
+    /// stays. `NoAgent`, looked at first, where the board lacks the agent; `Memory` where the trace
+    /// could not grow. After either nothing was taken, and nothing changed.
+    pub fn serve(&mut self, links: &[Link<C>], agent: u32) -> Result<Served, ServeError>
+        requires { IsOfLinks (map (λ link. C.name link.a2p) links.now) (map (λ link. C.name link.p2a) links.now) self.old }
+        ensures links { IsOfLinks (map (λ link. C.name link.a2p) links.now) (map (λ link. C.name link.p2a) links.now) self.new }
+        ensures kept { IsKept self.new }
+        ensures board { self.new.board ≡ self.old.board }
+        ensures steps { IfOk result (λ served. Serves agent self.old served self.new) }
+        ensures no_agent { (result ≡ Err ServeError.NoAgent) ↔ ((agent ≡ 0) ⊎ (length self.old.board.agents < agent)) }
+        ensures err { OnErr result (self.new ≡ self.old) }
+    {
+        if agent == 0 || agent > self.core.agents() {
+            return Err(ServeError::NoAgent);
+        }
+        let Ok(()) = self.core.reserve() else {
+            return Err(ServeError::Memory);
+        };
+        let index = agent as usize - 1;
+        Ok(serve_one(
+            &mut self.core,
+            &links[index].a2p,
+            &mut self.callees[index],
+            agent,
+        ))
+    }
+
+    /// Completes the first pending set and adds that to the history (own); `Ok(false)` where nothing is
+    /// pending. `Memory` where the trace could not grow is the only refusal. After it, and after
+    /// `Ok(false)`, nothing changed.
+    pub fn advance(&mut self) -> Result<bool, ServeError>
+        ensures kept { IsKept self.new }
+        ensures board { self.new.board ≡ self.old.board }
+        ensures pending { IfOk result (λ did. IsTrue did ↔ (0 < length (pending self.old.board (deeds self.old.board self.old.history)))) }
+        ensures event { IfOk result (λ did. IsTrue did → self.new ≡ record self.old { history = self.old.history ++ event.Advance ∷ [] }) }
+        ensures same { IfOk result (λ did. ¬ (IsTrue did) → self.new ≡ self.old) }
+        ensures err { OnErr result (self.new ≡ self.old) }
+        ensures memory { IfErr result (λ error. error ≡ ServeError.Memory) }
+    {
+        let Ok(()) = self.core.reserve() else {
+            return Err(ServeError::Memory);
+        };
+        match self.core.advance() {
+            Ok(did) => Ok(did),
+            Err(_) => Err(ServeError::Memory),
+        }
+    }
+
+    /// Makes room in the trace, collects a release on an agent's P2A channel, and then posts the first
+    /// message of its outbox, which adds the posting to the history.
+    ///
+    /// The first that applies: `Waiting` where the message before is still outstanding; `Nothing` where
+    /// the outbox is empty; `Closed` where the channel is; `Waiting` where it has no place. `NoAgent`,
+    /// looked at first, where the board lacks the agent; `Memory` where the trace could not grow. After
+    /// either nothing was collected or posted, and nothing changed.
+    pub fn flush(&mut self, links: &[Link<C>], agent: u32) -> Result<Flushed, ServeError>
+        requires { IsOfLinks (map (λ link. C.name link.a2p) links.now) (map (λ link. C.name link.p2a) links.now) self.old }
+        ensures links { IsOfLinks (map (λ link. C.name link.a2p) links.now) (map (λ link. C.name link.p2a) links.now) self.new }
+        ensures kept { IsKept self.new }
+        ensures board { self.new.board ≡ self.old.board }
+        ensures steps { IfOk result (λ flushed. Flushes C.FULL agent self.old flushed self.new) }
+        ensures no_agent { (result ≡ Err ServeError.NoAgent) ↔ ((agent ≡ 0) ⊎ (length self.old.board.agents < agent)) }
+        ensures err { OnErr result (self.new ≡ self.old) }
+    {
+        if agent == 0 || agent > self.core.agents() {
+            return Err(ServeError::NoAgent);
+        }
+        let Ok(()) = self.core.reserve() else {
+            return Err(ServeError::Memory);
+        };
+        let index = agent as usize - 1;
+        Ok(flush_one(
+            &mut self.core,
+            &links[index].p2a,
+            &mut self.callers[index],
+            agent,
+        ))
+    }
+
+    /// Closes an agent's A2P channel, so that no further command of it is executed, collects once on
+    /// its P2A channel, and closes that.
+    ///
+    /// `NoAgent`, looked at first, where the board lacks the agent; then nothing changed. `InService`
+    /// and `ReplyWaiting` come only where a message is outstanding on P2A: A2P is closed then, P2A is
+    /// not, and the call may be repeated.
+    pub fn close(&mut self, links: &[Link<C>], agent: u32) -> Result<(), ShutError>
+        requires { IsOfLinks (map (λ link. C.name link.a2p) links.now) (map (λ link. C.name link.p2a) links.now) self.old }
+        ensures links { IsOfLinks (map (λ link. C.name link.a2p) links.now) (map (λ link. C.name link.p2a) links.now) self.new }
+        ensures kept { IsKept self.new }
+        ensures board { self.new.board ≡ self.old.board }
+        ensures shuts { result ≢ Err ShutError.NoAgent → Shuts agent self.old result self.new }
+        ensures no_agent { (result ≡ Err ShutError.NoAgent) ↔ ((agent ≡ 0) ⊎ (length self.old.board.agents < agent)) }
+        ensures unchanged { result ≡ Err ShutError.NoAgent → self.new ≡ self.old }
+    {
+        if agent == 0 || agent > self.core.agents() {
+            return Err(ShutError::NoAgent);
+        }
+        let index = agent as usize - 1;
+        shut_one(
+            &links[index],
+            &mut self.callees[index],
+            &mut self.callers[index],
+        )
+    }
+}

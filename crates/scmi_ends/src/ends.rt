@@ -1,0 +1,78 @@
+//! How the two sides of a platform are made.
+ghost use Rattle.std.specs.Prelude.{◌≡◌, [], length, map, replicate, vec_len, IfOk, IfErr};
+ghost use Rattle.scmi_link.specs.View.{new_caller, new_callee};
+ghost use Rattle.scmi_ends.specs.Each.{AllFrom};
+ghost use Rattle.scmi_ends.specs.AgentView.{IsOfLink, IsNewAgent};
+ghost use Rattle.scmi_ends.specs.ControllerView.{IsOfLinks};
+ghost use Rattle.scmi_ends.specs.Kept.{IsKept};
+
+use crate::agent_end::AgentEnd;
+use crate::controller::Controller;
+use crate::link::Link;
+use scmi_core::Core;
+use scmi_link::{Channel, LinkError};
+use std::alloc::Global;
+
+/// Makes two channels for each agent of the board, and gives out their ends. Item i of the links and
+/// of the agents' ends is agent i + 1's.
+///
+/// Condition: nothing is in the core's history. The error hands the core back for want of memory.
+pub fn connect<C: Channel>(
+    alloc: Global,
+    core: Core,
+) -> Result<(Controller<C>, Vec<Link<C>>, Vec<AgentEnd<C>>), Core>
+    requires { core.history ≡ [] }
+    ensures count { IfOk result (λ r. (vec_len r.1 ≡ length core.board.agents) × (vec_len r.2 ≡ length core.board.agents)) }
+    ensures controller { IfOk result (λ r. (r.0.board ≡ core.board) × (r.0.history ≡ []) × (r.0.callees ≡ replicate (length core.board.agents) new_callee) × (r.0.callers ≡ replicate (length core.board.agents) new_caller)) }
+    ensures kept { IfOk result (λ r. IsKept r.0) }
+    ensures links { IfOk result (λ r. IsOfLinks (map (λ link. C.name link.a2p) r.1.items) (map (λ link. C.name link.p2a) r.1.items) r.0) }
+    ensures ends { IfOk result (λ r. (map (λ agent. agent.a2p_name) r.2.items ≡ map (λ link. C.name link.a2p) r.1.items) × (map (λ agent. agent.p2a_name) r.2.items ≡ map (λ link. C.name link.p2a) r.1.items)) }
+    ensures agents { IfOk result (λ r. AllFrom IsNewAgent 1 r.2.items) }
+    ensures memory { IfErr result (λ c. c ≡ core) }
+{
+    let mut links = Vec::new(alloc);
+    let mut callees = Vec::new(alloc);
+    let mut callers = Vec::new(alloc);
+    let mut agents = Vec::new(alloc);
+    for index in 0..core.agents() {
+        let Ok((link, agent, callee, caller)) = make_one(alloc, index + 1) else {
+            return Err(core);
+        };
+        let Ok(()) = links.push(link) else {
+            return Err(core);
+        };
+        let Ok(()) = callees.push(callee) else {
+            return Err(core);
+        };
+        let Ok(()) = callers.push(caller) else {
+            return Err(core);
+        };
+        let Ok(()) = agents.push(agent) else {
+            return Err(core);
+        };
+    }
+    Ok((
+        Controller {
+            core,
+            callees,
+            callers,
+        },
+        links,
+        agents,
+    ))
+}
+
+// The channels of one agent: its link, its own ends, and the platform's ends of A2P and P2A.
+fn make_one<C: Channel>(
+    alloc: Global,
+    id: u32,
+) -> Result<(Link<C>, AgentEnd<C>, C::Callee, C::Caller), LinkError>
+    ensures platform { IfOk result (λ r. (C.callee_name r.2 ≡ C.name r.0.a2p) × (C.caller_name r.3 ≡ C.name r.0.p2a)) }
+    ensures agent { IfOk result (λ r. IsOfLink (C.name r.0.a2p) (C.name r.0.p2a) r.1) }
+    ensures new { IfOk result (λ r. IsNewAgent id r.1 × (C.callee_view r.2 ≡ new_callee) × (C.caller_view r.3 ≡ new_caller)) }
+{
+    let (a2p, caller, callee) = C::make(alloc)?;
+    let (p2a, sender, receiver) = C::make(alloc)?;
+    let agent = AgentEnd::new(caller, receiver, id);
+    Ok((Link { a2p, p2a }, agent, callee, sender))
+}

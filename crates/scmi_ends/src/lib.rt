@@ -1,0 +1,31 @@
+//! Both sides of SCMI (DEN0056B, version 2.0) over any kind of channel: the agents' ends, and the
+//! platform's controller.
+//!
+//! The main types are `AgentEnd` and `Controller`. The main theorem is the contract of `retire`: once
+//! all ends are gathered, the commands executed for each agent are those that it posted, in order, each
+//! once, at most the last left out, and each reply that it read is the answer at that command's place in
+//! one legal history.
+#![tactic(auto)]
+
+mod agent_end;
+mod controller;
+mod ends;
+mod flushed;
+mod link;
+mod one_agent;
+mod retire;
+mod serve_error;
+mod served;
+mod shut_error;
+#[cfg(test)]
+mod tests;
+mod wait_reply;
+
+pub use agent_end::AgentEnd;
+pub use controller::Controller;
+pub use ends::connect;
+pub use flushed::Flushed;
+pub use link::Link;
+pub use serve_error::ServeError;
+pub use served::Served;
+pub use shut_error::ShutError;

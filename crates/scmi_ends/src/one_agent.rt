@@ -1,0 +1,104 @@
+//! The platform's calls at the ends of one agent's channels.
+ghost use Rattle.std.specs.Prelude.{◌≡◌, ◌<◌, true};
+ghost use Rattle.scmi_link.specs.View.{Owes};
+ghost use Rattle.scmi_core.specs.Agents.{IsAgent};
+ghost use Rattle.scmi_core.specs.Legal.{IsLegal};
+ghost use Rattle.scmi_ends.specs.Serve.{ServesOne};
+ghost use Rattle.scmi_ends.specs.Flush.{CollectsAndFlushes};
+ghost use Rattle.scmi_ends.specs.Shut.{CollectsAndShuts};
+
+use crate::flushed::Flushed;
+use crate::link::Link;
+use crate::served::Served;
+use crate::shut_error::ShutError;
+use scmi_core::Core;
+use scmi_link::{Channel, CloseError, PostError};
+
+// Takes a command off A2P, executes it and answers it. The trace has room for it.
+pub(crate) fn serve_one<C: Channel>(
+    core: &mut Core,
+    a2p: &C,
+    callee: &mut C::Callee,
+    agent: u32,
+) -> Served
+    requires name { C.callee_name callee.old ≡ C.name a2p.now }
+    requires room { 0 < core.old.room }
+    requires agent { IsAgent agent core.old.board }
+    requires legal { IsLegal core.old.board core.old.history }
+    ensures name { C.callee_name callee.new ≡ C.callee_name callee.old }
+    ensures board { core.new.board ≡ core.old.board }
+    ensures legal { IsLegal core.new.board core.new.history }
+    ensures step { ServesOne core.old.board agent core.old.history (C.callee_view callee.old) result core.new.history (C.callee_view callee.new) }
+{
+    let Some(frame) = a2p.take(callee) else {
+        return Served::Nothing;
+    };
+    let Ok(answer) = core.command(agent, &frame) else {
+        unreachable!()
+    };
+    a2p.answer(callee, &answer);
+    Served::Done
+}
+
+// Collects on P2A, and then posts the first message of the agent's outbox. The trace has room for it.
+#[tactic(auto, using(crate::proofs::Places::nothing_first))]
+pub(crate) fn flush_one<C: Channel>(
+    core: &mut Core,
+    p2a: &C,
+    caller: &mut C::Caller,
+    agent: u32,
+) -> Flushed
+    requires name { C.caller_name caller.old ≡ C.name p2a.now }
+    requires room { 0 < core.old.room }
+    requires agent { IsAgent agent core.old.board }
+    requires legal { IsLegal core.old.board core.old.history }
+    ensures name { C.caller_name caller.new ≡ C.caller_name caller.old }
+    ensures board { core.new.board ≡ core.old.board }
+    ensures legal { IsLegal core.new.board core.new.history }
+    ensures step { CollectsAndFlushes C.FULL core.old.board agent core.old.history (C.caller_view caller.old) result core.new.history (C.caller_view caller.new) }
+{
+    let _ = p2a.collect(caller);
+    if C::outstanding(caller) {
+        return Flushed::Waiting;
+    }
+    let Ok(front) = core.front(agent) else {
+        unreachable!()
+    };
+    let Some(message) = front else {
+        return Flushed::Nothing;
+    };
+    match p2a.post(caller, &message) {
+        Ok(()) => match core.sent(agent) {
+            Ok(()) => Flushed::Posted,
+            Err(_) => unreachable!(),
+        },
+        Err(PostError::Closed) => Flushed::Closed,
+        Err(PostError::Full) => Flushed::Waiting,
+        Err(PostError::Outstanding | PostError::WellFormed) => unreachable!(),
+    }
+}
+
+// Closes A2P, where no answer is owed, collects on P2A, and closes that.
+pub(crate) fn shut_one<C: Channel>(
+    link: &Link<C>,
+    callee: &mut C::Callee,
+    caller: &mut C::Caller,
+) -> Result<(), ShutError>
+    requires a2p { C.callee_name callee.old ≡ C.name link.now.a2p }
+    requires p2a { C.caller_name caller.old ≡ C.name link.now.p2a }
+    requires owes { ¬ (Owes (C.callee_view callee.old)) }
+    ensures a2p { C.callee_name callee.new ≡ C.callee_name callee.old }
+    ensures p2a { C.caller_name caller.new ≡ C.caller_name caller.old }
+    ensures closes { C.callee_view callee.new ≡ record (C.callee_view callee.old) { closed = true } }
+    ensures step { CollectsAndShuts (C.caller_view caller.old) result (C.caller_view caller.new) }
+{
+    let Ok(()) = link.a2p.close_callee(callee) else {
+        unreachable!()
+    };
+    let _ = link.p2a.collect(caller);
+    match link.p2a.close_caller(caller) {
+        Ok(_) => Ok(()),
+        Err(CloseError::InService) => Err(ShutError::InService),
+        Err(CloseError::ReplyWaiting) => Err(ShutError::ReplyWaiting),
+    }
+}

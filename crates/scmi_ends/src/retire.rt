@@ -1,0 +1,73 @@
+//! How the ends of all channels are gathered.
+ghost use Rattle.std.specs.Prelude.{◌≡◌, map};
+ghost use Rattle.std.specs.List.{AllZip};
+ghost use Rattle.scmi_core.specs.Legal.{IsLegal};
+ghost use Rattle.scmi_ends.specs.AgentView.{IsOfLink};
+ghost use Rattle.scmi_ends.specs.ControllerView.{IsOfLinks};
+ghost use Rattle.scmi_ends.specs.Headline.{Headlines, AllGathered};
+
+use crate::agent_end::AgentEnd;
+use crate::controller::Controller;
+use crate::link::Link;
+use scmi_core::{Core, Trace};
+use scmi_link::Channel;
+
+impl<C: Channel> Controller<C> {
+    /// Gathers all channels, and gives the one history of the platform. It takes no memory.
+    ///
+    /// Condition: the links and the agents' ends are the whole lists of `connect`, in order. The history
+    /// is legal. The commands that it has of each agent are those the agent posted, in order, each once,
+    /// at most the last left out; each reply that the agent read is the answer at its command's place; a
+    /// command that was withdrawn or given up was not executed; and the messages that the agent took are
+    /// those delivered to it, at most the last left out.
+    pub fn retire(self, links: Vec<Link<C>>, agents: Vec<AgentEnd<C>>) -> Trace
+        requires links { IsOfLinks (map (λ link. C.name link.a2p) links.items) (map (λ link. C.name link.p2a) links.items) self }
+        requires a2p { map (λ agent. agent.a2p_name) agents.items ≡ map (λ link. C.name link.a2p) links.items }
+        requires p2a { map (λ agent. agent.p2a_name) agents.items ≡ map (λ link. C.name link.p2a) links.items }
+        ensures history { result.events ≡ self.history }
+        ensures legal { IsLegal self.board result.events }
+        ensures headline { Headlines self.board result.events 1 agents.items self.callees self.callers }
+    {
+        self.gather_ends(links, agents).into_trace()
+    }
+
+    // Gathers all channels, which leaves the core.
+    fn gather_ends(self, links: Vec<Link<C>>, agents: Vec<AgentEnd<C>>) -> Core
+        requires links { IsOfLinks (map (λ link. C.name link.a2p) links.items) (map (λ link. C.name link.p2a) links.items) self }
+        requires a2p { map (λ agent. agent.a2p_name) agents.items ≡ map (λ link. C.name link.a2p) links.items }
+        requires p2a { map (λ agent. agent.p2a_name) agents.items ≡ map (λ link. C.name link.p2a) links.items }
+        ensures board { result.board ≡ self.board }
+        ensures history { result.history ≡ self.history }
+        ensures headline { Headlines self.board self.history 1 agents.items self.callees self.callers }
+    {
+        let Controller {
+            core,
+            callees,
+            callers,
+        } = self;
+        gather_all(links, agents, callees, callers);
+        core
+    }
+}
+
+// Gathers each channel with its two ends.
+fn gather_all<C: Channel>(
+    mut links: Vec<Link<C>>,
+    mut agents: Vec<AgentEnd<C>>,
+    mut callees: Vec<C::Callee>,
+    mut callers: Vec<C::Caller>,
+)
+    requires agents { AllZip (λ link agent. IsOfLink (C.name link.a2p) (C.name link.p2a) agent) links.items agents.items }
+    requires callees { AllZip (λ link callee. C.callee_name callee ≡ C.name link.a2p) links.items callees.items }
+    requires callers { AllZip (λ link caller. C.caller_name caller ≡ C.name link.p2a) links.items callers.items }
+    ensures { AllGathered agents.items (map C.callee_view callees.items) (map C.caller_view callers.items) }
+{
+    'ends: while !links.is_empty() {
+        let Link { a2p, p2a } = links.remove(0);
+        let (caller, receiver) = agents.remove(0).into_ends();
+        let callee = callees.remove(0);
+        let sender = callers.remove(0);
+        let _rest = a2p.gather(caller, callee);
+        let _rest = p2a.gather(sender, receiver);
+    }
+}
