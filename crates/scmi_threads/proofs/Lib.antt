@@ -1,0 +1,10 @@
+pub mod TokenLemmas
+pub mod LineLemmas
+pub mod ClosesLemmas
+pub mod SeatLemmas
+pub mod EachLemmas
+pub mod Moves
+pub mod LogLemmas
+pub mod Ready
+pub mod Opened
+pub mod TwoScripts

@@ -1,0 +1,10 @@
+use Rattle.std.proofs.Common.{◌<◌, vec_len, vec_capacity}
+use Rattle.scmi_threads.specs.Seats.{HasRun}
+use Rattle.scmi_threads.proofs.seat.Seat.take_message.Given as goal
+
+abbrev pub invariant-turns : goal.invariant-turns
+invariant-turns g l = record {
+  ran : HasRun l.fn.self l.self;
+  p2a : vec_len l.self.log.p2a < vec_capacity l.self.log.p2a;
+  room : vec_len l.self.log.lines < vec_capacity l.self.log.lines;
+}

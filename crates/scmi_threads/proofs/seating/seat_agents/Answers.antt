@@ -1,0 +1,32 @@
+use Rattle.std.proofs.Common.{◌≡◌, ◌+◌, arith, map, ap, sym, ◌∙◌, refl, rules, drop, subst}
+use Rattle.scmi_threads.specs.Seats.{IsReady}
+use Rattle.scmi_threads.proofs.Ready.{all_ready, seat_step, some_left, seated, all_seated}
+use Rattle.scmi_threads.proofs.seating.seat_agents.Goals as goal
+
+pub links-init : goal.links-init
+links-init g c = record {
+  a2p = ap (map (λ s. s.end.a2p_name)) c.new-seats.ensures.items;
+  p2a = ap (map (λ s. s.end.p2a_name)) c.new-seats.ensures.items;
+  left = all_ready (λ k. g.C.Channel.name k.a2p) (λ k. g.C.Channel.name k.p2a) 1 c.args.links.now c.args.ends.items c.requires.a2p c.requires.p2a c.requires.fresh;
+}
+
+pub remove-end-requires : goal.remove-end-requires
+remove-end-requires g c = omega (arith, some_left (λ k e. IsReady (g.C.Channel.name k.a2p) (g.C.Channel.name k.p2a) e) c.args.links.now c.links.i c.links.ends.items c.links-test.true c.links.invariant.left, c.links.ends.ok.0)
+
+pub new-seat-requires-clause-ready : goal.new-seat-requires-clause-ready
+new-seat-requires-clause-ready g c κs within = (subst (λ k. IsReady (g.C.Channel.name k.a2p) (g.C.Channel.name k.p2a) c.remove-end.result) (sym c.index-links-i.is) (seat_step (λ k e. IsReady (g.C.Channel.name k.a2p) (g.C.Channel.name k.p2a) e) c.args.links.now c.links.i c.index-links-i.result c.links.ends.items c.remove-end.new.self.items c.remove-end.result c.links-test.true c.links.invariant.left c.remove-end.ensures.value c.remove-end.ensures.items).0)
+
+pub links-preserved : goal.links-preserved
+links-preserved g c =
+    let both = seat_step (λ k e. IsReady (g.C.Channel.name k.a2p) (g.C.Channel.name k.p2a) e) c.args.links.now c.links.i c.index-links-i.result c.links.ends.items c.remove-end.new.self.items c.remove-end.result c.links-test.true c.links.invariant.left c.remove-end.ensures.value c.remove-end.ensures.items in
+    record {
+      a2p = seated (λ s. s.end.a2p_name) (λ k. g.C.Channel.name k.a2p) c.links.seats.items c.push.new.self.items c.args.links.now c.links.i c.new-seat.result c.index-links-i.result c.links-test.true c.links.invariant.a2p c.in_ok-push.ensures.items (ap (λ e. e.a2p_name) c.new-seat.ensures ∙ both.0.fits.of_a2p);
+      p2a = seated (λ s. s.end.p2a_name) (λ k. g.C.Channel.name k.p2a) c.links.seats.items c.push.new.self.items c.args.links.now c.links.i c.new-seat.result c.index-links-i.result c.links-test.true c.links.invariant.p2a c.in_ok-push.ensures.items (ap (λ e. e.p2a_name) c.new-seat.ensures ∙ both.0.fits.of_p2a);
+      left = both.1;
+    }
+
+pub returns-clause-a2p : goal.returns-clause-a2p
+returns-clause-a2p g c = all_seated (λ s. s.end.a2p_name) (λ k. g.C.Channel.name k.a2p) c.links.seats.items c.args.links.now c.links.i (omega (arith, c.links-test.false)) c.links.invariant.a2p
+
+pub returns-clause-p2a : goal.returns-clause-p2a
+returns-clause-p2a g c = all_seated (λ s. s.end.p2a_name) (λ k. g.C.Channel.name k.p2a) c.links.seats.items c.args.links.now c.links.i (omega (arith, c.links-test.false)) c.links.invariant.p2a

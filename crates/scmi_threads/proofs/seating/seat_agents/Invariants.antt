@@ -1,0 +1,11 @@
+use Rattle.std.proofs.Common.{◌≡◌, map, take, drop}
+use Rattle.std.specs.List.{AllZip}
+use Rattle.scmi_threads.specs.Seats.{IsReady}
+use Rattle.scmi_threads.proofs.seating.seat_agents.Given as goal
+
+abbrev pub invariant-links : goal.invariant-links
+invariant-links g l = record {
+  a2p : map (λ s. s.end.a2p_name) l.seats.items ≡ map (λ k. g.C.Channel.name k.a2p) (take l.i l.links);
+  p2a : map (λ s. s.end.p2a_name) l.seats.items ≡ map (λ k. g.C.Channel.name k.p2a) (take l.i l.links);
+  left : AllZip (λ k e. IsReady (g.C.Channel.name k.a2p) (g.C.Channel.name k.p2a) e) (drop l.i l.links) l.ends.items;
+}

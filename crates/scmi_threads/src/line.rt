@@ -1,0 +1,28 @@
+//! What came of an order.
+use scmi_codec::{Frame, Payload};
+use scmi_link::{CloseError, Closing, PostError};
+
+/// One line of what an agent's script did.
+#[derive(PartialEq, Eq, Debug, Drop)]
+pub enum Line {
+    /// A call's reply, by its payload.
+    Got(Payload),
+    /// A call was answered with a channel error.
+    Error,
+    /// A call found the channel closed; its command was not executed.
+    Closed,
+    /// A call was not posted.
+    NotPosted(PostError),
+    /// The turns of a wait ran out, and the script ended.
+    Limit,
+    /// The domain has the state that was waited for.
+    UntilOk,
+    /// The domain did not come to the state within the limits, and the script ended.
+    UntilLimit,
+    /// A P2A message.
+    P2a(Frame),
+    /// The agent's end is closed.
+    Close(Closing),
+    /// The agent's end was not closed.
+    NotClosed(CloseError),
+}

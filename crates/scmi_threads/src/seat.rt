@@ -1,0 +1,80 @@
+//! An agent at its script.
+ghost use Rattle.std.specs.Prelude.{◌≡◌, ◌%◌, length};
+ghost use Rattle.scmi_link.specs.View.{new_caller, new_callee};
+ghost use Rattle.scmi_threads.specs.Closes.{IsClosedAs, IsClosedAs-prop};
+
+use crate::agent_log::AgentLog;
+use crate::gate::Gate;
+use crate::order::Order;
+use crate::stop::Stop;
+use scmi_ends::{AgentEnd, Link};
+use scmi_link::Channel;
+use std::alloc::Global;
+use std::sync::Wait;
+
+/// An agent's end, beside its link and its script, and a log that says what was done at the end.
+#[derive(Drop)]
+pub struct Seat<'a, C: Channel> {
+    pub link: &'a Link<C>,
+    pub script: &'a [Order],
+    pub end: AgentEnd<C>,
+    pub log: AgentLog,
+    ghost of_a2p: { end.a2p_name ≡ C.name link.now.a2p },
+    ghost of_p2a: { end.p2a_name ≡ C.name link.now.p2a },
+    ghost posted_is: { log.posted.items ≡ end.caller.posted },
+    ghost read_is: { log.read.items ≡ end.caller.read },
+    ghost p2a_is: { log.p2a.items ≡ end.callee.taken },
+    ghost token_is: { end.token ≡ length log.posted.items % 1024 },
+    ghost closing_is: { IsClosedAs log.closing end.caller } by { IsClosedAs-prop log.closing end.caller },
+}
+
+impl<'a, C: Channel> Seat<'a, C> {
+    ghost use Rattle.scmi_ends.specs.AgentView.{IsOfLink};
+    ghost use Rattle.scmi_threads.specs.Seats.{HasRun, IsReady};
+
+    /// A seat of an agent that has done nothing, with an empty log.
+    pub(crate) fn new(
+        alloc: Global,
+        link: &'a Link<C>,
+        script: &'a [Order],
+        end: AgentEnd<C>,
+    ) -> Seat<'a, C>
+        requires ready { IsReady (C.name link.now.a2p) (C.name link.now.p2a) end }
+        ensures { result.end ≡ end }
+    {
+        Seat {
+            link,
+            script,
+            end,
+            log: AgentLog::new(alloc),
+        }
+    }
+
+    /// Runs the script, up to the first order that gives up.
+    pub(crate) fn run<G: Gate, R: Wait>(&mut self, rt: &R, gate: &G)
+        ensures { HasRun self.old self.new }
+    {
+        let script = self.script;
+        let mut line = 0u32;
+        'orders: for order in script {
+            line = line.saturating_add(1);
+            gate.before(rt, self.end.id(), line);
+            if let Err(stop) = self.step(rt, order) {
+                self.log.stopped = Some(stop);
+                return;
+            }
+        }
+    }
+
+    /// Carries out an order.
+    fn step<R: Wait>(&mut self, rt: &R, order: &Order) -> Result<(), Stop>
+        ensures { HasRun self.old self.new }
+    {
+        match order {
+            Order::Call(protocol, id, payload) => self.call(rt, *protocol, *id, payload),
+            Order::Until(domain, state) => self.wait_for_state(rt, *domain, *state),
+            Order::P2a(count) => self.take_messages(*count),
+            Order::Close => self.close(),
+        }
+    }
+}
