@@ -1,0 +1,4 @@
+pub mod Digits
+pub mod EightDigits
+pub mod NumberForms
+pub mod ScriptAgents

@@ -1,0 +1,95 @@
+//! The lines of an input, with their numbers.
+ghost use Rattle.std.specs.Prelude.{◌≡◌, ◌<◌, length, OnSome, IfSome, true, []};
+ghost use Rattle.scmi_text.specs.Lines.{is_significant};
+
+use std::marker::Model;
+
+/// A line that is neither empty nor begins with `#`.
+#[derive(Clone, Copy, Debug, PartialEq, Eq)]
+pub struct TextLine<'a> {
+    /// Its number in the whole input, from 1.
+    pub number: u32,
+    /// Its bytes without the line feed.
+    pub text: &'a [u8],
+}
+
+/// What is left of an input behind its first line, which is the mode. A contract sees the bytes that
+/// are left and the number of the line that was read last.
+#[derive(Drop)]
+pub struct Lines<'a> {
+    rest: &'a [u8],
+    // The number of the line that was read last, whatever it was.
+    number: u32,
+}
+
+impl<'a> Model for Lines<'a> {
+    ghost use Rattle.scmi_text.specs.Lines.{LinesView};
+
+    ghost Value = { LinesView };
+
+    ghost view = { λ lines. record { rest = lines.rest.now; number = lines.number } };
+}
+
+impl<'a> Lines<'a> {
+    /// The lines of the input behind the first line. They are numbered from 2.
+    pub fn new(input: &'a [u8]) -> Lines<'a>
+        ensures rest { result.rest ≡ input.now }
+        ensures number { result.number ≡ 1 }
+    {
+        Lines {
+            rest: input,
+            number: 1,
+        }
+    }
+
+    /// The number of the line that was read last, be it skipped or not; once no line is left, of the
+    /// last line of the input, and 1 where there is none behind the first.
+    pub fn last_number(&self) -> u32
+        ensures { result ≡ self.now.number }
+    {
+        self.number
+    }
+
+    /// The next line that is neither empty nor begins with `#` (own). The other lines are counted.
+    pub fn next_line(&mut self) -> Option<TextLine<'a>>
+        ensures smaller { OnSome result (length self.new.rest < length self.old.rest) }
+        ensures number { IfSome result (λ line. line.number ≡ self.new.number) }
+        ensures counts { IfSome result (λ line. is_significant line.text.now ≡ true) }
+    {
+        while let Some(text) = self.cut() {
+            if is_significant(text) {
+                return Some(TextLine {
+                    number: self.number,
+                    text,
+                });
+            }
+        }
+        None
+    }
+
+    /// The next line of any kind.
+    fn cut(&mut self) -> Option<&'a [u8]>
+        ensures smaller { OnSome result (length self.new.rest < length self.old.rest) }
+    {
+        if self.rest.is_empty() {
+            return None;
+        }
+        let rest = self.rest;
+        self.number = self.number.saturating_add(1);
+        let end = rest.iter().position(|byte| *byte == b'\n');
+        let end = end.unwrap_or(rest.len());
+        let (text, behind) = rest.split_at(end);
+        self.rest = match behind {
+            [_, behind @ ..] => behind,
+            [] => behind,
+        };
+        Some(text)
+    }
+}
+
+/// Whether a line counts: it is neither empty nor begins with `#` (own).
+fn is_significant(text: &[u8]) -> bool
+    ensures { result ≡ is_significant text.now }
+{
+    !text.is_empty() && text[0] != b'#'
+}

@@ -1,0 +1,9 @@
+mod boards;
+mod clocks;
+mod hostile;
+mod lines;
+mod numbers;
+mod script_lines;
+mod scripts;
+mod step_lines;
+mod steps;
