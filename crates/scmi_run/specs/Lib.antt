@@ -3,3 +3,4 @@ pub mod Input
 pub mod Lines
 pub mod Mode
 pub mod Once
+pub mod Session

@@ -3,11 +3,17 @@ ghost use Rattle.std.specs.Prelude.{◌≡◌, ◌≢◌, IfSome, IfNone};
 ghost use Rattle.scmi_run.specs.Mode.{text_of};
 ghost use Rattle.scmi_run.specs.declared.mode.Mode.{Mode};
 
+use crate::kind::Kind;
+
 /// What a run does with its input.
 #[derive(Clone, Copy, Debug, PartialEq, Eq)]
 pub enum Mode {
     /// One area in, one area out.
     Once,
+    /// A board and a script, all on one thread.
+    Steps(Kind),
+    /// A board and a script for each agent, each in a thread of its own.
+    Threads(Kind),
 }
 
 impl Mode {
@@ -18,6 +24,14 @@ impl Mode {
     {
         if line == b"once".as_slice() {
             Some(Mode::Once)
+        } else if line == b"steps rings".as_slice() {
+            Some(Mode::Steps(Kind::Rings))
+        } else if line == b"steps words".as_slice() {
+            Some(Mode::Steps(Kind::Words))
+        } else if line == b"threads rings".as_slice() {
+            Some(Mode::Threads(Kind::Rings))
+        } else if line == b"threads words".as_slice() {
+            Some(Mode::Threads(Kind::Words))
         } else {
             None
         }

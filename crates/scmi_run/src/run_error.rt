@@ -1,7 +1,9 @@
 //! Why a run is refused or stops.
 ghost use Rattle.std.specs.Prelude.{◌≡◌};
-ghost use Rattle.scmi_run.specs.RunError.{status_of};
+ghost use Rattle.scmi_run.specs.RunError.{status_of, fault_of_text, fault_of_plan};
 
+use scmi_plan::PlanError;
+use scmi_text::TextError;
 use thiserror::Error;
 
 /// Why a run is refused or stops. Its text is what follows the word `fault`.
@@ -50,6 +52,29 @@ impl RunError {
             RunError::Limit => 3,
             RunError::Memory => 4,
             _ => 2,
+        }
+    }
+}
+
+impl From<TextError> for RunError {
+    ghost from_gives = { λ error fault. fault ≡ fault_of_text error };
+
+    fn from(error: TextError) -> RunError {
+        match error {
+            TextError::Board(line) => RunError::Board(line),
+            TextError::Script(line) => RunError::Script(line),
+            TextError::Memory => RunError::Memory,
+        }
+    }
+}
+
+impl From<PlanError> for RunError {
+    ghost from_gives = { λ error fault. fault ≡ fault_of_plan error };
+
+    fn from(error: PlanError) -> RunError {
+        match error {
+            PlanError::Memory => RunError::Memory,
+            rule => RunError::Plan(rule.number()),
         }
     }
 }

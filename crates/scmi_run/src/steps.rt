@@ -1,0 +1,77 @@
+//! The modes `steps rings` and `steps words`: a board and a script, all on one thread.
+ghost use Rattle.std.specs.Prelude.{◌≡◌, ◌<◌, ◌^◌, ◌⊎◌, length, IfErr};
+ghost use Rattle.std.specs.List.{All};
+ghost use Rattle.scmi_text.specs.Step.{IsStepOf};
+ghost use Rattle.scmi_run.specs.RunError.{status_of};
+
+use crate::board_agents::agents_of;
+use crate::input::Input;
+use crate::kind::Kind;
+use crate::run_error::RunError;
+use crate::session::Session;
+use scmi_link::{Channel, RingChannel};
+use scmi_plan::Plan;
+use scmi_text::{Lines, Step, StepLine, read_board, read_steps, write_step_line};
+use scmi_words::WordChannel;
+use std::alloc::Global;
+use std::io::{Read, Write};
+
+/// Reads a board and a script, makes its steps one by one, and writes the line of each, and then the
+/// length of the history. `Size`, `Read`, `Board`, `Script` and `Plan` where the input is refused; after
+/// each of these nothing is written. `Memory` where memory is refused, and `Write` where the output
+/// fails: after these the lines of the steps before are written.
+pub fn run_steps<R: Read, W: Write>(
+    alloc: Global,
+    reader: &mut R,
+    writer: &mut W,
+    kind: Kind,
+) -> Result<(), RunError>
+    ensures kept { IfErr result (λ e. status_of e ≡ 2 → writer.new ≡ writer.old) }
+{
+    let mut input = Input::new(reader);
+    step_input(alloc, &mut input, writer, kind)
+}
+
+/// The same, for what an input has left.
+pub fn step_input<R: Read, W: Write>(
+    alloc: Global,
+    input: &mut Input<'_, R>,
+    writer: &mut W,
+    kind: Kind,
+) -> Result<(), RunError>
+    requires { input.old.reads < 2 ^ 32 }
+    ensures kept { IfErr result (λ e. status_of e ≡ 2 → writer.new ≡ writer.old) }
+{
+    let bytes = input.read_rest(alloc)?;
+    let mut lines = Lines::new(&bytes);
+    let board = read_board(alloc, &mut lines)?;
+    let steps = read_steps(alloc, &mut lines, agents_of(&board)?)?;
+    let plan = Plan::check(alloc, &board)?;
+    match kind {
+        Kind::Rings => step_through::<RingChannel, W>(alloc, plan, &steps, writer),
+        Kind::Words => step_through::<WordChannel, W>(alloc, plan, &steps, writer),
+    }
+}
+
+fn step_through<C: Channel, W: Write>(
+    alloc: Global,
+    plan: Plan,
+    steps: &[Step],
+    writer: &mut W,
+) -> Result<(), RunError>
+    requires { All (IsStepOf (length plan.agents)) steps.now }
+    ensures { IfErr result (λ e. (e ≡ RunError.Memory) ⊎ (e ≡ RunError.Write)) }
+{
+    let mut session = Session::<C>::open(alloc, plan)?;
+    for step in steps {
+        write_line(writer, &session.step(step)?)?;
+    }
+    let events = session.retire().len();
+    write_line(writer, &StepLine::Trace { events })
+}
+
+fn write_line<W: Write>(writer: &mut W, line: &StepLine) -> Result<(), RunError>
+    ensures { IfErr result (λ e. e ≡ RunError.Write) }
+{
+    write_step_line(writer, line).map_err(|_| RunError::Write)
+}
