@@ -17,8 +17,6 @@ mod retire;
 mod serve_error;
 mod served;
 mod shut_error;
-#[cfg(test)]
-mod tests;
 mod wait_reply;
 
 pub use agent_end::AgentEnd;

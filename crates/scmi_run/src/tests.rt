@@ -3,6 +3,7 @@
 mod base_steps;
 mod clock_steps;
 mod close_steps;
+mod direct_calls;
 mod foreign_steps;
 mod input_limits;
 mod once;

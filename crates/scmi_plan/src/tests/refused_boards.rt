@@ -1,6 +1,6 @@
 //! Boards that break one rule, or two of which the first counts.
 
-use super::{board, list, number};
+use super::boards::{board, list, number};
 use crate::Device;
 use std::test::Fail;
 

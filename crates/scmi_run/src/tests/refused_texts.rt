@@ -11,7 +11,11 @@ use std::thread::Threads;
 fn board_with(alloc: Global, old: &str, new: &str) -> Result<String, AllocError> {
     let mut board = String::new(alloc);
     for line in BOARD.lines() {
-        board.push_str(if line == old { new } else { line })?;
+        if line == old {
+            board.push_str(new)?;
+        } else {
+            board.push_str(line)?;
+        }
         board.push('\n')?;
     }
     Ok(board)

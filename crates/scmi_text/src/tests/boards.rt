@@ -1,5 +1,5 @@
 use crate::{Lines, TextError, TextLine, read_board};
-use scmi_plan::{RateList, Rates};
+use scmi_plan::{RateList, Rates, RawPlan};
 use std::alloc::Global;
 use std::process::Abort;
 use std::test::Fail;
@@ -20,55 +20,85 @@ end
 serve 1
 ";
 
+fn is_agent(board: &RawPlan, index: usize, name: &str) -> bool {
+    match board.agents.get(index) {
+        Some(agent) => agent.as_str() == name,
+        None => false,
+    }
+}
+
+/// The switches: on, synchronous, asynchronous, notifications.
+fn is_domain(board: &RawPlan, index: usize, name: &str, switches: [bool; 4]) -> bool {
+    match board.domains.get(index) {
+        Some(domain) => {
+            let set = [
+                domain.on,
+                domain.synchronous,
+                domain.asynchronous,
+                domain.notify,
+            ];
+            domain.name.as_str() == name && set == switches
+        }
+        None => false,
+    }
+}
+
+fn is_clock(board: &RawPlan, index: usize, name: &str, start: (bool, u64), rates: &Rates) -> bool {
+    match board.clocks.get(index) {
+        Some(clock) => {
+            clock.name.as_str() == name
+                && (clock.enabled, clock.rate) == start
+                && clock.rates == *rates
+        }
+        None => false,
+    }
+}
+
+fn is_device(board: &RawPlan, index: usize, domains: u32, clocks: u32) -> bool {
+    match board.devices.get(index) {
+        Some(device) => (device.domains, device.clocks) == (domains, clocks),
+        None => false,
+    }
+}
+
+#[test]
+fn a_board_has_its_agents_and_domains(rt: HostRuntime) -> Result<(), Fail> {
+    let Ok(board) = read_board(rt.alloc(), &mut Lines::new(BOARD)) else {
+        return Err(Fail::from("the board is refused"));
+    };
+    assert_eq!(rt;
+        (board.vendor.as_str(), board.sub_vendor.as_str()),
+        ("Acme", "Lab")
+    );
+    assert_eq!(rt; (board.version, board.trusted), (0x10000, 1));
+    assert_eq!(rt; (board.agents.len(), board.domains.len()), (2, 3));
+    assert!(rt; is_agent(&board, 0, "ap") && is_agent(&board, 1, "modem"));
+    for (index, name, switches) in [
+        (0, "cpu", [false, true, true, true]),
+        (1, "gpu", [true, true, false, false]),
+        (2, "usb", [false, false, true, true]),
+    ] {
+        assert!(rt; is_domain(&board, index, name, switches), "{name}");
+    }
+    Ok(())
+}
+
 #[test]
 fn a_board_is_read_to_its_end(rt: HostRuntime) -> Result<(), Fail> {
     let mut lines = Lines::new(BOARD);
     let Ok(board) = read_board(rt.alloc(), &mut lines) else {
         return Err(Fail::from("the board is refused"));
     };
-    assert_eq!(rt; board.vendor.as_str(), "Acme");
-    assert_eq!(rt; board.sub_vendor.as_str(), "Lab");
-    assert_eq!(rt; (board.version, board.trusted), (0x10000, 1));
-    assert_eq!(rt; board.agents.len(), 2);
-    assert_eq!(rt; board.agents[0].as_str(), "ap");
-    assert_eq!(rt; board.agents[1].as_str(), "modem");
-    assert_eq!(rt; board.domains.len(), 3);
-    for (index, name, on, synchronous, asynchronous, notify) in [
-        (0, "cpu", false, true, true, true),
-        (1, "gpu", true, true, false, false),
-        (2, "usb", false, false, true, true),
-    ] {
-        let Some(domain) = board.domains.get(index) else {
-            return Err(Fail::from("a domain is missing"));
-        };
-        assert_eq!(rt; domain.name.as_str(), name);
-        assert_eq!(rt; (domain.on, domain.synchronous), (on, synchronous));
-        assert_eq!(rt;
-            (domain.asynchronous, domain.notify),
-            (asynchronous, notify)
-        );
-    }
-    assert_eq!(rt; board.clocks.len(), 2);
-    let core = &board.clocks[0];
-    assert_eq!(rt; core.name.as_str(), "core");
-    assert_eq!(rt; (core.enabled, core.rate), (true, 100));
-    let list = RateList::new(vec![in rt.alloc(); 100, 200, 300]?);
-    assert_eq!(rt; core.rates, Rates::List(list));
-    let bus = &board.clocks[1];
-    assert_eq!(rt; bus.name.as_str(), "bus");
-    assert_eq!(rt; (bus.enabled, bus.rate), (false, 1000));
+    let list = Rates::List(RateList::new(vec![in rt.alloc(); 100, 200, 300]?));
     let steps = Rates::Steps {
         low: 1000,
         high: 4000,
         step: 500,
     };
-    assert_eq!(rt; bus.rates, steps);
-    assert_eq!(rt; board.devices.len(), 2);
-    assert_eq!(rt; (board.devices[0].domains, board.devices[0].clocks), (1, 1));
-    assert_eq!(rt;
-        (board.devices[1].domains, board.devices[1].clocks),
-        (0x8000_0002, 0)
-    );
+    assert_eq!(rt; (board.clocks.len(), board.devices.len()), (2, 2));
+    assert!(rt; is_clock(&board, 0, "core", (true, 100), &list));
+    assert!(rt; is_clock(&board, 1, "bus", (false, 1000), &steps));
+    assert!(rt; is_device(&board, 0, 1, 1) && is_device(&board, 1, 0x8000_0002, 0));
     let next = TextLine {
         number: 15,
         text: b"serve 1".as_slice(),
@@ -228,24 +258,17 @@ fn any_item_of_text_is_a_name(rt: HostRuntime) -> Result<(), Fail> {
         let Ok(board) = read_board(rt.alloc(), &mut Lines::new(&input)) else {
             return Err(Fail::from("the board is refused"));
         };
-        assert_eq!(rt; board.vendor.as_str(), name);
-        assert_eq!(rt; board.sub_vendor.as_str(), name);
+        assert_eq!(rt;
+            (board.vendor.as_str(), board.sub_vendor.as_str()),
+            (name, name)
+        );
         assert_eq!(rt; (board.version, board.trusted), (u32::MAX, u32::MAX));
-        assert_eq!(rt; board.agents.len(), 1);
-        assert_eq!(rt; board.domains.len(), 1);
-        assert_eq!(rt; board.devices.len(), 2);
-        assert_eq!(rt; board.agents[0].as_str(), name);
-        let domain = &board.domains[0];
-        assert_eq!(rt; domain.name.as_str(), name);
-        assert_eq!(rt;
-            (domain.synchronous, domain.asynchronous, domain.notify),
-            (false, false, false)
+        assert!(rt; is_agent(&board, 0, name), "{name}");
+        assert!(rt;
+            is_domain(&board, 0, name, [true, false, false, false]),
+            "{name}"
         );
-        assert_eq!(rt; (board.devices[0].domains, board.devices[0].clocks), (0, 0));
-        assert_eq!(rt;
-            (board.devices[1].domains, board.devices[1].clocks),
-            (0x8000_0081, 1)
-        );
+        assert!(rt; is_device(&board, 0, 0, 0) && is_device(&board, 1, 0x8000_0081, 1));
     }
     Ok(())
 }
