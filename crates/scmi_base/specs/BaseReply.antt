@@ -1,5 +1,5 @@
 -- The replies of the base protocol (DEN0056B, base protocol), 0x10.
-use Rattle.std.specs.Prelude.{ℕ, ◌+◌, ◌-◌, ◌*◌, ◌==◌, ◌||◌, Bool, not, nat_lt, nat_le, if◌then◌else◌, List, [], ◌∷◌, length, drop, get_or, codes}
+use Rattle.std.specs.Prelude.{ℕ, ◌+◌, ◌-◌, ◌*◌, ◌%◌, ◌==◌, ◌||◌, Bool, not, nat_lt, nat_le, if◌then◌else◌, List, [], ◌∷◌, length, drop, get_or, codes}
 use Rattle.byteorder.specs.Endian.{little_number}
 use Rattle.scmi_codec.specs.BaseCommand.{base_table}
 use Rattle.scmi_codec.specs.Row.{is_listed}
@@ -42,6 +42,16 @@ trusted_checks board caller flags = (other_bits flags, InvalidParameters) ∷ (n
 abbrev pub permit_checks : Board → ℕ → ℕ → ℕ → ℕ → List Check
 permit_checks board caller agent device flags = (no_agent board agent, NotFound) ∷ (no_device board device, NotFound) ∷ trusted_checks board caller flags
 
+-- the low eight bits of a word are the id of no protocol with resources
+abbrev pub no_protocol : ℕ → Bool
+no_protocol word = not (word % 0x100 == 0x11 || word % 0x100 == 0x14)
+
+-- the checks of 0xA, in order (own)
+abbrev pub permit_protocol_checks : Board → ℕ → ℕ → ℕ → ℕ → ℕ → List Check
+permit_protocol_checks board caller agent device protocol flags =
+    (no_agent board agent, NotFound) ∷ (no_device board device, NotFound) ∷ (no_protocol protocol, NotFound)
+    ∷ (nat_lt 0xFF protocol, InvalidParameters) ∷ trusted_checks board caller flags
+
 -- the checks of 0xB, in order (own)
 abbrev pub reset_checks : Board → ℕ → ℕ → ℕ → List Check
 reset_checks board caller agent flags = (no_agent board agent, NotFound) ∷ trusted_checks board caller flags
@@ -72,4 +82,5 @@ base_reply board caller base.Implementation = 0 ∷ board.version ∷ []
 base_reply board caller (base.Protocols skip) = protocols_reply skip
 base_reply board caller (base.Agent agent) = agent_reply board caller agent
 base_reply board caller (base.Permit agent device flags) = reply_unless (permit_checks board caller agent device flags) (0 ∷ [])
+base_reply board caller (base.PermitProtocol agent device protocol flags) = reply_unless (permit_protocol_checks board caller agent device protocol flags) (0 ∷ [])
 base_reply board caller (base.ResetAgent agent flags) = reply_unless (reset_checks board caller agent flags) (0 ∷ [])

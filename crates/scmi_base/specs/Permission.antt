@@ -1,5 +1,5 @@
 -- Who may change what.
-use Rattle.std.specs.Prelude.{◌≡◌, ◌<◌, false, unwrap_or, ℕ, ◌-◌, ◌==◌, ◌&&◌, ◌||◌, Bool, true, not, if◌then◌else◌, List, [], length, get_or, Option, Some, None}
+use Rattle.std.specs.Prelude.{false, unwrap_or, ℕ, ◌==◌, ◌&&◌, ◌||◌, ◌%◌, Bool, true, not, if◌then◌else◌, List, length, Option, Some, None}
 use Rattle.std.specs.List.{list_any, range_with_len}
 use Rattle.scmi_codec.specs.Payload.{begins_with_success}
 use Rattle.scmi_codec.specs.declared.base_command.BaseCommand.{BaseCommand}
@@ -7,26 +7,64 @@ use Rattle.scmi_codec.specs.declared.base_command.BaseCommand.TheVariants as bas
 use Rattle.scmi_plan.specs.Board.{Board, holds, device_at}
 use Rattle.scmi_codec.specs.Reply.{bit_0}
 use Rattle.scmi_plan.specs.declared.resource.Resource.{Resource}
+use Rattle.scmi_plan.specs.declared.resource.Resource.TheVariants as resource
+use Rattle.scmi_base.specs.PermissionTable.{entry}
+use Rattle.scmi_base.specs.declared.scope.Scope.{Scope}
+use Rattle.scmi_base.specs.declared.scope.Scope.TheVariants as scope
 
 -- some device of the board passes a test
 abbrev pub some_device : Board → (ℕ → Bool) → Bool
 some_device board test = list_any test (range_with_len 0 (length board.devices))
 
--- A resource of no device is open to all. Another may be changed by an agent that is allowed on a device which holds it (own).
-abbrev pub may : Board → (ℕ → Bool) → Resource → Bool
-may board is_allowed_on r =
+-- the protocol of a resource
+abbrev pub protocol_of : Resource → Scope
+protocol_of (resource.Domain d) = scope.Power
+protocol_of (resource.Clock c) = scope.Clock
+
+-- an agent is allowed a protocol on a device where neither the device as a whole nor that protocol on it is denied (own)
+abbrev pub allows : (Scope → Bool) → Scope → Bool
+allows says protocol = says scope.Device && says protocol
+
+-- A resource of no device is open to all. Another may be changed by an agent that is allowed its protocol on a device which holds it (own).
+abbrev pub may : Board → (ℕ → Scope → Bool) → Resource → Bool
+may board says r =
     not (some_device board (λ device. holds (device_at board device) r))
-    || some_device board (λ device. holds (device_at board device) r && is_allowed_on device)
+    || some_device board (λ device. holds (device_at board device) r && allows (says device) (protocol_of r))
 
--- what a successful command says of an agent and a device: a permission, or a reset that allows everything (own)
-abbrev pub permission : ℕ → ℕ → BaseCommand → Option Bool
-permission a d (base.Permit agent device flags) = if agent == a && device == d then Some (bit_0 flags) else None
-permission a d (base.ResetAgent agent flags) = if agent == a && bit_0 flags then Some true else None
-permission a d _ = None
+-- the same scope
+abbrev pub is_scope : Scope → Scope → Bool
+is_scope scope.Device scope.Device = true
+is_scope scope.Power scope.Power = true
+is_scope scope.Clock scope.Clock = true
+is_scope _ _ = false
 
--- what a table says of an agent, numbered from 1, and a device, numbered from 0
-abbrev pub is_allowed : List (List Bool) → ℕ → ℕ → Bool
-is_allowed table agent device = get_or (get_or table (agent - 1) []) device true
+-- the protocol whose id stands in the low eight bits of a word: 0x11 is that of power domains, 0x14 that of clocks (own)
+abbrev pub protocol_named : ℕ → Scope
+protocol_named word = if word % 0x100 == 0x11 then scope.Power else scope.Clock
+
+-- what a successful command says of an agent on a device: a permission, or a reset that allows everything (own)
+abbrev pub permission : ℕ → ℕ → Scope → BaseCommand → Option Bool
+permission a d s (base.Permit agent device flags) = if agent == a && device == d && is_scope scope.Device s then Some (bit_0 flags) else None
+permission a d s (base.PermitProtocol agent device protocol flags) =
+    if agent == a && device == d && is_scope (protocol_named protocol) s then Some (bit_0 flags) else None
+permission a d s (base.ResetAgent agent flags) = if agent == a && bit_0 flags then Some true else None
+permission a d s _ = None
+
+-- a table for devices as a whole, and one for each protocol
+pub record Permissions : Type 0 where
+  pub devices : List (List Bool)
+  pub power : List (List Bool)
+  pub clocks : List (List Bool)
+
+-- the table of a scope
+abbrev pub table_of : Permissions → Scope → List (List Bool)
+table_of tables scope.Device = tables.devices
+table_of tables scope.Power = tables.power
+table_of tables scope.Clock = tables.clocks
+
+-- what the tables say of an agent, a device and a scope
+abbrev pub is_allowed : Permissions → ℕ → ℕ → Scope → Bool
+is_allowed tables agent device s = entry (table_of tables s) agent device
 
 -- the agent whose notification requests a successful command ends (own)
 abbrev pub reset_by : BaseCommand → Option ℕ
@@ -36,19 +74,15 @@ reset_by _ = None
 -- whether a command changes no permission and ends no request
 abbrev pub changes_nothing : BaseCommand → Bool
 changes_nothing (base.Permit agent device flags) = false
+changes_nothing (base.PermitProtocol agent device protocol flags) = false
 changes_nothing (base.ResetAgent agent flags) = false
 changes_nothing _ = true
 
--- what a table says after a command that got this reply
-abbrev pub is_allowed_after : List ℕ → ℕ → ℕ → BaseCommand → List (List Bool) → Bool
-is_allowed_after reply a d command table =
-    if begins_with_success reply then unwrap_or (permission a d command) (is_allowed table a d) else is_allowed table a d
+-- what the tables say after a command that got this reply
+abbrev pub is_allowed_after : List ℕ → ℕ → ℕ → Scope → BaseCommand → Permissions → Bool
+is_allowed_after reply a d s command tables =
+    if begins_with_success reply then unwrap_or (permission a d s command) (is_allowed tables a d s) else is_allowed tables a d s
 
 -- the agent whose notification requests end with a command that got this reply
 abbrev pub reset_after : List ℕ → BaseCommand → Option ℕ
 reset_after reply command = if begins_with_success reply then reset_by command else None
-
--- eight rows of 32: a row for each agent, in it a yes or no for each device (own)
-pub record IsTable (table : List (List Bool)) : Type 0 where
-  pub rows : length table ≡ 8
-  pub columns : (i : ℕ) → i < 8 → length (get_or table i []) ≡ 32

@@ -1,79 +1,97 @@
-//! Which agent is allowed on which device.
+//! Which agent is allowed on which device, and for which protocol.
 ghost use Rattle.std.specs.Prelude.{◌≡◌, ◌≤◌, ◌<◌, ◌==◌, ◌&&◌, ℕ, true, if◌then◌else◌, length, IfSome};
 ghost use Rattle.scmi_plan.specs.Board.{IsOnBoard};
 ghost use Rattle.scmi_base.specs.BaseReply.{base_reply};
-ghost use Rattle.scmi_base.specs.Permission.{may, is_allowed, is_allowed_after, reset_after};
-ghost use Rattle.scmi_codec.specs.declared.base_command.BaseCommand.TheVariants.{Permit, ResetAgent};
+ghost use Rattle.scmi_base.specs.Permission.{may, allows, protocol_of, is_scope, is_allowed, is_allowed_after, reset_after};
+ghost use Rattle.scmi_base.specs.declared.scope.Scope.{Scope};
+ghost use Rattle.scmi_codec.specs.declared.base_command.BaseCommand.TheVariants.{Permit, PermitProtocol, ResetAgent};
+ghost use Rattle.scmi_plan.specs.declared.limits.TheConstants.{AGENTS, DEVICES};
 
-use crate::base_done::BaseDone;
-use crate::checks::{check_permit, check_reset};
+use crate::checks::{check_permit, check_permit_protocol, check_reset};
 use crate::discovery::discover;
-use scmi_codec::{BaseCommand, Payload, SUCCESS, payload_of, refusal};
-use scmi_plan::{AGENTS, DEVICES, Plan, Resource};
+use crate::permission_table::PermissionTable;
+use crate::scope::Scope;
+use scmi_codec::{BaseCommand, Payload, SUCCESS, set_payload, set_refusal};
+use scmi_plan::{Plan, Resource};
 use std::marker::Model;
 
-/// Which agent is allowed on which device: a row for each agent from 1 on, in it a yes or no for each
-/// device from 0 on.
+/// Which agent is allowed on which device, as a whole and for each protocol: a device permission and
+/// a protocol permission are set apart, and neither touches the other (own).
 #[derive(Drop, Debug)]
 pub struct BaseState {
-    allowed: [[bool; DEVICES]; AGENTS],
+    devices: PermissionTable,
+    power: PermissionTable,
+    clocks: PermissionTable,
 }
 
 impl Model for BaseState {
-    ghost use Rattle.std.specs.Prelude.{Bool, List};
+    ghost use Rattle.scmi_base.specs.Permission.{Permissions};
 
-    ghost Value = { List (List Bool) };
+    ghost Value = { Permissions };
 
-    ghost view = { λ s. s.allowed };
-
-    ghost use Rattle.scmi_base.specs.Permission.{IsTable};
-
-    ghost invariant = { λ s. IsTable s.allowed };
+    ghost view = { λ s. record { devices = s.devices; power = s.power; clocks = s.clocks } };
 }
 
 impl BaseState {
     /// The state of a board at the start: all agents are allowed on all devices (own).
     pub fn new(_plan: &Plan) -> BaseState
-        ensures { (a d : ℕ) → is_allowed result a d ≡ true }
+        ensures { (a d : ℕ) (s : Scope) → is_allowed result a d s ≡ true }
     {
         BaseState {
-            allowed: [[true; DEVICES]; AGENTS],
+            devices: PermissionTable::new(),
+            power: PermissionTable::new(),
+            clocks: PermissionTable::new(),
         }
     }
 
-    /// Executes a command of a caller (DEN0056B, base protocol). The reply begins with a status:
-    /// NOT_FOUND for an unknown message, agent or device, then INVALID_PARAMETERS for a skip past the
-    /// protocols or for flag bits besides bit 0, then DENIED where a caller that is not trusted would
-    /// change permissions or reset an agent (own). A command that is refused changes nothing; a reset
-    /// that succeeds names its agent.
-    pub fn execute(&mut self, plan: &Plan, caller: u32, command: BaseCommand) -> BaseDone
-        ensures reply { result.reply.items ≡ base_reply plan.now caller command }
-        ensures allowed { (a d : ℕ) → 1 ≤ a → d < 32 → is_allowed self.new a d
-            ≡ is_allowed_after (base_reply plan.now caller command) a d command self.old }
-        ensures reset { result.reset ≡ reset_after (base_reply plan.now caller command) command }
-        ensures known { IfSome result.reset (λ agent. (1 ≤ agent) × (agent ≤ 8)) }
+    /// Executes a command of a caller (DEN0056B, base protocol), writes the reply, and names the agent
+    /// that it reset, whose notification requests end. The reply begins with a status:
+    /// NOT_FOUND for an unknown message, agent, device or protocol, then INVALID_PARAMETERS for a skip
+    /// past the protocols, for a protocol's word with more than its id, or for flag bits besides bit 0, then DENIED where a caller that is not trusted would
+    /// change permissions or reset an agent (own). A command that is refused changes nothing.
+    pub fn execute(
+        &mut self,
+        plan: &Plan,
+        caller: u32,
+        command: BaseCommand,
+        reply: &mut Payload,
+    ) -> Option<u32>
+        ensures reply { reply.new.items ≡ base_reply plan.now caller command }
+        ensures allowed { (a d : ℕ) (s : Scope) → 1 ≤ a → d < DEVICES → is_allowed self.new a d s
+            ≡ is_allowed_after (base_reply plan.now caller command) a d s command self.old }
+        ensures reset { result ≡ reset_after (base_reply plan.now caller command) command }
+        ensures known { IfSome result (λ agent. (1 ≤ agent) × (agent ≤ AGENTS)) }
     {
         match command {
             BaseCommand::Permit {
                 agent,
                 device,
                 flags,
-            } => BaseDone {
-                reply: self.permit(plan, caller, agent, device, flags),
-                reset: None,
-            },
-            BaseCommand::ResetAgent { agent, flags } => {
-                self.reset_agent(plan, caller, agent, flags)
+            } => {
+                self.permit(plan, caller, agent, device, flags, reply);
+                None
             }
-            _ => BaseDone {
-                reply: discover(plan, caller, command),
-                reset: None,
-            },
+            BaseCommand::PermitProtocol {
+                agent,
+                device,
+                protocol,
+                flags,
+            } => {
+                self.permit_protocol(plan, caller, agent, device, protocol, flags, reply);
+                None
+            }
+            BaseCommand::ResetAgent { agent, flags } => {
+                self.reset_agent(plan, caller, agent, flags, reply)
+            }
+            _ => {
+                discover(plan, caller, command, reply);
+                None
+            }
         }
     }
 
-    /// Whether an agent may change a resource: no device holds it, or the agent is allowed on a device
-    /// that holds it (own).
+    /// Whether an agent may change a resource: no device holds it, or on a device that holds it neither
+    /// the device nor the resource's protocol is denied to the agent (own).
     pub fn may_change(&self, plan: &Plan, agent: u32, resource: Resource) -> bool
         requires first { 1 ≤ agent }
         requires last { agent ≤ length plan.now.agents }
@@ -83,7 +101,7 @@ impl BaseState {
         let mut held = false;
         for device in 0..plan.devices() {
             if plan.holds(device, resource) {
-                if self.is_allowed(agent, device) {
+                if self.allows(agent, device, resource) {
                     return true;
                 }
                 held = true;
@@ -92,72 +110,120 @@ impl BaseState {
         !held
     }
 
-    /// Allows an agent on every device again.
+    /// Allows an agent on every device again, for every protocol.
     pub fn reset(&mut self, agent: u32)
         requires first { 1 ≤ agent }
-        requires last { agent ≤ 8 }
-        ensures { (a d : ℕ) → 1 ≤ a → d < 32 → is_allowed self.new a d
-            ≡ (if agent == a then true else is_allowed self.old a d) }
+        requires last { agent ≤ AGENTS }
+        ensures { (a d : ℕ) (s : Scope) → 1 ≤ a → d < DEVICES → is_allowed self.new a d s
+            ≡ (if agent == a then true else is_allowed self.old a d s) }
     {
-        self.allowed[agent as usize - 1].fill(true);
+        self.devices.allow(agent);
+        self.power.allow(agent);
+        self.clocks.allow(agent);
     }
 
     /// 0x9: allows or denies an agent a device.
-    fn permit(&mut self, plan: &Plan, caller: u32, agent: u32, device: u32, flags: u32) -> Payload
-        ensures reply { result.items ≡ base_reply plan.now caller (Permit agent device flags) }
-        ensures allowed { (a d : ℕ) → 1 ≤ a → d < 32 → is_allowed self.new a d
-            ≡ is_allowed_after (base_reply plan.now caller (Permit agent device flags)) a d (Permit agent device flags) self.old }
+    fn permit(
+        &mut self,
+        plan: &Plan,
+        caller: u32,
+        agent: u32,
+        device: u32,
+        flags: u32,
+        reply: &mut Payload,
+    )
+        ensures reply { reply.new.items ≡ base_reply plan.now caller (Permit agent device flags) }
+        ensures allowed { (a d : ℕ) (s : Scope) → 1 ≤ a → d < DEVICES → is_allowed self.new a d s
+            ≡ is_allowed_after (base_reply plan.now caller (Permit agent device flags)) a d s (Permit agent device flags) self.old }
     {
         match check_permit(plan, caller, agent, device, flags) {
             Ok(allow) => {
-                self.set(agent, device, allow);
-                payload_of(&[SUCCESS])
+                self.set(agent, device, Scope::Device, allow);
+                set_payload(reply, &[SUCCESS]);
             }
-            Err(status) => refusal(status),
+            Err(status) => set_refusal(reply, status),
+        }
+    }
+
+    /// 0xA: allows or denies an agent a protocol on a device.
+    fn permit_protocol(
+        &mut self,
+        plan: &Plan,
+        caller: u32,
+        agent: u32,
+        device: u32,
+        protocol: u32,
+        flags: u32,
+        reply: &mut Payload,
+    )
+        ensures reply { reply.new.items ≡ base_reply plan.now caller (PermitProtocol agent device protocol flags) }
+        ensures allowed { (a d : ℕ) (s : Scope) → 1 ≤ a → d < DEVICES → is_allowed self.new a d s
+            ≡ is_allowed_after (base_reply plan.now caller (PermitProtocol agent device protocol flags)) a d s (PermitProtocol agent device protocol flags) self.old }
+    {
+        match check_permit_protocol(plan, caller, agent, device, protocol, flags) {
+            Ok((scope, allow)) => {
+                self.set(agent, device, scope, allow);
+                set_payload(reply, &[SUCCESS]);
+            }
+            Err(status) => set_refusal(reply, status),
         }
     }
 
     /// 0xB: resets an agent, its permissions too where the flags say so.
-    fn reset_agent(&mut self, plan: &Plan, caller: u32, agent: u32, flags: u32) -> BaseDone
-        ensures reply { result.reply.items ≡ base_reply plan.now caller (ResetAgent agent flags) }
-        ensures allowed { (a d : ℕ) → 1 ≤ a → d < 32 → is_allowed self.new a d
-            ≡ is_allowed_after (base_reply plan.now caller (ResetAgent agent flags)) a d (ResetAgent agent flags) self.old }
-        ensures reset { result.reset ≡ reset_after (base_reply plan.now caller (ResetAgent agent flags)) (ResetAgent agent flags) }
-        ensures known { IfSome result.reset (λ agent. (1 ≤ agent) × (agent ≤ 8)) }
+    fn reset_agent(
+        &mut self,
+        plan: &Plan,
+        caller: u32,
+        agent: u32,
+        flags: u32,
+        reply: &mut Payload,
+    ) -> Option<u32>
+        ensures reply { reply.new.items ≡ base_reply plan.now caller (ResetAgent agent flags) }
+        ensures allowed { (a d : ℕ) (s : Scope) → 1 ≤ a → d < DEVICES → is_allowed self.new a d s
+            ≡ is_allowed_after (base_reply plan.now caller (ResetAgent agent flags)) a d s (ResetAgent agent flags) self.old }
+        ensures reset { result ≡ reset_after (base_reply plan.now caller (ResetAgent agent flags)) (ResetAgent agent flags) }
+        ensures known { IfSome result (λ agent. (1 ≤ agent) × (agent ≤ AGENTS)) }
     {
         match check_reset(plan, caller, agent, flags) {
             Ok(permissions) => {
                 if permissions {
                     self.reset(agent);
                 }
-                BaseDone {
-                    reply: payload_of(&[SUCCESS]),
-                    reset: Some(agent),
-                }
+                set_payload(reply, &[SUCCESS]);
+                Some(agent)
             }
-            Err(status) => BaseDone {
-                reply: refusal(status),
-                reset: None,
-            },
+            Err(status) => {
+                set_refusal(reply, status);
+                None
+            }
         }
     }
 
-    fn is_allowed(&self, agent: u32, device: u32) -> bool
+    // Whether neither the device nor the resource's protocol on it is denied to an agent.
+    fn allows(&self, agent: u32, device: u32, resource: Resource) -> bool
         requires first { 1 ≤ agent }
-        requires last { agent ≤ 8 }
-        requires device { device < 32 }
-        ensures { result ≡ is_allowed self.now agent device }
+        requires last { agent ≤ AGENTS }
+        requires device { device < DEVICES }
+        ensures { result ≡ allows (is_allowed self.now agent device) (protocol_of resource) }
     {
-        self.allowed[agent as usize - 1][device as usize]
+        self.devices.says(agent, device)
+            && match resource {
+                Resource::Domain(_) => self.power.says(agent, device),
+                Resource::Clock(_) => self.clocks.says(agent, device),
+            }
     }
 
-    fn set(&mut self, agent: u32, device: u32, allow: bool)
+    fn set(&mut self, agent: u32, device: u32, scope: Scope, allow: bool)
         requires first { 1 ≤ agent }
-        requires last { agent ≤ 8 }
-        requires device { device < 32 }
-        ensures { (a d : ℕ) → 1 ≤ a → d < 32 → is_allowed self.new a d
-            ≡ (if agent == a && device == d then allow else is_allowed self.old a d) }
+        requires last { agent ≤ AGENTS }
+        requires device { device < DEVICES }
+        ensures { (a d : ℕ) (s : Scope) → 1 ≤ a → d < DEVICES → is_allowed self.new a d s
+            ≡ (if agent == a && device == d && is_scope scope s then allow else is_allowed self.old a d s) }
     {
-        self.allowed[agent as usize - 1][device as usize] = allow;
+        match scope {
+            Scope::Device => self.devices.set(agent, device, allow),
+            Scope::Power => self.power.set(agent, device, allow),
+            Scope::Clock => self.clocks.set(agent, device, allow),
+        }
     }
 }

@@ -1,12 +1,15 @@
 //! The checks of the commands that change permissions, in the order of the profile (own).
-ghost use Rattle.std.specs.Prelude.{◌≡◌, ◌≤◌, ◌<◌, ◌==◌, ◌≢◌, ◌∷◌, [], if◌then◌else◌, Ok, Err, IfOk, IfErr};
+ghost use Rattle.std.specs.Prelude.{◌≡◌, ◌≤◌, ◌<◌, ◌==◌, ◌≢◌, ◌∷◌, [], if◌then◌else◌, nat_lt, Ok, Err, IfOk, IfErr};
 ghost use Rattle.scmi_codec.specs.Reply.{bit_0};
-ghost use Rattle.scmi_codec.specs.declared.status.Status.TheVariants.{Success, Denied, NotFound};
-ghost use Rattle.scmi_base.specs.BaseReply.{base_reply, no_agent, no_device};
-ghost use Rattle.scmi_codec.specs.declared.base_command.BaseCommand.TheVariants.{Permit, ResetAgent};
+ghost use Rattle.scmi_codec.specs.declared.status.Status.TheVariants.{Success, Denied, NotFound, InvalidParameters};
+ghost use Rattle.scmi_base.specs.BaseReply.{base_reply, no_agent, no_device, no_protocol};
+ghost use Rattle.scmi_codec.specs.declared.base_command.BaseCommand.TheVariants.{Permit, PermitProtocol, ResetAgent};
 ghost use Rattle.scmi_codec.specs.Status.{status_word};
+ghost use Rattle.scmi_base.specs.Permission.{protocol_named};
+ghost use Rattle.scmi_plan.specs.declared.limits.TheConstants.{AGENTS, DEVICES};
 
-use scmi_codec::{Status, single_flag};
+use crate::scope::Scope;
+use scmi_codec::{CLOCK_PROTOCOL, POWER_PROTOCOL, Status, single_flag};
 use scmi_plan::Plan;
 
 /// The checks of 0x9 (DEN0056B, base protocol): agent, device, flags, caller. Answers
@@ -21,8 +24,8 @@ pub(crate) fn check_permit(
 ) -> Result<bool, Status>
     ensures ok { IfOk result (λ allow. base_reply plan.now caller (Permit agent device flags) ≡ 0 ∷ []) }
     ensures allow { IfOk result (λ allow. allow ≡ bit_0 flags) }
-    ensures agent { IfOk result (λ allow. (1 ≤ agent) × (agent ≤ 8)) }
-    ensures device { IfOk result (λ allow. device < 32) }
+    ensures agent { IfOk result (λ allow. (1 ≤ agent) × (agent ≤ AGENTS)) }
+    ensures device { IfOk result (λ allow. device < DEVICES) }
     ensures err { IfErr result (λ status. base_reply plan.now caller (Permit agent device flags) ≡ status_word status ∷ []) }
     ensures refused { IfErr result (λ status. status ≢ Success) }
 {
@@ -33,13 +36,41 @@ pub(crate) fn check_permit(
     Ok(allow)
 }
 
+/// The checks of 0xA (own): agent, device, protocol, the bits of its word besides the id, flags,
+/// caller. Answers the protocol, and whether it is to be allowed on the device.
+#[tactic(auto, unfolding(crate::specs::BaseReply::base_reply))]
+pub(crate) fn check_permit_protocol(
+    plan: &Plan,
+    caller: u32,
+    agent: u32,
+    device: u32,
+    protocol: u32,
+    flags: u32,
+) -> Result<(Scope, bool), Status>
+    ensures ok { IfOk result (λ r. base_reply plan.now caller (PermitProtocol agent device protocol flags) ≡ 0 ∷ []) }
+    ensures scope { IfOk result (λ r. r.0 ≡ protocol_named protocol) }
+    ensures allow { IfOk result (λ r. r.1 ≡ bit_0 flags) }
+    ensures agent { IfOk result (λ r. (1 ≤ agent) × (agent ≤ AGENTS)) }
+    ensures device { IfOk result (λ r. device < DEVICES) }
+    ensures err { IfErr result (λ status. base_reply plan.now caller (PermitProtocol agent device protocol flags) ≡ status_word status ∷ []) }
+    ensures refused { IfErr result (λ status. status ≢ Success) }
+{
+    check_agent(plan, agent)?;
+    check_device(plan, device)?;
+    let scope = check_protocol(protocol)?;
+    check_id_alone(protocol)?;
+    let allow = single_flag(flags)?;
+    check_trusted(plan, caller)?;
+    Ok((scope, allow))
+}
+
 /// The checks of 0xB (DEN0056B, base protocol): agent, flags, caller. Answers
 /// whether permissions are to be reset too.
 #[tactic(auto, unfolding(crate::specs::BaseReply::base_reply))]
 pub(crate) fn check_reset(plan: &Plan, caller: u32, agent: u32, flags: u32) -> Result<bool, Status>
     ensures ok { IfOk result (λ permissions. base_reply plan.now caller (ResetAgent agent flags) ≡ 0 ∷ []) }
     ensures permissions { IfOk result (λ permissions. permissions ≡ bit_0 flags) }
-    ensures agent { IfOk result (λ permissions. (1 ≤ agent) × (agent ≤ 8)) }
+    ensures agent { IfOk result (λ permissions. (1 ≤ agent) × (agent ≤ AGENTS)) }
     ensures err { IfErr result (λ status. base_reply plan.now caller (ResetAgent agent flags) ≡ status_word status ∷ []) }
     ensures refused { IfErr result (λ status. status ≢ Success) }
 {
@@ -52,7 +83,7 @@ pub(crate) fn check_reset(plan: &Plan, caller: u32, agent: u32, flags: u32) -> R
 /// NOT_FOUND where the board has no such agent.
 fn check_agent(plan: &Plan, agent: u32) -> Result<(), Status>
     ensures first { result ≡ (if no_agent plan.now agent then Err NotFound else Ok tt) }
-    ensures agent { IfOk result (λ u. (1 ≤ agent) × (agent ≤ 8)) }
+    ensures agent { IfOk result (λ u. (1 ≤ agent) × (agent ≤ AGENTS)) }
 {
     if agent == 0 || agent > plan.agents() {
         return Err(Status::NotFound);
@@ -63,10 +94,34 @@ fn check_agent(plan: &Plan, agent: u32) -> Result<(), Status>
 /// NOT_FOUND where the board has no such device.
 fn check_device(plan: &Plan, device: u32) -> Result<(), Status>
     ensures first { result ≡ (if no_device plan.now device then Err NotFound else Ok tt) }
-    ensures device { IfOk result (λ u. device < 32) }
+    ensures device { IfOk result (λ u. device < DEVICES) }
 {
     if device >= plan.devices() {
         return Err(Status::NotFound);
+    }
+    Ok(())
+}
+
+/// NOT_FOUND where the low eight bits of a word are the id of no protocol with resources.
+fn check_protocol(word: u32) -> Result<Scope, Status>
+    ensures { result ≡ (if no_protocol word then Err NotFound else Ok (protocol_named word)) }
+{
+    let id = word % 0x100;
+    if id == u32::from(POWER_PROTOCOL) {
+        Ok(Scope::Power)
+    } else if id == u32::from(CLOCK_PROTOCOL) {
+        Ok(Scope::Clock)
+    } else {
+        Err(Status::NotFound)
+    }
+}
+
+/// INVALID_PARAMETERS where a word has more than a protocol's id in its low eight bits.
+fn check_id_alone(word: u32) -> Result<(), Status>
+    ensures { result ≡ (if nat_lt 0xFF word then Err InvalidParameters else Ok tt) }
+{
+    if word > 0xff {
+        return Err(Status::InvalidParameters);
     }
     Ok(())
 }

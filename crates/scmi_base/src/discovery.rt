@@ -8,7 +8,7 @@ ghost use Rattle.scmi_codec.specs.Name.{name_words};
 use byteorder::{ByteOrder, LittleEndian};
 use scmi_codec::{
     BaseCommand, CLOCK_PROTOCOL, Name, POWER_PROTOCOL, Payload, SUCCESS, Status, name_words,
-    payload_of, refusal,
+    set_payload, set_refusal,
 };
 use scmi_plan::Plan;
 
@@ -27,62 +27,68 @@ const PLATFORM: u32 = 0;
 /// The platform's name, `platform`, as the words of a reply.
 const PLATFORM_NAME: [u32; 4] = [0x7461_6c70, 0x6d72_6f66, 0, 0];
 
-/// The reply to a command that changes nothing, to a caller.
+/// Writes the reply to a command that changes nothing, to a caller.
 #[tactic(auto, unfolding(crate::specs::BaseReply::base_reply))]
-pub(crate) fn discover(plan: &Plan, caller: u32, command: BaseCommand) -> Payload
+pub(crate) fn discover(plan: &Plan, caller: u32, command: BaseCommand, reply: &mut Payload)
     requires { changes_nothing command ≡ true }
-    ensures { result.items ≡ base_reply plan.now caller command }
+    ensures { reply.new.items ≡ base_reply plan.now caller command }
 {
     match command {
-        BaseCommand::Version => payload_of(&[SUCCESS, VERSION]),
-        BaseCommand::Attributes => attributes(plan),
-        BaseCommand::MessageAttributes { message } => message_attributes(message),
-        BaseCommand::Vendor => named(plan.vendor()),
-        BaseCommand::SubVendor => named(plan.sub_vendor()),
-        BaseCommand::Implementation => payload_of(&[SUCCESS, plan.version()]),
-        BaseCommand::Protocols { skip } => protocols(skip),
-        BaseCommand::Agent { agent } => agent_of(plan, caller, agent),
-        BaseCommand::Permit { .. } | BaseCommand::ResetAgent { .. } => unreachable!(),
+        BaseCommand::Version => set_payload(reply, &[SUCCESS, VERSION]),
+        BaseCommand::Attributes => attributes(plan, reply),
+        BaseCommand::MessageAttributes { message } => message_attributes(message, reply),
+        BaseCommand::Vendor => named(plan.vendor(), reply),
+        BaseCommand::SubVendor => named(plan.sub_vendor(), reply),
+        BaseCommand::Implementation => set_payload(reply, &[SUCCESS, plan.version()]),
+        BaseCommand::Protocols { skip } => protocols(skip, reply),
+        BaseCommand::Agent { agent } => agent_of(plan, caller, agent, reply),
+        BaseCommand::Permit { .. }
+        | BaseCommand::PermitProtocol { .. }
+        | BaseCommand::ResetAgent { .. } => unreachable!(),
     }
 }
 
 /// 0x1: the number of agents in bits [15:8], the platform not counted (own), and the number of
 /// protocols in [7:0].
-fn attributes(plan: &Plan) -> Payload
-    ensures { result.items ≡ 0 ∷ (length plan.now.agents * 0x100 + 2) ∷ [] }
+fn attributes(plan: &Plan, reply: &mut Payload)
+    ensures { reply.new.items ≡ 0 ∷ (length plan.now.agents * 0x100 + 2) ∷ [] }
 {
-    payload_of(&[SUCCESS, plan.agents() << 8 | PROTOCOLS.len() as u32])
+    set_payload(
+        reply,
+        &[SUCCESS, plan.agents() << 8 | PROTOCOLS.len() as u32],
+    );
 }
 
 /// 0x2: no attributes; NOT_FOUND for an id that the protocol lacks.
-fn message_attributes(message: u32) -> Payload
-    ensures { result.items ≡ message_reply message }
+fn message_attributes(message: u32, reply: &mut Payload)
+    ensures { reply.new.items ≡ message_reply message }
 {
     match message {
-        0x0..=0x7 | 0x9 | 0xb => payload_of(&[SUCCESS, 0]),
-        _ => refusal(Status::NotFound),
+        0x0..=0x7 | 0x9..=0xb => set_payload(reply, &[SUCCESS, 0]),
+        _ => set_refusal(reply, Status::NotFound),
     }
 }
 
 /// 0x3 and 0x4: a name.
-fn named(name: &Name) -> Payload
-    ensures { result.items ≡ 0 ∷ name_words name.now }
+fn named(name: &Name, reply: &mut Payload)
+    ensures { reply.new.items ≡ 0 ∷ name_words name.now }
 {
     let [a, b, c, d] = name_words(name);
-    payload_of(&[SUCCESS, a, b, c, d])
+    set_payload(reply, &[SUCCESS, a, b, c, d]);
 }
 
 /// 0x6: the number of protocols after the first `skip`, and their ids in one word, of which there is
 /// none where the number is 0; INVALID_PARAMETERS where there are fewer to skip.
-fn protocols(skip: u32) -> Payload
-    ensures { result.items ≡ protocols_reply skip }
+fn protocols(skip: u32, reply: &mut Payload)
+    ensures { reply.new.items ≡ protocols_reply skip }
 {
     let Some(listed) = PROTOCOLS.get(skip as usize..) else {
-        return refusal(Status::InvalidParameters);
+        set_refusal(reply, Status::InvalidParameters);
+        return;
     };
     match listed {
-        [] => payload_of(&[SUCCESS, 0]),
-        _ => payload_of(&[SUCCESS, listed.len() as u32, packed(listed)]),
+        [] => set_payload(reply, &[SUCCESS, 0]),
+        _ => set_payload(reply, &[SUCCESS, listed.len() as u32, packed(listed)]),
     }
 }
 
@@ -98,15 +104,16 @@ fn packed(bytes: &[u8]) -> u32
 
 /// 0x7: the id and name of an agent, of the platform, or of the caller where it asks for itself
 /// (own); NOT_FOUND for another id.
-fn agent_of(plan: &Plan, caller: u32, asked: u32) -> Payload
-    ensures { result.items ≡ agent_reply plan.now caller asked }
+fn agent_of(plan: &Plan, caller: u32, asked: u32, reply: &mut Payload)
+    ensures { reply.new.items ≡ agent_reply plan.now caller asked }
 {
     let agent = if asked == THE_CALLER { caller } else { asked };
     if agent > plan.agents() {
-        return refusal(Status::NotFound);
+        set_refusal(reply, Status::NotFound);
+        return;
     }
     let [a, b, c, d] = agent_name(plan, agent);
-    payload_of(&[SUCCESS, agent, a, b, c, d])
+    set_payload(reply, &[SUCCESS, agent, a, b, c, d]);
 }
 
 /// The name of an agent or of the platform, as the words of a reply.

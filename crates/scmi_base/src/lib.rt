@@ -1,17 +1,17 @@
 //! The base protocol (DEN0056B, base protocol, 0x10), and who may change what.
 //!
 //! The main type is `BaseState`, which says of each agent and device whether the agent is allowed
-//! there. The main theorem is the contract of `BaseState::execute`: the reply is the row of the
-//! protocol's table or the status of the first check that fails, and permissions change by a
-//! successful command alone. `BaseState::may_change` answers whether an agent may change a resource.
+//! there, on the device as a whole and for each protocol. The main theorem is the contract of
+//! `BaseState::execute`: the reply is the row of the protocol's table or the status of the first check
+//! that fails, and permissions change by a successful command alone. `BaseState::may_change` answers
+//! whether an agent may change a resource.
 #![tactic(auto)]
 
-mod base_done;
 mod base_state;
 mod checks;
 mod discovery;
-#[cfg(test)]
-mod tests;
+mod permission_table;
+mod scope;
 
-pub use base_done::BaseDone;
 pub use base_state::BaseState;
+pub use scope::Scope;

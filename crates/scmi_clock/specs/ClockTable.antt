@@ -8,7 +8,7 @@ use Rattle.scmi_plan.specs.Board.{Board, clock_at}
 use Rattle.scmi_codec.specs.Reply.{bit_0}
 use Rattle.scmi_plan.specs.declared.load.Load.{Load}
 use Rattle.scmi_plan.specs.declared.resource.Resource.TheVariants as resource
-use Rattle.scmi_base.specs.Permission.{may, is_allowed}
+use Rattle.scmi_base.specs.Permission.{Permissions, may, is_allowed}
 use Rattle.scmi_clock.specs.ClockReply.{ClockView, rounded}
 use Rattle.scmi_clock.specs.SetFlags.{is_asynchronous, is_response_wanted}
 
@@ -31,7 +31,7 @@ abbrev pub enabled_at : ClockTables → ℕ → Bool
 enabled_at table c = get_or table.enabled c false
 
 -- whether a caller may change a clock
-abbrev pub may_change : Board → List (List Bool) → ℕ → ℕ → Bool
+abbrev pub may_change : Board → Permissions → ℕ → ℕ → Bool
 may_change board permissions caller c = may board (λ device. is_allowed permissions caller device) (resource.Clock c)
 
 -- whether a clock has a pending set
@@ -39,7 +39,7 @@ abbrev pub is_pending : Load → ℕ → Bool
 is_pending load c = bit_at load.busy c == 1
 
 -- what a caller's replies read in the tables
-abbrev pub view_of : Board → List (List Bool) → ClockTables → Load → ℕ → ClockView
+abbrev pub view_of : Board → Permissions → ClockTables → Load → ℕ → ClockView
 view_of board permissions table load caller =
     record {
       rate = λ c. rate_at table c;

@@ -8,12 +8,11 @@ ghost use Rattle.scmi_clock.specs.ClockTable.{view_of, may_change, rate_at, enab
 ghost use Rattle.scmi_codec.specs.Payload.{if_success};
 
 use crate::checks::{RateSet, check_config, check_set};
-use crate::clock_done::ClockDone;
 use crate::discovery::{
     attributes, clock_attributes, current_rate, describe, message_attributes, version,
 };
 use scmi_base::BaseState;
-use scmi_codec::{ClockCommand, Payload, SUCCESS, payload_of, refusal};
+use scmi_codec::{ClockCommand, Payload, SUCCESS, set_payload, set_refusal};
 use scmi_plan::{CLOCKS, Load, Plan};
 use std::marker::Model;
 
@@ -75,13 +74,13 @@ impl ClockState {
         self.rates[clock as usize] = rate;
     }
 
-    /// Executes a command of a caller. The reply begins with a status: NOT_FOUND for an unknown clock
+    /// Executes a command of a caller, writes the reply, and names the set that it accepted for later:
+    /// clock, rate in Hz, and whether a delayed response is wanted. The reply begins with a status: NOT_FOUND for an unknown clock
     /// or message id; then OUT_OF_RANGE for an index past a list of rates, INVALID_PARAMETERS for
     /// unknown flags or attributes or where no rate lies in the asked direction; then DENIED where
     /// the caller may not change the clock; then BUSY for a set while the clock has a pending one, or
     /// for an asynchronous set that has no room. A set rounds its rate to a supported one. A
-    /// synchronous set and a configuration take effect at once; an asynchronous set changes nothing,
-    /// and is named in `later`. A command that is refused changes nothing.
+    /// synchronous set and a configuration take effect at once; an asynchronous set changes nothing. A command that is refused changes nothing.
     #[tactic(auto, unfolding(crate::specs::ClockReply::clock_reply))]
     pub fn execute(
         &mut self,
@@ -90,40 +89,34 @@ impl ClockState {
         caller: u32,
         command: ClockCommand,
         load: Load,
-    ) -> ClockDone
+        reply: &mut Payload,
+    ) -> Option<(u32, u64, bool)>
         requires first { 1 ≤ caller }
         requires last { caller ≤ length plan.now.agents }
-        ensures reply { result.reply.items ≡ clock_reply plan.now (view_of plan.now base.now self.old load caller) command }
-        ensures later { result.later ≡ if_success result.reply.items (rate_later plan.now command) }
-        ensures rates { (c : ℕ) → c < 32 → rate_at self.new c ≡ set_to (if_success result.reply.items (rate_now plan.now command)) c (rate_at self.old c) }
-        ensures enabled { (c : ℕ) → c < 32 → enabled_at self.new c ≡ enabled_to (if_success result.reply.items (enabled_now command)) c (enabled_at self.old c) }
-        ensures room { IfSome result.later (λ set. load.room ≡ true) }
-        ensures known_later { IfSome result.later (λ set. set.0 < length plan.now.clocks) }
-        ensures known_now { IfSome (if_success result.reply.items (rate_now plan.now command)) (λ set. set.0 < length plan.now.clocks) }
-        ensures known_enabled { IfSome (if_success result.reply.items (enabled_now command)) (λ set. set.0 < length plan.now.clocks) }
+        ensures reply { reply.new.items ≡ clock_reply plan.now (view_of plan.now base.now self.old load caller) command }
+        ensures later { result ≡ if_success reply.new.items (rate_later plan.now command) }
+        ensures rates { (c : ℕ) → c < 32 → rate_at self.new c ≡ set_to (if_success reply.new.items (rate_now plan.now command)) c (rate_at self.old c) }
+        ensures enabled { (c : ℕ) → c < 32 → enabled_at self.new c ≡ enabled_to (if_success reply.new.items (enabled_now command)) c (enabled_at self.old c) }
+        ensures room { IfSome result (λ set. load.room ≡ true) }
+        ensures known_later { IfSome result (λ set. set.0 < length plan.now.clocks) }
+        ensures known_now { IfSome (if_success reply.new.items (rate_now plan.now command)) (λ set. set.0 < length plan.now.clocks) }
+        ensures known_enabled { IfSome (if_success reply.new.items (enabled_now command)) (λ set. set.0 < length plan.now.clocks) }
     {
         match command {
-            ClockCommand::Version => ClockDone::reply_only(version()),
-            ClockCommand::Attributes => ClockDone::reply_only(attributes(plan)),
-            ClockCommand::MessageAttributes { message } => {
-                ClockDone::reply_only(message_attributes(message))
-            }
-            ClockCommand::ClockAttributes { clock } => {
-                ClockDone::reply_only(clock_attributes(plan, self, clock))
-            }
-            ClockCommand::Describe { clock, index } => {
-                ClockDone::reply_only(describe(plan, clock, index))
-            }
+            ClockCommand::Version => version(reply),
+            ClockCommand::Attributes => attributes(plan, reply),
+            ClockCommand::MessageAttributes { message } => message_attributes(message, reply),
+            ClockCommand::ClockAttributes { clock } => clock_attributes(plan, self, clock, reply),
+            ClockCommand::Describe { clock, index } => describe(plan, clock, index, reply),
             ClockCommand::SetRate { flags, clock, rate } => {
-                self.set_rate(plan, base, caller, flags, clock, rate, load)
+                return self.set_rate(plan, base, caller, flags, clock, rate, load, reply);
             }
-            ClockCommand::GetRate { clock } => {
-                ClockDone::reply_only(current_rate(plan, self, clock))
-            }
+            ClockCommand::GetRate { clock } => current_rate(plan, self, clock, reply),
             ClockCommand::Config { clock, attributes } => {
-                ClockDone::reply_only(self.configure(plan, base, caller, clock, attributes))
+                self.configure(plan, base, caller, clock, attributes, reply);
             }
         }
+        None
     }
 
     /// 0x5: sets a clock's rate at once, or accepts it for later.
@@ -137,40 +130,42 @@ impl ClockState {
         clock: u32,
         rate: u64,
         load: Load,
-    ) -> ClockDone
+        reply: &mut Payload,
+    ) -> Option<(u32, u64, bool)>
         requires first { 1 ≤ caller }
         requires last { caller ≤ length plan.now.agents }
-        ensures reply { result.reply.items ≡ clock_reply plan.now (view_of plan.now base.now self.old load caller) (SetRate flags clock rate) }
-        ensures later { result.later ≡ if_success result.reply.items (rate_later plan.now (SetRate flags clock rate)) }
-        ensures rates { (c : ℕ) → c < 32 → rate_at self.new c ≡ set_to (if_success result.reply.items (rate_now plan.now (SetRate flags clock rate))) c (rate_at self.old c) }
+        ensures reply { reply.new.items ≡ clock_reply plan.now (view_of plan.now base.now self.old load caller) (SetRate flags clock rate) }
+        ensures later { result ≡ if_success reply.new.items (rate_later plan.now (SetRate flags clock rate)) }
+        ensures rates { (c : ℕ) → c < 32 → rate_at self.new c ≡ set_to (if_success reply.new.items (rate_now plan.now (SetRate flags clock rate))) c (rate_at self.old c) }
         ensures enabled { self.new.enabled ≡ self.old.enabled }
-        ensures room { IfSome result.later (λ set. load.room ≡ true) }
-        ensures known_later { IfSome result.later (λ set. set.0 < length plan.now.clocks) }
-        ensures known_now { IfSome (if_success result.reply.items (rate_now plan.now (SetRate flags clock rate))) (λ set. set.0 < length plan.now.clocks) }
+        ensures room { IfSome result (λ set. load.room ≡ true) }
+        ensures known_later { IfSome result (λ set. set.0 < length plan.now.clocks) }
+        ensures known_now { IfSome (if_success reply.new.items (rate_now plan.now (SetRate flags clock rate))) (λ set. set.0 < length plan.now.clocks) }
     {
         match check_set(plan, base, caller, flags, clock, rate, load) {
-            Ok(set) => self.accept(clock, set),
-            Err(status) => ClockDone::reply_only(refusal(status)),
+            Ok(set) => {
+                set_payload(reply, &[SUCCESS]);
+                self.accept(clock, set)
+            }
+            Err(status) => {
+                set_refusal(reply, status);
+                None
+            }
         }
     }
 
     /// Sets a rate at once, or leaves an asynchronous set for later.
-    fn accept(&mut self, clock: u32, set: RateSet) -> ClockDone
+    fn accept(&mut self, clock: u32, set: RateSet) -> Option<(u32, u64, bool)>
         requires { clock < 32 }
-        ensures reply { result.reply.items ≡ 0 ∷ [] }
-        ensures later { result.later ≡ (if set.asynchronous then Some (clock, set.rate, set.response_wanted) else None) }
+        ensures later { result ≡ (if set.asynchronous then Some (clock, set.rate, set.response_wanted) else None) }
         ensures rates { (c : ℕ) → c < 32 → rate_at self.new c ≡ set_to (if set.asynchronous then None else Some (clock, set.rate)) c (rate_at self.old c) }
         ensures enabled { self.new.enabled ≡ self.old.enabled }
     {
-        let reply = payload_of(&[SUCCESS]);
         if set.asynchronous {
-            return ClockDone {
-                reply,
-                later: Some((clock, set.rate, set.response_wanted)),
-            };
+            return Some((clock, set.rate, set.response_wanted));
         }
         self.complete(clock, set.rate);
-        ClockDone::reply_only(reply)
+        None
     }
 
     /// 0x7: enables or disables a clock.
@@ -181,20 +176,21 @@ impl ClockState {
         caller: u32,
         clock: u32,
         attributes: u32,
-    ) -> Payload
+        reply: &mut Payload,
+    )
         requires first { 1 ≤ caller }
         requires last { caller ≤ length plan.now.agents }
-        ensures reply { result.items ≡ reply_unless (config_checks plan.now (may_change plan.now base.now caller clock) clock attributes) (0 ∷ []) }
+        ensures reply { reply.new.items ≡ reply_unless (config_checks plan.now (may_change plan.now base.now caller clock) clock attributes) (0 ∷ []) }
         ensures rates { self.new.rates ≡ self.old.rates }
-        ensures enabled { (c : ℕ) → c < 32 → enabled_at self.new c ≡ enabled_to (if_success result.items (enabled_now (Config clock attributes))) c (enabled_at self.old c) }
-        ensures known { IfSome (if_success result.items (enabled_now (Config clock attributes))) (λ set. set.0 < length plan.now.clocks) }
+        ensures enabled { (c : ℕ) → c < 32 → enabled_at self.new c ≡ enabled_to (if_success reply.new.items (enabled_now (Config clock attributes))) c (enabled_at self.old c) }
+        ensures known { IfSome (if_success reply.new.items (enabled_now (Config clock attributes))) (λ set. set.0 < length plan.now.clocks) }
     {
         match check_config(plan, base, caller, clock, attributes) {
             Ok(enable) => {
                 self.enabled[clock as usize] = enable;
-                payload_of(&[SUCCESS])
+                set_payload(reply, &[SUCCESS]);
             }
-            Err(status) => refusal(status),
+            Err(status) => set_refusal(reply, status),
         }
     }
 }

@@ -8,7 +8,7 @@ ghost use Rattle.scmi_clock.specs.ClockTable.{rate_at, enabled_at};
 use crate::checks::{check_clock, check_index};
 use crate::clock_state::ClockState;
 use scmi_codec::{
-    PAYLOAD_WORDS, Payload, SUCCESS, Status, name_words, payload_of, rate_words, refusal,
+    PAYLOAD_WORDS, Payload, SUCCESS, Status, name_words, rate_words, set_payload, set_refusal,
 };
 use scmi_plan::{Plan, Rates};
 
@@ -25,93 +25,99 @@ const MOST_RATES: usize = (PAYLOAD_WORDS - 2) / 2;
 const TRIPLET: u32 = 0x1003;
 
 /// 0x0: the version.
-pub(crate) fn version() -> Payload
-    ensures { result.items ≡ 0 ∷ 0x00010000 ∷ [] }
+pub(crate) fn version(reply: &mut Payload)
+    ensures { reply.new.items ≡ 0 ∷ 0x00010000 ∷ [] }
 {
-    payload_of(&[SUCCESS, VERSION])
+    set_payload(reply, &[SUCCESS, VERSION]);
 }
 
 /// 0x1: the most pending sets in bits [23:16], the number of clocks in [15:0].
-pub(crate) fn attributes(plan: &Plan) -> Payload
-    ensures { result.items ≡ attributes_reply plan.now }
+pub(crate) fn attributes(plan: &Plan, reply: &mut Payload)
+    ensures { reply.new.items ≡ attributes_reply plan.now }
 {
-    payload_of(&[SUCCESS, PENDING_SETS << 16 | plan.clocks()])
+    set_payload(reply, &[SUCCESS, PENDING_SETS << 16 | plan.clocks()]);
 }
 
 /// 0x2: no attributes; NOT_FOUND for an id that the protocol lacks.
-pub(crate) fn message_attributes(message: u32) -> Payload
-    ensures { result.items ≡ message_reply message }
+pub(crate) fn message_attributes(message: u32, reply: &mut Payload)
+    ensures { reply.new.items ≡ message_reply message }
 {
     match message {
-        0x0..=0x7 => payload_of(&[SUCCESS, 0]),
-        _ => refusal(Status::NotFound),
+        0x0..=0x7 => set_payload(reply, &[SUCCESS, 0]),
+        _ => set_refusal(reply, Status::NotFound),
     }
 }
 
 /// 0x3: in bit 0 whether the clock is enabled, and its name.
-pub(crate) fn clock_attributes(plan: &Plan, state: &ClockState, clock: u32) -> Payload
-    ensures { result.items ≡ clock_attributes_reply plan.now (enabled_at state.now clock) clock }
+pub(crate) fn clock_attributes(plan: &Plan, state: &ClockState, clock: u32, reply: &mut Payload)
+    ensures { reply.new.items ≡ clock_attributes_reply plan.now (enabled_at state.now clock) clock }
 {
     if let Err(status) = check_clock(plan, clock) {
-        return refusal(status);
+        set_refusal(reply, status);
+        return;
     }
     let [a, b, c, d] = name_words(&plan.clock(clock).name);
-    payload_of(&[SUCCESS, u32::from(state.enabled(clock)), a, b, c, d])
+    set_payload(
+        reply,
+        &[SUCCESS, u32::from(state.enabled(clock)), a, b, c, d],
+    );
 }
 
 /// 0x4: the rates of a list from an index on, as many as a reply holds, or a triplet whatever the
 /// index (own).
-pub(crate) fn describe(plan: &Plan, clock: u32, index: u32) -> Payload
-    ensures { result.items ≡ describe_reply plan.now clock index }
+pub(crate) fn describe(plan: &Plan, clock: u32, index: u32, reply: &mut Payload)
+    ensures { reply.new.items ≡ describe_reply plan.now clock index }
 {
     if let Err(status) = check_clock(plan, clock) {
-        return refusal(status);
+        set_refusal(reply, status);
+        return;
     }
     let rates = &plan.clock(clock).rates;
     if let Err(status) = check_index(rates, index) {
-        return refusal(status);
+        set_refusal(reply, status);
+        return;
     }
-    described(rates, index)
+    described(rates, index, reply);
 }
 
 /// 0x6: the rate.
-pub(crate) fn current_rate(plan: &Plan, state: &ClockState, clock: u32) -> Payload
-    ensures { result.items ≡ rate_reply plan.now (rate_at state.now clock) clock }
+pub(crate) fn current_rate(plan: &Plan, state: &ClockState, clock: u32, reply: &mut Payload)
+    ensures { reply.new.items ≡ rate_reply plan.now (rate_at state.now clock) clock }
 {
     if let Err(status) = check_clock(plan, clock) {
-        return refusal(status);
+        set_refusal(reply, status);
+        return;
     }
     let [low, high] = rate_words(state.rate(clock));
-    payload_of(&[SUCCESS, low, high])
+    set_payload(reply, &[SUCCESS, low, high]);
 }
 
-fn described(rates: &Rates, index: u32) -> Payload
+fn described(rates: &Rates, index: u32, reply: &mut Payload)
     requires lawful { HasLawfulRates rates.now }
     requires index { past_end rates.now index ≡ false }
-    ensures { result.items ≡ 0 ∷ described rates.now index }
+    ensures { reply.new.items ≡ 0 ∷ described rates.now index }
 {
     match rates {
-        Rates::List(list) => listed(list.as_slice(), index as usize),
-        Rates::Steps { low, high, step } => triplet(*low, *high, *step),
+        Rates::List(list) => listed(list.as_slice(), index as usize, reply),
+        Rates::Steps { low, high, step } => triplet(*low, *high, *step, reply),
     }
 }
 
 /// As many rates from an index on as a reply holds, and how many remain.
-fn listed(list: &[u64], index: usize) -> Payload
+fn listed(list: &[u64], index: usize, reply: &mut Payload)
     requires few { length list.now ≤ 64 }
     requires index { index < length list.now }
-    ensures { result.items ≡ 0 ∷ described (List list.now) index }
+    ensures { reply.new.items ≡ 0 ∷ described (List list.now) index }
 {
     let left = list.len() - index;
     let count = left.min(MOST_RATES);
-    let mut reply = payload_of(&[SUCCESS, rates_word(left - count, count)]);
+    set_payload(reply, &[SUCCESS, rates_word(left - count, count)]);
     let returned = &list[index..index + count];
     for rate in returned {
         let [low, high] = rate_words(*rate);
         reply.push(low);
         reply.push(high);
     }
-    reply
 }
 
 /// The flags word of a list: rates that remain in bits [31:16], rates returned in [11:0].
@@ -123,11 +129,11 @@ fn rates_word(remaining: usize, returned: usize) -> u32
     (remaining as u32) << 16 | returned as u32
 }
 
-fn triplet(low: u64, high: u64, step: u64) -> Payload
-    ensures { result.items ≡ 0 ∷ described (Steps low high step) 0 }
+fn triplet(low: u64, high: u64, step: u64, reply: &mut Payload)
+    ensures { reply.new.items ≡ 0 ∷ described (Steps low high step) 0 }
 {
     let [a, b] = rate_words(low);
     let [c, d] = rate_words(high);
     let [e, f] = rate_words(step);
-    payload_of(&[SUCCESS, TRIPLET, a, b, c, d, e, f])
+    set_payload(reply, &[SUCCESS, TRIPLET, a, b, c, d, e, f]);
 }

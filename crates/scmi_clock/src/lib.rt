@@ -7,16 +7,10 @@
 #![tactic(auto)]
 
 mod checks;
-mod clock_done;
 mod clock_state;
 mod discovery;
 mod rounding;
 mod set_flags;
-#[cfg(test)]
-mod state_tests;
-#[cfg(test)]
-mod tests;
 
-pub use clock_done::ClockDone;
 pub use clock_state::ClockState;
 pub use rounding::{Rounding, round};

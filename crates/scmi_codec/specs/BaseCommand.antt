@@ -14,6 +14,7 @@ base_table =
     ∷ (0x6, 1, λ w. base.Protocols (slice_index w 0))
     ∷ (0x7, 1, λ w. base.Agent (slice_index w 0))
     ∷ (0x9, 3, λ w. base.Permit (slice_index w 0) (slice_index w 1) (slice_index w 2))
+    ∷ (0xA, 4, λ w. base.PermitProtocol (slice_index w 0) (slice_index w 1) (slice_index w 2) (slice_index w 3))
     ∷ (0xB, 2, λ w. base.ResetAgent (slice_index w 0) (slice_index w 1))
     ∷ []
 
@@ -32,6 +33,7 @@ base_id base.Implementation = 0x5
 base_id (base.Protocols skip) = 0x6
 base_id (base.Agent agent) = 0x7
 base_id (base.Permit agent device flags) = 0x9
+base_id (base.PermitProtocol agent device protocol flags) = 0xA
 base_id (base.ResetAgent agent flags) = 0xB
 
 -- the payload words of a command
@@ -40,5 +42,6 @@ base_words (base.MessageAttributes message) = message ∷ []
 base_words (base.Protocols skip) = skip ∷ []
 base_words (base.Agent agent) = agent ∷ []
 base_words (base.Permit agent device flags) = agent ∷ device ∷ flags ∷ []
+base_words (base.PermitProtocol agent device protocol flags) = agent ∷ device ∷ protocol ∷ flags ∷ []
 base_words (base.ResetAgent agent flags) = agent ∷ flags ∷ []
 base_words _ = []

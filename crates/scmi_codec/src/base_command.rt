@@ -13,14 +13,33 @@ pub const BASE_PROTOCOL: u8 = 0x10;
 pub enum BaseCommand {
     Version,
     Attributes,
-    MessageAttributes { message: u32 },
+    MessageAttributes {
+        message: u32,
+    },
     Vendor,
     SubVendor,
     Implementation,
-    Protocols { skip: u32 },
-    Agent { agent: u32 },
-    Permit { agent: u32, device: u32, flags: u32 },
-    ResetAgent { agent: u32, flags: u32 },
+    Protocols {
+        skip: u32,
+    },
+    Agent {
+        agent: u32,
+    },
+    Permit {
+        agent: u32,
+        device: u32,
+        flags: u32,
+    },
+    PermitProtocol {
+        agent: u32,
+        device: u32,
+        protocol: u32,
+        flags: u32,
+    },
+    ResetAgent {
+        agent: u32,
+        flags: u32,
+    },
 }
 
 impl BaseCommand {
@@ -43,11 +62,17 @@ impl BaseCommand {
                 device: *device,
                 flags: *flags,
             }),
+            (0xa, [agent, device, protocol, flags]) => Ok(BaseCommand::PermitProtocol {
+                agent: *agent,
+                device: *device,
+                protocol: *protocol,
+                flags: *flags,
+            }),
             (0xb, [agent, flags]) => Ok(BaseCommand::ResetAgent {
                 agent: *agent,
                 flags: *flags,
             }),
-            (0x0..=0x7 | 0x9 | 0xb, _) => Err(Status::ProtocolError),
+            (0x0..=0x7 | 0x9..=0xb, _) => Err(Status::ProtocolError),
             _ => Err(Status::NotSupported),
         }
     }
@@ -65,6 +90,7 @@ impl BaseCommand {
             BaseCommand::Protocols { .. } => 0x6,
             BaseCommand::Agent { .. } => 0x7,
             BaseCommand::Permit { .. } => 0x9,
+            BaseCommand::PermitProtocol { .. } => 0xa,
             BaseCommand::ResetAgent { .. } => 0xb,
         }
     }
@@ -81,6 +107,12 @@ impl BaseCommand {
                 device,
                 flags,
             } => payload_of(&[*agent, *device, *flags]),
+            BaseCommand::PermitProtocol {
+                agent,
+                device,
+                protocol,
+                flags,
+            } => payload_of(&[*agent, *device, *protocol, *flags]),
             BaseCommand::ResetAgent { agent, flags } => payload_of(&[*agent, *flags]),
             _ => payload_of(&[]),
         }

@@ -35,6 +35,24 @@ impl Frame {
             },
         }
     }
+
+    /// Becomes the same frame as another. Of a message only the words that are there are copied.
+    pub fn copy_from(&mut self, frame: &Frame)
+        ensures { self.new ≡ frame.now }
+    {
+        match frame {
+            Frame::Good(message) => match self {
+                Frame::Good(own) => own.copy_from(message),
+                Frame::Malformed { .. } => *self = Frame::Good(message.copy()),
+            },
+            Frame::Malformed { length, header } => {
+                *self = Frame::Malformed {
+                    length: *length,
+                    header: *header,
+                };
+            }
+        }
+    }
 }
 
 impl Answer {
@@ -46,6 +64,19 @@ impl Answer {
             Answer::Reply(message) => Answer::Reply(message.copy()),
             Answer::Released => Answer::Released,
             Answer::ChannelError => Answer::ChannelError,
+        }
+    }
+    /// Becomes the same answer as another. Of a message only the words that are there are copied.
+    pub fn copy_from(&mut self, answer: &Answer)
+        ensures { self.new ≡ answer.now }
+    {
+        match answer {
+            Answer::Reply(message) => match self {
+                Answer::Reply(own) => own.copy_from(message),
+                _ => *self = Answer::Reply(message.copy()),
+            },
+            Answer::Released => *self = Answer::Released,
+            Answer::ChannelError => *self = Answer::ChannelError,
         }
     }
 }

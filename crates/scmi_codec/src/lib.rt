@@ -20,8 +20,6 @@ mod power_command;
 mod rate;
 mod rate_flags;
 mod status;
-#[cfg(test)]
-mod tests;
 mod word;
 
 pub use area::{AREA_BYTES, AreaError, is_well_formed, read_area, write_answer};
@@ -34,7 +32,9 @@ pub use frame::{Answer, Frame};
 pub use header::Header;
 pub use message::Message;
 pub use name::{NAME_BYTES, Name, name_words};
-pub use payload::{PAYLOAD_WORDS, Payload, SUCCESS, is_success, payload_of, refusal};
+pub use payload::{
+    PAYLOAD_WORDS, Payload, SUCCESS, is_success, payload_of, refusal, set_payload, set_refusal,
+};
 pub use power_command::{POWER_PROTOCOL, PowerCommand};
 pub use rate::{rate_of, rate_words};
 pub use rate_flags::RateFlags;

@@ -22,6 +22,17 @@ impl Message {
             payload: payload_of(self.payload.as_slice()),
         }
     }
+
+    /// Becomes the same message as another. Only the words that are there are copied.
+    pub fn copy_from(&mut self, message: &Message)
+        ensures { self.new ≡ message.now }
+    {
+        self.header = message.header;
+        self.payload.clear();
+        let _ = self
+            .payload
+            .try_extend_from_slice(message.payload.as_slice());
+    }
 }
 
 // A vector of fixed room holds this in its unused places.

@@ -33,6 +33,24 @@ pub fn refusal(status: Status) -> Payload
     payload_of(&[status.word()])
 }
 
+/// Makes a payload these words, at most `PAYLOAD_WORDS` of them, where it stands.
+#[inline]
+pub fn set_payload(payload: &mut Payload, words: &[u32])
+    requires { length words.now ≤ PAYLOAD_WORDS }
+    ensures { payload.new.items ≡ words.now }
+{
+    payload.clear();
+    let _ = payload.try_extend_from_slice(words);
+}
+
+/// Makes a payload that of an error response, where it stands: the status word alone (own).
+#[inline]
+pub fn set_refusal(payload: &mut Payload, status: Status)
+    ensures { payload.new.items ≡ status_word status ∷ [] }
+{
+    set_payload(payload, &[status.word()]);
+}
+
 /// Whether a response's payload begins with the status SUCCESS.
 pub fn is_success(payload: &Payload) -> bool
     ensures { result ≡ begins_with_success payload.now.items }

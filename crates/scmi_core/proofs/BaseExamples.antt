@@ -150,3 +150,27 @@ two_devices-told_ap = refl
 two_devices-told_modem : told board_of_two_holders 2 two_devices ≡ []
 unfolding two_devices deeds reply_words base_reply power_reply clock_reply over
 two_devices-told_modem = refl
+
+-- permissions for each protocol, beside those for a device as a whole
+protocol_permissions : List Event
+protocol_permissions =
+    request 1 0 0x10 0xa (2 ∷ 0 ∷ 0x14 ∷ 0 ∷ []) ∷ request 2 0 0x14 0x5 (0 ∷ 0 ∷ 300 ∷ 0 ∷ []) ∷ request 2 1 0x11 0x4 (0 ∷ 0 ∷ 0 ∷ [])
+    ∷ request 1 1 0x10 0x9 (2 ∷ 0 ∷ 0 ∷ []) ∷ request 2 2 0x11 0x4 (0 ∷ 0 ∷ 0x40000000 ∷ []) ∷ request 1 2 0x10 0x9 (2 ∷ 0 ∷ 1 ∷ [])
+    ∷ request 2 3 0x14 0x5 (0 ∷ 0 ∷ 300 ∷ 0 ∷ []) ∷ request 1 3 0x10 0xb (2 ∷ 1 ∷ []) ∷ request 2 4 0x14 0x5 (0 ∷ 0 ∷ 300 ∷ 0 ∷ [])
+    ∷ request 1 4 0x10 0xa (2 ∷ 0 ∷ 0x13 ∷ 0 ∷ []) ∷ request 1 5 0x10 0xa (2 ∷ 0 ∷ 0x111 ∷ 0 ∷ []) ∷ request 2 5 0x10 0xa (2 ∷ 0 ∷ 0x11 ∷ 0 ∷ [])
+    ∷ request 1 6 0x10 0x2 (0xa ∷ []) ∷ []
+
+protocol_permissions-replies : replies board_b protocol_permissions
+    ≡ (0x0000400a ∷ 0 ∷ []) ∷ (0x00005005 ∷ 0xfffffffd ∷ []) ∷ (0x00044404 ∷ 0 ∷ []) ∷ (0x00044009 ∷ 0 ∷ []) ∷ (0x00084404 ∷ 0xfffffffd ∷ [])
+    ∷ (0x00084009 ∷ 0 ∷ []) ∷ (0x000c5005 ∷ 0xfffffffd ∷ []) ∷ (0x000c400b ∷ 0 ∷ []) ∷ (0x00105005 ∷ 0 ∷ [])
+    ∷ (0x0010400a ∷ 0xfffffffc ∷ []) ∷ (0x0014400a ∷ 0xfffffffe ∷ []) ∷ (0x0014400a ∷ 0xfffffffd ∷ []) ∷ (0x00184002 ∷ 0 ∷ 0 ∷ []) ∷ []
+unfolding protocol_permissions deeds reply_words base_reply power_reply clock_reply over
+protocol_permissions-replies = refl
+
+protocol_permissions-told_ap : told board_b 1 protocol_permissions ≡ []
+unfolding protocol_permissions deeds reply_words base_reply power_reply clock_reply over
+protocol_permissions-told_ap = refl
+
+protocol_permissions-told_modem : told board_b 2 protocol_permissions ≡ []
+unfolding protocol_permissions deeds reply_words base_reply power_reply clock_reply over
+protocol_permissions-told_modem = refl

@@ -11,6 +11,7 @@ use Rattle.scmi_core.specs.declared.event.Event.TheVariants.{Advance}
 use Rattle.std.specs.Option.{option_to_list, option_and_then}
 use Rattle.scmi_core.specs.Deed.{Deed, Success, over, latest, successes, success_at}
 use Rattle.scmi_core.specs.Value.{Thing, changes, change_by, value, value_at_start, value_in}
+use Rattle.scmi_base.specs.declared.scope.Scope.{Scope}
 use Rattle.scmi_core.specs.Permissions.{allowed, permission_in}
 use Rattle.scmi_core.specs.Subscriptions.{subscription, subscribed}
 use Rattle.scmi_core.specs.Pending.{acceptance, accepted, advances, is_advance, pending}
@@ -53,11 +54,11 @@ successes-push h deed =
     filter_map-append (λ e. success_at e.event e.reply) h (deed ∷ [])
     ∙ ap (λ ys. successes h ++ ys) (cons-to_list (added deed))
 
-pub allowed-push : (a d : ℕ) (h : List Deed) (deed : Deed)
-    → allowed a d (h ++ deed ∷ []) ≡ unwrap_or (option_and_then (λ s. permission_in a d s.command) (added deed)) (allowed a d h)
-allowed-push a d h deed =
-    ap (λ ss. latest true (filter_map (λ s. permission_in a d s.command) ss)) (successes-push h deed)
-    ∙ latest-filter_map (λ s. permission_in a d s.command) true (successes h) (added deed)
+pub allowed-push : (a d : ℕ) (scope : Scope) (h : List Deed) (deed : Deed)
+    → allowed a d scope (h ++ deed ∷ []) ≡ unwrap_or (option_and_then (λ s. permission_in a d scope s.command) (added deed)) (allowed a d scope h)
+allowed-push a d scope h deed =
+    ap (λ ss. latest true (filter_map (λ s. permission_in a d scope s.command) ss)) (successes-push h deed)
+    ∙ latest-filter_map (λ s. permission_in a d scope s.command) true (successes h) (added deed)
 
 changes-push : (board : Board) (h : List Deed) (deed : Deed) → changes board (h ++ deed ∷ []) ≡ changes board h ++ option_to_list (change_by board h deed)
 changes-push board h deed = over-push (λ before so_far x. so_far ++ option_to_list (change_by board before x)) [] [] h deed

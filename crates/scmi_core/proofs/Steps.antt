@@ -14,6 +14,7 @@ use Rattle.scmi_codec.specs.declared.power_command.PowerCommand.TheVariants as p
 use Rattle.scmi_plan.specs.Board.{Board}
 use Rattle.scmi_codec.specs.Reply.{bit_0}
 use Rattle.scmi_base.specs.Permission.{is_allowed}
+use Rattle.scmi_base.specs.declared.scope.Scope.{Scope}
 use Rattle.scmi_power.specs.PowerTable.{PowerTables, state_at, is_subscribed, set_to, set_now, set_later, notification}
 use Rattle.scmi_codec.specs.Payload.{if_success}
 use Rattle.scmi_clock.specs.ClockTable.{ClockTables, rate_at, enabled_at}
@@ -87,10 +88,10 @@ subscription-power a header c reply x d old = by (begins_with_success reply) whe
   by true = refl
   by false = refl
 
-permission-power : (a : ℕ) (header : HeaderFields) (c : PowerCommand) (reply : List ℕ) (x d : ℕ) (old : Bool)
-    → unwrap_or (option_and_then (λ s. permission_in x d s.command) (success_of a header (Ok (Power c)) reply)) old ≡ old
-permission-power a header c reply x d old = by (begins_with_success reply) where
-  by : (b : Bool) → unwrap_or (option_and_then (λ s. permission_in x d s.command) (if b then success_with a header (Ok (Power c)) else None)) old ≡ old
+permission-power : (a : ℕ) (header : HeaderFields) (c : PowerCommand) (reply : List ℕ) (x d : ℕ) (scope : Scope) (old : Bool)
+    → unwrap_or (option_and_then (λ s. permission_in x d scope s.command) (success_of a header (Ok (Power c)) reply)) old ≡ old
+permission-power a header c reply x d scope old = by (begins_with_success reply) where
+  by : (b : Bool) → unwrap_or (option_and_then (λ s. permission_in x d scope s.command) (if b then success_with a header (Ok (Power c)) else None)) old ≡ old
   by true = refl
   by false = refl
 
@@ -181,7 +182,7 @@ power-stepped board t n new power' a header c reply changed later before few few
     let change : change_of board (success_of a header (Ok (Power c)) reply) None ≡ option_map (state_change a) changed = change-power board a header c reply ∙ ap (option_map (state_change a)) (sym is_changed) in
     let pend : new.pending.items ≡ t.pending.items ++ option_to_list (option_map (state_set a header) later) = ap (λ p. p.items) kept2.pending ∙ pend1 in
     record {
-      permissions = λ x d lo' small. ap (λ b. is_allowed b x d) (kept2.base ∙ kept1.base) ∙ sym (permission-power a header c reply x d (is_allowed t.base x d));
+      permissions = λ x d scope lo' small. ap (λ b. is_allowed b x d scope) (kept2.base ∙ kept1.base) ∙ sym (permission-power a header c reply x d scope (is_allowed t.base x d scope));
       subscriptions = λ x d lo' hi' small. ap (λ p. is_subscribed p x d) (kept2.power ∙ kept1.power) ∙ subs x d lo' hi' small ∙ sym (subscription-power a header c reply x d (is_subscribed t.power x d));
       values = λ x within. values x within ∙ ap (λ o. unwrap_or (option_and_then (value_in x) o) (value_at t x)) (sym change);
       known = subst (λ o. IfSome o (λ ch. IsThing board ch.thing)) (sym change) (changed-known board a changed known);
@@ -238,7 +239,7 @@ state-completed board t m new power' left a header wanted d s before few lo hi w
     let done : PendingSet = record { agent = a; setting = setting.State d s; header = header; wanted = wanted } in
     let pend : new.pending.items ≡ drop 1 t.pending.items = ap (λ p. p.items) (kept2.pending ∙ kept1.pending) ∙ rest in
     subst (λ o. HasStepped board t None o new) (sym first) (record {
-      permissions = λ x e lo' small. ap (λ b. is_allowed b x e) (kept2.base ∙ kept1.base);
+      permissions = λ x e scope lo' small. ap (λ b. is_allowed b x e scope) (kept2.base ∙ kept1.base);
       subscriptions = λ x e lo' hi' small. ap (λ p. is_subscribed p x e) (kept2.power ∙ kept1.power) ∙ same_subs x e;
       values = values;
       known = within;
@@ -272,7 +273,7 @@ rate-completed board t new clocks' left a header wanted k rate few lo hi within 
     let done : PendingSet = record { agent = a; setting = setting.Rate k rate; header = header; wanted = wanted } in
     let pend : new.pending.items ≡ drop 1 t.pending.items = ap (λ p. p.items) kept.pending ∙ rest in
     subst (λ o. HasStepped board t None o new) (sym first) (record {
-      permissions = λ x e lo' small. ap (λ b. is_allowed b x e) kept.base;
+      permissions = λ x e scope lo' small. ap (λ b. is_allowed b x e scope) kept.base;
       subscriptions = λ x e lo' hi' small. ap (λ p. is_subscribed p x e) kept.power;
       values = values;
       known = within;

@@ -20,6 +20,7 @@ use Rattle.scmi_plan.specs.Board.{Board}
 use Rattle.scmi_plan.specs.declared.resource.Resource.TheVariants as resource
 use Rattle.scmi_plan.specs.Plan.{IsLawful}
 use Rattle.scmi_base.specs.Permission.{is_allowed}
+use Rattle.scmi_base.specs.declared.scope.Scope.{Scope}
 use Rattle.scmi_base.proofs.MaySame.{may-same}
 use Rattle.scmi_power.specs.PowerTable.{state_at, is_subscribed}
 use Rattle.scmi_power.proofs.ReplySame as power_same
@@ -66,8 +67,8 @@ module _ (board : Board) (t : Tables) (h : List Event) (agrees : Agrees board t 
       power_same.power_reply-same board (power_view_at board a t) (power_view board a (deeds board h))
       (record {
         state = λ d small. agrees.values (State d) small;
-        may = λ d small. may-same board (λ device. is_allowed t.base a device) (λ device. allowed a device (deeds board h)) (resource.Domain d)
-            (λ device within. agrees.permissions a device lo few (omega (arith, law.few_devices)));
+        may = λ d small. may-same board (λ device. is_allowed t.base a device) (λ device scope. allowed a device scope (deeds board h)) (resource.Domain d)
+            (λ device scope within. agrees.permissions a device scope lo few (omega (arith, law.few_devices)));
         busy = λ d small. ap (λ p. list_any (λ q. is_set_by (resource.Domain d) q.setting) p) agrees.pending_sets;
         room = room;
       }) c
@@ -76,8 +77,8 @@ module _ (board : Board) (t : Tables) (h : List Event) (agrees : Agrees board t 
       (record {
         rate = λ k small. agrees.values (Rate k) small;
         enabled = λ k small. said (enabled_at t.clocks k) ∙ ap (λ n. n == 1) (agrees.values (Enabled k) small);
-        may = λ k small. may-same board (λ device. is_allowed t.base a device) (λ device. allowed a device (deeds board h)) (resource.Clock k)
-            (λ device within. agrees.permissions a device lo few (omega (arith, law.few_devices)));
+        may = λ k small. may-same board (λ device. is_allowed t.base a device) (λ device scope. allowed a device scope (deeds board h)) (resource.Clock k)
+            (λ device scope within. agrees.permissions a device scope lo few (omega (arith, law.few_devices)));
         busy = λ k small. ap (λ p. list_any (λ q. is_set_by (resource.Clock k) q.setting) p) agrees.pending_sets;
         room = room;
       }) c where
@@ -124,10 +125,10 @@ module _ (board : Board) (t new : Tables) (h : List Event) (deed : Deed) (agrees
   unfolding outbox
   Agrees-deed e more follows unsent = record {
     legal = IsLegal-push board h e agrees.legal follows;
-    permissions = λ a d lo hi small.
-        stepped.permissions a d lo small
-        ∙ ap (unwrap_or (option_and_then (λ s. permission_in a d s.command) (added deed))) (agrees.permissions a d lo hi small)
-        ∙ sym (ap (allowed a d) more ∙ allowed-push a d (deeds board h) deed);
+    permissions = λ a d scope lo hi small.
+        stepped.permissions a d scope lo small
+        ∙ ap (unwrap_or (option_and_then (λ s. permission_in a d scope s.command) (added deed))) (agrees.permissions a d scope lo hi small)
+        ∙ sym (ap (allowed a d scope) more ∙ allowed-push a d scope (deeds board h) deed);
     subscriptions = λ a d lo hi small.
         stepped.subscriptions a d lo hi small
         ∙ ap (unwrap_or (option_and_then (subscription a d) (added deed))) (agrees.subscriptions a d lo hi small)
@@ -160,7 +161,7 @@ Agrees-command board t new h a m reply agrees law lo hi is stepped =
 -- an event that is neither a success nor a completion
 nothing-stepped : (board : Board) (t : Tables) → HasStepped board t None None t
 nothing-stepped board t = record {
-  permissions = λ a d lo small. refl;
+  permissions = λ a d scope lo small. refl;
   subscriptions = λ a d lo hi small. refl;
   values = λ x within. refl;
   known = tt;
@@ -227,7 +228,7 @@ Agrees-sent board t new h a agrees law lo hi waiting bases powers clocks pends f
     let follows : 0 < length (outbox board a h) = subst (λ b. 0 < length b) (agrees.outboxes a lo hi) waiting in
     record {
       legal = IsLegal-push board h (Sent a) agrees.legal (lo, hi, follows);
-      permissions = λ x d lo' hi' small. ap (λ b. is_allowed b x d) bases ∙ agrees.permissions x d lo' hi' small ∙ sym (ap (allowed x d) more ∙ allowed-push x d (deeds board h) deed);
+      permissions = λ x d scope lo' hi' small. ap (λ b. is_allowed b x d scope) bases ∙ agrees.permissions x d scope lo' hi' small ∙ sym (ap (allowed x d scope) more ∙ allowed-push x d scope (deeds board h) deed);
       subscriptions = λ x d lo' hi' small. ap (λ p. is_subscribed p x d) powers ∙ agrees.subscriptions x d lo' hi' small ∙ sym (ap (subscribed x d) more ∙ subscribed-push x d (deeds board h) deed);
       values = λ x within. same_value x ∙ agrees.values x within ∙ sym (ap (value board x) more ∙ value-push board x (deeds board h) deed);
       pending_sets = ap (λ p. p.items) pends ∙ agrees.pending_sets ∙ sym (append-nil (pending board (deeds board h)))
@@ -258,12 +259,12 @@ Agrees-sent board t new h a agrees law lo hi waiting bases powers clocks pends f
           ∙ ap (λ n. drop n (made board x (deeds board h))) (sent-push x (deeds board h) deed ∙ ap (λ b. sent x (deeds board h) + (if b then 1 else 0)) other.0 ∙ zero_more))
 
 -- the tables of a new controller
-pub Agrees-new : (board : Board) (t : Tables) → ((a d : ℕ) → is_allowed t.base a d ≡ true) → ((a d : ℕ) → is_subscribed t.power a d ≡ false)
+pub Agrees-new : (board : Board) (t : Tables) → ((a d : ℕ) (scope : Scope) → is_allowed t.base a d scope ≡ true) → ((a d : ℕ) → is_subscribed t.power a d ≡ false)
     → ((x : Thing) → IsThing board x → value_at t x ≡ value_at_start board x) → t.pending.items ≡ [] → ((a : ℕ) → outbox_at t a ≡ []) → Agrees board t []
 unfolding deeds over outbox
 Agrees-new board t all none values pends boxes = record {
   legal = IsLegal-nil board;
-  permissions = λ a d lo hi small. all a d;
+  permissions = λ a d scope lo hi small. all a d scope;
   subscriptions = λ a d lo hi small. none a d;
   values = values;
   pending_sets = pends;

@@ -8,6 +8,8 @@ use Rattle.scmi_codec.specs.declared.frame.Frame.{Frame}
 use Rattle.scmi_codec.specs.declared.frame.Frame.TheVariants.{Good, Malformed}
 use Rattle.scmi_codec.specs.declared.frame.Answer.{Answer}
 use Rattle.scmi_codec.specs.declared.frame.Answer.TheVariants.{Reply, ChannelError}
+use Rattle.scmi_core.specs.declared.answered.Answered.{Answered}
+use Rattle.scmi_core.specs.declared.answered.Answered.TheVariants as answered
 use Rattle.scmi_plan.specs.Board.{Board}
 use Rattle.scmi_core.specs.declared.event.Event.{Event}
 use Rattle.scmi_core.specs.declared.event.Event.TheVariants.{Command}
@@ -32,6 +34,11 @@ scmi board a m h = reply_after board a m (deeds board h)
 abbrev pub answer_to : Board → ℕ → Frame → List Event → Answer
 answer_to board a (Good m) h = Reply (scmi board a m h)
 answer_to board a (Malformed len header) h = ChannelError
+
+-- the answer that stands as a reply beside what was answered
+abbrev pub answer_with : Answered → Message → Answer
+answer_with answered.Reply m = Reply m
+answer_with answered.ChannelError m = ChannelError
 
 -- the answer to an event after a history, if it is a command
 abbrev pub answer_of_event : Board → List Event → Event → Option Answer

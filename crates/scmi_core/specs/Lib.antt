@@ -9,10 +9,12 @@ pub mod History
 pub mod Agents
 pub mod Legal
 pub mod Bounds
+pub mod Mark
 pub mod Trace
 pub mod Platform
 pub mod Tables
 pub mod Step
 pub mod Agreement
+pub mod Standing
 pub mod BoardB
 pub mod BoardC

@@ -31,7 +31,7 @@ abbrev pub power_view : Board → ℕ → List Deed → PowerView
 power_view board a h =
     record {
       state = λ d. value board (State d) h;
-      may = λ d. may board (λ device. allowed a device h) (resource.Domain d);
+      may = λ d. may board (λ device scope. allowed a device scope h) (resource.Domain d);
       busy = λ d. is_pending board (resource.Domain d) h;
       room = has_room board a h;
     }
@@ -42,7 +42,7 @@ clock_view board a h =
     record {
       rate = λ c. value board (Rate c) h;
       enabled = λ c. value board (Enabled c) h == 1;
-      may = λ c. may board (λ device. allowed a device h) (resource.Clock c);
+      may = λ c. may board (λ device scope. allowed a device scope h) (resource.Clock c);
       busy = λ c. is_pending board (resource.Clock c) h;
       room = has_room board a h;
     }

@@ -1,8 +1,42 @@
--- What contracts see of a trace.
-use Rattle.std.specs.Prelude.{ℕ, List}
+-- A trace: the events so far, each as a few words.
+use Rattle.std.specs.Prelude.{◌≡◌, ℕ, ◌≤◌, List, [], ◌∷◌, length, take, drop, zero, suc}
+use Rattle.scmi_codec.specs.Header.{header_of}
+use Rattle.scmi_codec.specs.declared.frame.Frame.TheVariants as frame
+use Rattle.scmi_codec.specs.declared.payload.TheConstants.{PAYLOAD_WORDS}
 use Rattle.scmi_core.specs.declared.event.Event.{Event}
+use Rattle.scmi_core.specs.declared.event.Event.TheVariants.{Command, Advance, Sent}
+use Rattle.scmi_core.specs.declared.mark.Mark.{Mark}
+use Rattle.scmi_core.specs.declared.mark.Mark.TheVariants as mark
+use Rattle.scmi_core.specs.Mark.{mark_of}
 
--- the events so far, oldest first, and for how many more there is memory
+-- what contracts see of it: the events, oldest first, and for how many more there is memory
 pub record Recorded : Type 0 where
   pub events : List Event
   pub room : ℕ
+
+-- how many payload words follow a mark, a size and a header
+abbrev pub payload_count : Mark → ℕ → ℕ
+payload_count (mark.Message a) size = size
+payload_count _ size = 0
+
+-- the event of a mark, a size, a header and the payload words that follow them
+abbrev pub event_of : Mark → ℕ → ℕ → List ℕ → Event
+event_of (mark.Message a) size header payload = Command a (frame.Good (record { header = header_of header; payload = record { items = payload } }))
+event_of (mark.Malformed a) size header payload = Command a (frame.Malformed size header)
+event_of (mark.Sent a) size header payload = Sent a
+event_of mark.Advance size header payload = Advance
+
+-- the first n events of some words
+unfoldable pub events_of : ℕ → List ℕ → List Event
+events_of (suc n) (first ∷ size ∷ header ∷ rest) =
+    let count = payload_count (mark_of first) size in
+    event_of (mark_of first) size header (take count rest) ∷ events_of n (drop count rest)
+events_of _ _ = []
+
+-- some words are n events, and nothing more
+unfoldable pub AreEvents : ℕ → List ℕ → Type 0
+AreEvents zero words = words ≡ []
+AreEvents (suc n) (first ∷ size ∷ header ∷ rest) =
+    let count = payload_count (mark_of first) size in
+    (count ≤ PAYLOAD_WORDS) × (count ≤ length rest) × AreEvents n (drop count rest)
+AreEvents _ _ = ⊥

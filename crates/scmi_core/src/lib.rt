@@ -5,21 +5,25 @@
 //! definitions of the history say at that place (specs/History.antt).
 #![tactic(auto)]
 
+mod answered;
 mod busy;
 mod core_error;
 mod event;
+mod events;
 mod load;
+mod mark;
 mod outbox;
 mod p2a_message;
 mod pending_set;
+mod platform;
 mod platform_core;
 mod tables;
 mod trace;
 
+pub use answered::Answered;
 pub use core_error::CoreError;
 pub use event::Event;
+pub use events::Events;
+pub use platform::Platform;
 pub use platform_core::Core;
 pub use trace::Trace;
-
-#[cfg(test)]
-mod tests;

@@ -1,5 +1,6 @@
 //! The messages that the platform has for each agent.
 ghost use Rattle.std.specs.Prelude.{◌≡◌, ◌≢◌, ◌↔◌, ◌≤◌, ◌<◌, ◌++◌, ◌∷◌, [], ℕ, length, true, false, drop, slice_get, IfSome};
+ghost use Rattle.std.specs.Option.{option_copied};
 ghost use Rattle.scmi_plan.specs.declared.limits.TheConstants.{AGENTS, DOMAINS};
 ghost use Rattle.scmi_core.specs.Outbox.{response_for};
 ghost use Rattle.scmi_core.specs.Tables.{outbox_at};
@@ -21,15 +22,12 @@ pub type Outbox = ArrayVec<Message, OUTBOX_ROOM>;
 
 impl Tables {
     /// The first message of an agent's outbox.
-    pub fn front(&self, agent: u32) -> Option<Message>
+    pub fn first(&self, agent: u32) -> Option<&Message>
         requires first { 1 ≤ agent }
         requires last { agent ≤ AGENTS }
-        ensures { result ≡ slice_get (outbox_at self.now agent) 0 }
+        ensures { option_copied result ≡ slice_get (outbox_at self.now agent) 0 }
     {
-        match self.outboxes[agent as usize - 1].as_slice().first() {
-            Some(message) => Some(message.copy()),
-            None => None,
-        }
+        self.outboxes[agent as usize - 1].as_slice().first()
     }
 
     /// Whether an agent's outbox is empty.

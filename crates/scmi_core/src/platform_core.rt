@@ -1,15 +1,16 @@
 //! The platform controller.
 ghost use Rattle.std.specs.Prelude.{◌≡◌, ◌≢◌, ◌≤◌, ◌<◌, ◌++◌, ◌∷◌, [], ◌⊎◌, ◌↔◌, length, true, false, slice_get, IsOk, IfOk, OnOk, OnErr, IfErr, Ok, Err};
-ghost use Rattle.scmi_plan.specs.Plan.{IsLawful};
+ghost use Rattle.std.specs.Option.{option_copied};
+ghost use Rattle.scmi_core.specs.Agents.{IsAgent};
 ghost use Rattle.scmi_core.specs.Bounds.{HasBounds, HasResponses};
 ghost use Rattle.scmi_core.specs.Pending.{pending};
-ghost use Rattle.scmi_core.specs.History.{answer_to, deeds, outbox};
+ghost use Rattle.scmi_core.specs.History.{answer_to, answer_with, deeds, outbox};
 ghost use Rattle.scmi_core.specs.Legal.{IsLegal};
 ghost use Rattle.scmi_core.specs.declared.event.Event.TheVariants.{Command as Called, Advance, Sent};
 
+use crate::answered::Answered;
 use crate::core_error::CoreError;
-use crate::event::Event;
-use crate::tables::Tables;
+use crate::platform::Platform;
 use crate::trace::Trace;
 use scmi_codec::{Answer, Frame, Message};
 use scmi_plan::Plan;
@@ -21,20 +22,19 @@ use std::marker::Model;
 /// trace has memory.
 #[derive(Drop, Debug)]
 pub struct Core {
-    plan: Plan,
-    tables: Tables,
+    platform: Platform,
     trace: Trace,
 }
 
 impl Model for Core {
     ghost use Rattle.scmi_core.specs.Platform.{Platform};
-    ghost use Rattle.scmi_core.specs.Agreement.{Agrees};
+    ghost use Rattle.scmi_core.specs.Standing.{StandsAfter};
 
     ghost Value = { Platform };
 
-    ghost view = { λ c. record { board = c.plan; history = c.trace.events; room = c.trace.room } };
+    ghost view = { λ c. record { board = c.platform.board; history = c.trace.events; room = c.trace.room } };
 
-    ghost invariant = { λ c. Agrees c.plan c.tables c.trace.events };
+    ghost invariant = { λ c. StandsAfter c.platform c.trace.events };
 }
 
 impl Core {
@@ -43,10 +43,8 @@ impl Core {
         ensures board { result.board ≡ plan }
         ensures history { result.history ≡ [] }
     {
-        let tables = Tables::new(&plan);
         Core {
-            plan,
-            tables,
+            platform: Platform::new(plan),
             trace: Trace::new(alloc),
         }
     }
@@ -57,7 +55,7 @@ impl Core {
         ensures some { 1 ≤ result }
         ensures few { result ≤ 8 }
     {
-        self.plan.agents()
+        self.platform.agents()
     }
 
     /// Makes room in the trace for one event, so that the next `command`, `advance` or `sent` is not
@@ -87,31 +85,69 @@ impl Core {
         ensures not_nothing { result ≢ Err CoreError.Nothing }
         ensures err { OnErr result (self.new ≡ self.old) }
     {
-        self.check_agent(agent)?;
+        let mut reply = Message::default();
+        match self.command_into(agent, frame, &mut reply)? {
+            Answered::Reply => Ok(Answer::Reply(reply)),
+            Answered::ChannelError => Ok(Answer::ChannelError),
+        }
+    }
+
+    /// As `command`, with the reply written where it is to stand. It is written only where a message
+    /// was executed.
+    pub fn command_into(
+        &mut self,
+        agent: u32,
+        frame: &Frame,
+        reply: &mut Message,
+    ) -> Result<Answered, CoreError>
+        ensures answer { IfOk result (λ x. answer_with x reply.new ≡ answer_to self.old.board agent frame.now self.old.history) }
+        ensures event { OnOk result (self.new.history ≡ self.old.history ++ Called agent frame.now ∷ []) }
+        ensures board { self.new.board ≡ self.old.board }
+        ensures legal { IsLegal self.new.board self.new.history }
+        ensures no_agent { (result ≡ Err CoreError.NoAgent) ↔ ((agent ≡ 0) ⊎ (length self.old.board.agents < agent)) }
+        ensures memory { 0 < self.old.room → result ≢ Err CoreError.Memory }
+        ensures not_nothing { result ≢ Err CoreError.Nothing }
+        ensures err { OnErr result (self.new ≡ self.old) }
+        ensures kept { OnErr result (reply.new ≡ reply.old) }
+    {
+        self.platform.check_agent(agent)?;
         self.trace.reserve()?;
-        let answer = self.tables.answer(&self.plan, agent, frame);
-        self.trace.push(Event::Command(agent, frame.copy()));
-        Ok(answer)
+        Ok(self.execute(agent, frame, reply))
+    }
+
+    /// As `command_into`, for an agent of the board and with room in the trace, which `reserve` makes;
+    /// so it is never refused.
+    pub fn execute(&mut self, agent: u32, frame: &Frame, reply: &mut Message) -> Answered
+        requires agent { IsAgent agent self.old.board }
+        requires room { 0 < self.old.room }
+        ensures answer { answer_with result reply.new ≡ answer_to self.old.board agent frame.now self.old.history }
+        ensures event { self.new.history ≡ self.old.history ++ Called agent frame.now ∷ [] }
+        ensures board { self.new.board ≡ self.old.board }
+        ensures legal { IsLegal self.new.board self.new.history }
+    {
+        let answered = self.platform.execute(agent, frame, reply);
+        self.trace.push_command(agent, frame);
+        answered
     }
 
     /// Completes the first pending set and adds that to the history; `Ok(false)` where nothing is
-    /// pending, and then nothing changed. `Memory` where the trace could not grow, the only refusal;
-    /// then nothing changed either.
+    /// pending, and then nothing changed. `Memory` where a set is pending and the trace could not grow,
+    /// the only refusal; then nothing changed either.
     pub fn advance(&mut self) -> Result<bool, CoreError>
         ensures waiting { IfOk result (λ did. (did ≡ false) ↔ (pending self.old.board (deeds self.old.board self.old.history) ≡ [])) }
         ensures event { IfOk result (λ did. did ≡ true → self.new.history ≡ self.old.history ++ Advance ∷ []) }
         ensures same { IfOk result (λ did. did ≡ false → self.new ≡ self.old) }
         ensures board { self.new.board ≡ self.old.board }
         ensures legal { IsLegal self.new.board self.new.history }
-        ensures memory { IfErr result (λ e. (e ≡ CoreError.Memory) × (self.old.room ≡ 0)) }
+        ensures memory { IfErr result (λ e. (e ≡ CoreError.Memory) × (self.old.room ≡ 0) × (pending self.old.board (deeds self.old.board self.old.history) ≢ [])) }
         ensures err { OnErr result (self.new ≡ self.old) }
     {
-        if self.tables.pending.is_empty() {
+        if self.platform.is_idle() {
             return Ok(false);
         }
         self.trace.reserve()?;
-        self.tables.complete(&self.plan);
-        self.trace.push(Event::Advance);
+        self.platform.complete();
+        self.trace.push_advance();
         Ok(true)
     }
 
@@ -122,8 +158,15 @@ impl Core {
         ensures no_agent { (result ≡ Err CoreError.NoAgent) ↔ ((agent ≡ 0) ⊎ (length self.now.board.agents < agent)) }
         ensures err { IfErr result (λ e. e ≡ CoreError.NoAgent) }
     {
-        self.check_agent(agent)?;
-        Ok(self.tables.front(agent))
+        self.platform.front(agent)
+    }
+
+    /// As `front`, for an agent of the board, and without a copy; so it is never refused.
+    pub fn first(&self, agent: u32) -> Option<&Message>
+        requires { IsAgent agent self.now.board }
+        ensures { option_copied result ≡ slice_get (outbox self.now.board agent self.now.history) 0 }
+    {
+        self.platform.first(agent)
     }
 
     /// Takes the first message off an agent's outbox, as posted, and adds that to the history.
@@ -138,14 +181,27 @@ impl Core {
         ensures memory { 0 < self.old.room → result ≢ Err CoreError.Memory }
         ensures err { OnErr result (self.new ≡ self.old) }
     {
-        self.check_agent(agent)?;
-        if self.tables.is_empty(agent) {
+        self.platform.check_agent(agent)?;
+        if self.platform.is_empty(agent) {
             return Err(CoreError::Nothing);
         }
         self.trace.reserve()?;
-        self.tables.take(agent);
-        self.trace.push(Event::Sent(agent));
+        self.mark_sent(agent);
         Ok(())
+    }
+
+    /// As `sent`, for an agent of the board whose outbox has a message, and with room in the trace,
+    /// which `reserve` makes; so it is never refused.
+    pub fn mark_sent(&mut self, agent: u32)
+        requires agent { IsAgent agent self.old.board }
+        requires some { 0 < length (outbox self.old.board agent self.old.history) }
+        requires room { 0 < self.old.room }
+        ensures event { self.new.history ≡ self.old.history ++ Sent agent ∷ [] }
+        ensures board { self.new.board ≡ self.old.board }
+        ensures legal { IsLegal self.new.board self.new.history }
+    {
+        self.platform.take(agent);
+        self.trace.push_sent(agent);
     }
 
     /// The events so far. They are a legal history: at most 8 sets are pending in it, each agent's
@@ -171,19 +227,5 @@ impl Core {
     {
         let Core { trace, .. } = self;
         trace
-    }
-
-    /// Refuses a number that is no agent's.
-    fn check_agent(&self, agent: u32) -> Result<(), CoreError>
-        ensures ok { OnOk result ((1 ≤ agent) × (agent ≤ length self.now.board.agents)) }
-        ensures no_agent { OnErr result ((agent ≡ 0) ⊎ (length self.now.board.agents < agent)) }
-        ensures err { IfErr result (λ e. e ≡ CoreError.NoAgent) }
-        ensures lawful { IsLawful self.now.board }
-    {
-        if (1..=self.plan.agents()).contains(&agent) {
-            Ok(())
-        } else {
-            Err(CoreError::NoAgent)
-        }
     }
 }

@@ -2,12 +2,14 @@
 ghost use Rattle.std.specs.Prelude.{◌≡◌, ◌≤◌, ◌<◌, ◌-◌, ◌++◌, [], ℕ, length, true, false, Ok, Err, None, Some, slice_get, IfSome, option_map, unwrap_or};
 ghost use Rattle.std.specs.List.{All};
 ghost use Rattle.scmi_base.specs.Permission.{is_allowed};
+ghost use Rattle.scmi_base.specs.declared.scope.Scope.{Scope};
 ghost use Rattle.scmi_codec.specs.Command.{command_of};
 ghost use Rattle.scmi_codec.specs.declared.command.Command.TheVariants.{Base, Power, Clock};
 ghost use Rattle.scmi_power.specs.PowerTable.{state_at, is_subscribed};
 ghost use Rattle.scmi_plan.specs.Plan.{IsLawful};
 ghost use Rattle.scmi_plan.specs.declared.limits.TheConstants.{AGENTS, DOMAINS};
 ghost use Rattle.std.specs.Option.{option_to_list};
+ghost use Rattle.scmi_core.specs.History.{answer_with};
 ghost use Rattle.scmi_core.specs.Value.{Thing, value_at_start};
 ghost use Rattle.scmi_core.specs.Pending.{state_set, rate_set};
 ghost use Rattle.scmi_core.specs.Subscriptions.{ended};
@@ -16,17 +18,17 @@ ghost use Rattle.scmi_core.specs.Step.{success_of, HasStepped, HasAnswered, set_
 ghost use Rattle.scmi_core.specs.declared.outbox.TheConstants.{OUTBOX_ROOM};
 ghost use Rattle.scmi_core.specs.declared.pending_set.TheConstants.{PENDING_SETS};
 
+use crate::answered::Answered;
 use crate::outbox::Outbox;
 use crate::pending_set::{PENDING_SETS, PendingSet, Setting};
 use arrayvec::ArrayVec;
-use scmi_base::{BaseDone, BaseState};
-use scmi_clock::{ClockDone, ClockState};
+use scmi_base::BaseState;
+use scmi_clock::ClockState;
 use scmi_codec::{
-    Answer, BaseCommand, ClockCommand, Command, Frame, Header, Message, Payload, PowerCommand,
-    refusal,
+    BaseCommand, ClockCommand, Command, Frame, Header, Message, Payload, PowerCommand, set_refusal,
 };
 use scmi_plan::{AGENTS, DOMAINS, Plan};
-use scmi_power::{PowerDone, PowerState};
+use scmi_power::PowerState;
 
 /// The tables of the protocols, the sets that are pending, and each agent's outbox.
 #[derive(Drop, Debug)]
@@ -43,7 +45,7 @@ pub struct Tables {
 impl Tables {
     /// The tables at the start.
     pub fn new(plan: &Plan) -> Tables
-        ensures base { (a d : ℕ) → is_allowed result.base a d ≡ true }
+        ensures base { (a d : ℕ) (scope : Scope) → is_allowed result.base a d scope ≡ true }
         ensures subscriptions { (a d : ℕ) → is_subscribed result.power a d ≡ false }
         ensures values { (x : Thing) → IsThing plan.now x → value_at result x ≡ value_at_start plan.now x }
         ensures pending { result.pending.items ≡ [] }
@@ -67,37 +69,62 @@ impl Tables {
         }
     }
 
-    /// Executes a frame of an agent, and gives the answer.
-    pub fn answer(&mut self, plan: &Plan, agent: u32, frame: &Frame) -> Answer
+    /// Executes a frame of an agent, and writes the reply to a message.
+    pub fn answer(
+        &mut self,
+        plan: &Plan,
+        agent: u32,
+        frame: &Frame,
+        reply: &mut Message,
+    ) -> Answered
         requires first { 1 ≤ agent }
         requires last { agent ≤ length plan.now.agents }
         requires lawful { IsLawful plan.now }
-        ensures answer { result ≡ frame_answer_at plan.now agent self.old frame.now }
+        ensures answer { answer_with result reply.new ≡ frame_answer_at plan.now agent self.old frame.now }
         ensures stepped { HasAnswered plan.now agent frame.now self.old self.new }
     {
         match frame {
-            Frame::Good(message) => Answer::Reply(Message {
-                header: message.header,
-                payload: self.execute(plan, agent, message),
-            }),
-            Frame::Malformed { .. } => Answer::ChannelError,
+            Frame::Good(message) => {
+                reply.header = message.header;
+                self.execute(plan, agent, message, &mut reply.payload);
+                Answered::Reply
+            }
+            Frame::Malformed { .. } => Answered::ChannelError,
         }
     }
 
-    /// Executes a message of an agent, and gives the payload of its reply.
+    /// Executes a message of an agent, and writes the payload of its reply.
     #[tactic(auto, unfolding(crate::specs::Tables::table_words))]
-    fn execute(&mut self, plan: &Plan, agent: u32, message: &Message) -> Payload
+    fn execute(&mut self, plan: &Plan, agent: u32, message: &Message, reply: &mut Payload)
         requires first { 1 ≤ agent }
         requires last { agent ≤ length plan.now.agents }
         requires lawful { IsLawful plan.now }
-        ensures reply { result.items ≡ table_words plan.now agent self.old (command_of message.now) }
-        ensures stepped { HasStepped plan.now self.old (success_of agent message.now.header (command_of message.now) result.items) None self.new }
+        ensures reply { reply.new.items ≡ table_words plan.now agent self.old (command_of message.now) }
+        ensures stepped { HasStepped plan.now self.old (success_of agent message.now.header (command_of message.now) reply.new.items) None self.new }
     {
         match Command::read(message) {
-            Ok(Command::Base(command)) => self.execute_base(plan, agent, message.header, command),
-            Ok(Command::Power(command)) => self.execute_power(plan, agent, message.header, command),
-            Ok(Command::Clock(command)) => self.execute_clock(plan, agent, message.header, command),
-            Err(status) => refusal(status),
+            Ok(Command::Base(command)) => self.execute_base(
+                plan,
+                agent,
+                message.header,
+                command,
+                reply,
+            ),
+            Ok(Command::Power(command)) => self.execute_power(
+                plan,
+                agent,
+                message.header,
+                command,
+                reply,
+            ),
+            Ok(Command::Clock(command)) => self.execute_clock(
+                plan,
+                agent,
+                message.header,
+                command,
+                reply,
+            ),
+            Err(status) => set_refusal(reply, status),
         }
     }
 
@@ -108,17 +135,16 @@ impl Tables {
         agent: u32,
         header: Header,
         command: BaseCommand,
-    ) -> Payload
+        reply: &mut Payload,
+    )
         requires first { 1 ≤ agent }
         requires last { agent ≤ length plan.now.agents }
         requires lawful { IsLawful plan.now }
-        ensures reply { result.items ≡ table_words plan.now agent self.old (Ok (Base command)) }
-        ensures stepped { HasStepped plan.now self.old (success_of agent header (Ok (Base command)) result.items) None self.new }
+        ensures reply { reply.new.items ≡ table_words plan.now agent self.old (Ok (Base command)) }
+        ensures stepped { HasStepped plan.now self.old (success_of agent header (Ok (Base command)) reply.new.items) None self.new }
     {
-        let done = self.base.execute(plan, agent, command);
-        let BaseDone { reply, reset } = done;
+        let reset = self.base.execute(plan, agent, command, reply);
         self.end_requests(reset);
-        reply
     }
 
     /// Executes a command of the power domain protocol.
@@ -128,26 +154,23 @@ impl Tables {
         agent: u32,
         header: Header,
         command: PowerCommand,
-    ) -> Payload
+        reply: &mut Payload,
+    )
         requires first { 1 ≤ agent }
         requires last { agent ≤ length plan.now.agents }
         requires lawful { IsLawful plan.now }
-        ensures reply { result.items ≡ table_words plan.now agent self.old (Ok (Power command)) }
-        ensures stepped { HasStepped plan.now self.old (success_of agent header (Ok (Power command)) result.items) None self.new }
+        ensures reply { reply.new.items ≡ table_words plan.now agent self.old (Ok (Power command)) }
+        ensures stepped { HasStepped plan.now self.old (success_of agent header (Ok (Power command)) reply.new.items) None self.new }
     {
         let agents = plan.agents();
         // A set is reported also where the state stays equal, so the state is read before it.
         let before = self.state_before(set_domain(command));
         let load = self.domain_load(agent);
-        let done = self.power.execute(plan, &self.base, agent, command, load);
-        let PowerDone {
-            reply,
-            changed,
-            later,
-        } = done;
-        self.accept_state(agent, header, later);
-        self.announce(agents, agent, changed, before);
-        reply
+        let done = self
+            .power
+            .execute(plan, &self.base, agent, command, load, reply);
+        self.accept_state(agent, header, done.later);
+        self.announce(agents, agent, done.changed, before);
     }
 
     /// Executes a command of the clock protocol.
@@ -157,18 +180,19 @@ impl Tables {
         agent: u32,
         header: Header,
         command: ClockCommand,
-    ) -> Payload
+        reply: &mut Payload,
+    )
         requires first { 1 ≤ agent }
         requires last { agent ≤ length plan.now.agents }
         requires lawful { IsLawful plan.now }
-        ensures reply { result.items ≡ table_words plan.now agent self.old (Ok (Clock command)) }
-        ensures stepped { HasStepped plan.now self.old (success_of agent header (Ok (Clock command)) result.items) None self.new }
+        ensures reply { reply.new.items ≡ table_words plan.now agent self.old (Ok (Clock command)) }
+        ensures stepped { HasStepped plan.now self.old (success_of agent header (Ok (Clock command)) reply.new.items) None self.new }
     {
         let load = self.clock_load(agent);
-        let done = self.clocks.execute(plan, &self.base, agent, command, load);
-        let ClockDone { reply, later } = done;
+        let later = self
+            .clocks
+            .execute(plan, &self.base, agent, command, load, reply);
         self.accept_rate(agent, header, later);
-        reply
     }
 
     /// Completes the first pending set.

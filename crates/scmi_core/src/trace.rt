@@ -1,25 +1,40 @@
 //! The events of a platform, in one order for all agents.
-ghost use Rattle.std.specs.Option.{option_copied};
-ghost use Rattle.std.specs.Prelude.{◌≡◌, ◌<◌, ◌+◌, ◌-◌, ◌++◌, ◌∷◌, [], ◌↔◌, length, slice_get, IsTrue, IsOk, OnOk, OnErr};
+ghost use Rattle.std.specs.Prelude.{◌≡◌, ◌<◌, ◌≤◌, ◌+◌, ◌++◌, ◌∷◌, [], ◌↔◌, length, slice_get, IsTrue, IsOk, OnOk, OnErr, ◌^◌, vec_len, vec_capacity};
+ghost use Rattle.scmi_codec.specs.declared.payload.TheConstants.{PAYLOAD_WORDS};
+ghost use Rattle.scmi_plan.specs.declared.limits.TheConstants.{AGENTS};
+ghost use Rattle.scmi_core.specs.Mark.{HasAgent};
+ghost use Rattle.scmi_core.specs.Trace.{event_of, payload_count};
+ghost use Rattle.scmi_core.specs.declared.event.Event.TheVariants.{Command, Advance, Sent};
 
 use crate::event::Event;
+use crate::events::Events;
+use crate::mark::Mark;
+use scmi_codec::{Frame, PAYLOAD_WORDS};
 use std::alloc::{AllocError, Global};
 use std::marker::Model;
 
+// The most words of an event: its mark, a size, a header and the payload.
+const EVENT_WORDS: usize = 3 + PAYLOAD_WORDS;
+
 /// The events of a platform, oldest first. Contracts also see for how many more events it has
-/// memory.
+/// memory. An event takes three words and those of its payload.
 #[derive(Debug, Drop)]
 pub struct Trace {
-    events: Vec<Event>,
+    words: Vec<u32>,
+    // How many events they are.
+    count: usize,
 }
 
 impl Model for Trace {
-    ghost use Rattle.std.specs.Prelude.{◌-◌, vec_len, vec_capacity};
-    ghost use Rattle.scmi_core.specs.Trace.{Recorded};
+    ghost use Rattle.std.specs.Prelude.{◌-◌, ◌/◌, vec_len, vec_capacity};
+    ghost use Rattle.scmi_core.specs.Trace.{Recorded, AreEvents, events_of};
+    ghost use Rattle.scmi_core.specs.declared.trace.TheConstants.{EVENT_WORDS};
 
     ghost Value = { Recorded };
 
-    ghost view = { λ t. record { events = t.events.items; room = vec_capacity t.events - vec_len t.events } };
+    ghost view = { λ t. record { events = events_of t.count t.words.items; room = (vec_capacity t.words - vec_len t.words) / EVENT_WORDS } };
+
+    ghost invariant = { λ t. AreEvents t.count t.words.items };
 }
 
 impl Trace {
@@ -27,21 +42,29 @@ impl Trace {
     pub fn len(&self) -> usize
         ensures { result ≡ length self.now.events }
     {
-        self.events.len()
+        self.count
     }
 
     /// Whether there is no event.
     pub fn is_empty(&self) -> bool
         ensures { IsTrue result ↔ (self.now.events ≡ []) }
     {
-        self.events.is_empty()
+        self.len() == 0
     }
 
-    /// The event at an index from 0, in order of time; `None` from `len` on.
-    pub fn get(&self, index: usize) -> Option<&Event>
-        ensures { option_copied result ≡ slice_get self.now.events index }
+    /// The events, in order of time. Each takes as long as its words.
+    pub fn events(&self) -> Events<'_>
+        ensures { result ≡ self.now.events }
     {
-        self.events.as_slice().get(index)
+        Events::of(self.words.as_slice(), self.count)
+    }
+
+    /// The event at an index from 0, in order of time; `None` from `len` on. It reads the events
+    /// before it.
+    pub fn get(&self, index: usize) -> Option<Event>
+        ensures { result ≡ slice_get self.now.events index }
+    {
+        self.events().nth(index)
     }
 
     /// The empty trace. It takes no memory.
@@ -49,7 +72,8 @@ impl Trace {
         ensures events { result.events ≡ [] }
     {
         Trace {
-            events: Vec::new(alloc),
+            words: Vec::new(alloc),
+            count: 0,
         }
     }
 
@@ -60,15 +84,75 @@ impl Trace {
         ensures succeeds { 0 < self.old.room → IsOk result }
         ensures err { OnErr result (self.new ≡ self.old) }
     {
-        self.events.reserve(1)
+        self.words.reserve(EVENT_WORDS)
     }
 
-    /// Adds an event in the room that there is.
-    pub(crate) fn push(&mut self, event: Event)
-        requires { 0 < self.old.room }
-        ensures events { self.new.events ≡ self.old.events ++ event ∷ [] }
-        ensures room { self.new.room + 1 ≡ self.old.room }
+    /// Adds a command in the room that there is.
+    pub(crate) fn push_command(&mut self, agent: u32, frame: &Frame)
+        requires room { 0 < self.old.room }
+        requires agent { agent ≤ AGENTS }
+        ensures events { self.new.events ≡ self.old.events ++ Command agent frame.now ∷ [] }
+        ensures room { self.old.room ≤ self.new.room + 1 }
     {
-        self.events.push_reserved(event);
+        match frame {
+            Frame::Good(message) => {
+                let payload = message.payload.as_slice();
+                self.push(
+                    Mark::Message(agent),
+                    payload.len() as u32,
+                    message.header.pack(),
+                    payload,
+                );
+            }
+            Frame::Malformed { length, header } => {
+                self.push(Mark::Malformed(agent), *length, *header, &[]);
+            }
+        }
     }
+
+    /// Adds the completion of a set in the room that there is.
+    pub(crate) fn push_advance(&mut self)
+        requires room { 0 < self.old.room }
+        ensures events { self.new.events ≡ self.old.events ++ Advance ∷ [] }
+        ensures room { self.old.room ≤ self.new.room + 1 }
+    {
+        self.push(Mark::Advance, 0, 0, &[]);
+    }
+
+    /// Adds the posting of a message to an agent in the room that there is.
+    pub(crate) fn push_sent(&mut self, agent: u32)
+        requires room { 0 < self.old.room }
+        requires agent { agent ≤ AGENTS }
+        ensures events { self.new.events ≡ self.old.events ++ Sent agent ∷ [] }
+        ensures room { self.old.room ≤ self.new.room + 1 }
+    {
+        self.push(Mark::Sent(agent), 0, 0, &[]);
+    }
+
+    /// Adds the words of an event in the room that there is.
+    fn push(&mut self, mark: Mark, size: u32, header: u32, payload: &[u32])
+        requires room { 0 < self.old.room }
+        requires agent { HasAgent mark AGENTS }
+        requires count { length payload.now ≡ payload_count mark size }
+        requires few { length payload.now ≤ PAYLOAD_WORDS }
+        ensures events { self.new.events ≡ self.old.events ++ event_of mark size header payload.now ∷ [] }
+        ensures room { self.old.room ≤ self.new.room + 1 }
+    {
+        append(&mut self.words, mark.pack(), size, header, payload);
+        self.count += 1;
+    }
+}
+
+/// Adds the words of an event behind others, in the room that there is.
+fn append(words: &mut Vec<u32>, first: u32, size: u32, header: u32, payload: &[u32])
+    requires { vec_len words.old + 3 + length payload.now ≤ vec_capacity words.old }
+    ensures items { words.new.items ≡ words.old.items ++ first ∷ size ∷ header ∷ payload.now }
+    ensures len { vec_len words.new ≡ vec_len words.old + 3 + length payload.now }
+    ensures capacity { vec_capacity words.old ≤ vec_capacity words.new }
+    ensures few { length words.new.items < 2 ^ 64 }
+{
+    words.push_reserved(first);
+    words.push_reserved(size);
+    words.push_reserved(header);
+    let _ = words.extend_from_slice(payload);
 }

@@ -1,5 +1,5 @@
 -- The headline, from what the platform keeps and from what the gathering shows.
-use Rattle.std.proofs.Common.{◌≡◌, ℕ, ◌+◌, ◌≤◌, ◌⊎◌, inl, inr, List, [], ◌∷◌, ◌++◌, ◌∙◌, sym, ap, map, length, arith, refl}
+use Rattle.std.proofs.Common.{◌≡◌, ℕ, ◌+◌, ◌⊎◌, inl, inr, List, [], ◌∷◌, ◌++◌, ◌∙◌, sym, ap, map, arith}
 use Rattle.std.proofs.lemmas.List.{append_assoc, map-append}
 use Rattle.scmi_codec.specs.declared.frame.Frame.{Frame}
 use Rattle.scmi_codec.specs.declared.frame.Frame.TheVariants.{Good}
@@ -12,11 +12,11 @@ use Rattle.scmi_core.specs.declared.event.Event.{Event}
 use Rattle.scmi_ends.specs.Each.{AllFrom}
 use Rattle.scmi_ends.specs.AgentView.{AgentView}
 use Rattle.scmi_ends.specs.Kept.{IsServed, IsDelivered}
-use Rattle.scmi_ends.specs.Headline.{CommandsAgree, MessagesAgree, Headlines, AreGathered, AllGathered}
+use Rattle.scmi_ends.specs.Headline.{CommandsAgree, IsAllMade, MessagesAgree, Headlines, AreGathered, AllGathered}
 
 -- the frames posted are those taken, at most one more, and then the outbox makes up all that was made
 rest_made : (board : Board) (h : List Event) (a : ℕ) (taken posted : List Frame) → posted ≡ map Good (delivered board a h) → (taken ≡ posted) ⊎ IsAllButLast taken posted
-    → (waiting : List Frame) × (length waiting ≤ 1) × (taken ++ (waiting ++ map Good (outbox board a h)) ≡ map Good (made_for board a h))
+    → IsAllMade board h a taken
 rest_made board h a taken posted p g =
     let all : map Good (delivered board a h) ++ map Good (outbox board a h) ≡ map Good (made_for board a h) = sym (map-append Good (delivered board a h) (outbox board a h)) ∙ ap (map Good) (made_is board a h) in
     elim g [

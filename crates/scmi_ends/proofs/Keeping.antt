@@ -1,9 +1,11 @@
 -- The controller's ends go on keeping what ties them to the history.
-use Rattle.std.proofs.Common.{◌≡◌, ◌≢◌, inl, inr, ℕ, zero, suc, ◌+◌, ◌<◌, ◌≤◌, List, [], ◌∷◌, ◌++◌, length, map, get_or, set, arith, ◌∙◌, sym, ap, subst, refl, true, false, Bool, Result, Ok, Err, OnOk, OnErr, IfOk, IsTrue}
-use Rattle.std.proofs.lemmas.List.{length-map, length-set, map-append}
+use Rattle.std.proofs.Common.{◌≡◌, inl, inr, ℕ, zero, suc, ◌+◌, ◌<◌, List, [], ◌∷◌, ◌++◌, length, map, get_or, set, arith, ◌∙◌, sym, ap, subst, refl, true, false, ◌||◌, Bool, Option, Some, None, Result, Ok, Err, OnErr, IfOk}
+use Rattle.std.specs.Prelude.{is_some}
+use Rattle.std.specs.Option.{option_or}
+use Rattle.std.proofs.lemmas.List.{length-append, length-map, length-set, map-append, set-get_or, take-append-le, take_all}
 use Rattle.std.proofs.lemmas.Bool.{false≢true}
 use Rattle.scmi_codec.specs.declared.frame.Frame.TheVariants.{Good}
-use Rattle.scmi_link.specs.View.{CallerView, CalleeView, Owes}
+use Rattle.scmi_link.specs.View.{CallerView, CalleeView, Owes, is_callee_shut}
 use Rattle.scmi_link.specs.Calls.{Collects}
 use Rattle.scmi_link.specs.declared.collected.Collected.{Collected}
 use Rattle.scmi_link.specs.declared.collected.Collected.TheVariants as collected
@@ -12,8 +14,8 @@ use Rattle.scmi_core.specs.declared.event.Event.TheVariants.{Command, Advance, S
 use Rattle.scmi_core.specs.declared.core_error.CoreError.{CoreError}
 use Rattle.scmi_core.specs.Platform.{Platform}
 use Rattle.scmi_plan.specs.Board.{Board}
-use Rattle.scmi_core.specs.Agents.{frames_of, answers_to}
-use Rattle.scmi_core.specs.History.{answer_to, delivered, outbox}
+use Rattle.scmi_core.specs.Agents.{frames_of}
+use Rattle.scmi_core.specs.History.{answer_to, delivered}
 use Rattle.scmi_core.specs.Legal.{IsLegal}
 use Rattle.scmi_core.proofs.Laws.{frames_own, frames_other, answers_own, answers_other, IsQuiet, advance, sent_to, frames_quiet, answers_quiet, delivered_kept, delivered_sent, delivered_other, as_many}
 use Rattle.scmi_ends.specs.declared.served.Served.{Served}
@@ -23,11 +25,12 @@ use Rattle.scmi_ends.specs.declared.flushed.Flushed.TheVariants as flushed
 use Rattle.scmi_ends.specs.declared.shut_error.ShutError.{ShutError}
 use Rattle.scmi_ends.specs.declared.shut_error.ShutError.TheVariants as shut
 use Rattle.scmi_ends.specs.Each.{AllFrom}
-use Rattle.scmi_ends.specs.Kept.{IsServed, IsDelivered, Keeps}
+use Rattle.scmi_ends.specs.Kept.{ExecutesNoneAfter, StayShut, IsServed, IsDelivered, Keeps}
 use Rattle.scmi_ends.specs.Serve.{ServesOne}
 use Rattle.scmi_ends.specs.Flush.{FlushesOne, CollectsAndFlushes}
 use Rattle.scmi_ends.specs.Shut.{ShutsOne, CollectsAndShuts}
-use Rattle.scmi_ends.proofs.Lists.{map_at_set}
+use Rattle.scmi_ends.proofs.Lists.{at_place, map_at_set, map_same}
+use Rattle.scmi_ends.proofs.Places.{view_at}
 use Rattle.scmi_ends.proofs.Turns.{from_at, from_all, from_set}
 
 -- a place that is given another item changes no count
@@ -38,32 +41,101 @@ count_set f ds i d = length-map (set ds i d) f ∙ length-set ds i d ∙ sym (le
 served_quiet : (board : Board) (h : List Event) (e : Event) → IsQuiet e → (b : ℕ) (v : CalleeView) → IsServed board h b v → IsServed board (h ++ e ∷ []) b v
 served_quiet board h e q b v s = record { taken = s.taken ∙ sym (frames_quiet b h e q); answered = s.answered ∙ sym (answers_quiet board b h e q) }
 
+-- SHUT
+
+-- an event that is no command of an agent executes none of it
+none_more : (h : List Event) (e : Event) (a : ℕ) (place : Option ℕ) → frames_of a (h ++ e ∷ []) ≡ frames_of a h → ExecutesNoneAfter h a place → ExecutesNoneAfter (h ++ e ∷ []) a place
+none_more h e a None same s = tt
+none_more h e a (Some n) same s = (omega (arith, s.0, length-append h (e ∷ [])), same ∙ s.1 ∙ sym (ap (frames_of a) (take-append-le n h (e ∷ []) s.0)))
+
+-- nor does one that is no command
+shut_quiet : (h : List Event) (e : Event) → IsQuiet e → (vs : List CalleeView) (ps : List (Option ℕ)) → StayShut h vs ps → StayShut (h ++ e ∷ []) vs ps
+shut_quiet h e q vs ps s = record { places = s.places; none_after = from_all (ExecutesNoneAfter h) (ExecutesNoneAfter (h ++ e ∷ [])) (λ b p t. none_more h e b p (frames_quiet b h e q) t) 1 ps s.none_after }
+
+-- what is noted of a close holds at once
+noted : (h : List Event) (n i a : ℕ) (ps : List (Option ℕ)) → a ≡ n + i → AllFrom (ExecutesNoneAfter h) n ps → ExecutesNoneAfter h a (option_or (get_or ps i None) (Some (length h)))
+noted h n i a [] e s = (omega arith, sym (ap (frames_of a) (take_all (length h) h (omega arith))))
+noted h n zero a (None ∷ ps) e s = (omega arith, sym (ap (frames_of a) (take_all (length h) h (omega arith))))
+noted h n zero a (Some k ∷ ps) e s = let n-is : n ≡ a = omega arith in rw n-is at s.0
+noted h n (suc i) a (p ∷ ps) e s = noted h (n + 1) i a ps (omega arith) s.1
+
+is_noted : (p : Option ℕ) (n : ℕ) → is_some (option_or p (Some n)) ≡ true
+is_noted None n = refl
+is_noted (Some k) n = refl
+
+-- no place is noted of an end that is open
+is_open : (p : Option ℕ) → is_some p ≡ false → p ≡ None
+is_open None e = refl
+is_open (Some k) e = absurd (false≢true (sym e))
+
+-- an end that has not closed may have taken a frame
+open_before : (v : CalleeView) → is_callee_shut v ≡ false → v.closed ≡ false
+open_before v e = neither v.closed v.told e where
+  neither : (c t : Bool) → (c || t) ≡ false → c ≡ false
+  neither false t e = refl
+  neither true t e = absurd (false≢true (sym e))
+
 -- SERVE
 
-module _ {D : Type 0} (f : D → CalleeView) (board : Board) (a i : ℕ) (ds : List D) (cs : List CallerView) (x d : D) (h : List Event) (e : a ≡ 1 + i) (lt : i < length ds) (is : x ≡ get_or ds i x) (kept : Keeps board h (map f ds) cs) where
-  -- the end goes on, under the same history
-  pub kept_callee : (f d).taken ≡ (f x).taken → (f d).answered ≡ (f x).answered → Keeps board h (map f (set ds i d)) cs
-  kept_callee t r =
+module _ {D : Type 0} (f : D → CalleeView) (board : Board) (a i : ℕ) (ds : List D) (cs : List CallerView) (ps : List (Option ℕ)) (x d : D) (h : List Event) (e : a ≡ 1 + i) (lt : i < length ds) (is : x ≡ get_or ds i x) (kept : Keeps board h (map f ds) cs ps) where
+  -- the ends that have closed, as one goes on
+  same_places : (f d).closed ≡ (f x).closed → map (λ v. v.closed) (map f (set ds i d)) ≡ map is_some ps
+  same_places c =
+      let below : i < length (map f ds) = omega (arith, lt, length-map ds f) in
+      ap (map (λ v. v.closed)) (map_at_set f ds i d) ∙ map_same (λ v. v.closed) (map f ds) i (f x) (f d) below (sym (view_at f ds i x (f x) lt is)) c ∙ kept.shut.places
+
+  -- no place is noted of an end that is open
+  no_place : (f x).closed ≡ false → get_or ps i None ≡ None
+  no_place c =
+      let below : i < length (map f ds) = omega (arith, lt, length-map ds f) in
+      is_open (get_or ps i None) (sym (at_place (λ v. v.closed) is_some (map f ds) ps i (f x) None kept.shut.places below) ∙ ap (λ v. v.closed) (view_at f ds i x (f x) lt is) ∙ c)
+
+  -- the end goes on or closes, under the same history
+  kept_end : (ps' : List (Option ℕ)) → length ps' ≡ length ps → StayShut h (map f (set ds i d)) ps' → (f d).taken ≡ (f x).taken → (f d).answered ≡ (f x).answered → Keeps board h (map f (set ds i d)) cs ps'
+  kept_end ps' l shut t r =
       let mine = from_at (IsServed board h) f 1 i a ds x lt e is kept.served in
       record {
         legal = kept.legal;
         callees_count = count_set f ds i d ∙ kept.callees_count;
         callers_count = kept.callers_count;
+        closed_at_count = l ∙ kept.closed_at_count;
         served = rw (map_at_set f ds i d) (from_set (IsServed board h) (IsServed board h) a (λ b v ne s. s) 1 i (map f ds) (f d) e (record { taken = t ∙ mine.taken; answered = r ∙ mine.answered }) kept.served);
         delivers = kept.delivers;
+        shut = shut;
       }
 
+  -- the end goes on
+  kept_callee : (f d).closed ≡ (f x).closed → (f d).taken ≡ (f x).taken → (f d).answered ≡ (f x).answered → Keeps board h (map f (set ds i d)) cs ps
+  kept_callee c = kept_end ps refl (record { places = same_places c; none_after = kept.shut.none_after })
+
+  -- the end closes, and the first close is noted
+  pub kept_close : f d ≡ record (f x) { closed = true } → Keeps board h (map f (set ds i d)) cs (set ps i (option_or (get_or ps i None) (Some (length h))))
+  kept_close c =
+      let place = option_or (get_or ps i None) (Some (length h)) in
+      let noted_as : map is_some (set ps i place) ≡ set (map is_some ps) i true = map_at_set is_some ps i place ∙ ap (set (map is_some ps) i) (is_noted (get_or ps i None) (length h)) in
+      kept_end (set ps i place) (length-set ps i place) (record {
+        places = ap (map (λ v. v.closed)) (map_at_set f ds i d) ∙ map_at_set (λ v. v.closed) (map f ds) i (f d) ∙ ap (set (map (λ v. v.closed) (map f ds)) i) (ap (λ v. v.closed) c) ∙ ap (λ bs. set bs i true) kept.shut.places ∙ sym noted_as;
+        none_after = from_set (ExecutesNoneAfter h) (ExecutesNoneAfter h) a (λ b p ne s. s) 1 i ps place e (noted h 1 i a ps e kept.shut.none_after) kept.shut.none_after;
+      }) (ap (λ v. v.taken) c) (ap (λ v. v.answered) c)
+
   -- an agent is served
-  pub kept_serve : (h' : List Event) (r : Served) → IsLegal board h' → ServesOne board a h (f x) r h' (f d) → Keeps board h' (map f (set ds i d)) cs
+  pub kept_serve : (h' : List Event) (r : Served) → IsLegal board h' → ServesOne board a h (f x) r h' (f d) → Keeps board h' (map f (set ds i d)) cs ps
   kept_serve h' served.Nothing legal s =
-      subst (λ k. Keeps board k (map f (set ds i d)) cs) (sym s.0) (kept_callee (ap (λ w. w.taken) s.1.same) (ap (λ w. w.answered) s.1.same))
+      subst (λ k. Keeps board k (map f (set ds i d)) cs ps) (sym s.0) (kept_callee (ap (λ w. w.closed) s.1.same) (ap (λ w. w.taken) s.1.same) (ap (λ w. w.answered) s.1.same))
   kept_serve h' served.Done legal s =
       let frame = s.frame in
       let mine = from_at (IsServed board h) f 1 i a ds x lt e is kept.served in
-      subst (λ k. Keeps board k (map f (set ds i d)) cs) (sym s.event) (record {
+      let none = no_place (open_before (f x) s.unshut) in
+      subst (λ k. Keeps board k (map f (set ds i d)) cs ps) (sym s.event) (record {
         legal = subst (λ k. IsLegal board k) s.event legal;
         callees_count = count_set f ds i d ∙ kept.callees_count;
         callers_count = kept.callers_count;
+        closed_at_count = kept.closed_at_count;
+        shut = record {
+          places = same_places (ap (λ w. w.closed) s.end);
+          none_after = subst (AllFrom (ExecutesNoneAfter (h ++ Command a frame ∷ [])) 1) (ap (set ps i) (sym none) ∙ set-get_or ps i None) (from_set (ExecutesNoneAfter h) (ExecutesNoneAfter (h ++ Command a frame ∷ [])) a
+              (λ b p ne t. none_more h (Command a frame) b p (frames_other b a h frame ne) t) 1 i ps None e tt kept.shut.none_after);
+        };
         served = rw (map_at_set f ds i d) (from_set (IsServed board h) (IsServed board (h ++ Command a frame ∷ [])) a
             (λ b v ne t. record { taken = t.taken ∙ sym (frames_other b a h frame ne); answered = t.answered ∙ sym (answers_other board b a h frame ne) }) 1 i (map f ds) (f d) e
             (record {
@@ -76,22 +148,24 @@ module _ {D : Type 0} (f : D → CalleeView) (board : Board) (a i : ℕ) (ds : L
 -- ADVANCE
 
 -- a set completes
-pub kept_advance : (board : Board) (h : List Event) (vs : List CalleeView) (cs : List CallerView) → Keeps board h vs cs → IsLegal board (h ++ Advance ∷ []) → Keeps board (h ++ Advance ∷ []) vs cs
-kept_advance board h vs cs kept legal = record {
+pub kept_advance : (board : Board) (h : List Event) (vs : List CalleeView) (cs : List CallerView) (ps : List (Option ℕ)) → Keeps board h vs cs ps → IsLegal board (h ++ Advance ∷ []) → Keeps board (h ++ Advance ∷ []) vs cs ps
+kept_advance board h vs cs ps kept legal = record {
   legal = legal;
   callees_count = kept.callees_count;
   callers_count = kept.callers_count;
+  closed_at_count = kept.closed_at_count;
+  shut = shut_quiet h Advance advance vs ps kept.shut;
   served = from_all (IsServed board h) (IsServed board (h ++ Advance ∷ [])) (served_quiet board h Advance advance) 1 vs kept.served;
   delivers = from_all (IsDelivered board h) (IsDelivered board (h ++ Advance ∷ [])) (λ b v t. t ∙ ap (map Good) (sym (delivered_kept board b h Advance kept.legal refl))) 1 cs kept.delivers;
 }
 
 -- what `Core::advance` leaves, whatever it answers
-pub kept_after : (old new : Platform) (vs : List CalleeView) (cs : List CallerView) (r : Result Bool CoreError) → Keeps old.board old.history vs cs → new.board ≡ old.board → IsLegal new.board new.history
-    → IfOk r (λ did. did ≡ true → new.history ≡ old.history ++ Advance ∷ []) → IfOk r (λ did. did ≡ false → new ≡ old) → OnErr r (new ≡ old) → Keeps new.board new.history vs cs
-kept_after old new vs cs (Ok true) kept eb legal event same err =
-    rw eb (subst (λ k. Keeps old.board k vs cs) (sym (event refl)) (kept_advance old.board old.history vs cs kept (subst (λ k. IsLegal old.board k) (event refl) (rw eb at legal))))
-kept_after old new vs cs (Ok false) kept eb legal event same err = subst (λ p. Keeps p.board p.history vs cs) (sym (same refl)) kept
-kept_after old new vs cs (Err e) kept eb legal event same err = subst (λ p. Keeps p.board p.history vs cs) (sym err) kept
+pub kept_after : (old new : Platform) (vs : List CalleeView) (cs : List CallerView) (ps : List (Option ℕ)) (r : Result Bool CoreError) → Keeps old.board old.history vs cs ps → new.board ≡ old.board → IsLegal new.board new.history
+    → IfOk r (λ did. did ≡ true → new.history ≡ old.history ++ Advance ∷ []) → IfOk r (λ did. did ≡ false → new ≡ old) → OnErr r (new ≡ old) → Keeps new.board new.history vs cs ps
+kept_after old new vs cs ps (Ok true) kept eb legal event same err =
+    rw eb (subst (λ k. Keeps old.board k vs cs ps) (sym (event refl)) (kept_advance old.board old.history vs cs ps kept (subst (λ k. IsLegal old.board k) (event refl) (rw eb at legal))))
+kept_after old new vs cs ps (Ok false) kept eb legal event same err = subst (λ p. Keeps p.board p.history vs cs ps) (sym (same refl)) kept
+kept_after old new vs cs ps (Err e) kept eb legal event same err = subst (λ p. Keeps p.board p.history vs cs ps) (sym err) kept
 
 -- FLUSH
 
@@ -110,29 +184,33 @@ shuts_posted v r w s = after r s.step ∙ collects_posted v s.answer s.collected
   after (Err shut.InService) t = ap (λ u. u.posted) t.1
   after (Err shut.ReplyWaiting) t = ap (λ u. u.posted) t.1
 
-module _ {D : Type 0} (f : D → CallerView) (board : Board) (a i : ℕ) (vs : List CalleeView) (ds : List D) (x d : D) (h : List Event) (e : a ≡ 1 + i) (lt : i < length ds) (is : x ≡ get_or ds i x) (kept : Keeps board h vs (map f ds)) where
+module _ {D : Type 0} (f : D → CallerView) (board : Board) (a i : ℕ) (vs : List CalleeView) (ds : List D) (ps : List (Option ℕ)) (x d : D) (h : List Event) (e : a ≡ 1 + i) (lt : i < length ds) (is : x ≡ get_or ds i x) (kept : Keeps board h vs (map f ds) ps) where
   -- the end goes on, under the same history
-  pub kept_caller : (f d).posted ≡ (f x).posted → Keeps board h vs (map f (set ds i d))
+  pub kept_caller : (f d).posted ≡ (f x).posted → Keeps board h vs (map f (set ds i d)) ps
   kept_caller p = record {
     legal = kept.legal;
     callees_count = kept.callees_count;
     callers_count = count_set f ds i d ∙ kept.callers_count;
+    closed_at_count = kept.closed_at_count;
+    shut = kept.shut;
     served = kept.served;
     delivers = rw (map_at_set f ds i d) (from_set (IsDelivered board h) (IsDelivered board h) a (λ b v ne s. s) 1 i (map f ds) (f d) e (p ∙ from_at (IsDelivered board h) f 1 i a ds x lt e is kept.delivers) kept.delivers);
   }
 
   -- a flush, after its `collect`
-  kept_after_collect : (w : CallerView) (full : Bool) (h' : List Event) (r : Flushed) → w.posted ≡ (f x).posted → IsLegal board h' → FlushesOne full board a h w r h' (f d) → Keeps board h' vs (map f (set ds i d))
-  kept_after_collect w full h' flushed.Waiting p legal s = subst (λ k. Keeps board k vs (map f (set ds i d))) (sym s.0) (kept_caller (ap (λ u. u.posted) s.1 ∙ p))
-  kept_after_collect w full h' flushed.Nothing p legal s = subst (λ k. Keeps board k vs (map f (set ds i d))) (sym s.0) (kept_caller (ap (λ u. u.posted) s.1 ∙ p))
-  kept_after_collect w full h' flushed.Closed p legal s = subst (λ k. Keeps board k vs (map f (set ds i d))) (sym s.0) (kept_caller (ap (λ u. u.posted) s.1.told ∙ p))
+  kept_after_collect : (w : CallerView) (full : Bool) (h' : List Event) (r : Flushed) → w.posted ≡ (f x).posted → IsLegal board h' → FlushesOne full board a h w r h' (f d) → Keeps board h' vs (map f (set ds i d)) ps
+  kept_after_collect w full h' flushed.Waiting p legal s = subst (λ k. Keeps board k vs (map f (set ds i d)) ps) (sym s.0) (kept_caller (ap (λ u. u.posted) s.1 ∙ p))
+  kept_after_collect w full h' flushed.Nothing p legal s = subst (λ k. Keeps board k vs (map f (set ds i d)) ps) (sym s.0) (kept_caller (ap (λ u. u.posted) s.1 ∙ p))
+  kept_after_collect w full h' flushed.Closed p legal s = subst (λ k. Keeps board k vs (map f (set ds i d)) ps) (sym s.0) (kept_caller (ap (λ u. u.posted) s.1.told ∙ p))
   kept_after_collect w full h' flushed.Posted p legal s =
       let m = s.message in
       let mine = from_at (IsDelivered board h) f 1 i a ds x lt e is kept.delivers in
-      subst (λ k. Keeps board k vs (map f (set ds i d))) (sym s.event) (record {
+      subst (λ k. Keeps board k vs (map f (set ds i d)) ps) (sym s.event) (record {
         legal = subst (λ k. IsLegal board k) s.event legal;
         callees_count = kept.callees_count;
         callers_count = count_set f ds i d ∙ kept.callers_count;
+        closed_at_count = kept.closed_at_count;
+        shut = shut_quiet h (Sent a) (sent_to a) vs ps kept.shut;
         served = from_all (IsServed board h) (IsServed board (h ++ Sent a ∷ [])) (served_quiet board h (Sent a) (sent_to a)) 1 vs kept.served;
         delivers = rw (map_at_set f ds i d) (from_set (IsDelivered board h) (IsDelivered board (h ++ Sent a ∷ [])) a
             (λ b v ne t. t ∙ ap (map Good) (sym (delivered_other board b a h kept.legal ne))) 1 i (map f ds) (f d) e
@@ -141,13 +219,13 @@ module _ {D : Type 0} (f : D → CallerView) (board : Board) (a i : ℕ) (vs : L
       })
 
   -- a flush
-  pub kept_flush : (full : Bool) (h' : List Event) (r : Flushed) → IsLegal board h' → CollectsAndFlushes full board a h (f x) r h' (f d) → Keeps board h' vs (map f (set ds i d))
+  pub kept_flush : (full : Bool) (h' : List Event) (r : Flushed) → IsLegal board h' → CollectsAndFlushes full board a h (f x) r h' (f d) → Keeps board h' vs (map f (set ds i d)) ps
   kept_flush full h' r legal s = kept_after_collect s.collected full h' r (collects_posted (f x) s.answer s.collected s.collects) legal s.step
 
 -- CLOSE
 
 -- the platform owes no answer between calls
-pub never_owes : {D : Type 0} (f : D → CalleeView) (board : Board) (a i : ℕ) (ds : List D) (cs : List CallerView) (x : D) (h : List Event) → a ≡ 1 + i → i < length ds → x ≡ get_or ds i x → Keeps board h (map f ds) cs → ¬ (Owes (f x))
-never_owes f board a i ds cs x h e lt is kept = λ owes.
+pub never_owes : {D : Type 0} (f : D → CalleeView) (board : Board) (a i : ℕ) (ds : List D) (cs : List CallerView) (ps : List (Option ℕ)) (x : D) (h : List Event) → a ≡ 1 + i → i < length ds → x ≡ get_or ds i x → Keeps board h (map f ds) cs ps → ¬ (Owes (f x))
+never_owes f board a i ds cs ps x h e lt is kept = λ owes.
     let mine = from_at (IsServed board h) f 1 i a ds x lt e is kept.served in
     omega (arith, owes, ap length mine.taken, ap length mine.answered, as_many board a h)

@@ -1,7 +1,7 @@
 -- Lists that one function makes of two others.
 use Rattle.std.proofs.Common.{◌≡◌, ℕ, zero, suc, ◌+◌, ◌<◌, List, [], ◌∷◌, ◌++◌, length, map, get_or, set, replicate, arith, refl, ap, ap₂, sym, ◌∙◌, drop}
 use Rattle.std.specs.List.{AllZip}
-use Rattle.std.proofs.lemmas.List.{length-map, map-append, replicate_more}
+use Rattle.std.proofs.lemmas.List.{map-append, replicate_more}
 
 -- a function over a list with one item set
 pub map_at_set : {D N : Type 0} (f : D → N) (ds : List D) (i : ℕ) (d : D) → map f (set ds i d) ≡ set (map f ds) i (f d)
@@ -16,7 +16,7 @@ map_same f (y ∷ ds) zero x d lt is e = ap (λ z. z ∷ map f ds) (e ∙ ap f i
 map_same f (y ∷ ds) (suc i) x d lt is e = ap (λ zs. f y ∷ zs) (map_same f ds i x d (omega arith) is e)
 
 -- lists with the same images have them at each place
-at_place : {D L N : Type 0} (f : D → N) (g : L → N) (ds : List D) (ls : List L) (i : ℕ) (x : D) (l : L) → map f ds ≡ map g ls → i < length ds → f (get_or ds i x) ≡ g (get_or ls i l)
+pub at_place : {D L N : Type 0} (f : D → N) (g : L → N) (ds : List D) (ls : List L) (i : ℕ) (x : D) (l : L) → map f ds ≡ map g ls → i < length ds → f (get_or ds i x) ≡ g (get_or ls i l)
 at_place f g [] ls i x l e lt = absurd (omega arith)
 at_place f g (d ∷ ds) [] i x l e lt = absurd (omega (arith, ap length e))
 at_place f g (d ∷ ds) (k ∷ ls) zero x l e lt = ap (λ zs. get_or zs 0 (f d)) e
@@ -33,6 +33,10 @@ maps_push f g ds ls d l e h = map-append f ds (d ∷ []) ∙ ap₂ (λ xs y. xs 
 -- one more of the same image
 pub new_push : {D N : Type 0} (f : D → N) (ds : List D) (n : ℕ) (d : D) (v : N) → map f ds ≡ replicate n v → f d ≡ v → map f (ds ++ d ∷ []) ≡ replicate (n + 1) v
 new_push f ds n d v e h = map-append f ds (d ∷ []) ∙ ap₂ (λ xs y. xs ++ y ∷ []) e h ∙ replicate_more n v
+
+-- one more of the same
+pub same_push : {V : Type 0} (vs : List V) (n : ℕ) (v : V) → vs ≡ replicate n v → vs ++ v ∷ [] ≡ replicate (n + 1) v
+same_push vs n v e = ap (λ xs. xs ++ v ∷ []) e ∙ replicate_more n v
 
 -- lists with the same images, item by item
 pub zipped : {D L N : Type 0} (f : D → N) (g : L → N) (ds : List D) (ls : List L) → map f ds ≡ map g ls → AllZip (λ l d. f d ≡ g l) ls ds

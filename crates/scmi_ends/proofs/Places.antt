@@ -1,8 +1,9 @@
 -- What a call on the ends at one place is of the whole controller.
-use Rattle.std.proofs.Common.{◌≡◌, ℕ, ◌+◌, ◌-◌, ◌<◌, List, length, map, get_or, set, arith, ◌∙◌, sym, ap, subst, refl, Bool, true, Result}
-use Rattle.std.proofs.lemmas.List.{get_or-map, length-map}
+use Rattle.std.proofs.Common.{◌≡◌, ℕ, ◌-◌, ◌<◌, List, length, map, get_or, set, ◌∙◌, sym, ap, refl, Bool, true, Result}
+use Rattle.std.proofs.lemmas.List.{get_or-map, get_or_read}
 use Rattle.std.proofs.lemmas.Bool.{false≢true}
-use Rattle.std.specs.Prelude.{slice_get, None, is_some, [], ◌∷◌}
+use Rattle.std.specs.Prelude.{slice_get, Option, Some, None, is_some, [], ◌∷◌}
+use Rattle.std.specs.Option.{option_or}
 use Rattle.scmi_link.specs.View.{CallerView, CalleeView, new_caller, new_callee}
 use Rattle.scmi_plan.specs.Board.{Board}
 use Rattle.scmi_core.specs.declared.event.Event.{Event}
@@ -17,30 +18,35 @@ use Rattle.scmi_ends.specs.Shut.{CollectsAndShuts, Shuts}
 use Rattle.scmi_ends.proofs.Lists.{map_at_set, name_at}
 
 -- what the item at a place shows
-view_at : {D V : Type 0} (f : D → V) (ds : List D) (i : ℕ) (x : D) (v : V) → i < length ds → x ≡ get_or ds i x → get_or (map f ds) i v ≡ f x
+pub view_at : {D V : Type 0} (f : D → V) (ds : List D) (i : ℕ) (x : D) (v : V) → i < length ds → x ≡ get_or ds i x → get_or (map f ds) i v ≡ f x
 view_at f ds i x v lt is = get_or-map f ds i x v lt ∙ ap f (sym is)
 
--- the platform's side, field by field
-abbrev pub whole : Board → List Event → List CalleeView → List CallerView → List (List ℕ) → List (List ℕ) → ControllerView
-whole board h ds cs an pn = record { board = board; history = h; callees = ds; callers = cs; a2p_names = an; p2a_names = pn }
+-- the item at a place, whatever stands for one beyond the last
+pub item_at : {D : Type 0} (ds : List D) (i : ℕ) (x d : D) → i < length ds → x ≡ get_or ds i x → get_or ds i d ≡ x
+item_at ds i x d lt is = sym (get_or_read ds i x lt is d)
 
-module _ {D : Type 0} (f : D → CalleeView) (ds : List D) (a : ℕ) (x d : D) (board board' : Board) (h h' : List Event) (cs : List CallerView) (an an' pn : List (List ℕ))
+-- the platform's side, field by field
+abbrev pub whole : Board → List Event → List CalleeView → List CallerView → List (Option ℕ) → List (List ℕ) → List (List ℕ) → ControllerView
+whole board h ds cs ps an pn = record { board = board; history = h; callees = ds; callers = cs; closed_at = ps; a2p_names = an; p2a_names = pn }
+
+module _ {D : Type 0} (f : D → CalleeView) (ds : List D) (a : ℕ) (x d : D) (board board' : Board) (h h' : List Event) (cs : List CallerView) (ps : List (Option ℕ)) (an an' pn : List (List ℕ))
     (lt : a - 1 < length ds) (is : x ≡ get_or ds (a - 1) x) (eb : board' ≡ board) (ea : an' ≡ an) where
-  pub serves : (r : Served) → ServesOne board a h (f x) r h' (f d) → Serves a (whole board h (map f ds) cs an pn) r (whole board' h' (map f (set ds (a - 1) d)) cs an' pn)
+  pub serves : (r : Served) → ServesOne board a h (f x) r h' (f d) → Serves a (whole board h (map f ds) cs ps an pn) r (whole board' h' (map f (set ds (a - 1) d)) cs ps an' pn)
   serves r s = rw (eb, ea, map_at_set f ds (a - 1) d) (record { callee = f d; step = rw (view_at f ds (a - 1) x new_callee lt is) s; same = refl })
 
-module _ {D : Type 0} (f : D → CallerView) (ds : List D) (a : ℕ) (x d : D) (board board' : Board) (h h' : List Event) (vs : List CalleeView) (an pn pn' : List (List ℕ))
+module _ {D : Type 0} (f : D → CallerView) (ds : List D) (a : ℕ) (x d : D) (board board' : Board) (h h' : List Event) (vs : List CalleeView) (ps : List (Option ℕ)) (an pn pn' : List (List ℕ))
     (lt : a - 1 < length ds) (is : x ≡ get_or ds (a - 1) x) (eb : board' ≡ board) (ep : pn' ≡ pn) where
-  pub flushes : (full : Bool) (r : Flushed) → CollectsAndFlushes full board a h (f x) r h' (f d) → Flushes full a (whole board h vs (map f ds) an pn) r (whole board' h' vs (map f (set ds (a - 1) d)) an pn')
+  pub flushes : (full : Bool) (r : Flushed) → CollectsAndFlushes full board a h (f x) r h' (f d) → Flushes full a (whole board h vs (map f ds) ps an pn) r (whole board' h' vs (map f (set ds (a - 1) d)) ps an pn')
   flushes full r s = rw (eb, ep, map_at_set f ds (a - 1) d) (record { caller = f d; step = rw (view_at f ds (a - 1) x new_caller lt is) s; same = refl })
 
 module _ {D E : Type 0} (f : D → CallerView) (k : E → CalleeView) (ds : List D) (es : List E) (a : ℕ) (x d : D) (y e : E) (board : Board) (h : List Event) (an an' pn pn' : List (List ℕ))
-    (lt : a - 1 < length ds) (is : x ≡ get_or ds (a - 1) x) (ep : pn' ≡ pn) (lt' : a - 1 < length es) (is' : y ≡ get_or es (a - 1) y) (ea : an' ≡ an) (closed : k e ≡ record (k y) { closed = true }) where
-  pub shuts : (r : Result (Unit {0}) ShutError) → CollectsAndShuts (f x) r (f d) → Shuts a (whole board h (map k es) (map f ds) an pn) r (whole board h (map k (set es (a - 1) e)) (map f (set ds (a - 1) d)) an' pn')
-  shuts r s = rw (ep, ea, map_at_set f ds (a - 1) d, map_at_set k es (a - 1) e, closed) (record {
+    (lt : a - 1 < length ds) (is : x ≡ get_or ds (a - 1) x) (ep : pn' ≡ pn) (lt' : a - 1 < length es) (is' : y ≡ get_or es (a - 1) y) (ea : an' ≡ an) (closed : k e ≡ record (k y) { closed = true })
+    (ps : List (Option ℕ)) (p p' : Option ℕ) (lt'' : a - 1 < length ps) (is'' : p ≡ get_or ps (a - 1) p) (noted : p' ≡ option_or p (Some (length h))) where
+  pub shuts : (r : Result (Unit {0}) ShutError) → CollectsAndShuts (f x) r (f d) → Shuts a (whole board h (map k es) (map f ds) ps an pn) r (whole board h (map k (set es (a - 1) e)) (map f (set ds (a - 1) d)) (set ps (a - 1) p') an' pn')
+  shuts r s = rw (ep, ea, map_at_set f ds (a - 1) d, map_at_set k es (a - 1) e, closed, noted) (record {
     caller = f d;
     step = rw (view_at f ds (a - 1) x new_caller lt is) s;
-    same = rw (view_at k es (a - 1) y new_callee lt' is') refl;
+    same = rw (view_at k es (a - 1) y new_callee lt' is', item_at ps (a - 1) p None lt'' is'') refl;
   })
 
 -- a list without a first item is empty

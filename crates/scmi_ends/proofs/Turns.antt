@@ -1,5 +1,5 @@
 -- Facts about the agents in turn, as one of them changes.
-use Rattle.std.proofs.Common.{◌≡◌, ◌≢◌, ℕ, zero, suc, ◌+◌, ◌<◌, List, [], ◌∷◌, ◌++◌, length, map, get_or, set, arith, ◌∙◌, sym, ap, subst, refl}
+use Rattle.std.proofs.Common.{◌≡◌, ◌≢◌, ℕ, zero, suc, ◌+◌, ◌<◌, List, [], ◌∷◌, ◌++◌, length, map, get_or, set, arith, sym, subst}
 use Rattle.scmi_ends.specs.Each.{AllFrom}
 
 -- what holds of all holds of the one at place i

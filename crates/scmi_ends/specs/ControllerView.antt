@@ -1,5 +1,5 @@
 -- What a contract sees of the platform's side, whatever its channels are made of.
-use Rattle.std.specs.Prelude.{◌≡◌, ℕ, ◌-◌, List, slice_index_or}
+use Rattle.std.specs.Prelude.{◌≡◌, ℕ, ◌-◌, List, Option, None, slice_index_or}
 use Rattle.scmi_link.specs.View.{CallerView, CalleeView, new_caller, new_callee}
 use Rattle.scmi_plan.specs.Board.{Board}
 use Rattle.scmi_core.specs.declared.event.Event.{Event}
@@ -10,6 +10,7 @@ pub record ControllerView : Type 0 where
   pub history : List Event
   pub callees : List CalleeView  -- its end of each agent's A2P
   pub callers : List CallerView  -- its end of each agent's P2A
+  pub closed_at : List (Option ℕ)  -- after how many events it closed each agent's A2P, where it has
   pub a2p_names : List (List ℕ)
   pub p2a_names : List (List ℕ)
 
@@ -25,3 +26,7 @@ callee_of platform a = slice_index_or platform.callees (a - 1) new_callee
 -- the platform's end of agent a's P2A channel
 abbrev pub caller_of : ControllerView → ℕ → CallerView
 caller_of platform a = slice_index_or platform.callers (a - 1) new_caller
+
+-- after how many events the platform closed agent a's A2P channel, if it has
+abbrev pub closed_at_of : ControllerView → ℕ → Option ℕ
+closed_at_of platform a = slice_index_or platform.closed_at (a - 1) None

@@ -24,12 +24,17 @@ pub record CommandsAgree (board : Board) (h : List Event) (a : ℕ) (caller : Ca
   pub agent_told : caller.told ≡ true → callee.closed ≡ true
   pub platform_told : callee.told ≡ true → caller.closed ≡ true
 
+-- what was made for agent a is what it took, then at most one message not taken, then its outbox
+abbrev pub IsAllMade : Board → List Event → ℕ → List Frame → Type 0
+IsAllMade board h a taken =
+    (waiting : List Frame) × (length waiting ≤ 1) × (taken ++ (waiting ++ map Good (outbox board a h)) ≡ map Good (made_for board a h))
+
 -- the messages to agent a and the closes of its P2A channel, whose ends are the platform's `caller` and the agent's `callee`
 pub record MessagesAgree (board : Board) (h : List Event) (a : ℕ) (caller : CallerView) (callee : CalleeView) : Type 0 where
   -- the messages that the agent took are those delivered to it, at most the last left out
   pub taken : (callee.taken ≡ map Good (delivered board a h)) ⊎ IsAllButLast callee.taken (map Good (delivered board a h))
   -- what was made for the agent is what it took, then at most one message not taken, then its outbox
-  pub made : (waiting : List Frame) × (length waiting ≤ 1) × (callee.taken ++ (waiting ++ map Good (outbox board a h)) ≡ map Good (made_for board a h))
+  pub made : IsAllMade board h a callee.taken
   -- a message that was withdrawn or given up was not taken
   pub left : caller.left ≡ true → IsAllButLast callee.taken (map Good (delivered board a h))
   -- after the platform's close with nothing left, all that was delivered was taken

@@ -1,5 +1,5 @@
 -- What ties the platform's ends to its history, between any two of its calls.
-use Rattle.std.specs.Prelude.{◌≡◌, ℕ, List, length, map}
+use Rattle.std.specs.Prelude.{◌≡◌, ℕ, ◌≤◌, List, length, map, take, Option, Some, None, is_some}
 use Rattle.scmi_codec.specs.declared.frame.Frame.TheVariants.{Good}
 use Rattle.scmi_link.specs.View.{CallerView, CalleeView}
 use Rattle.scmi_plan.specs.Board.{Board}
@@ -19,14 +19,26 @@ pub record IsServed (board : Board) (h : List Event) (a : ℕ) (callee : CalleeV
 abbrev pub IsDelivered : Board → List Event → ℕ → CallerView → Type 0
 IsDelivered board h a caller = caller.posted ≡ map Good (delivered board a h)
 
+-- no command of agent a is executed after these many events, if it has such a number
+abbrev pub ExecutesNoneAfter : List Event → ℕ → Option ℕ → Type 0
+ExecutesNoneAfter h a None = Unit {0}
+ExecutesNoneAfter h a (Some events) = (events ≤ length h) × (frames_of a h ≡ frames_of a (take events h))
+
+-- each end of A2P that the platform has closed has its place in the history, and no command of that agent is executed after it
+pub record StayShut (h : List Event) (callees : List CalleeView) (closed_at : List (Option ℕ)) : Type 0 where
+  pub places : map (λ callee. callee.closed) callees ≡ map is_some closed_at
+  pub none_after : AllFrom (ExecutesNoneAfter h) 1 closed_at
+
 -- the history is legal, and each agent's ends have done what it says
-pub record Keeps (board : Board) (h : List Event) (callees : List CalleeView) (callers : List CallerView) : Type 0 where
+pub record Keeps (board : Board) (h : List Event) (callees : List CalleeView) (callers : List CallerView) (closed_at : List (Option ℕ)) : Type 0 where
   pub legal : IsLegal board h
   pub callees_count : length callees ≡ length board.agents
   pub callers_count : length callers ≡ length board.agents
+  pub closed_at_count : length closed_at ≡ length board.agents
   pub served : AllFrom (IsServed board h) 1 callees
   pub delivers : AllFrom (IsDelivered board h) 1 callers
+  pub shut : StayShut h callees closed_at
 
 -- the same of the platform's side as a whole
 abbrev pub IsKept : ControllerView → Type 0
-IsKept platform = Keeps platform.board platform.history platform.callees platform.callers
+IsKept platform = Keeps platform.board platform.history platform.callees platform.callers platform.closed_at

@@ -1,11 +1,12 @@
 -- What closing an agent's channels leaves.
-use Rattle.std.specs.Prelude.{◌≡◌, ◌⊎◌, ℕ, ◌-◌, true, slice_set, Result, Ok, Err}
+use Rattle.std.specs.Prelude.{◌≡◌, ◌⊎◌, ℕ, ◌-◌, true, length, slice_set, Some, Result, Ok, Err}
+use Rattle.std.specs.Option.{option_or}
 use Rattle.scmi_link.specs.View.{CallerView, IsOutstanding}
 use Rattle.scmi_link.specs.Calls.{Collects}
 use Rattle.scmi_link.specs.declared.collected.Collected.{Collected}
 use Rattle.scmi_ends.specs.declared.shut_error.ShutError.{ShutError}
 use Rattle.scmi_ends.specs.declared.shut_error.ShutError.TheVariants as shut
-use Rattle.scmi_ends.specs.ControllerView.{ControllerView, callee_of, caller_of}
+use Rattle.scmi_ends.specs.ControllerView.{ControllerView, callee_of, caller_of, closed_at_of}
 
 -- a caller closes; a post that is outstanding is withdrawn
 abbrev pub Closes : CallerView → CallerView → Type 0
@@ -27,8 +28,8 @@ pub record CollectsAndShuts (old : CallerView) (result : Result (Unit {0}) ShutE
   pub collects : Collects old answer collected
   pub step : ShutsOne collected result new
 
--- at the place of agent a the end of A2P closes, whatever the answer, and this happens at that of P2A; nothing else changes
+-- at the place of agent a the end of A2P closes, whatever the answer, and the first close is noted; this happens at the end of P2A; nothing else changes
 pub record Shuts (a : ℕ) (old : ControllerView) (result : Result (Unit {0}) ShutError) (new : ControllerView) : Type 0 where
   pub caller : CallerView
   pub step : CollectsAndShuts (caller_of old a) result caller
-  pub same : new ≡ record old { callees = slice_set old.callees (a - 1) (record (callee_of old a) { closed = true }); callers = slice_set old.callers (a - 1) caller }
+  pub same : new ≡ record old { callees = slice_set old.callees (a - 1) (record (callee_of old a) { closed = true }); callers = slice_set old.callers (a - 1) caller; closed_at = slice_set old.closed_at (a - 1) (option_or (closed_at_of old a) (Some (length old.history))) }

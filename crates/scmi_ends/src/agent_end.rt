@@ -3,11 +3,11 @@ ghost use Rattle.std.specs.Prelude.{◌≡◌, ◌≢◌, ◌+◌, ◌%◌, ◌<
 ghost use Rattle.scmi_codec.specs.Area.{is_well_formed};
 ghost use Rattle.scmi_codec.specs.declared.frame.Frame.TheVariants.{Good, Malformed};
 ghost use Rattle.scmi_link.specs.View.{IsOutstanding, is_shut, new_caller, new_callee};
-ghost use Rattle.scmi_link.specs.Calls.{IsRefused, Collects};
+ghost use Rattle.scmi_link.specs.Calls.{IsRefused, Collects, collected_by, frame_if};
 
 use crate::link::Link;
-use scmi_codec::{Answer, Frame, Header, Message, Payload, payload_of};
-use scmi_link::{Channel, CloseError, Closing, Collected, PostError};
+use scmi_codec::{Answer, Frame, Header, Message, Payload};
+use scmi_link::{Channel, CloseError, Closing, Collected, Looked, PostError};
 use std::marker::Model;
 
 /// The tokens of a message header: 10 bits (DEN0056B, message header).
@@ -94,17 +94,14 @@ impl<C: Channel> AgentEnd<C> {
         ensures well_formed { result ≢ Err PostError.WellFormed }
     {
         let token = self.token;
-        let message = Message {
-            header: Header {
-                reserved: 0,
-                token,
-                protocol,
-                kind: 0,
-                id,
-            },
-            payload: payload_of(payload.as_slice()),
+        let header = Header {
+            reserved: 0,
+            token,
+            protocol,
+            kind: 0,
+            id,
         };
-        link.a2p.post(&mut self.caller, &message)?;
+        link.a2p.post_parts(&mut self.caller, header, payload)?;
         self.token = (token + 1) % TOKENS;
         Ok(token)
     }
@@ -158,6 +155,17 @@ impl<C: Channel> AgentEnd<C> {
         link.a2p.collect(&mut self.caller)
     }
 
+    /// Looks once for the answer to the post on A2P, as `collect`, and reads it into `answer`.
+    pub fn collect_into(&mut self, link: &Link<C>, answer: &mut Answer) -> Looked
+        requires { IsOfLink (C.name link.now.a2p) (C.name link.now.p2a) self.old }
+        ensures same { self.new ≡ record self.old { caller = self.new.caller } }
+        ensures collects { Collects self.old.caller (collected_by result answer.new) self.new.caller }
+        ensures stays { ¬ (result ≡ Looked.Got) → answer.new ≡ answer.old }
+        ensures shut { is_shut self.old.caller ≡ true → ¬ (IsOutstanding self.old.caller) → result ≡ Looked.Closed }
+    {
+        link.a2p.collect_into(&mut self.caller, answer)
+    }
+
     /// Takes the platform's message off P2A, if one is posted, and releases it at once. `None` where
     /// none is posted, or one of the two sides has closed.
     pub fn next_p2a(&mut self, link: &Link<C>) -> Option<Frame>
@@ -165,9 +173,26 @@ impl<C: Channel> AgentEnd<C> {
         ensures same { self.new ≡ record self.old { callee = self.new.callee } }
         ensures receives { Receives self.old.callee result self.new.callee }
     {
-        let frame = link.p2a.take(&mut self.callee)?;
+        let mut frame = Frame::Good(Message::default());
+        if self.next_p2a_into(link, &mut frame) {
+            Some(frame)
+        } else {
+            None
+        }
+    }
+
+    /// Takes the platform's message off P2A, as `next_p2a`, into `frame`, and says whether there was one.
+    pub fn next_p2a_into(&mut self, link: &Link<C>, frame: &mut Frame) -> bool
+        requires { IsOfLink (C.name link.now.a2p) (C.name link.now.p2a) self.old }
+        ensures same { self.new ≡ record self.old { callee = self.new.callee } }
+        ensures receives { Receives self.old.callee (frame_if result frame.new) self.new.callee }
+        ensures stays { result ≡ false → frame.new ≡ frame.old }
+    {
+        if !link.p2a.take_into(&mut self.callee, frame) {
+            return false;
+        }
         link.p2a.answer(&mut self.callee, &Answer::Released);
-        Some(frame)
+        true
     }
 
     /// Closes A2P, and then P2A.

@@ -1,5 +1,5 @@
 //! The platform's side of all agents' channels.
-ghost use Rattle.std.specs.Prelude.{◌≡◌, ◌≢◌, ◌<◌, ◌++◌, ◌∷◌, ◌↔◌, ◌⊎◌, [], length, map, IfOk, OnErr, IfErr, IsTrue};
+ghost use Rattle.std.specs.Prelude.{◌≡◌, ◌≢◌, ◌<◌, ◌++◌, ◌∷◌, ◌↔◌, ◌⊎◌, [], true, length, map, IfOk, OnErr, IfErr, IsTrue};
 ghost use Rattle.scmi_core.specs.History.{deeds};
 ghost use Rattle.scmi_core.specs.Pending.{pending};
 ghost use Rattle.scmi_core.specs.declared.event.Event.TheVariants as event;
@@ -7,6 +7,7 @@ ghost use Rattle.scmi_core.specs.declared.event.Event.TheVariants as event;
 use crate::flushed::Flushed;
 use crate::link::Link;
 use crate::one_agent::{flush_one, serve_one, shut_one};
+use crate::room::Room;
 use crate::serve_error::ServeError;
 use crate::served::Served;
 use crate::shut_error::ShutError;
@@ -25,6 +26,9 @@ pub struct Controller<C: Channel> {
     pub(crate) core: Core,
     pub(crate) callees: Vec<C::Callee>,
     pub(crate) callers: Vec<C::Caller>,
+    // After how many events each agent's A2P channel was first closed here, if it was.
+    pub(crate) closed_at: Vec<Option<usize>>,
+    pub(crate) room: Room,
 }
 
 impl<C: Channel> Model for Controller<C> {
@@ -34,13 +38,14 @@ impl<C: Channel> Model for Controller<C> {
 
     ghost Value = { ControllerView };
 
-    ghost view = { λ platform. record { board = platform.core.board; history = platform.core.history; callees = map C.callee_view platform.callees.items; callers = map C.caller_view platform.callers.items; a2p_names = map C.callee_name platform.callees.items; p2a_names = map C.caller_name platform.callers.items } };
+    ghost view = { λ platform. record { board = platform.core.board; history = platform.core.history; callees = map C.callee_view platform.callees.items; callers = map C.caller_view platform.callers.items; closed_at = platform.closed_at.items; a2p_names = map C.callee_name platform.callees.items; p2a_names = map C.caller_name platform.callers.items } };
 
-    ghost invariant = { λ platform. Keeps platform.core.board platform.core.history (map C.callee_view platform.callees.items) (map C.caller_view platform.callers.items) };
+    ghost invariant = { λ platform. Keeps platform.core.board platform.core.history (map C.callee_view platform.callees.items) (map C.caller_view platform.callers.items) platform.closed_at.items };
 }
 
 impl<C: Channel> Controller<C> {
-    ghost use Rattle.scmi_ends.specs.ControllerView.{IsOfLinks};
+    ghost use Rattle.scmi_link.specs.View.{is_callee_shut};
+    ghost use Rattle.scmi_ends.specs.ControllerView.{IsOfLinks, callee_of};
     ghost use Rattle.scmi_ends.specs.Kept.{IsKept};
     ghost use Rattle.scmi_ends.specs.Serve.{Serves};
     ghost use Rattle.scmi_ends.specs.Flush.{Flushes};
@@ -48,15 +53,17 @@ impl<C: Channel> Controller<C> {
 
     /// Makes room in the trace, takes one frame off an agent's A2P channel, executes it and answers it.
     ///
-    /// `Done` adds the command to the history. `Nothing` where the take gave none, and then the history
-    /// stays. `NoAgent`, looked at first, where the board lacks the agent; `Memory` where the trace
-    /// could not grow. After either nothing was taken, and nothing changed.
+    /// `Done` adds the command to the history, and never comes once the channel is closed. `Nothing`
+    /// where the take gave none, and then the history stays. `NoAgent`, looked at first, where the board
+    /// lacks the agent; `Memory` where the trace could not grow. After either nothing was taken, and
+    /// nothing changed.
     pub fn serve(&mut self, links: &[Link<C>], agent: u32) -> Result<Served, ServeError>
         requires { IsOfLinks (map (λ link. C.name link.a2p) links.now) (map (λ link. C.name link.p2a) links.now) self.old }
         ensures links { IsOfLinks (map (λ link. C.name link.a2p) links.now) (map (λ link. C.name link.p2a) links.now) self.new }
         ensures kept { IsKept self.new }
         ensures board { self.new.board ≡ self.old.board }
         ensures steps { IfOk result (λ served. Serves agent self.old served self.new) }
+        ensures closed { is_callee_shut (callee_of self.old agent) ≡ true → result ≢ Ok Served.Done }
         ensures no_agent { (result ≡ Err ServeError.NoAgent) ↔ ((agent ≡ 0) ⊎ (length self.old.board.agents < agent)) }
         ensures err { OnErr result (self.new ≡ self.old) }
     {
@@ -72,6 +79,7 @@ impl<C: Channel> Controller<C> {
             &links[index].a2p,
             &mut self.callees[index],
             agent,
+            &mut self.room,
         ))
     }
 
@@ -127,8 +135,8 @@ impl<C: Channel> Controller<C> {
         ))
     }
 
-    /// Closes an agent's A2P channel, so that no further command of it is executed, collects once on
-    /// its P2A channel, and closes that.
+    /// Closes an agent's A2P channel, so that no further command of it is executed, and notes after how
+    /// many events it first did; collects once on its P2A channel, and closes that.
     ///
     /// `NoAgent`, looked at first, where the board lacks the agent; then nothing changed. `InService`
     /// and `ReplyWaiting` come only where a message is outstanding on P2A: A2P is closed then, P2A is
@@ -146,10 +154,13 @@ impl<C: Channel> Controller<C> {
             return Err(ShutError::NoAgent);
         }
         let index = agent as usize - 1;
+        let events = self.core.trace().len();
         shut_one(
             &links[index],
             &mut self.callees[index],
             &mut self.callers[index],
+            &mut self.closed_at[index],
+            events,
         )
     }
 }

@@ -1,5 +1,5 @@
 //! How the two sides of a platform are made.
-ghost use Rattle.std.specs.Prelude.{◌≡◌, [], length, map, replicate, vec_len, IfOk, IfErr};
+ghost use Rattle.std.specs.Prelude.{◌≡◌, [], None, length, map, replicate, vec_len, IfOk, IfErr};
 ghost use Rattle.scmi_link.specs.View.{new_caller, new_callee};
 ghost use Rattle.scmi_ends.specs.Each.{AllFrom};
 ghost use Rattle.scmi_ends.specs.AgentView.{IsOfLink, IsNewAgent};
@@ -9,6 +9,7 @@ ghost use Rattle.scmi_ends.specs.Kept.{IsKept};
 use crate::agent_end::AgentEnd;
 use crate::controller::Controller;
 use crate::link::Link;
+use crate::room::Room;
 use scmi_core::Core;
 use scmi_link::{Channel, LinkError};
 use std::alloc::Global;
@@ -24,6 +25,7 @@ pub fn connect<C: Channel>(
     requires { core.history ≡ [] }
     ensures count { IfOk result (λ r. (vec_len r.1 ≡ length core.board.agents) × (vec_len r.2 ≡ length core.board.agents)) }
     ensures controller { IfOk result (λ r. (r.0.board ≡ core.board) × (r.0.history ≡ []) × (r.0.callees ≡ replicate (length core.board.agents) new_callee) × (r.0.callers ≡ replicate (length core.board.agents) new_caller)) }
+    ensures closed_at { IfOk result (λ r. r.0.closed_at ≡ replicate (length core.board.agents) None) }
     ensures kept { IfOk result (λ r. IsKept r.0) }
     ensures links { IfOk result (λ r. IsOfLinks (map (λ link. C.name link.a2p) r.1.items) (map (λ link. C.name link.p2a) r.1.items) r.0) }
     ensures ends { IfOk result (λ r. (map (λ agent. agent.a2p_name) r.2.items ≡ map (λ link. C.name link.a2p) r.1.items) × (map (λ agent. agent.p2a_name) r.2.items ≡ map (λ link. C.name link.p2a) r.1.items)) }
@@ -34,6 +36,7 @@ pub fn connect<C: Channel>(
     let mut callees = Vec::new(alloc);
     let mut callers = Vec::new(alloc);
     let mut agents = Vec::new(alloc);
+    let mut closed_at = Vec::new(alloc);
     for index in 0..core.agents() {
         let Ok((link, agent, callee, caller)) = make_one(alloc, index + 1) else {
             return Err(core);
@@ -50,12 +53,17 @@ pub fn connect<C: Channel>(
         let Ok(()) = agents.push(agent) else {
             return Err(core);
         };
+        let Ok(()) = closed_at.push(None) else {
+            return Err(core);
+        };
     }
     Ok((
         Controller {
             core,
             callees,
             callers,
+            closed_at,
+            room: Room::new(),
         },
         links,
         agents,

@@ -14,6 +14,7 @@ mod flushed;
 mod link;
 mod one_agent;
 mod retire;
+mod room;
 mod serve_error;
 mod served;
 mod shut_error;

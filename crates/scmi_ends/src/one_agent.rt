@@ -1,5 +1,6 @@
 //! The platform's calls at the ends of one agent's channels.
-ghost use Rattle.std.specs.Prelude.{◌≡◌, ◌<◌, true};
+ghost use Rattle.std.specs.Prelude.{◌≡◌, ◌<◌, true, Some};
+ghost use Rattle.std.specs.Option.{option_or};
 ghost use Rattle.scmi_link.specs.View.{Owes};
 ghost use Rattle.scmi_core.specs.Agents.{IsAgent};
 ghost use Rattle.scmi_core.specs.Legal.{IsLegal};
@@ -9,17 +10,20 @@ ghost use Rattle.scmi_ends.specs.Shut.{CollectsAndShuts};
 
 use crate::flushed::Flushed;
 use crate::link::Link;
+use crate::room::Room;
 use crate::served::Served;
 use crate::shut_error::ShutError;
-use scmi_core::Core;
+use scmi_codec::Answer;
+use scmi_core::{Answered, Core};
 use scmi_link::{Channel, CloseError, PostError};
 
-// Takes a command off A2P, executes it and answers it. The trace has room for it.
+// Takes a command off A2P, executes it and answers it, by way of `room`. The trace has room for it.
 pub(crate) fn serve_one<C: Channel>(
     core: &mut Core,
     a2p: &C,
     callee: &mut C::Callee,
     agent: u32,
+    room: &mut Room,
 ) -> Served
     requires name { C.callee_name callee.old ≡ C.name a2p.now }
     requires room { 0 < core.old.room }
@@ -30,13 +34,13 @@ pub(crate) fn serve_one<C: Channel>(
     ensures legal { IsLegal core.new.board core.new.history }
     ensures step { ServesOne core.old.board agent core.old.history (C.callee_view callee.old) result core.new.history (C.callee_view callee.new) }
 {
-    let Some(frame) = a2p.take(callee) else {
+    if !a2p.take_into(callee, &mut room.frame) {
         return Served::Nothing;
-    };
-    let Ok(answer) = core.command(agent, &frame) else {
-        unreachable!()
-    };
-    a2p.answer(callee, &answer);
+    }
+    match core.execute(agent, &room.frame, &mut room.reply) {
+        Answered::Reply => a2p.reply(callee, &room.reply),
+        Answered::ChannelError => a2p.answer(callee, &Answer::ChannelError),
+    }
     Served::Done
 }
 
@@ -57,7 +61,7 @@ pub(crate) fn flush_one<C: Channel>(
     ensures legal { IsLegal core.new.board core.new.history }
     ensures step { CollectsAndFlushes C.FULL core.old.board agent core.old.history (C.caller_view caller.old) result core.new.history (C.caller_view caller.new) }
 {
-    let _ = p2a.collect(caller);
+    let _ = p2a.collect_into(caller, &mut Answer::Released);
     if C::outstanding(caller) {
         return Flushed::Waiting;
     }
@@ -78,11 +82,14 @@ pub(crate) fn flush_one<C: Channel>(
     }
 }
 
-// Closes A2P, where no answer is owed, collects on P2A, and closes that.
+// Closes A2P, where no answer is owed, and notes after how many events it first did; collects on P2A, and
+// closes that.
 pub(crate) fn shut_one<C: Channel>(
     link: &Link<C>,
     callee: &mut C::Callee,
     caller: &mut C::Caller,
+    closed_at: &mut Option<usize>,
+    events: usize,
 ) -> Result<(), ShutError>
     requires a2p { C.callee_name callee.old ≡ C.name link.now.a2p }
     requires p2a { C.caller_name caller.old ≡ C.name link.now.p2a }
@@ -90,12 +97,14 @@ pub(crate) fn shut_one<C: Channel>(
     ensures a2p { C.callee_name callee.new ≡ C.callee_name callee.old }
     ensures p2a { C.caller_name caller.new ≡ C.caller_name caller.old }
     ensures closes { C.callee_view callee.new ≡ record (C.callee_view callee.old) { closed = true } }
+    ensures closed_at { closed_at.new ≡ option_or closed_at.old (Some events) }
     ensures step { CollectsAndShuts (C.caller_view caller.old) result (C.caller_view caller.new) }
 {
     let Ok(()) = link.a2p.close_callee(callee) else {
         unreachable!()
     };
-    let _ = link.p2a.collect(caller);
+    *closed_at = closed_at.or(Some(events));
+    let _ = link.p2a.collect_into(caller, &mut Answer::Released);
     match link.p2a.close_caller(caller) {
         Ok(_) => Ok(()),
         Err(CloseError::InService) => Err(ShutError::InService),

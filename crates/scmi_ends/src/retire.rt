@@ -1,10 +1,13 @@
 //! How the ends of all channels are gathered.
 ghost use Rattle.std.specs.Prelude.{◌≡◌, map};
 ghost use Rattle.std.specs.List.{AllZip};
+ghost use Rattle.scmi_core.specs.Bounds.{HasBounds, HasResponses};
+ghost use Rattle.scmi_core.specs.History.{deeds};
 ghost use Rattle.scmi_core.specs.Legal.{IsLegal};
 ghost use Rattle.scmi_ends.specs.AgentView.{IsOfLink};
 ghost use Rattle.scmi_ends.specs.ControllerView.{IsOfLinks};
 ghost use Rattle.scmi_ends.specs.Headline.{Headlines, AllGathered};
+ghost use Rattle.scmi_ends.specs.Kept.{StayShut};
 
 use crate::agent_end::AgentEnd;
 use crate::controller::Controller;
@@ -18,15 +21,20 @@ impl<C: Channel> Controller<C> {
     /// Condition: the links and the agents' ends are the whole lists of `connect`, in order. The history
     /// is legal. The commands that it has of each agent are those the agent posted, in order, each once,
     /// at most the last left out; each reply that the agent read is the answer at its command's place; a
-    /// command that was withdrawn or given up was not executed; and the messages that the agent took are
-    /// those delivered to it, at most the last left out.
+    /// command that was withdrawn or given up was not executed; where the platform has closed the agent's
+    /// A2P channel, what it had executed then is all that was executed; and the messages that the agent
+    /// took are those delivered to it, at most the last left out. With its outbox they are all that was
+    /// made for it, where no delayed response is lost.
     pub fn retire(self, links: Vec<Link<C>>, agents: Vec<AgentEnd<C>>) -> Trace
         requires links { IsOfLinks (map (λ link. C.name link.a2p) links.items) (map (λ link. C.name link.p2a) links.items) self }
         requires a2p { map (λ agent. agent.a2p_name) agents.items ≡ map (λ link. C.name link.a2p) links.items }
         requires p2a { map (λ agent. agent.p2a_name) agents.items ≡ map (λ link. C.name link.p2a) links.items }
         ensures history { result.events ≡ self.history }
         ensures legal { IsLegal self.board result.events }
+        ensures bounds { HasBounds self.board (deeds self.board result.events) }
+        ensures responses { HasResponses self.board (deeds self.board result.events) }
         ensures headline { Headlines self.board result.events 1 agents.items self.callees self.callers }
+        ensures shut { StayShut result.events self.callees self.closed_at }
     {
         self.gather_ends(links, agents).into_trace()
     }
@@ -39,11 +47,13 @@ impl<C: Channel> Controller<C> {
         ensures board { result.board ≡ self.board }
         ensures history { result.history ≡ self.history }
         ensures headline { Headlines self.board self.history 1 agents.items self.callees self.callers }
+        ensures shut { StayShut self.history self.callees self.closed_at }
     {
         let Controller {
             core,
             callees,
             callers,
+            ..
         } = self;
         gather_all(links, agents, callees, callers);
         core

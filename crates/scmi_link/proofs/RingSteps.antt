@@ -1,6 +1,7 @@
 -- What a push or a pop of a note leaves true.
 use Rattle.std.proofs.Common.{◌≡◌, ℕ, ◌+◌, ◌⊎◌, inl, inr, Bool, true, false, ◌||◌, not, List, [], ◌∷◌, ◌++◌, length, Result, Ok, Err, OnOk, IfErr, refl, sym, ap, ◌∙◌, arith, length-append}
 use Rattle.std.proofs.lemmas.Bool.{false≢true}
+use mathlib.Core.List.{IsPrefix}
 use Rattle.rtrb.specs.Ring.{sent, received}
 use Rattle.scmi_codec.specs.declared.frame.Answer.{Answer}
 use Rattle.scmi_link.specs.declared.callee_seat.CalleeSeat.{CalleeSeat}
@@ -55,3 +56,7 @@ pub told_now : (told closed waiting : Bool) → waiting ≡ true → (closed ≡
 told_now told true waiting w q = absurd (false≢true (sym (q refl) ∙ w))
 told_now true false waiting w q = refl
 told_now false false waiting w q = refl
+
+-- the item seen first is the next that comes
+pub first_is : {X : Type 0} (x y : X) (ks ks' : List X) → IsPrefix (x ∷ []) ks → ks ≡ y ∷ ks' → y ≡ x
+first_is x y ks ks' p e = cc

@@ -1,9 +1,11 @@
 -- What each call leaves, by what it answers.
-use Rattle.std.specs.Prelude.{◌≡◌, true, false, not, ◌||◌, [], ◌∷◌, ◌++◌, length, Option, Some, None}
+use Rattle.std.specs.Prelude.{◌≡◌, Bool, true, false, not, ◌||◌, [], ◌∷◌, ◌++◌, length, Option, Some, None}
 use Rattle.scmi_codec.specs.declared.frame.Frame.{Frame}
 use Rattle.scmi_codec.specs.declared.frame.Answer.{Answer}
 use Rattle.scmi_link.specs.declared.collected.Collected.{Collected}
 use Rattle.scmi_link.specs.declared.collected.Collected.TheVariants.{Nothing, Got, Closed}
+use Rattle.scmi_link.specs.declared.looked.Looked.{Looked}
+use Rattle.scmi_link.specs.declared.looked.Looked.TheVariants as looked
 use Rattle.scmi_link.specs.View.{CallerView, CalleeView, IsOutstanding, is_shut, is_callee_shut, one_more}
 
 -- a caller that was answered `Closed`: where it had not closed, it was told that the callee has
@@ -49,3 +51,14 @@ pub record TakesNone (old new : CalleeView) : Type 0 where
 abbrev pub Takes : CalleeView → Option Frame → CalleeView → Type 0
 Takes old None new = TakesNone old new
 Takes old (Some frame) new = TakesFrame old frame new
+
+-- what a `take_into` gave, by its answer and the frame that it left
+abbrev pub frame_if : Bool → Frame → Option Frame
+frame_if true frame = Some frame
+frame_if false frame = None
+
+-- what a `collect_into` gave, by its answer and the answer that it left
+abbrev pub collected_by : Looked → Answer → Collected
+collected_by looked.Nothing answer = Nothing
+collected_by looked.Got answer = Got answer
+collected_by looked.Closed answer = Closed

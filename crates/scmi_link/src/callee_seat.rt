@@ -29,21 +29,24 @@ pub struct CalleeSeat {
 impl CalleeSeat {
     ghost use Rattle.std.specs.Prelude.{◌≡◌, ◌++◌, ◌∷◌, [], ◌↔◌, true, OnOk, OnErr};
     ghost use Rattle.scmi_link.specs.View.{Owes};
-    ghost use Rattle.scmi_link.specs.Calls.{Takes};
+    ghost use Rattle.scmi_link.specs.Calls.{Takes, frame_if};
     ghost use Rattle.scmi_link.specs.CalleeSeat.{callee_seat_view, SameCalleeRings};
 
-    // A frame is taken only where a place for its answer is known to be free.
-    pub(crate) fn take(&mut self) -> Option<Frame>
+    // A frame is taken only where a place for its answer is known to be free. It is copied where it
+    // stands in the ring, and dropped there.
+    pub(crate) fn take_into(&mut self, frame: &mut Frame) -> bool
         ensures rings { SameCalleeRings self.old self.new }
-        ensures takes { Takes (callee_seat_view self.old) result (callee_seat_view self.new) }
+        ensures takes { Takes (callee_seat_view self.old) (frame_if result frame.new) (callee_seat_view self.new) }
+        ensures stays { result ≡ false → frame.new ≡ frame.old }
     {
         self.takes = self.takes.wrapping_add(1);
-        if self.closed || self.owing || self.answers.is_full() {
-            return None;
+        if self.closed || self.owing || self.answers.is_full() || self.frames.is_empty() {
+            return false;
         }
-        let frame = self.frames.pop().ok()?;
+        frame.copy_from(self.frames.peek_known());
+        let _ = self.frames.pop_known();
         self.owing = true;
-        Some(frame)
+        true
     }
 
     // Puts the answer that is owed into the ring, where it has a place.

@@ -1,16 +1,16 @@
 //! The caller's ends of a pair of rings, and what the caller has done.
 ghost use Rattle.std.specs.Prelude.{◌≡◌, ◌+◌, true, false, length};
-ghost use Rattle.rtrb.specs.Ring.{sent, received};
+ghost use Rattle.rtrb.specs.Ring.{sent, received, known_free};
 ghost use Rattle.scmi_link.specs.Note.{said, has_closing};
 ghost use Rattle.scmi_link.specs.Bit.{bit};
 
 use crate::close_error::CloseError;
 use crate::closing::Closing;
-use crate::collected::Collected;
+use crate::looked::Looked;
 use crate::note::Note;
 use crate::post_error::PostError;
 use rtrb::{Consumer, Producer};
-use scmi_codec::Frame;
+use scmi_codec::{Answer, Frame, Header, Message, Payload, payload_of};
 
 /// The caller's ends of a pair of rings, and what the caller has done.
 #[derive(Drop)]
@@ -34,16 +34,57 @@ pub struct CallerSeat {
 }
 
 impl CallerSeat {
-    ghost use Rattle.std.specs.Prelude.{◌≡◌, ◌++◌, ◌∷◌, [], ◌↔◌, true, false, OnOk, OnErr};
+    ghost use Rattle.std.specs.Prelude.{◌≡◌, ◌<◌, ◌++◌, ◌∷◌, [], ◌↔◌, true, false, OnOk, OnErr};
+    ghost use Rattle.scmi_codec.specs.declared.frame.Frame.TheVariants.{Good, Malformed};
     ghost use Rattle.scmi_link.specs.View.{IsOutstanding, is_shut};
-    ghost use Rattle.scmi_link.specs.Calls.{IsRefused, Collects};
+    ghost use Rattle.scmi_link.specs.Calls.{IsRefused, Collects, collected_by};
     ghost use Rattle.scmi_link.specs.CallerSeat.{caller_seat_view, SameCallerRings};
 
-    // Posts a frame, good or malformed.
-    pub(crate) fn post(&mut self, frame: Frame) -> Result<(), PostError>
+    // Posts a message of this header and payload.
+    pub(crate) fn post_parts(&mut self, header: Header, payload: &Payload) -> Result<(), PostError>
         ensures rings { SameCallerRings self.old self.new }
-        ensures ok { OnOk result (caller_seat_view self.new ≡ record (caller_seat_view self.old) { posted = (caller_seat_view self.old).posted ++ frame ∷ [] }) }
+        ensures ok { OnOk result (caller_seat_view self.new ≡ record (caller_seat_view self.old) { posted = (caller_seat_view self.old).posted ++ Good (record { header = header; payload = payload.now }) ∷ [] }) }
         ensures unshut { OnOk result (is_shut (caller_seat_view self.old) ≡ false) }
+        ensures outstanding { (result ≡ Err PostError.Outstanding) ↔ IsOutstanding (caller_seat_view self.old) }
+        ensures unchanged { result ≡ Err PostError.Outstanding → caller_seat_view self.new ≡ caller_seat_view self.old }
+        ensures closed { result ≡ Err PostError.Closed → IsRefused (caller_seat_view self.old) (caller_seat_view self.new) }
+        ensures full { result ≡ Err PostError.Full → (is_shut (caller_seat_view self.old) ≡ false) × (caller_seat_view self.new ≡ caller_seat_view self.old) }
+        ensures well_formed { ¬ (result ≡ Err PostError.WellFormed) }
+    {
+        self.may_post()?;
+        self.frames.push_reserved(Frame::Good(Message {
+            header,
+            payload: payload_of(payload.as_slice()),
+        }));
+        self.waiting = true;
+        Ok(())
+    }
+
+    // Posts a frame whose length in bytes is not well formed.
+    pub(crate) fn post_malformed(&mut self, length: u32, header: u32) -> Result<(), PostError>
+        ensures rings { SameCallerRings self.old self.new }
+        ensures ok { OnOk result (caller_seat_view self.new ≡ record (caller_seat_view self.old) { posted = (caller_seat_view self.old).posted ++ Malformed length header ∷ [] }) }
+        ensures unshut { OnOk result (is_shut (caller_seat_view self.old) ≡ false) }
+        ensures outstanding { (result ≡ Err PostError.Outstanding) ↔ IsOutstanding (caller_seat_view self.old) }
+        ensures unchanged { result ≡ Err PostError.Outstanding → caller_seat_view self.new ≡ caller_seat_view self.old }
+        ensures closed { result ≡ Err PostError.Closed → IsRefused (caller_seat_view self.old) (caller_seat_view self.new) }
+        ensures full { result ≡ Err PostError.Full → (is_shut (caller_seat_view self.old) ≡ false) × (caller_seat_view self.new ≡ caller_seat_view self.old) }
+        ensures well_formed { ¬ (result ≡ Err PostError.WellFormed) }
+    {
+        self.may_post()?;
+        self.frames
+            .push_reserved(Frame::Malformed { length, header });
+        self.waiting = true;
+        Ok(())
+    }
+
+    // Whether the caller may post, and there is a place for it.
+    fn may_post(&mut self) -> Result<(), PostError>
+        ensures rings { SameCallerRings self.old self.new }
+        ensures same { OnOk result (caller_seat_view self.new ≡ caller_seat_view self.old) }
+        ensures room { OnOk result (0 < known_free self.new.frames) }
+        ensures idle { OnOk result (self.new.waiting ≡ false) }
+        ensures unshut { OnOk result (is_shut (caller_seat_view self.new) ≡ false) }
         ensures outstanding { (result ≡ Err PostError.Outstanding) ↔ IsOutstanding (caller_seat_view self.old) }
         ensures unchanged { result ≡ Err PostError.Outstanding → caller_seat_view self.new ≡ caller_seat_view self.old }
         ensures closed { result ≡ Err PostError.Closed → IsRefused (caller_seat_view self.old) (caller_seat_view self.new) }
@@ -56,41 +97,45 @@ impl CallerSeat {
         if self.closed || self.see_closing_note() {
             return Err(PostError::Closed);
         }
-        match self.frames.push(frame) {
-            Ok(()) => {
-                self.waiting = true;
-                Ok(())
-            }
-            Err(_) => Err(PostError::Full),
+        if self.frames.is_full() {
+            return Err(PostError::Full);
         }
+        Ok(())
     }
 
-    // What the ring of answers has for the caller.
-    pub(crate) fn collect(&mut self) -> Collected
+    // What the ring of answers has for the caller. An answer is copied where it stands in the ring, and
+    // dropped there.
+    pub(crate) fn collect_into(&mut self, answer: &mut Answer) -> Looked
         ensures rings { SameCallerRings self.old self.new }
-        ensures collects { Collects (caller_seat_view self.old) result (caller_seat_view self.new) }
-        ensures shut { is_shut (caller_seat_view self.old) ≡ true → ¬ IsOutstanding (caller_seat_view self.old) → result ≡ Collected.Closed }
+        ensures collects { Collects (caller_seat_view self.old) (collected_by result answer.new) (caller_seat_view self.new) }
+        ensures stays { ¬ (result ≡ Looked.Got) → answer.new ≡ answer.old }
+        ensures shut { is_shut (caller_seat_view self.old) ≡ true → ¬ IsOutstanding (caller_seat_view self.old) → result ≡ Looked.Closed }
     {
         self.collects = self.collects.wrapping_add(1);
         if !self.waiting {
             return if self.closed || self.see_closing_note() {
-                Collected::Closed
+                Looked::Closed
             } else {
-                Collected::Nothing
+                Looked::Nothing
             };
         }
-        match self.answers.pop() {
-            Ok(Note::Said(answer)) => {
+        if self.answers.is_empty() {
+            return Looked::Nothing;
+        }
+        match self.answers.peek_known() {
+            Note::Said(found) => {
+                answer.copy_from(found);
+                let _ = self.answers.pop_known();
                 self.waiting = false;
-                Collected::Got(answer)
+                Looked::Got
             }
-            Ok(Note::Closing) => {
+            Note::Closing => {
+                let _ = self.answers.pop_known();
                 self.told = true;
                 self.waiting = false;
                 self.left = true;
-                Collected::Closed
+                Looked::Closed
             }
-            Err(_) => Collected::Nothing,
         }
     }
 

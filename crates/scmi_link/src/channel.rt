@@ -2,16 +2,18 @@
 ghost use Rattle.std.specs.Prelude.{◌≡◌, ◌↔◌, ◌⊎◌, ℕ, Bool, true, false, List, [], ◌∷◌, ◌++◌, IsTrue, OnOk, OnErr, IfOk};
 ghost use Rattle.scmi_codec.specs.Area.{is_well_formed};
 ghost use Rattle.scmi_codec.specs.declared.frame.Frame.TheVariants.{Good, Malformed};
+ghost use Rattle.scmi_codec.specs.declared.frame.Answer.TheVariants.{Reply};
 ghost use Rattle.scmi_link.specs.View.{CallerView, CalleeView, IsOutstanding, Owes, new_caller, new_callee, is_shut};
-ghost use Rattle.scmi_link.specs.Calls.{IsRefused, Collects, Takes};
+ghost use Rattle.scmi_link.specs.Calls.{IsRefused, Collects, Takes, frame_if, collected_by};
 ghost use Rattle.scmi_link.specs.Gathered.{Agree, Closed};
 
 use crate::close_error::CloseError;
 use crate::closing::Closing;
 use crate::collected::Collected;
 use crate::link_error::LinkError;
+use crate::looked::Looked;
 use crate::post_error::PostError;
-use scmi_codec::{Answer, Frame, Message};
+use scmi_codec::{Answer, Frame, Header, Message, Payload};
 use std::alloc::Global;
 
 /// A channel of one place between a caller and a callee (own).
@@ -68,6 +70,26 @@ pub trait Channel: Sync + Drop {
         ensures unchanged { result ≡ Err PostError.Outstanding → caller_view caller.new ≡ caller_view caller.old }
         ensures closed { result ≡ Err PostError.Closed → IsRefused (caller_view caller.old) (caller_view caller.new) }
         ensures full { result ≡ Err PostError.Full → (FULL ≡ true) × (is_shut (caller_view caller.old) ≡ false) × (caller_view caller.new ≡ caller_view caller.old) }
+        ensures well_formed { ¬ (result ≡ Err PostError.WellFormed) }
+    {
+        self.post_parts(caller, message.header, &message.payload)
+    }
+
+    /// Posts a message of this header and payload, as `post`.
+    fn post_parts(
+        &self,
+        caller: &mut Self::Caller,
+        header: Header,
+        payload: &Payload,
+    ) -> Result<(), PostError>
+        requires { caller_name caller.old ≡ name self.now }
+        ensures name { caller_name caller.new ≡ caller_name caller.old }
+        ensures ok { OnOk result (caller_view caller.new ≡ record (caller_view caller.old) { posted = (caller_view caller.old).posted ++ Good (record { header = header; payload = payload.now }) ∷ [] }) }
+        ensures unshut { OnOk result (is_shut (caller_view caller.old) ≡ false) }
+        ensures outstanding { (result ≡ Err PostError.Outstanding) ↔ IsOutstanding (caller_view caller.old) }
+        ensures unchanged { result ≡ Err PostError.Outstanding → caller_view caller.new ≡ caller_view caller.old }
+        ensures closed { result ≡ Err PostError.Closed → IsRefused (caller_view caller.old) (caller_view caller.new) }
+        ensures full { result ≡ Err PostError.Full → (FULL ≡ true) × (is_shut (caller_view caller.old) ≡ false) × (caller_view caller.new ≡ caller_view caller.old) }
         ensures well_formed { ¬ (result ≡ Err PostError.WellFormed) };
 
     /// Posts a frame whose length in bytes is not well formed.
@@ -103,14 +125,50 @@ pub trait Channel: Sync + Drop {
         requires { caller_name caller.old ≡ name self.now }
         ensures name { caller_name caller.new ≡ caller_name caller.old }
         ensures collects { Collects (caller_view caller.old) result (caller_view caller.new) }
-        ensures shut { is_shut (caller_view caller.old) ≡ true → ¬ IsOutstanding (caller_view caller.old) → result ≡ Collected.Closed };
+        ensures shut { is_shut (caller_view caller.old) ≡ true → ¬ IsOutstanding (caller_view caller.old) → result ≡ Collected.Closed }
+    {
+        let mut answer = Answer::Released;
+        match self.collect_into(caller, &mut answer) {
+            Looked::Nothing => Collected::Nothing,
+            Looked::Got => Collected::Got(answer),
+            Looked::Closed => Collected::Closed,
+        }
+    }
+
+    /// What the channel has for the caller, as `collect`, the answer read into `answer`. Where it gives
+    /// no answer, `answer` stays.
+    fn collect_into(&self, caller: &mut Self::Caller, answer: &mut Answer) -> Looked
+        requires { caller_name caller.old ≡ name self.now }
+        ensures name { caller_name caller.new ≡ caller_name caller.old }
+        ensures collects { Collects (caller_view caller.old) (collected_by result answer.new) (caller_view caller.new) }
+        ensures stays { ¬ (result ≡ Looked.Got) → answer.new ≡ answer.old }
+        ensures shut { is_shut (caller_view caller.old) ≡ true → ¬ IsOutstanding (caller_view caller.old) → result ≡ Looked.Closed };
 
     /// The frame that is posted. `None` where nothing is posted, an end has closed, or the callee
     /// still owes an answer.
     fn take(&self, callee: &mut Self::Callee) -> Option<Frame>
         requires { callee_name callee.old ≡ name self.now }
         ensures name { callee_name callee.new ≡ callee_name callee.old }
-        ensures takes { Takes (callee_view callee.old) result (callee_view callee.new) };
+        ensures takes { Takes (callee_view callee.old) result (callee_view callee.new) }
+    {
+        let mut frame = Frame::Malformed {
+            length: 0,
+            header: 0,
+        };
+        if self.take_into(callee, &mut frame) {
+            Some(frame)
+        } else {
+            None
+        }
+    }
+
+    /// Takes the frame that is posted, as `take`, into `frame`, and says whether there was one. Where
+    /// there was none, `frame` stays.
+    fn take_into(&self, callee: &mut Self::Callee, frame: &mut Frame) -> bool
+        requires { callee_name callee.old ≡ name self.now }
+        ensures name { callee_name callee.new ≡ callee_name callee.old }
+        ensures takes { Takes (callee_view callee.old) (frame_if result frame.new) (callee_view callee.new) }
+        ensures stays { result ≡ false → frame.new ≡ frame.old };
 
     /// Whether the last frame that was taken has no answer yet.
     fn owes(callee: &Self::Callee) -> bool
@@ -122,6 +180,16 @@ pub trait Channel: Sync + Drop {
         requires owes { Owes (callee_view callee.old) }
         ensures name { callee_name callee.new ≡ callee_name callee.old }
         ensures answered { callee_view callee.new ≡ record (callee_view callee.old) { answered = (callee_view callee.old).answered ++ answer.now ∷ [] } };
+
+    /// Answers the frame that was taken last by a reply, as `answer`.
+    fn reply(&self, callee: &mut Self::Callee, message: &Message)
+        requires name { callee_name callee.old ≡ name self.now }
+        requires owes { Owes (callee_view callee.old) }
+        ensures name { callee_name callee.new ≡ callee_name callee.old }
+        ensures answered { callee_view callee.new ≡ record (callee_view callee.old) { answered = (callee_view callee.old).answered ++ Reply message.now ∷ [] } }
+    {
+        self.answer(callee, &Answer::Reply(message.copy()));
+    }
 
     /// Closes the caller's end.
     ///

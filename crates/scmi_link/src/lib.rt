@@ -13,20 +13,20 @@ mod close_error;
 mod closing;
 mod collected;
 mod link_error;
+mod looked;
 mod note;
 mod post_error;
 mod ring_callee;
 mod ring_caller;
 mod ring_channel;
 mod rings;
-#[cfg(test)]
-mod tests;
 
 pub use channel::Channel;
 pub use close_error::CloseError;
 pub use closing::Closing;
 pub use collected::Collected;
 pub use link_error::LinkError;
+pub use looked::Looked;
 pub use post_error::PostError;
 pub use ring_callee::RingCallee;
 pub use ring_caller::RingCaller;

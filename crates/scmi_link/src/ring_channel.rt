@@ -6,8 +6,8 @@ use crate::caller_seat::CallerSeat;
 use crate::channel::Channel;
 use crate::close_error::CloseError;
 use crate::closing::Closing;
-use crate::collected::Collected;
 use crate::link_error::LinkError;
+use crate::looked::Looked;
 use crate::note::Note;
 use crate::post_error::PostError;
 use crate::ring_callee::RingCallee;
@@ -15,7 +15,7 @@ use crate::ring_caller::RingCaller;
 use crate::rings::{RingNames, Rings};
 use boxcar::tag::Tag;
 use rtrb::RingBuffer;
-use scmi_codec::{Answer, Frame, Message, is_well_formed};
+use scmi_codec::{Answer, Frame, Header, Payload, is_well_formed};
 use std::alloc::Global;
 use std::snapshot::Snapshot;
 
@@ -101,8 +101,13 @@ impl Channel for RingChannel {
         Ok((channel, caller, callee))
     }
 
-    fn post(&self, caller: &mut RingCaller, message: &Message) -> Result<(), PostError> {
-        caller.seat.post(Frame::Good(message.copy()))
+    fn post_parts(
+        &self,
+        caller: &mut RingCaller,
+        header: Header,
+        payload: &Payload,
+    ) -> Result<(), PostError> {
+        caller.seat.post_parts(header, payload)
     }
 
     fn post_malformed(
@@ -114,19 +119,19 @@ impl Channel for RingChannel {
         if is_well_formed(length) {
             return Err(PostError::WellFormed);
         }
-        caller.seat.post(Frame::Malformed { length, header })
+        caller.seat.post_malformed(length, header)
     }
 
     fn outstanding(caller: &RingCaller) -> bool {
         caller.seat.waiting
     }
 
-    fn collect(&self, caller: &mut RingCaller) -> Collected {
-        caller.seat.collect()
+    fn collect_into(&self, caller: &mut RingCaller, answer: &mut Answer) -> Looked {
+        caller.seat.collect_into(answer)
     }
 
-    fn take(&self, callee: &mut RingCallee) -> Option<Frame> {
-        callee.seat.take()
+    fn take_into(&self, callee: &mut RingCallee, frame: &mut Frame) -> bool {
+        callee.seat.take_into(frame)
     }
 
     fn owes(callee: &RingCallee) -> bool {

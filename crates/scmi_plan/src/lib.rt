@@ -17,8 +17,6 @@ mod plan_error;
 mod rates;
 mod raw_plan;
 mod resource;
-#[cfg(test)]
-mod tests;
 
 pub use clock::Clock;
 pub use device::Device;

@@ -10,7 +10,7 @@ use Rattle.scmi_power.specs.PowerReply.{PowerView, state_on, state_off}
 use Rattle.scmi_codec.specs.Reply.{bit_0}
 use Rattle.scmi_plan.specs.declared.load.Load.{Load}
 use Rattle.scmi_plan.specs.declared.resource.Resource.TheVariants as resource
-use Rattle.scmi_base.specs.Permission.{may, is_allowed}
+use Rattle.scmi_base.specs.Permission.{Permissions, may, is_allowed}
 
 -- the state of each domain, and who is told of its changes, bit a - 1 for agent a
 pub record PowerTables : Type 0 where
@@ -39,7 +39,7 @@ abbrev pub state_at_start : Board → ℕ → ℕ
 state_at_start board d = starting_state (domain_at board d)
 
 -- whether a caller may change a domain, by a table of permissions
-abbrev pub may_change : Board → List (List Bool) → (caller d : ℕ) → Bool
+abbrev pub may_change : Board → Permissions → (caller d : ℕ) → Bool
 may_change board permissions caller d = may board (λ device. is_allowed permissions caller device) (resource.Domain d)
 
 -- whether a domain has a pending set
@@ -47,7 +47,7 @@ abbrev pub is_busy : Load → ℕ → Bool
 is_busy load d = bit_at load.busy d == 1
 
 -- what a caller's replies read in the tables
-abbrev pub view_of : Board → List (List Bool) → PowerTables → Load → ℕ → PowerView
+abbrev pub view_of : Board → Permissions → PowerTables → Load → ℕ → PowerView
 view_of board permissions table load caller =
     record {
       state = λ d. state_at table d;

@@ -4,7 +4,7 @@ ghost use Rattle.scmi_power.specs.PowerReply.{message_reply, domain_reply};
 
 use crate::checks::check_domain;
 use crate::domain_attributes::attributes_of;
-use scmi_codec::{Payload, SUCCESS, Status, name_words, payload_of, refusal};
+use scmi_codec::{Payload, SUCCESS, Status, name_words, set_payload, set_refusal};
 use scmi_plan::Plan;
 
 /// The version of the power domain protocol: major 2, minor 0.
@@ -14,45 +14,48 @@ const VERSION: u32 = 0x0002_0000;
 const NO_STATISTICS: u32 = 0;
 
 /// 0x0: the version of the protocol.
-pub(crate) fn version() -> Payload
-    ensures { result.items ≡ 0 ∷ 0x00020000 ∷ [] }
+pub(crate) fn version(reply: &mut Payload)
+    ensures { reply.new.items ≡ 0 ∷ 0x00020000 ∷ [] }
 {
-    payload_of(&[SUCCESS, VERSION])
+    set_payload(reply, &[SUCCESS, VERSION]);
 }
 
 /// 0x1: the number of domains, and where the statistics memory is.
-pub(crate) fn attributes(plan: &Plan) -> Payload
-    ensures { result.items ≡ 0 ∷ length plan.now.domains ∷ 0 ∷ 0 ∷ 0 ∷ [] }
+pub(crate) fn attributes(plan: &Plan, reply: &mut Payload)
+    ensures { reply.new.items ≡ 0 ∷ length plan.now.domains ∷ 0 ∷ 0 ∷ 0 ∷ [] }
 {
-    payload_of(&[
-        SUCCESS,
-        plan.domains(),
-        NO_STATISTICS,
-        NO_STATISTICS,
-        NO_STATISTICS,
-    ])
+    set_payload(
+        reply,
+        &[
+            SUCCESS,
+            plan.domains(),
+            NO_STATISTICS,
+            NO_STATISTICS,
+            NO_STATISTICS,
+        ],
+    );
 }
 
 /// 0x2: no attributes; NOT_FOUND for an id that the protocol lacks.
-pub(crate) fn message_attributes(message: u32) -> Payload
-    ensures { result.items ≡ message_reply message }
+pub(crate) fn message_attributes(message: u32, reply: &mut Payload)
+    ensures { reply.new.items ≡ message_reply message }
 {
     match message {
-        0x0..=0x6 => payload_of(&[SUCCESS, 0]),
-        _ => refusal(Status::NotFound),
+        0x0..=0x6 => set_payload(reply, &[SUCCESS, 0]),
+        _ => set_refusal(reply, Status::NotFound),
     }
 }
 
 /// 0x3: what a domain supports, and its name; NOT_FOUND for a domain that the board lacks.
-pub(crate) fn domain_attributes(plan: &Plan, domain: u32) -> Payload
-    ensures { result.items ≡ domain_reply plan.now domain }
+pub(crate) fn domain_attributes(plan: &Plan, domain: u32, reply: &mut Payload)
+    ensures { reply.new.items ≡ domain_reply plan.now domain }
 {
     match check_domain(plan, domain) {
         Ok(()) => {
             let row = plan.domain(domain);
             let [a, b, c, d] = name_words(&row.name);
-            payload_of(&[SUCCESS, attributes_of(row), a, b, c, d])
+            set_payload(reply, &[SUCCESS, attributes_of(row), a, b, c, d]);
         }
-        Err(status) => refusal(status),
+        Err(status) => set_refusal(reply, status),
     }
 }

@@ -13,8 +13,6 @@ mod domain_state;
 mod power_done;
 mod power_state;
 mod subscribers;
-#[cfg(test)]
-mod tests;
 
 pub use power_done::PowerDone;
 pub use power_state::PowerState;

@@ -10,10 +10,10 @@ ghost use Rattle.scmi_codec.specs.Payload.{if_success};
 use crate::checks::{check_domain, check_notify, check_set};
 use crate::discovery::{attributes, domain_attributes, message_attributes, version};
 use crate::domain_state::starting_state;
-use crate::power_done::PowerDone;
+use crate::power_done::{NOTHING, PowerDone};
 use crate::subscribers::with_subscriber;
 use scmi_base::BaseState;
-use scmi_codec::{Payload, PowerCommand, SUCCESS, payload_of, refusal};
+use scmi_codec::{Payload, PowerCommand, SUCCESS, set_payload, set_refusal};
 use scmi_plan::{DOMAINS, Load, Plan};
 use std::marker::Model;
 
@@ -52,7 +52,7 @@ impl PowerState {
         }
     }
 
-    /// Executes a command of a caller. The reply begins with a status: NOT_FOUND for an unknown domain
+    /// Executes a command of a caller and writes the reply, which begins with a status: NOT_FOUND for an unknown domain
     /// or message id; then INVALID_PARAMETERS for flag bits besides bit 0 or for a word that is no
     /// state; then NOT_SUPPORTED for a kind of set, or notifications, that the domain lacks; then
     /// DENIED for a domain that the caller may not change; then BUSY for a set of a domain that has a
@@ -66,40 +66,38 @@ impl PowerState {
         caller: u32,
         command: PowerCommand,
         load: Load,
+        reply: &mut Payload,
     ) -> PowerDone
         requires first { 1 ≤ caller }
         requires last { caller ≤ length plan.now.agents }
-        ensures reply { result.reply.items ≡ power_reply plan.now (view_of plan.now base.now self.old load caller) command }
-        ensures changed { result.changed ≡ if_success result.reply.items (set_now command) }
-        ensures later { result.later ≡ if_success result.reply.items (set_later command) }
+        ensures reply { reply.new.items ≡ power_reply plan.now (view_of plan.now base.now self.old load caller) command }
+        ensures changed { result.changed ≡ if_success reply.new.items (set_now command) }
+        ensures later { result.later ≡ if_success reply.new.items (set_later command) }
         ensures states { (d : ℕ) → d < 32 → state_at self.new d ≡ set_to result.changed d (state_at self.old d) }
         ensures subscribed { (a d : ℕ) → 1 ≤ a → a ≤ 8 → d < 32 → is_subscribed self.new a d
-            ≡ unwrap_or (if_success result.reply.items (notification a d caller command)) (is_subscribed self.old a d) }
+            ≡ unwrap_or (if_success reply.new.items (notification a d caller command)) (is_subscribed self.old a d) }
         ensures known_now { IfSome result.changed (λ set. set.0 < length plan.now.domains) }
         ensures room { IfSome result.later (λ set. load.room ≡ true) }
         ensures known_later { IfSome result.later (λ set. set.0 < length plan.now.domains) }
-        ensures refused { begins_with_success result.reply.items ≡ false → self.new ≡ self.old }
+        ensures refused { begins_with_success reply.new.items ≡ false → self.new ≡ self.old }
         ensures read { only_reads command ≡ true → self.new ≡ self.old }
     {
         match command {
-            PowerCommand::Version => PowerDone::replied(version()),
-            PowerCommand::Attributes => PowerDone::replied(attributes(plan)),
-            PowerCommand::MessageAttributes { message } => {
-                PowerDone::replied(message_attributes(message))
-            }
-            PowerCommand::DomainAttributes { domain } => {
-                PowerDone::replied(domain_attributes(plan, domain))
-            }
+            PowerCommand::Version => version(reply),
+            PowerCommand::Attributes => attributes(plan, reply),
+            PowerCommand::MessageAttributes { message } => message_attributes(message, reply),
+            PowerCommand::DomainAttributes { domain } => domain_attributes(plan, domain, reply),
             PowerCommand::Set {
                 flags,
                 domain,
                 state,
-            } => self.set(plan, base, caller, flags, domain, state, load),
-            PowerCommand::Get { domain } => PowerDone::replied(self.get(plan, domain)),
+            } => return self.set(plan, base, caller, flags, domain, state, load, reply),
+            PowerCommand::Get { domain } => self.get(plan, domain, reply),
             PowerCommand::Notify { domain, enable } => {
-                PowerDone::replied(self.notify(plan, base, caller, domain, enable))
+                self.notify(plan, base, caller, domain, enable, reply);
             }
         }
+        NOTHING
     }
 
     /// Gives a domain the state of a set that takes effect now, and answers whether it was another
@@ -156,36 +154,50 @@ impl PowerState {
         domain: u32,
         state: u32,
         load: Load,
+        reply: &mut Payload,
     ) -> PowerDone
         requires first { 1 ≤ caller }
         requires last { caller ≤ length plan.now.agents }
-        ensures reply { result.reply.items ≡ set_reply plan.now (may_change plan.now base.now caller domain) (is_busy load domain) load.room flags domain state }
-        ensures changed { result.changed ≡ if_success result.reply.items (set_now (Set flags domain state)) }
-        ensures later { result.later ≡ if_success result.reply.items (set_later (Set flags domain state)) }
+        ensures reply { reply.new.items ≡ set_reply plan.now (may_change plan.now base.now caller domain) (is_busy load domain) load.room flags domain state }
+        ensures changed { result.changed ≡ if_success reply.new.items (set_now (Set flags domain state)) }
+        ensures later { result.later ≡ if_success reply.new.items (set_later (Set flags domain state)) }
         ensures states { (d : ℕ) → d < 32 → state_at self.new d ≡ set_to result.changed d (state_at self.old d) }
         ensures subscribed { self.new.subscribers ≡ self.old.subscribers }
         ensures known_now { IfSome result.changed (λ set. set.0 < length plan.now.domains) }
         ensures room { IfSome result.later (λ set. load.room ≡ true) }
         ensures known_later { IfSome result.later (λ set. set.0 < length plan.now.domains) }
-        ensures refused { begins_with_success result.reply.items ≡ false → self.new ≡ self.old }
+        ensures refused { begins_with_success reply.new.items ≡ false → self.new ≡ self.old }
     {
         match check_set(plan, base, caller, flags, domain, state, load) {
-            Ok(true) => PowerDone::accepted(domain, state),
+            Ok(true) => {
+                set_payload(reply, &[SUCCESS]);
+                PowerDone {
+                    changed: None,
+                    later: Some((domain, state)),
+                }
+            }
             Ok(false) => {
                 self.complete(domain, state);
-                PowerDone::set(domain, state)
+                set_payload(reply, &[SUCCESS]);
+                PowerDone {
+                    changed: Some((domain, state)),
+                    later: None,
+                }
             }
-            Err(status) => PowerDone::refused(status),
+            Err(status) => {
+                set_refusal(reply, status);
+                NOTHING
+            }
         }
     }
 
     /// 0x5: a domain's state; NOT_FOUND for a domain that the board lacks.
-    fn get(&self, plan: &Plan, domain: u32) -> Payload
-        ensures { result.items ≡ get_reply plan.now domain (state_at self.now domain) }
+    fn get(&self, plan: &Plan, domain: u32, reply: &mut Payload)
+        ensures { reply.new.items ≡ get_reply plan.now domain (state_at self.now domain) }
     {
         match check_domain(plan, domain) {
-            Ok(()) => payload_of(&[SUCCESS, self.state(domain)]),
-            Err(status) => refusal(status),
+            Ok(()) => set_payload(reply, &[SUCCESS, self.state(domain)]),
+            Err(status) => set_refusal(reply, status),
         }
     }
 
@@ -197,22 +209,23 @@ impl PowerState {
         caller: u32,
         domain: u32,
         enable: u32,
-    ) -> Payload
+        reply: &mut Payload,
+    )
         requires first { 1 ≤ caller }
         requires last { caller ≤ length plan.now.agents }
-        ensures reply { result.items ≡ notify_reply plan.now (may_change plan.now base.now caller domain) domain enable }
+        ensures reply { reply.new.items ≡ notify_reply plan.now (may_change plan.now base.now caller domain) domain enable }
         ensures states { self.new.states ≡ self.old.states }
         ensures subscribed { (a d : ℕ) → 1 ≤ a → a ≤ 8 → d < 32 → is_subscribed self.new a d
-            ≡ unwrap_or (if_success result.items (notification a d caller (Notify domain enable))) (is_subscribed self.old a d) }
-        ensures refused { begins_with_success result.items ≡ false → self.new ≡ self.old }
+            ≡ unwrap_or (if_success reply.new.items (notification a d caller (Notify domain enable))) (is_subscribed self.old a d) }
+        ensures refused { begins_with_success reply.new.items ≡ false → self.new ≡ self.old }
     {
         match check_notify(plan, base, caller, domain, enable) {
             Ok(enabled) => {
                 let place = domain as usize;
                 self.subscribers[place] = with_subscriber(self.subscribers[place], caller, enabled);
-                payload_of(&[SUCCESS])
+                set_payload(reply, &[SUCCESS]);
             }
-            Err(status) => refusal(status),
+            Err(status) => set_refusal(reply, status),
         }
     }
 }

@@ -1,5 +1,8 @@
+mod AheadLemmas
 pub mod FirstLine
 pub mod OneLine
-pub mod Rest
+pub mod RestLemmas
 mod Together
 mod Scripts
+mod Modes
+pub mod RunLemmas

@@ -1,6 +1,8 @@
 pub mod RunError
-pub mod Input
+pub mod Reads
 pub mod Lines
 pub mod Mode
 pub mod Once
 pub mod Session
+pub mod Steps
+pub mod Runs

@@ -1,15 +1,16 @@
-//! The input, read whole and within its limit.
-ghost use Rattle.std.specs.Prelude.{◌≡◌, ◌<◌, ◌≤◌, ◌+◌, ◌^◌, ◌⊎◌, length, take, Some, IfOk, IfErr, IsErrOf, OnOk, IfSome, MatchOption, vec_len, ◌∷◌, ◌++◌, []};
+//! The input, whose first line is read before the rest.
+ghost use Rattle.std.specs.Prelude.{◌≡◌, ◌<◌, ◌≤◌, ◌+◌, ◌⊎◌, length, take, Some, IfOk, IfErr, IsErrOf, OnOk, IfSome, MatchOption, ◌∷◌, ◌++◌, []};
 ghost use Rattle.std.specs.List.{before_first, after_first};
 ghost use Rattle.std.specs.Io.{ReadsAtMost};
-ghost use Rattle.std.specs.Io.KnownBytes.{Consumes, IsAtEnd, ReadConsumes};
+ghost use Rattle.std.specs.Io.KnownBytes.{Consumes, IsAtEnd, Keeps, ReadConsumes, prepend_known};
 ghost use Rattle.scmi_run.specs.Lines.{is_line_feed};
+ghost use Rattle.scmi_run.specs.Reads.{StopsAtFailure, failures};
 
+use crate::ahead::Ahead;
+use crate::counted_read::CountedRead;
+use crate::read_error::ReadError;
 use crate::run_error::RunError;
 use arrayvec::ArrayVec;
-use std::alloc::Global;
-use std::io;
-use std::io::Read;
 use std::marker::Model;
 
 /// The most bytes of the first line, without its line feed, and of what follows it (own).
@@ -18,72 +19,65 @@ pub const INPUT_BYTES: usize = 1_048_576;
 /// The most bytes of a first line that are kept: more than any mode's text has.
 pub const KEPT_BYTES: usize = 16;
 
-/// A reader, and how often it was read. A contract sees the bytes that it has left, where they are
-/// known, and the number of reads.
+/// A reader, and the bytes that were read ahead. It is itself a reader, of what is left behind the
+/// first line.
 #[derive(Drop)]
-pub struct Input<'a, R: Read> {
-    reader: &'a mut R,
-    reads: u64,
+pub struct Input<R: CountedRead + Drop> {
+    reader: R,
+    ahead: Ahead,
 }
 
-impl<'a, R: Read> Model for Input<'a, R> {
-    ghost use Rattle.scmi_run.specs.Input.{InputView};
+impl<R: CountedRead + Drop> Model for Input<R> {
+    ghost use Rattle.std.specs.Io.KnownBytes.{prepend_known};
+    ghost use Rattle.scmi_run.specs.Reads.{ReadsView};
 
-    ghost Value = { InputView };
+    ghost Value = { ReadsView };
 
-    ghost view = { λ i. record { left = R.remaining i.reader.now; reads = i.reads } };
+    ghost view = { λ i. record { left = prepend_known i.ahead (R.remaining i.reader); reads = R.reads i.reader; since_failure = R.since_failure i.reader } };
 }
 
-impl<'a, R: Read> Input<'a, R> {
-    /// A reader that was not read yet.
-    pub fn new(reader: &'a mut R) -> Input<'a, R>
-        ensures reads { result.reads ≡ 0 }
-        ensures left { result.left ≡ R.remaining reader.old }
+impl<R: CountedRead + Drop> Input<R> {
+    /// The input of a reader.
+    pub fn new(reader: R) -> Input<R>
+        ensures left { result.left ≡ R.remaining reader }
+        ensures reads { result.reads ≡ R.reads reader }
+        ensures since_failure { result.since_failure ≡ R.since_failure reader }
     {
-        Input { reader, reads: 0 }
-    }
-
-    /// Reads once, and counts it. A read that fails is not tried again.
-    fn read(&mut self, buffer: &mut [u8]) -> io::Result<usize>
-        requires { self.old.reads + 1 < 2 ^ 64 }
-        ensures reads { self.new.reads ≡ self.old.reads + 1 }
-        ensures bound { ReadsAtMost result buffer.new }
-        ensures bytes { ReadConsumes self.old.left self.new.left result buffer.new }
-    {
-        self.reads += 1;
-        self.reader.read(buffer)
-    }
-
-    /// The next byte, or `None` at the end.
-    fn read_byte(&mut self) -> Result<Option<u8>, RunError>
-        requires { self.old.reads + 1 < 2 ^ 64 }
-        ensures reads { self.new.reads ≡ self.old.reads + 1 }
-        ensures byte { IfOk result (λ next. MatchOption next (Consumes self.old.left self.new.left [] × IsAtEnd self.new.left) (λ byte. Consumes self.old.left self.new.left (byte ∷ []))) }
-        ensures errors { IfErr result (λ e. e ≡ RunError.Read) }
-    {
-        let mut byte = [0u8; 1];
-        match self.read(&mut byte) {
-            Ok(0) => Ok(None),
-            Ok(_) => Ok(Some(byte[0])),
-            Err(_) => Err(RunError::Read),
+        Input {
+            reader,
+            ahead: Ahead::new(),
         }
     }
 
-    /// The first bytes of the first line, at most `KEPT_BYTES` of them. It is read a byte at a time,
-    /// so that the reader is left just behind its line feed, by at most `INPUT_BYTES + 1` reads.
-    /// `Size` where the line is longer than `INPUT_BYTES`; `Read` at a read that fails.
+    /// The next byte, or `None` at the end. So many reads may be tried for it.
+    fn next_byte(&mut self, tries: &mut usize) -> Result<Option<u8>, RunError>
+        ensures reads { self.new.reads + tries.new ≤ self.old.reads + tries.old }
+        ensures stops { StopsAtFailure result self.old.since_failure self.new.since_failure }
+        ensures byte { IfOk result (λ next. MatchOption next (Consumes self.old.left self.new.left [] × IsAtEnd self.new.left) (λ byte. Consumes self.old.left self.new.left (byte ∷ []))) }
+        ensures errors { IfErr result (λ e. e ≡ RunError.Read) }
+    {
+        if self.ahead.is_empty() {
+            refill(&mut self.ahead, &mut self.reader, tries)?;
+        }
+        Ok(self.ahead.take_byte())
+    }
+
+    /// The first bytes of the first line, at most `KEPT_BYTES` of them, by at most `INPUT_BYTES + 1`
+    /// reads. What is left is what stands behind its line feed. `Size` where the line is longer than
+    /// `INPUT_BYTES`; `Read` at a read that fails, or where reads are interrupted so often that these
+    /// are not enough.
     pub fn read_first_line(&mut self) -> Result<ArrayVec<u8, KEPT_BYTES>, RunError>
-        requires { self.old.reads < 2 ^ 32 }
-        ensures counted { self.old.reads ≤ self.new.reads }
         ensures reads { self.new.reads ≤ self.old.reads + (INPUT_BYTES + 1) }
+        ensures stops { StopsAtFailure result self.old.since_failure self.new.since_failure }
         ensures line { IfOk result (λ kept. IfSome self.old.left (λ input. kept.items ≡ take KEPT_BYTES (before_first is_line_feed input))) }
         ensures rest { OnOk result (IfSome self.old.left (λ input. self.new.left ≡ Some (after_first is_line_feed input))) }
         ensures size { IsErrOf result RunError.Size → IfSome self.old.left (λ input. INPUT_BYTES < length (before_first is_line_feed input)) }
         ensures errors { IfErr result (λ e. (e ≡ RunError.Size) ⊎ (e ≡ RunError.Read)) }
     {
         let mut kept = ArrayVec::new();
+        let mut tries = INPUT_BYTES + 1;
         'bytes: for _ in 0..INPUT_BYTES + 1 {
-            let Some(byte) = self.read_byte()? else {
+            let Some(byte) = self.next_byte(&mut tries)? else {
                 return Ok(kept);
             };
             if byte == b'\n' {
@@ -93,36 +87,45 @@ impl<'a, R: Read> Input<'a, R> {
         }
         Err(RunError::Size)
     }
+}
 
-    /// All that is left to read, by at most `INPUT_BYTES + 1` reads. `Size` where it is longer than
-    /// `INPUT_BYTES`; `Read` at a read that fails; `Memory` where memory is refused.
-    pub fn read_rest(&mut self, alloc: Global) -> Result<Vec<u8>, RunError>
-        requires { self.old.reads < 2 ^ 32 }
-        ensures counted { self.old.reads ≤ self.new.reads }
-        ensures reads { self.new.reads ≤ self.old.reads + (INPUT_BYTES + 1) }
-        ensures whole { IfOk result (λ all. IfSome self.old.left (λ input. all.items ≡ input)) }
-        ensures small { IfOk result (λ all. vec_len all ≤ INPUT_BYTES) }
-        ensures size { IsErrOf result RunError.Size → IfSome self.old.left (λ input. INPUT_BYTES < length input) }
-        ensures errors { IfErr result (λ e. (e ≡ RunError.Size) ⊎ (e ≡ RunError.Read) ⊎ (e ≡ RunError.Memory)) }
-    {
-        let mut all = Vec::new(alloc);
-        let mut piece = [0u8; 4096];
-        'reads: for _ in 0..INPUT_BYTES + 1 {
-            let Ok(count) = self.read(&mut piece) else {
-                return Err(RunError::Read);
-            };
-            if count == 0 {
-                return Ok(all);
-            }
-            if all.len() + count > INPUT_BYTES {
-                return Err(RunError::Size);
-            }
-            if all.extend_from_slice(&piece[..count]).is_err() {
-                return Err(RunError::Memory);
-            }
+impl<R: CountedRead + Drop> CountedRead for Input<R> {
+    ghost remaining = { λ i. i.left };
+
+    ghost reads = { λ i. i.reads };
+
+    ghost since_failure = { λ i. i.since_failure };
+
+    fn read(&mut self, buffer: &mut [u8]) -> Result<usize, ReadError> {
+        if self.ahead.is_empty() {
+            return self.reader.read(buffer);
         }
-        Err(RunError::Size)
+        Ok(self.ahead.take_into(buffer))
     }
+}
+
+/// Reads ahead where nothing is left from before, by so many tries. `Read` at a read that fails, and
+/// where each try was interrupted.
+fn refill<R: CountedRead>(
+    ahead: &mut Ahead,
+    reader: &mut R,
+    tries: &mut usize,
+) -> Result<(), RunError>
+    requires { ahead.old ≡ [] }
+    ensures reads { R.reads reader.new + tries.new ≤ R.reads reader.old + tries.old }
+    ensures stops { StopsAtFailure result (R.since_failure reader.old) (R.since_failure reader.new) }
+    ensures bytes { OnOk result (Keeps (R.remaining reader.old) (prepend_known ahead.new (R.remaining reader.new)) × (ahead.new ≡ [] → IsAtEnd (R.remaining reader.new))) }
+    ensures errors { IfErr result (λ e. e ≡ RunError.Read) }
+{
+    'tries: while *tries > 0 {
+        *tries -= 1;
+        match ahead.fill(reader) {
+            Ok(()) => return Ok(()),
+            Err(ReadError::Interrupted) => {}
+            Err(ReadError::Failed) => return Err(RunError::Read),
+        }
+    }
+    Err(RunError::Read)
 }
 
 /// Keeps a byte if there is room.

@@ -1,14 +1,9 @@
 //! The lines of an input.
 ghost use Rattle.std.specs.Prelude.{◌≡◌};
 ghost use Rattle.std.specs.Option.{option_copied};
-ghost use Rattle.scmi_run.specs.Lines.{only, significant_lines, is_significant};
+ghost use Rattle.scmi_run.specs.Lines.{only, significant_lines};
 
-/// Whether a line counts: it is neither blank nor begun by `#` (own).
-fn is_significant(line: &[u8]) -> bool
-    ensures { result ≡ is_significant line.now }
-{
-    !line.is_empty() && line[0] != b'#'
-}
+use scmi_text::is_significant;
 
 /// The line of an input that has just one that counts.
 pub fn only_line(input: &[u8]) -> Option<&[u8]>

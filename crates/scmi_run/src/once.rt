@@ -1,50 +1,40 @@
 //! The mode `once`: one area in, one area out.
-ghost use Rattle.std.specs.Prelude.{◌≡◌, ◌≢◌, ◌<◌, ◌^◌, ◌⊎◌, length, Some, None, IfSome, IfErr, IsErrOf, OnOk, IsSomeAnd, MatchResult};
+ghost use Rattle.std.specs.Prelude.{◌≡◌, ◌≢◌, ◌<◌, ◌≤◌, ◌+◌, ◌⊎◌, length, Some, None, IfSome, IfErr, IsErrOf, OnOk, IsSomeAnd, MatchResult};
 ghost use Rattle.std.specs.Io.KnownBytes.{Appends};
 ghost use Rattle.scmi_run.specs.Once.{area_of, area_text, answered_area};
+ghost use Rattle.scmi_run.specs.Reads.{StopsAtFailure};
 ghost use Rattle.scmi_run.specs.declared.input.TheConstants.{INPUT_BYTES};
 
 use crate::answer::answer_area;
-use crate::input::Input;
+use crate::counted_read::CountedRead;
 use crate::lines::only_line;
+use crate::rest::read_rest;
 use crate::run_error::RunError;
 use hex::FromHex;
 use scmi_codec::AREA_BYTES;
 use std::alloc::Global;
-use std::io::{Read, Write};
+use std::io::Write;
 
 /// Reads an area in hexadecimal digits, and writes it with the answer of agent 1's first command on
 /// a new platform, in lower-case digits and with a line feed. `Size` where the input is longer than
 /// `INPUT_BYTES`, `Read` at a read that fails, `Area` where the input is not one line of an area's
 /// digits, `Memory` where memory is refused: after each of these nothing is written. `Write` where
 /// the output fails.
-pub fn run_once<R: Read, W: Write>(
+pub fn run_once<R: CountedRead, W: Write>(
     alloc: Global,
     reader: &mut R,
     writer: &mut W,
 ) -> Result<(), RunError>
     ensures answer { OnOk result (IfSome (R.remaining reader.old) (λ input. IsSomeAnd (area_of input) (λ area. Appends (W.contents writer.old) (W.contents writer.new) (area_text (answered_area area))))) }
     ensures area { IsErrOf result RunError.Area → IfSome (R.remaining reader.old) (λ input. area_of input ≡ None) }
+    ensures no_area { IfSome (R.remaining reader.old) (λ input. area_of input ≡ None → IsErrOf result RunError.Area ⊎ IsErrOf result RunError.Size ⊎ IsErrOf result RunError.Read ⊎ IsErrOf result RunError.Memory) }
     ensures size { IsErrOf result RunError.Size → IfSome (R.remaining reader.old) (λ input. INPUT_BYTES < length input) }
     ensures kept { IfErr result (λ e. e ≢ RunError.Write → writer.new ≡ writer.old) }
+    ensures errors { IfErr result (λ e. (e ≡ RunError.Size) ⊎ (e ≡ RunError.Read) ⊎ (e ≡ RunError.Area) ⊎ (e ≡ RunError.Memory) ⊎ (e ≡ RunError.Write)) }
+    ensures reads { R.reads reader.new ≤ R.reads reader.old + (INPUT_BYTES + 1) }
+    ensures stops { StopsAtFailure result (R.since_failure reader.old) (R.since_failure reader.new) }
 {
-    let mut input = Input::new(reader);
-    answer_input(alloc, &mut input, writer)
-}
-
-/// The same, for what an input has left.
-pub fn answer_input<R: Read, W: Write>(
-    alloc: Global,
-    input: &mut Input<'_, R>,
-    writer: &mut W,
-) -> Result<(), RunError>
-    requires { input.old.reads < 2 ^ 32 }
-    ensures answer { OnOk result (IfSome input.old.left (λ bytes. IsSomeAnd (area_of bytes) (λ area. Appends (W.contents writer.old) (W.contents writer.new) (area_text (answered_area area))))) }
-    ensures area { IsErrOf result RunError.Area → IfSome input.old.left (λ bytes. area_of bytes ≡ None) }
-    ensures size { IsErrOf result RunError.Size → IfSome input.old.left (λ bytes. INPUT_BYTES < length bytes) }
-    ensures kept { IfErr result (λ e. e ≢ RunError.Write → writer.new ≡ writer.old) }
-{
-    let bytes = input.read_rest(alloc)?;
+    let bytes = read_rest(alloc, reader)?;
     let mut area = read_area_line(&bytes)?;
     answer_area(alloc, &mut area)?;
     write_area_line(&area, writer)

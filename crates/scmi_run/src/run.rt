@@ -1,17 +1,24 @@
 //! A run from its first line to its exit status.
-ghost use Rattle.std.specs.Prelude.{◌≡◌, ◌≢◌, IfErr, IfSome, IsSomeAnd, OnOk, codes};
+ghost use Rattle.std.specs.Prelude.{◌≡◌, ◌≤◌, ◌+◌, ◌*◌, IfErr, IfSome, IsSomeAnd, OnOk, codes};
 ghost use Rattle.std.specs.List.{after_first, before_first};
 ghost use Rattle.std.specs.Io.KnownBytes.{Appends};
 ghost use Rattle.scmi_run.specs.Lines.{is_line_feed};
+ghost use Rattle.scmi_run.specs.Mode.{text_of};
 ghost use Rattle.scmi_run.specs.Once.{area_of, area_text, answered_area};
+ghost use Rattle.scmi_run.specs.Reads.{StopsAtFailure};
 ghost use Rattle.scmi_run.specs.RunError.{status_of};
+ghost use Rattle.scmi_run.specs.Runs.{IsTextOfRun, may_be_full};
+ghost use Rattle.scmi_run.specs.declared.input.TheConstants.{INPUT_BYTES};
+ghost use Rattle.scmi_run.specs.declared.kind.Kind.{Kind as KindOf};
 
+use crate::counted_read::CountedRead;
+use crate::counted_reader::CountedReader;
 use crate::input::Input;
 use crate::mode::Mode;
-use crate::once::answer_input;
+use crate::once::run_once;
 use crate::run_error::RunError;
-use crate::steps::step_input;
-use crate::threads::thread_input;
+use crate::steps::run_steps;
+use crate::threads::run_threads;
 use scmi_threads::Gate;
 use std::alloc::Global;
 use std::io::{Read, Write};
@@ -28,8 +35,27 @@ pub fn run_program<T: Threads + Wait + Sync, G: Gate, R: Read, W: Write>(
     writer: &mut W,
 ) -> u8
     ensures answer { result ≡ 0 → IfSome (R.remaining reader.old) (λ input. before_first is_line_feed input ≡ codes "once" → IsSomeAnd (area_of (after_first is_line_feed input)) (λ area. Appends (W.contents writer.old) (W.contents writer.new) (area_text (answered_area area)))) }
+    ensures text { result ≡ 0 → IfSome (R.remaining reader.old) (λ input. (kind : KindOf) → before_first is_line_feed input ≡ text_of (Mode.Threads kind) → IsTextOfRun (may_be_full kind) (W.contents writer.old) (W.contents writer.new)) }
 {
-    match run_mode(rt, alloc, gate, reader, writer) {
+    let mut input = Input::new(CountedReader::new(reader));
+    run_input(rt, alloc, gate, &mut input, writer)
+}
+
+/// The same of a reader that counts. The first line and what follows it take at most
+/// `INPUT_BYTES + 1` reads each, and a read that fails is the last.
+pub fn run_input<T: Threads + Wait + Sync, G: Gate, R: CountedRead + Drop, W: Write>(
+    rt: &T,
+    alloc: Global,
+    gate: &G,
+    input: &mut Input<R>,
+    writer: &mut W,
+) -> u8
+    ensures answer { result ≡ 0 → IfSome input.old.left (λ bytes. before_first is_line_feed bytes ≡ codes "once" → IsSomeAnd (area_of (after_first is_line_feed bytes)) (λ area. Appends (W.contents writer.old) (W.contents writer.new) (area_text (answered_area area)))) }
+    ensures text { result ≡ 0 → IfSome input.old.left (λ bytes. (kind : KindOf) → before_first is_line_feed bytes ≡ text_of (Mode.Threads kind) → IsTextOfRun (may_be_full kind) (W.contents writer.old) (W.contents writer.new)) }
+    ensures reads { input.new.reads ≤ input.old.reads + 2 * (INPUT_BYTES + 1) }
+    ensures stops { input.old.since_failure ≡ 0 → input.new.since_failure ≤ 1 }
+{
+    match run_mode(rt, alloc, gate, input, writer) {
         Ok(()) => 0,
         Err(RunError::Write) => RunError::Write.status(),
         Err(fault) => match writeln!(writer, "fault {fault}") {
@@ -39,21 +65,42 @@ pub fn run_program<T: Threads + Wait + Sync, G: Gate, R: Read, W: Write>(
     }
 }
 
-fn run_mode<T: Threads + Wait + Sync, G: Gate, R: Read, W: Write>(
+fn run_mode<T: Threads + Wait + Sync, G: Gate, R: CountedRead + Drop, W: Write>(
     rt: &T,
     alloc: Global,
     gate: &G,
+    input: &mut Input<R>,
+    writer: &mut W,
+) -> Result<(), RunError>
+    ensures answer { OnOk result (IfSome input.old.left (λ bytes. before_first is_line_feed bytes ≡ codes "once" → IsSomeAnd (area_of (after_first is_line_feed bytes)) (λ area. Appends (W.contents writer.old) (W.contents writer.new) (area_text (answered_area area))))) }
+    ensures text { OnOk result (IfSome input.old.left (λ bytes. (kind : KindOf) → before_first is_line_feed bytes ≡ text_of (Mode.Threads kind) → IsTextOfRun (may_be_full kind) (W.contents writer.old) (W.contents writer.new))) }
+    ensures kept { IfErr result (λ e. status_of e ≡ 2 → writer.new ≡ writer.old) }
+    ensures reads { input.new.reads ≤ input.old.reads + 2 * (INPUT_BYTES + 1) }
+    ensures stops { StopsAtFailure result (input.old.since_failure) (input.new.since_failure) }
+{
+    let line = input.read_first_line()?;
+    let mode = Mode::of_line(&line).ok_or(RunError::Mode)?;
+    run_in(rt, alloc, gate, mode, input, writer)
+}
+
+/// Runs what is left of an input in this mode.
+fn run_in<T: Threads + Wait + Sync, G: Gate, R: CountedRead, W: Write>(
+    rt: &T,
+    alloc: Global,
+    gate: &G,
+    mode: Mode,
     reader: &mut R,
     writer: &mut W,
 ) -> Result<(), RunError>
-    ensures answer { OnOk result (IfSome (R.remaining reader.old) (λ input. before_first is_line_feed input ≡ codes "once" → IsSomeAnd (area_of (after_first is_line_feed input)) (λ area. Appends (W.contents writer.old) (W.contents writer.new) (area_text (answered_area area))))) }
+    ensures once { OnOk result (mode ≡ Mode.Once → IfSome (R.remaining reader.old) (λ input. IsSomeAnd (area_of input) (λ area. Appends (W.contents writer.old) (W.contents writer.new) (area_text (answered_area area))))) }
+    ensures threads { OnOk result ((kind : KindOf) → mode ≡ Mode.Threads kind → IsTextOfRun (may_be_full kind) (W.contents writer.old) (W.contents writer.new)) }
     ensures kept { IfErr result (λ e. status_of e ≡ 2 → writer.new ≡ writer.old) }
+    ensures reads { R.reads reader.new ≤ R.reads reader.old + (INPUT_BYTES + 1) }
+    ensures stops { StopsAtFailure result (R.since_failure reader.old) (R.since_failure reader.new) }
 {
-    let mut input = Input::new(reader);
-    let line = input.read_first_line()?;
-    match Mode::of_line(&line).ok_or(RunError::Mode)? {
-        Mode::Once => answer_input(alloc, &mut input, writer),
-        Mode::Steps(kind) => step_input(alloc, &mut input, writer, kind),
-        Mode::Threads(kind) => thread_input(rt, alloc, gate, &mut input, writer, kind),
+    match mode {
+        Mode::Once => run_once(alloc, reader, writer),
+        Mode::Steps(kind) => run_steps(alloc, reader, writer, kind),
+        Mode::Threads(kind) => run_threads(rt, alloc, gate, reader, writer, kind),
     }
 }

@@ -1,12 +1,18 @@
 //! The modes `steps rings` and `steps words`: a board and a script, all on one thread.
-ghost use Rattle.std.specs.Prelude.{◌≡◌, ◌<◌, ◌^◌, ◌⊎◌, length, IfErr};
+ghost use Rattle.std.specs.Prelude.{◌≡◌, ◌≤◌, ◌+◌, ◌⊎◌, length, IfErr, IsErrOf, OnOk};
 ghost use Rattle.std.specs.List.{All};
+ghost use Rattle.std.specs.Io.KnownBytes.{Appends};
 ghost use Rattle.scmi_text.specs.Step.{IsStepOf};
+ghost use Rattle.scmi_text.specs.StepLine.{step_text};
+ghost use Rattle.scmi_run.specs.Reads.{StopsAtFailure};
 ghost use Rattle.scmi_run.specs.RunError.{status_of};
+ghost use Rattle.scmi_run.specs.Steps.{AreStepLines, IsTextOfSteps};
+ghost use Rattle.scmi_run.specs.declared.input.TheConstants.{INPUT_BYTES};
 
 use crate::board_agents::agents_of;
-use crate::input::Input;
+use crate::counted_read::CountedRead;
 use crate::kind::Kind;
+use crate::rest::read_rest;
 use crate::run_error::RunError;
 use crate::session::Session;
 use scmi_link::{Channel, RingChannel};
@@ -14,35 +20,25 @@ use scmi_plan::Plan;
 use scmi_text::{Lines, Step, StepLine, read_board, read_steps, write_step_line};
 use scmi_words::WordChannel;
 use std::alloc::Global;
-use std::io::{Read, Write};
+use std::io::Write;
 
 /// Reads a board and a script, makes its steps one by one, and writes the line of each, and then the
 /// length of the history. `Size`, `Read`, `Board`, `Script` and `Plan` where the input is refused; after
 /// each of these nothing is written. `Memory` where memory is refused, and `Write` where the output
 /// fails: after these the lines of the steps before are written.
-pub fn run_steps<R: Read, W: Write>(
+pub fn run_steps<R: CountedRead, W: Write>(
     alloc: Global,
     reader: &mut R,
     writer: &mut W,
     kind: Kind,
 ) -> Result<(), RunError>
+    ensures text { OnOk result (IsTextOfSteps (W.contents writer.old) (W.contents writer.new)) }
+    ensures memory { IsErrOf result RunError.Memory → AreStepLines (W.contents writer.old) (W.contents writer.new) }
     ensures kept { IfErr result (λ e. status_of e ≡ 2 → writer.new ≡ writer.old) }
+    ensures reads { R.reads reader.new ≤ R.reads reader.old + (INPUT_BYTES + 1) }
+    ensures stops { StopsAtFailure result (R.since_failure reader.old) (R.since_failure reader.new) }
 {
-    let mut input = Input::new(reader);
-    step_input(alloc, &mut input, writer, kind)
-}
-
-/// The same, for what an input has left.
-pub fn step_input<R: Read, W: Write>(
-    alloc: Global,
-    input: &mut Input<'_, R>,
-    writer: &mut W,
-    kind: Kind,
-) -> Result<(), RunError>
-    requires { input.old.reads < 2 ^ 32 }
-    ensures kept { IfErr result (λ e. status_of e ≡ 2 → writer.new ≡ writer.old) }
-{
-    let bytes = input.read_rest(alloc)?;
+    let bytes = read_rest(alloc, reader)?;
     let mut lines = Lines::new(&bytes);
     let board = read_board(alloc, &mut lines)?;
     let steps = read_steps(alloc, &mut lines, agents_of(&board)?)?;
@@ -60,7 +56,9 @@ fn step_through<C: Channel, W: Write>(
     writer: &mut W,
 ) -> Result<(), RunError>
     requires { All (IsStepOf (length plan.agents)) steps.now }
-    ensures { IfErr result (λ e. (e ≡ RunError.Memory) ⊎ (e ≡ RunError.Write)) }
+    ensures text { OnOk result (IsTextOfSteps (W.contents writer.old) (W.contents writer.new)) }
+    ensures memory { IsErrOf result RunError.Memory → AreStepLines (W.contents writer.old) (W.contents writer.new) }
+    ensures errors { IfErr result (λ e. (e ≡ RunError.Memory) ⊎ (e ≡ RunError.Write)) }
 {
     let mut session = Session::<C>::open(alloc, plan)?;
     for step in steps {
@@ -71,7 +69,8 @@ fn step_through<C: Channel, W: Write>(
 }
 
 fn write_line<W: Write>(writer: &mut W, line: &StepLine) -> Result<(), RunError>
-    ensures { IfErr result (λ e. e ≡ RunError.Write) }
+    ensures text { OnOk result (Appends (W.contents writer.old) (W.contents writer.new) (step_text line.now)) }
+    ensures errors { IfErr result (λ e. e ≡ RunError.Write) }
 {
     write_step_line(writer, line).map_err(|_| RunError::Write)
 }

@@ -1,5 +1,5 @@
 -- A text as a number.
-use Rattle.std.proofs.Common.{ℕ, ◌<◌, ◌≤◌, ◌^◌, ◌≡◌, ◌≢◌, Bool, true, false, List, length, drop, Option, Some, None, SomeIff, Result, Ok, Err, slice_index, arith}
+use Rattle.std.proofs.Common.{ℕ, ◌<◌, ◌≤◌, ◌^◌, ◌≡◌, ◌≢◌, true, false, List, length, drop, Option, Some, None, SomeIff, Result, Ok, Err, slice_index, arith}
 use Rattle.std.specs.Result.{OkIff, result_ok}
 use Rattle.std.specs.Str.Parse.{IsNumeral, digits_value}
 use Rattle.scmi_text.specs.Number.{IsNumber, has_hexadecimal_mark, number_value}

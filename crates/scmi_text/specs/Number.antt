@@ -1,5 +1,5 @@
 -- Numbers as texts write them.
-use Rattle.std.specs.Prelude.{◌≡◌, ◌≢◌, ℕ, ◌<◌, ◌≤◌, ◌^◌, ◌&&◌, ◌==◌, Bool, if◌then◌else◌, MatchBool, List, length, drop, slice_index, nat_lt}
+use Rattle.std.specs.Prelude.{◌≢◌, ℕ, ◌<◌, ◌≤◌, ◌^◌, ◌&&◌, ◌==◌, Bool, if◌then◌else◌, MatchBool, List, length, drop, slice_index, nat_lt}
 use Rattle.std.specs.Str.Parse.{IsNumeral, digits_value}
 
 -- whether a text begins with `0x`

@@ -20,15 +20,13 @@ mod scripts;
 mod step;
 mod step_line;
 mod steps;
-#[cfg(test)]
-mod tests;
 mod text_error;
 mod words;
 
 pub use board::read_board;
 pub use items::Items;
 pub use line_error::LineError;
-pub use lines::{Lines, TextLine};
+pub use lines::{Lines, TextLine, is_significant};
 pub use numbers::{byte, number, word};
 pub use script_line::{write_script_line, write_script_lines};
 pub use scripts::read_scripts;

@@ -88,7 +88,7 @@ impl<'a> Lines<'a> {
 }
 
 /// Whether a line counts: it is neither empty nor begins with `#` (own).
-fn is_significant(text: &[u8]) -> bool
+pub fn is_significant(text: &[u8]) -> bool
     ensures { result ≡ is_significant text.now }
 {
     !text.is_empty() && text[0] != b'#'

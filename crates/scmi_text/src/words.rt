@@ -1,5 +1,6 @@
 //! Words and messages, as they are written.
-ghost use Rattle.std.specs.Prelude.{◌≡◌, OnOk};
+ghost use Rattle.std.specs.Prelude.{◌≡◌, ◌%◌, OnOk, false};
+ghost use Rattle.std.specs.Fmt.{digit_glyph};
 ghost use Rattle.std.specs.Io.KnownBytes.{Appends};
 ghost use Rattle.scmi_text.specs.Words.{word_text, words_text, message_text};
 
@@ -29,5 +30,30 @@ pub(crate) fn write_words<W: Write>(writer: &mut W, words: &[u32]) -> io::Result
 fn write_word<W: Write>(writer: &mut W, word: u32) -> io::Result<()>
     ensures { OnOk result (Appends (W.contents writer.old) (W.contents writer.new) (word_text word)) }
 {
-    write!(writer, " 0x{word:08x}")
+    let text = [
+        b' ',
+        b'0',
+        b'x',
+        last_digit(word >> 28),
+        last_digit(word >> 24),
+        last_digit(word >> 20),
+        last_digit(word >> 16),
+        last_digit(word >> 12),
+        last_digit(word >> 8),
+        last_digit(word >> 4),
+        last_digit(word),
+    ];
+    writer.write_all(&text)
+}
+
+/// The last hexadecimal digit of a word.
+fn last_digit(word: u32) -> u8
+    ensures { result ≡ digit_glyph false (word % 16) }
+{
+    let digit = (word % 16) as u8;
+    if digit < 10 {
+        b'0' + digit
+    } else {
+        b'a' - 10 + digit
+    }
 }

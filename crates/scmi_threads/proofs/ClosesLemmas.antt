@@ -1,5 +1,5 @@
 -- What the answer of the first close says, after each call.
-use Rattle.std.proofs.Common.{◌≡◌, ℕ, ◌<◌, Bool, true, false, not, ◌||◌, Option, Some, None, refl, sym, ap, ◌∙◌, rules}
+use Rattle.std.proofs.Common.{◌≡◌, ℕ, Bool, true, false, not, ◌||◌, Option, Some, None, refl, sym, ap, ◌∙◌, rules}
 use Rattle.std.specs.Option.{option_or}
 use Rattle.scmi_link.specs.View.{CallerView, IsOutstanding}
 use Rattle.scmi_link.specs.Calls.{with_word, IsRefused}

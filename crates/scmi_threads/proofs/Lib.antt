@@ -2,9 +2,12 @@ pub mod TokenLemmas
 pub mod LineLemmas
 pub mod ClosesLemmas
 pub mod SeatLemmas
+pub mod OrderLemmas
+pub mod ScriptLemmas
 pub mod EachLemmas
 pub mod Moves
 pub mod LogLemmas
 pub mod Ready
 pub mod Opened
-pub mod TwoScripts
+pub mod Undisturbed
+pub mod Seated

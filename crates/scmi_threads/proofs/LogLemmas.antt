@@ -1,5 +1,5 @@
 -- The headline in the words of the logs.
-use Rattle.std.proofs.Common.{◌≡◌, ◌+◌, ℕ, Bool, false, true, refl, rules, Option, List, [], ◌∷◌, inl, inr, sym, ap, ◌∙◌, Some, None}
+use Rattle.std.proofs.Common.{◌≡◌, ◌+◌, ℕ, Bool, false, true, refl, rules, Option, List, [], ◌∷◌, Some}
 use Rattle.std.specs.List.{All, AllZip}
 use Rattle.std.proofs.lemmas.List.Elements.{All-head, All-tail}
 use Rattle.scmi_link.specs.View.{CallerView, CalleeView}
@@ -15,7 +15,7 @@ use Rattle.scmi_threads.specs.Closes.{IsClosedAs}
 use Rattle.scmi_threads.specs.Logs.{IsLogOf, LogHeadline}
 
 -- where the platform's end is open, the agent was told of no close
-never_told : (told closed : Bool) → (told ≡ true → closed ≡ true) → closed ≡ false → told ≡ false
+pub never_told : (told closed : Bool) → (told ≡ true → closed ≡ true) → closed ≡ false → told ≡ false
 never_told false closed h o = refl
 never_told true closed h o = absurd (search (rules, h refl, o))
 
@@ -32,6 +32,7 @@ log_headline board h a e d c log p o is = record {
   withdrawn = λ w. rw (is.posted, is.read) (p.commands.left (left_behind log.closing e.caller is.closing w));
   idle = λ w. let at = closed_idle log.closing e.caller is.closing w in rw (is.posted, is.read) (p.commands.idle at.0 (at.1 (never_told e.caller.told d.closed p.commands.agent_told o)));
   taken = rw is.p2a p.messages.taken;
+  made = rw is.p2a p.messages.made;
   messages = log.messages_are;
   closing = log.closing_is;
   tokens = log.tokens_are;

@@ -1,10 +1,10 @@
 -- Ends that sit down beside their links.
-use Rattle.std.proofs.Common.{◌≡◌, ℕ, zero, suc, ◌+◌, ◌<◌, ◌≤◌, List, [], ◌∷◌, ◌++◌, length, map, get_or, take, drop, arith, refl, ap, sym, subst, ◌∙◌}
+use Rattle.std.proofs.Common.{◌≡◌, ℕ, zero, suc, ◌+◌, ◌<◌, ◌≤◌, List, [], ◌∷◌, ◌++◌, length, map, get_or, take, drop, arith, ap, sym, subst, ◌∙◌}
 use Rattle.std.specs.Prelude.{remove}
 use Rattle.std.specs.List.{AllZip}
 use Rattle.std.proofs.lemmas.List.{map-append, drop_more, take_more, take_all}
 use Rattle.scmi_ends.specs.Each.{AllFrom}
-use Rattle.scmi_ends.specs.AgentView.{AgentView, IsOfLink, IsNewAgent}
+use Rattle.scmi_ends.specs.AgentView.{AgentView, IsNewAgent}
 use Rattle.scmi_threads.specs.Seats.{IsReady}
 
 pub all_ready : {L : Type 0} (f k : L → List ℕ) (n : ℕ) (ls : List L) (es : List AgentView) → map (λ e. e.a2p_name) es ≡ map f ls → map (λ e. e.p2a_name) es ≡ map k ls → AllFrom IsNewAgent n es → AllZip (λ l e. IsReady (f l) (k l) e) ls es

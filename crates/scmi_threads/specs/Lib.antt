@@ -3,5 +3,8 @@ pub mod Lines
 pub mod Scripts
 pub mod Closes
 pub mod Logs
+pub mod Parts
+pub mod ScriptLogs
+pub mod Orders
 pub mod Seats
 pub mod Rounds

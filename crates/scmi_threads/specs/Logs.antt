@@ -8,6 +8,7 @@ use Rattle.scmi_core.specs.Agents.{frames_of, answers_to}
 use Rattle.scmi_core.specs.History.{delivered}
 use Rattle.scmi_core.specs.declared.event.Event.{Event}
 use Rattle.scmi_ends.specs.AgentView.{AgentView}
+use Rattle.scmi_ends.specs.Headline.{IsAllMade}
 use Rattle.scmi_threads.specs.declared.agent_log.AgentLog.{AgentLog}
 use Rattle.scmi_threads.specs.Closes.{IsClosedAs}
 use Rattle.scmi_threads.specs.Lines.{messages_of, first_closing}
@@ -50,6 +51,8 @@ pub record LogHeadline (board : Board) (h : List Event) (a : ℕ) (log : AgentLo
   pub idle : log.closing ≡ Some Idle → (frames_of a h ≡ log.posted.items) × (log.read.items ≡ answers_to board a h)
   -- the messages that were taken are those delivered, at most the last left out
   pub taken : (log.p2a.items ≡ map Good (delivered board a h)) ⊎ IsAllButLast log.p2a.items (map Good (delivered board a h))
+  -- what was made for the agent is what it took, then at most one message not taken, then its outbox
+  pub made : IsAllMade board h a log.p2a.items
   -- the lines show the messages that were taken
   pub messages : messages_of log.lines.items ≡ log.p2a.items
   -- the lines show how the end was closed first

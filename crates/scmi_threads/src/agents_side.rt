@@ -1,7 +1,7 @@
 //! The agents' side of a run: each script in a thread of its own.
 ghost use Rattle.std.specs.Prelude.{◌<◌, ℕ, length, slice_index_or};
 ghost use Rattle.std.specs.List.{AllZip};
-ghost use Rattle.scmi_threads.specs.Seats.{HasRun};
+ghost use Rattle.scmi_threads.specs.Seats.{HasPlayed};
 
 use crate::gate::Gate;
 use crate::seat::Seat;
@@ -19,7 +19,7 @@ pub(crate) fn run_scripts<'a, C: Channel, G: Gate, R: Threads + Wait + Sync>(
     ended: &AtomicUsize,
     mut seats: Vec<Seat<'a, C>>,
 ) -> Vec<Seat<'a, C>>
-    ensures { AllZip HasRun seats.entry.items result.items }
+    ensures { AllZip (HasPlayed C.FULL) seats.entry.items result.items }
 {
     run_all(rt, gate, ended, &mut seats);
     seats
@@ -32,7 +32,7 @@ fn run_all<C: Channel, G: Gate, R: Threads + Wait + Sync>(
     ended: &AtomicUsize,
     seats: &mut [Seat<'_, C>],
 )
-    ensures { AllZip HasRun seats.old seats.new }
+    ensures { AllZip (HasPlayed C.FULL) seats.old seats.new }
 {
     run_each(rt, gate, ended, seats);
 }
@@ -44,14 +44,14 @@ fn run_each<C: Channel, G: Gate, R: Threads + Wait + Sync>(
     ended: &AtomicUsize,
     seats: &mut [Seat<'_, C>],
 )
-    ensures { (i : ℕ) (d : _) → i < length seats.old → HasRun (slice_index_or seats.old i d) (slice_index_or seats.new i d) }
+    ensures { (i : ℕ) (d : _) → i < length seats.old → HasPlayed C.FULL (slice_index_or seats.old i d) (slice_index_or seats.new i d) }
 {
     for_each_mut(
         rt,
         seats,
         AGENTS,
         &|_, seat: &mut Seat<'_, C>|
-            ensures { HasRun seat.old seat.new }
+            ensures { HasPlayed C.FULL seat.old seat.new }
         {
             seat.run(rt, gate);
             ended.fetch_add(1, Ordering::SeqCst);

@@ -1,7 +1,8 @@
 //! The order to call.
-ghost use Rattle.std.specs.Prelude.{◌≡◌, ◌<◌, false, vec_len, vec_capacity, IfOk, OnOk};
+ghost use Rattle.std.specs.Prelude.{◌≡◌, ◌<◌, ◌++◌, ◌∷◌, [], false, length, vec_len, vec_capacity, IfOk, IfErr, OnOk, OnErr};
 ghost use Rattle.scmi_link.specs.View.{is_shut};
 ghost use Rattle.scmi_threads.specs.Lines.{IsOfCall, answer_line};
+ghost use Rattle.scmi_threads.specs.Orders.{ending};
 
 use crate::limits::TURNS;
 use crate::line::Line;
@@ -23,11 +24,26 @@ fn line_of(answer: &Answer) -> Line
     }
 }
 
+/// Whether a call with this line ends its script, and why.
+fn ending_of(line: &Line) -> Result<(), Stop>
+    ensures { result ≡ ending line.now }
+{
+    match line {
+        Line::Limit => Err(Stop::Limit),
+        _ => Ok(()),
+    }
+}
+
 impl<'a, C: Channel> Seat<'a, C> {
-    ghost use Rattle.std.specs.Prelude.{◌≡◌, ◌<◌, false, vec_len, vec_capacity, IfOk, OnOk};
+    ghost use Rattle.std.specs.Prelude.{◌≡◌, ◌<◌, ◌++◌, ◌∷◌, [], false, length, vec_len, vec_capacity, IfOk, IfErr, OnOk, OnErr};
     ghost use Rattle.scmi_link.specs.View.{is_shut};
     ghost use Rattle.scmi_threads.specs.Lines.{IsOfCall};
+    ghost use Rattle.scmi_threads.specs.Logs.{IsSameLog};
+    ghost use Rattle.scmi_threads.specs.Orders.{HasAsked, HasAwaited, HasDone, IsAtRest, IsUndisturbed, LeavesRest, stop_of};
+    ghost use Rattle.scmi_threads.specs.Parts.{IsRefusal, command};
     ghost use Rattle.scmi_threads.specs.Seats.{HasRun};
+    ghost use Rattle.scmi_threads.specs.declared.order.Order.TheVariants as order;
+    ghost use Rattle.scmi_threads.specs.declared.stop.Stop.TheVariants as stop;
 
     /// Posts a command, waits for its reply, and notes what came of it.
     pub(crate) fn call<R: Wait>(
@@ -37,16 +53,14 @@ impl<'a, C: Channel> Seat<'a, C> {
         id: u8,
         payload: &Payload,
     ) -> Result<(), Stop>
-        ensures { HasRun self.old self.new }
+        ensures ran { HasRun self.old self.new }
+        ensures done { IsUndisturbed self.new.end.caller → IsAtRest self.old.log → HasDone C.FULL (order.Call protocol id payload.now) (stop_of result) self.old.end.caller self.new.end.caller self.old.log self.new.log }
     {
         self.log.reserve_line()?;
         let line = self.ask(rt, protocol, id, payload)?;
-        let ran_out = matches!(&line, Line::Limit);
+        let ended = ending_of(&line);
         self.log.note(line);
-        if ran_out {
-            return Err(Stop::Limit);
-        }
-        Ok(())
+        ended
     }
 
     /// Makes room in the log, posts a command, and waits for its reply. Gives the line that says what
@@ -61,6 +75,10 @@ impl<'a, C: Channel> Seat<'a, C> {
         ensures ran { HasRun self.old self.new }
         ensures lines { self.new.log.lines ≡ self.old.log.lines }
         ensures of_call { IfOk result IsOfCall }
+        ensures asked { IsUndisturbed self.new.end.caller → IsAtRest self.old.log → IfOk result (λ line. HasAsked C.FULL self.old.end.caller.closed (command (length self.old.log.posted.items) protocol id payload.now) line self.old.log self.new.log) }
+        ensures rest { LeavesRest self.old.end.caller self.new.end.caller self.old.log self.new.log }
+        ensures same { OnErr result (IsSameLog self.old.log self.new.log) }
+        ensures memory { IfErr result (λ why. why ≡ stop.Memory) }
     {
         self.log.reserve_call()?;
         match self.post_command(protocol, id, payload) {
@@ -76,6 +94,10 @@ impl<'a, C: Channel> Seat<'a, C> {
         ensures ran { HasRun self.old self.new }
         ensures unshut { OnOk result (self.new.end.caller.closed ≡ false) }
         ensures same { (self.new.log.read ≡ self.old.log.read) × (self.new.log.lines ≡ self.old.log.lines) }
+        ensures posted { OnOk result (self.new.log.posted.items ≡ self.old.log.posted.items ++ command (length self.old.log.posted.items) protocol id payload.now ∷ []) }
+        ensures not_posted { OnErr result (self.new.log.posted.items ≡ self.old.log.posted.items) }
+        ensures refusal { IfErr result (λ error. IsUndisturbed self.new.end.caller → IsAtRest self.old.log → IsRefusal C.FULL self.old.end.caller.closed error) }
+        ensures rest { LeavesRest self.old.end.caller self.new.end.caller self.old.log self.new.log }
     {
         let token = self.end.call(self.link, protocol, id, payload)?;
         let header = Header {
@@ -99,6 +121,9 @@ impl<'a, C: Channel> Seat<'a, C> {
         ensures ran { HasRun self.old self.new }
         ensures lines { self.new.log.lines ≡ self.old.log.lines }
         ensures of_call { IsOfCall result }
+        ensures awaited { IsUndisturbed self.new.end.caller → HasAwaited result self.old.log.read.items self.new.log.read.items }
+        ensures posted { self.new.log.posted ≡ self.old.log.posted }
+        ensures rest { LeavesRest self.old.end.caller self.new.end.caller self.old.log self.new.log }
     {
         match self.end.wait_reply(rt, self.link, TURNS) {
             Collected::Got(answer) => {

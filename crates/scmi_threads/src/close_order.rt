@@ -7,12 +7,15 @@ use scmi_link::Channel;
 
 impl<'a, C: Channel> Seat<'a, C> {
     ghost use Rattle.std.specs.Prelude.{◌≡◌};
+    ghost use Rattle.scmi_threads.specs.Orders.{HasDone, IsAtRest, IsUndisturbed, stop_of};
     ghost use Rattle.scmi_threads.specs.Seats.{HasRun};
+    ghost use Rattle.scmi_threads.specs.declared.order.Order.TheVariants as order;
 
     /// Closes the agent's end, and notes how, or that it was refused.
     #[tactic(auto, using(crate::proofs::ClosesLemmas::closes_idle, crate::proofs::ClosesLemmas::closes_withdrawn))]
     pub(crate) fn close(&mut self) -> Result<(), Stop>
-        ensures { HasRun self.old self.new }
+        ensures ran { HasRun self.old self.new }
+        ensures done { IsAtRest self.old.log → HasDone C.FULL order.Close (stop_of result) self.old.end.caller self.new.end.caller self.old.log self.new.log }
     {
         self.log.reserve_line()?;
         match self.end.close(self.link) {

@@ -9,13 +9,17 @@ use std::thread::yield_now;
 
 impl<'a, C: Channel> Seat<'a, C> {
     ghost use Rattle.std.specs.Prelude.{◌≡◌, ◌<◌, vec_len, vec_capacity, IsTrue};
+    ghost use Rattle.scmi_threads.specs.Logs.{IsSameLog};
+    ghost use Rattle.scmi_threads.specs.Orders.{HasDone, HasTaken, IsUnmoved, stop_of};
     ghost use Rattle.scmi_threads.specs.Seats.{HasRun};
+    ghost use Rattle.scmi_threads.specs.declared.order.Order.TheVariants as order;
 
     /// Takes so many P2A messages, and notes each.
     pub(crate) fn take_messages(&mut self, count: u32) -> Result<(), Stop>
-        ensures { HasRun self.old self.new }
+        ensures ran { HasRun self.old self.new }
+        ensures done { HasDone C.FULL (order.P2a count) (stop_of result) self.old.end.caller self.new.end.caller self.old.log self.new.log }
     {
-        'messages: for _ in 0..count {
+        'messages: for _taken in 0..count {
             self.take_message()?;
         }
         Ok(())
@@ -23,7 +27,9 @@ impl<'a, C: Channel> Seat<'a, C> {
 
     // Looks for a message, at most `TURNS` times, and notes it.
     fn take_message(&mut self) -> Result<(), Stop>
-        ensures { HasRun self.old self.new }
+        ensures ran { HasRun self.old self.new }
+        ensures unmoved { IsUnmoved self.old.end.caller self.new.end.caller self.old.log self.new.log }
+        ensures taken { HasTaken result self.old.log self.new.log }
     {
         self.log.reserve_message()?;
         'turns: for _ in 0..TURNS {
@@ -41,6 +47,8 @@ impl<'a, C: Channel> Seat<'a, C> {
         requires p2a { vec_len self.old.log.p2a < vec_capacity self.old.log.p2a }
         requires lines { vec_len self.old.log.lines < vec_capacity self.old.log.lines }
         ensures ran { HasRun self.old self.new }
+        ensures unmoved { IsUnmoved self.old.end.caller self.new.end.caller self.old.log self.new.log }
+        ensures taken { IsTrue result → HasTaken (Ok tt) self.old.log self.new.log }
         ensures none { ¬ (IsTrue result) → self.new.log ≡ self.old.log }
     {
         match self.end.next_p2a(self.link) {

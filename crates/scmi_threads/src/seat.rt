@@ -30,7 +30,9 @@ pub struct Seat<'a, C: Channel> {
 
 impl<'a, C: Channel> Seat<'a, C> {
     ghost use Rattle.scmi_ends.specs.AgentView.{IsOfLink};
-    ghost use Rattle.scmi_threads.specs.Seats.{HasRun, IsReady};
+    ghost use Rattle.scmi_threads.specs.Logs.{IsEmptyLog};
+    ghost use Rattle.scmi_threads.specs.Orders.{HasDone, IsAtRest, IsUndisturbed, stop_of};
+    ghost use Rattle.scmi_threads.specs.Seats.{HasPlayed, HasRun, IsReady};
 
     /// A seat of an agent that has done nothing, with an empty log.
     pub(crate) fn new(
@@ -40,7 +42,9 @@ impl<'a, C: Channel> Seat<'a, C> {
         end: AgentEnd<C>,
     ) -> Seat<'a, C>
         requires ready { IsReady (C.name link.now.a2p) (C.name link.now.p2a) end }
-        ensures { result.end ≡ end }
+        ensures end { result.end ≡ end }
+        ensures script { result.script ≡ script.entry }
+        ensures log { IsEmptyLog result.log }
     {
         Seat {
             link,
@@ -52,7 +56,7 @@ impl<'a, C: Channel> Seat<'a, C> {
 
     /// Runs the script, up to the first order that gives up.
     pub(crate) fn run<G: Gate, R: Wait>(&mut self, rt: &R, gate: &G)
-        ensures { HasRun self.old self.new }
+        ensures { HasPlayed C.FULL self.old self.new }
     {
         let script = self.script;
         let mut line = 0u32;
@@ -68,7 +72,8 @@ impl<'a, C: Channel> Seat<'a, C> {
 
     /// Carries out an order.
     fn step<R: Wait>(&mut self, rt: &R, order: &Order) -> Result<(), Stop>
-        ensures { HasRun self.old self.new }
+        ensures ran { HasRun self.old self.new }
+        ensures done { IsUndisturbed self.new.end.caller → IsAtRest self.old.log → HasDone C.FULL order.now (stop_of result) self.old.end.caller self.new.end.caller self.old.log self.new.log }
     {
         match order {
             Order::Call(protocol, id, payload) => self.call(rt, *protocol, *id, payload),

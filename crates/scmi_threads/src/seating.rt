@@ -4,6 +4,8 @@ ghost use Rattle.std.specs.List.{AllZip};
 ghost use Rattle.scmi_ends.specs.Each.{AllFrom};
 ghost use Rattle.scmi_ends.specs.AgentView.{IsNewAgent};
 ghost use Rattle.scmi_threads.specs.Logs.{IsLogOf};
+ghost use Rattle.scmi_threads.specs.ScriptLogs.{orders_of};
+ghost use Rattle.scmi_threads.specs.Seats.{IsSeated};
 
 use crate::agent_log::AgentLog;
 use crate::order::Order;
@@ -25,6 +27,7 @@ pub(crate) fn seat_agents<'a, C: Channel>(
     requires fresh { AllFrom IsNewAgent 1 ends.items }
     ensures a2p { IfOk result (λ seats. map (λ seat. seat.end.a2p_name) seats.items ≡ map (λ link. C.name link.a2p) links.entry.now) }
     ensures p2a { IfOk result (λ seats. map (λ seat. seat.end.p2a_name) seats.items ≡ map (λ link. C.name link.p2a) links.entry.now) }
+    ensures seated { IfOk result (λ seats. AllFrom (IsSeated scripts.entry.now) 1 seats.items) }
 {
     let mut seats = Vec::new(alloc);
     'links: for i in 0..links.len() {
@@ -37,7 +40,9 @@ pub(crate) fn seat_agents<'a, C: Channel>(
 }
 
 /// The lines of an agent's script; none where it has no script.
-fn script_of(scripts: &[Script], agent: u32) -> &[Order] {
+fn script_of(scripts: &[Script], agent: u32) -> &[Order]
+    ensures { result.now ≡ orders_of scripts.entry.now agent }
+{
     for script in scripts {
         if script.agent == agent {
             return &script.lines;
@@ -58,6 +63,7 @@ pub(crate) fn rise<C: Channel>(
     ensures a2p { map (λ agent. agent.a2p_name) result.0.items ≡ map (λ seat. seat.end.a2p_name) seats.entry.items }
     ensures p2a { map (λ agent. agent.p2a_name) result.0.items ≡ map (λ seat. seat.end.p2a_name) seats.entry.items }
     ensures logs { AllZip IsLogOf result.0.items result.1.items }
+    ensures same { (result.0.items ≡ map (λ seat. seat.end) seats.entry.items) × (result.1.items ≡ map (λ seat. seat.log) seats.entry.items) }
 {
     'seats: while !seats.is_empty() {
         let Seat {

@@ -1,13 +1,17 @@
 //! The run: each agent in a thread of its own, and the controller in another.
 ghost use Rattle.std.specs.Prelude.{◌≡◌, ◌≤◌, [], length, map, vec_len, vec_capacity, IfOk};
-ghost use Rattle.std.specs.List.{AllZip};
+ghost use Rattle.std.specs.List.{All, AllZip};
+ghost use Rattle.scmi_core.specs.Bounds.{HasBounds, HasResponses};
+ghost use Rattle.scmi_core.specs.History.{deeds};
 ghost use Rattle.scmi_core.specs.Legal.{IsLegal};
 ghost use Rattle.scmi_ends.specs.Each.{AllFrom};
 ghost use Rattle.scmi_ends.specs.ControllerView.{IsOfLinks};
 ghost use Rattle.scmi_threads.specs.Logs.{IsLogOf, LogHeadline};
 ghost use Rattle.scmi_threads.specs.Rounds.{AllOpen, GoesOn};
+ghost use Rattle.scmi_threads.specs.Orders.{IsUndisturbed};
+ghost use Rattle.scmi_threads.specs.ScriptLogs.{IsScriptLog, orders_of};
 ghost use Rattle.scmi_threads.specs.Scripts.{AreScriptsOf};
-ghost use Rattle.scmi_threads.specs.Seats.{HasRun};
+ghost use Rattle.scmi_threads.specs.Seats.{HasPlayed};
 
 use crate::agent_log::AgentLog;
 use crate::agents_side::run_scripts;
@@ -38,8 +42,10 @@ use std::thread::{Threads, join};
 /// executed for it are those it posted, in order, each once, at most the last left out; each answer it
 /// read is the one at that command's place; after a close with nothing outstanding all were executed
 /// and read, and a command that was withdrawn was not executed; the messages it took are those
-/// delivered, at most the last left out; and its n-th command has token (n - 1) modulo 1,024. Want of
-/// memory before the scripts start is the only refusal.
+/// delivered, at most the last left out, and with its outbox they are all that was made for it, where
+/// no delayed response is lost; and its n-th command has token (n - 1) modulo 1,024. Each log follows
+/// its agent's script order by order, and to its end where it was not stopped. Want of memory before
+/// the scripts start is the only refusal.
 pub fn run_agents<C: Channel, G: Gate, R: Threads + Wait + Sync>(
     rt: &R,
     alloc: Global,
@@ -49,7 +55,10 @@ pub fn run_agents<C: Channel, G: Gate, R: Threads + Wait + Sync>(
 ) -> Result<Outcome, AllocError>
     requires scripts { AreScriptsOf (length plan.agents) scripts.now }
     ensures legal { IfOk result (λ outcome. IsLegal plan outcome.trace.events) }
+    ensures bounds { IfOk result (λ outcome. HasBounds plan (deeds plan outcome.trace.events)) }
+    ensures responses { IfOk result (λ outcome. HasResponses plan (deeds plan outcome.trace.events)) }
     ensures count { IfOk result (λ outcome. vec_len outcome.logs ≡ length plan.agents) }
+    ensures scripts { IfOk result (λ outcome. AllFrom (λ a log. IsScriptLog C.FULL (orders_of scripts.now a) log) 1 outcome.logs.items) }
     ensures headline { IfOk result (λ outcome. AllFrom (λ a log. LogHeadline plan outcome.trace.events a log) 1 outcome.logs.items) }
 {
     let core = Core::new(alloc, plan);
@@ -78,7 +87,7 @@ fn run_beside<'a, C: Channel, G: Gate, R: Threads + Wait + Sync>(
     requires links { IsOfLinks (map (λ link. C.name link.a2p) links.now) (map (λ link. C.name link.p2a) links.now) controller }
     requires open_ends { AllOpen controller }
     ensures goes_on { GoesOn (map (λ link. C.name link.a2p) links.now) (map (λ link. C.name link.p2a) links.now) controller result.0.0 }
-    ensures ran { AllZip HasRun seats.entry.items result.1.items }
+    ensures ran { AllZip (HasPlayed C.FULL) seats.entry.items result.1.items }
 {
     let ended = AtomicUsize::new(0);
     join(
@@ -89,7 +98,7 @@ fn run_beside<'a, C: Channel, G: Gate, R: Threads + Wait + Sync>(
             ensures { GoesOn (map (λ link. C.name link.a2p) links.entry.now) (map (λ link. C.name link.p2a) links.entry.now) controller result.0 }
         { run_rounds(rt, links, &ended, controller, agents) },
         || -> Vec<Seat<C>>
-            ensures { AllZip HasRun seats.entry.items result.items }
+            ensures { AllZip (HasPlayed C.FULL) seats.entry.items result.items }
         { run_scripts(rt, gate, &ended, seats) },
     )
 }
@@ -108,8 +117,11 @@ fn conclude<C: Channel>(
     requires p2a { map (λ agent. agent.p2a_name) ends.items ≡ map (λ link. C.name link.p2a) links.items }
     requires logs { AllZip IsLogOf ends.items logs.items }
     ensures legal { IsLegal controller.board result.trace.events }
+    ensures bounds { HasBounds controller.board (deeds controller.board result.trace.events) }
+    ensures responses { HasResponses controller.board (deeds controller.board result.trace.events) }
     ensures logs { result.logs ≡ logs }
     ensures headline { AllFrom (λ a log. LogHeadline controller.board result.trace.events a log) 1 result.logs.items }
+    ensures undisturbed { All (λ agent. IsUndisturbed agent.caller) ends.items }
     ensures memory { result.memory ≡ memory }
 {
     Outcome {

@@ -12,13 +12,13 @@ use Rattle.scmi_words.specs.StatusWord.{status_word, answer_mark, settled_mark}
 use Rattle.scmi_words.proofs.Picks.{answer_or, frame_or}
 use Rattle.scmi_words.specs.Remembers.{CallerRemembers}
 use Rattle.scmi_words.specs.Phase.{unread}
-use Rattle.scmi_words.specs.View.{Place, CallerBecomes, HasCaller, caller_of, CalleeBecomes, callee_of}
+use Rattle.scmi_words.specs.View.{TableSeat, CallerBecomes, HasCaller, caller_of, CalleeBecomes, callee_of}
 use Rattle.scmi_words.specs.CallerSteps.{caller_collected, caller_after}
 use Rattle.scmi_words.specs.CalleeSteps.{callee_took, IsOwing}
 use Rattle.scmi_words.proofs.Loads.{half_is, callee_is}
 use Rattle.scmi_words.proofs.TableWords.{last_snoc}
 
-pub record Collects (t : Place) (x : Answer) (r : ℕ) : Type 0 where
+pub record Collects (t : TableSeat) (x : Answer) (r : ℕ) : Type 0 where
   pub has : HasCaller t
   pub phase : (caller_of t).state.phase ≡ Idle
   pub draft : (caller_of t).state.draft ≡ []
@@ -26,7 +26,7 @@ pub record Collects (t : Place) (x : Answer) (r : ℕ) : Type 0 where
   pub picked : answer_or (last_or None (caller_of t).state.read) ≡ x
   pub free : r ≡ status_word (answer_mark x) false
 
-pub collected : (s t : Place) (h : CallerHalf) (x : Answer) (n r : ℕ) → CallerBecomes s h t → h ≡ caller_collected (caller_of s) n x → r ≡ status_word (answer_mark x) false → Collects t x r
+pub collected : (s t : TableSeat) (h : CallerHalf) (x : Answer) (n r : ℕ) → CallerBecomes s h t → h ≡ caller_collected (caller_of s) n x → r ≡ status_word (answer_mark x) false → Collects t x r
 collected s t h x n r b is free = let now : caller_of t ≡ caller_collected (caller_of s) n x = half_is s t h b ∙ is in
     let last : last_or None (caller_of t).state.read ≡ Some x = ap (λ (z : CallerHalf). last_or None z.state.read) now ∙ last_snoc None (caller_of s).state.read x in record {
       has = ap (λ (m : Rattle.atomic_table.specs.Table.Me (Unit {0}) Rattle.scmi_words.specs.declared.view.View.View). m.0.caller) b.2 ∙ ap (λ (z : CallerHalf). Some z) (sym (half_is s t h b));
@@ -53,13 +53,13 @@ remembers_after h h0 now free closed told n k r x was waits is status = record {
   gone = λ e. absurd (false≢true e);
 }
 
-pub record Takes (t : Place) (f : Frame) : Type 0 where
+pub record Takes (t : TableSeat) (f : Frame) : Type 0 where
   pub owes : IsOwing (callee_of t)
   pub draft : (callee_of t).state.draft ≡ []
   pub last : last_or None (callee_of t).state.taken ≡ Some f
   pub picked : frame_or (last_or None (callee_of t).state.taken) ≡ f
 
-pub took : (s t : Place) (h : CalleeHalf) (f : Frame) → CalleeBecomes s h t → h ≡ callee_took (callee_of s) f → length (callee_of s).state.taken ≡ length (callee_of s).state.answered → Takes t f
+pub took : (s t : TableSeat) (h : CalleeHalf) (f : Frame) → CalleeBecomes s h t → h ≡ callee_took (callee_of s) f → length (callee_of s).state.taken ≡ length (callee_of s).state.answered → Takes t f
 took s t h f b is even = let now : callee_of t ≡ callee_took (callee_of s) f = callee_is s t h b ∙ is in
     let last : last_or None (callee_of t).state.taken ≡ Some f = ap (λ (z : CalleeHalf). last_or None z.state.taken) now ∙ last_snoc None (callee_of s).state.taken f in record {
       owes = let long = ap (λ (z : CalleeHalf). length z.state.taken) now ∙ length-append (callee_of s).state.taken (f ∷ []) in let short = ap (λ (z : CalleeHalf). length z.state.answered) now in omega arith;

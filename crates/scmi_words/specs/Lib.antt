@@ -3,6 +3,7 @@ pub mod Area
 pub mod Phase
 pub mod Mailbox
 pub mod View
+pub mod SharedTable
 pub mod CallerSteps
 pub mod CalleeSteps
 pub mod Remembers

@@ -1,20 +1,14 @@
 -- What a seat at the table knows: the halves in its view.
 use Rattle.std.specs.Prelude.{◌≡◌, [], Option, Some, None, false}
-use Rattle.atomic_table.specs.Seated.{TableId}
 use Rattle.atomic_table.specs.declared.shared.Seat.{Seat}
-use Rattle.scmi_words.specs.declared.layout.TheConstants.{TABLE_WORDS}
 use Rattle.scmi_words.specs.declared.phase.Phase.TheVariants.{Idle}
 use Rattle.scmi_words.specs.declared.view.CallerHalf.{CallerHalf}
 use Rattle.scmi_words.specs.declared.view.CalleeHalf.{CalleeHalf}
 use Rattle.scmi_words.specs.declared.view.View.{View}
 
 -- a seat at the table
-abbrev pub Place : Type 0
-Place = Seat (Unit {0}) View
-
--- the seat is at this table, which has its words
-abbrev pub IsSeatAt : TableId → Place → Type 0
-IsSeatAt table seat = (seat.table_id ≡ table) × (table.words ≡ TABLE_WORDS)
+abbrev pub TableSeat : Type 0
+TableSeat = Seat (Unit {0}) View
 
 -- the half of a caller that has done nothing
 abbrev pub first_caller : CallerHalf
@@ -67,27 +61,27 @@ callee_or (Some h) = h
 callee_or None = first_callee
 
 -- the caller's half in a seat's view
-abbrev pub caller_of : Place → CallerHalf
+abbrev pub caller_of : TableSeat → CallerHalf
 caller_of s = caller_or s.me.0.caller
 
 -- the callee's half in a seat's view
-abbrev pub callee_of : Place → CalleeHalf
+abbrev pub callee_of : TableSeat → CalleeHalf
 callee_of s = callee_or s.me.0.callee
 
 -- the seat has the caller's half
-abbrev pub HasCaller : Place → Type 0
+abbrev pub HasCaller : TableSeat → Type 0
 HasCaller s = s.me.0.caller ≡ Some (caller_of s)
 
 -- the seat has the callee's half
-abbrev pub HasCallee : Place → Type 0
+abbrev pub HasCallee : TableSeat → Type 0
 HasCallee s = s.me.0.callee ≡ Some (callee_of s)
 
 -- the same seat with this caller's half, and all else as it was
-abbrev pub CallerBecomes : Place → CallerHalf → Place → Type 0
+abbrev pub CallerBecomes : TableSeat → CallerHalf → TableSeat → Type 0
 CallerBecomes s h t = (t.table_id ≡ s.table_id) × (t.id ≡ s.id) × (t.me ≡ (with_caller s.me.0 h, s.me.1))
 
 -- the same seat with this callee's half, and all else as it was
-abbrev pub CalleeBecomes : Place → CalleeHalf → Place → Type 0
+abbrev pub CalleeBecomes : TableSeat → CalleeHalf → TableSeat → Type 0
 CalleeBecomes s h t = (t.table_id ≡ s.table_id) × (t.id ≡ s.id) × (t.me ≡ (with_callee s.me.0 h, s.me.1))
 
 -- a view's first part when its halves are parted

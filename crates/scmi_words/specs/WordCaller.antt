@@ -2,10 +2,12 @@
 use Rattle.std.specs.Prelude.{◌≡◌, ℕ, ◌+◌, ◌%◌, ◌<◌, List, [], length, Result, Ok, Err}
 use Rattle.scmi_link.specs.View.{CallerView, IsOutstanding}
 use Rattle.scmi_link.specs.declared.closing.Closing.{Closing}
+use Rattle.scmi_link.specs.declared.closing.Closing.TheVariants as closing
 use Rattle.scmi_link.specs.declared.close_error.CloseError.{CloseError}
 use Rattle.scmi_link.specs.declared.close_error.CloseError.TheVariants.{InService, ReplyWaiting}
 use Rattle.scmi_link.specs.declared.collected.Collected.{Collected}
 use Rattle.scmi_link.specs.declared.collected.Collected.TheVariants.{Nothing, Got}
+use Rattle.scmi_words.specs.declared.phase.Phase.TheVariants.{Withdrawn}
 use Rattle.scmi_words.specs.declared.status_word.TheConstants.{CLOSED}
 use Rattle.scmi_words.specs.declared.view.CallerHalf.{CallerHalf}
 use Rattle.scmi_words.specs.declared.word_caller.WordCaller.{WordCaller}
@@ -41,6 +43,10 @@ IsSameCaller old new = (new.seat.table_id ≡ old.seat.table_id) × (new.seat.id
 abbrev pub HasNoDraft : WordCaller → Type 0
 HasNoDraft caller = (caller_half caller).state.draft ≡ []
 
+-- the last post was withdrawn
+abbrev pub IsWithdrawn : WordCaller → Type 0
+IsWithdrawn caller = (caller_half caller).state.phase ≡ Withdrawn
+
 -- the most steps that a collect makes
 abbrev pub collect_steps : Collected → ℕ
 collect_steps (Got x) = answer_size x + 3
@@ -57,8 +63,9 @@ abbrev pub WhyNothing : WordCaller → Collected → WordCaller → Type 0
 WhyNothing old Nothing new = SawNothing old new
 WhyNothing old _ new = Unit {0}
 
--- a refused close shows that the last post was taken, or that it was answered
+-- what a close shows: a withdrawal, the phase for which the area has status 1 and the frame; a refusal, that the last post was taken, or that it was answered
 abbrev pub CloseShows : Result Closing CloseError → WordCaller → Type 0
-CloseShows (Ok closing) caller = Unit {0}
+CloseShows (Ok closing.Idle) caller = Unit {0}
+CloseShows (Ok closing.Withdrawn) caller = IsWithdrawn caller
 CloseShows (Err InService) caller = (caller_half caller).shown_taken ≡ length (caller_half caller).state.posted
 CloseShows (Err ReplyWaiting) caller = (caller_half caller).shown_answered ≡ length (caller_half caller).state.posted

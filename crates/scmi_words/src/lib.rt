@@ -6,18 +6,12 @@
 //! interleaving. At `gather` it gives the channel's contract, and what the bytes left stand for.
 #![tactic(auto)]
 
-mod callee_calls;
-mod callee_steps;
-mod caller_calls;
-mod caller_steps;
-mod channel_steps;
 mod frames;
 mod layout;
 mod mailbox;
 mod phase;
+mod shared_table;
 mod status_word;
-#[cfg(test)]
-mod tests;
 mod view;
 mod word_callee;
 mod word_caller;

@@ -1,7 +1,6 @@
-//! The shared table, with its rule.
+//! The rule of the shared table.
 use crate::view::View;
-use atomic_table::{Seat, Shared, Table, TableRule};
-use std::alloc::Global;
+use atomic_table::TableRule;
 
 /// The rule of the table, between any two steps.
 pub struct Mailbox;
@@ -14,12 +13,3 @@ impl TableRule<(), View, ()> for Mailbox {
 
     ghost first = { λ _. first_view };
 }
-
-/// The table, owned.
-pub type Words = Table<(), View, (), Mailbox, Global>;
-
-/// The table, shared by the two ends.
-pub type Board = Shared<(), View, (), Mailbox>;
-
-/// A seat at the table: the right to make steps, and what it knows.
-pub type Place = Seat<(), View>;

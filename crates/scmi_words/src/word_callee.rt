@@ -3,12 +3,17 @@ ghost use Rattle.std.specs.Prelude.{◌≡◌, []};
 ghost use Rattle.scmi_words.specs.View.{HasCallee, callee_of};
 ghost use Rattle.scmi_words.specs.Remembers.{CalleeRemembers};
 
-use crate::mailbox::Place;
+use crate::frames::{read_frame, write_response};
+use crate::shared_table::callee_steps::{hand_back, shut_callee, take_over};
+use crate::shared_table::{SharedTable, TableSeat};
+use crate::status_word::{CHANNEL_ERROR, FREE, POSTED, RELEASED, told_after};
+use scmi_codec::{Answer, Frame, Message};
+use scmi_link::CloseError;
 
 /// The end of a `WordChannel` that takes frames and answers them.
 #[derive(Drop)]
 pub struct WordCallee {
-    pub(crate) seat: Place,
+    pub(crate) seat: TableSeat,
     pub(crate) owes: bool,
     pub(crate) closed: bool,
     pub(crate) told: bool,
@@ -16,4 +21,94 @@ pub struct WordCallee {
     ghost seated: { HasCallee seat },
     ghost bare: { seat.me.1 ≡ [] },
     ghost remembers: { CalleeRemembers (callee_of seat) owes closed told },
+}
+
+impl WordCallee {
+    ghost use Rattle.std.specs.Prelude.{◌≡◌, ◌≢◌, ◌+◌, ◌≤◌, ◌↔◌, ◌∷◌, [], ◌++◌, true, false, length, OnOk, OnErr, IsTrue};
+    ghost use Rattle.scmi_codec.specs.declared.frame.Answer.TheVariants.{Reply};
+    ghost use Rattle.scmi_link.specs.View.{Owes};
+    ghost use Rattle.scmi_link.specs.Calls.{Takes, frame_if};
+    ghost use Rattle.scmi_words.specs.Area.{answer_size};
+    ghost use Rattle.scmi_words.specs.SharedTable.{IsSeatAt};
+    ghost use Rattle.scmi_words.specs.WordCallee.{word_callee_view, callee_half, take_steps, WhyNone, IsSameCallee};
+
+    // Takes the frame that is posted, if there is one, into `frame`, and says whether there was one.
+    pub(crate) fn take_into(&mut self, table: &SharedTable, frame: &mut Frame) -> bool
+        requires table { IsSeatAt table.now self.old.seat }
+        ensures seat { IsSameCallee self.old self.new }
+        ensures takes { Takes (word_callee_view self.old) (frame_if result frame.new) (word_callee_view self.new) }
+        ensures stays { result ≡ false → frame.new ≡ frame.old }
+        ensures none { WhyNone self.old (frame_if result frame.new) self.new }
+        ensures steps { (callee_half self.new).steps ≤ (callee_half self.old).steps + take_steps (frame_if result frame.new) }
+    {
+        self.takes = self.takes.wrapping_add(1);
+        if self.owes || self.closed || self.told {
+            return false;
+        }
+        let found = take_over(table, &mut self.seat);
+        if found != POSTED {
+            self.told = told_after(self.closed, self.told, found);
+            return false;
+        }
+        self.owes = true;
+        read_frame(table, &mut self.seat, frame);
+        true
+    }
+
+    // Whether the callee owes an answer.
+    pub(crate) fn owes(&self) -> bool
+        ensures { IsTrue result ↔ Owes (word_callee_view self.now) }
+    {
+        self.owes
+    }
+
+    // Answers the frame that was taken last.
+    pub(crate) fn answer(&mut self, table: &SharedTable, answer: &Answer)
+        requires table { IsSeatAt table.now self.old.seat }
+        requires owes { Owes (word_callee_view self.old) }
+        ensures seat { IsSameCallee self.old self.new }
+        ensures answered { word_callee_view self.new ≡ record (word_callee_view self.old) { answered = (word_callee_view self.old).answered ++ answer.now ∷ [] } }
+        ensures steps { (callee_half self.new).steps ≤ (callee_half self.old).steps + (answer_size answer.now + 4) }
+    {
+        let status = match answer {
+            Answer::Reply(message) => return self.reply(table, message),
+            Answer::Released => RELEASED,
+            Answer::ChannelError => CHANNEL_ERROR,
+        };
+        hand_back(table, &mut self.seat, status);
+        self.owes = false;
+    }
+
+    // Answers the frame that was taken last by a reply.
+    pub(crate) fn reply(&mut self, table: &SharedTable, message: &Message)
+        requires table { IsSeatAt table.now self.old.seat }
+        requires owes { Owes (word_callee_view self.old) }
+        ensures seat { IsSameCallee self.old self.new }
+        ensures answered { word_callee_view self.new ≡ record (word_callee_view self.old) { answered = (word_callee_view self.old).answered ++ Reply message.now ∷ [] } }
+        ensures steps { (callee_half self.new).steps ≤ (callee_half self.old).steps + (length message.now.payload.items + 4) }
+    {
+        write_response(table, &mut self.seat, message);
+        hand_back(table, &mut self.seat, FREE);
+        self.owes = false;
+    }
+
+    // Closes the callee's end. It refuses where an answer is owed.
+    pub(crate) fn close(&mut self, table: &SharedTable) -> Result<(), CloseError>
+        requires table { IsSeatAt table.now self.old.seat }
+        ensures seat { IsSameCallee self.old self.new }
+        ensures ok { OnOk result (word_callee_view self.new ≡ record (word_callee_view self.old) { closed = true }) }
+        ensures in_service { (result ≡ Err CloseError.InService) ↔ Owes (word_callee_view self.old) }
+        ensures reply_waiting { result ≢ Err CloseError.ReplyWaiting }
+        ensures err { OnErr result (word_callee_view self.new ≡ word_callee_view self.old) }
+        ensures steps { (callee_half self.new).steps ≤ (callee_half self.old).steps + 1 }
+    {
+        if self.owes {
+            return Err(CloseError::InService);
+        }
+        if !self.closed {
+            shut_callee(table, &mut self.seat);
+            self.closed = true;
+        }
+        Ok(())
+    }
 }

@@ -2,13 +2,19 @@
 ghost use Rattle.scmi_words.specs.View.{HasCaller, caller_of};
 ghost use Rattle.scmi_words.specs.Remembers.{CallerRemembers};
 
-use crate::mailbox::Place;
+use crate::frames::{read_answer, write_command};
+use crate::layout::{HEADER, LENGTH};
 use crate::phase::Phase;
+use crate::shared_table::caller_steps::{hand_over, look, shut_caller, store_frame_word, withdraw};
+use crate::shared_table::{SharedTable, TableSeat};
+use crate::status_word::{CLOSED, FREE, POSTED, TAKEN, is_free, told_after, without_closed};
+use scmi_codec::{Answer, Header, Payload, is_well_formed};
+use scmi_link::{CloseError, Closing, Collected, Looked, PostError};
 
 /// The end of a `WordChannel` that posts frames and collects their answers.
 #[derive(Drop)]
 pub struct WordCaller {
-    pub(crate) seat: Place,
+    pub(crate) seat: TableSeat,
     pub(crate) phase: Phase,
     pub(crate) closed: bool,
     pub(crate) told: bool,
@@ -17,4 +23,197 @@ pub struct WordCaller {
     pub(crate) collects: u64,
     ghost seated: { HasCaller seat },
     ghost remembers: { CallerRemembers (caller_of seat) phase free closed told },
+}
+
+impl WordCaller {
+    ghost use Rattle.std.specs.Prelude.{◌≡◌, ◌≢◌, ◌+◌, ◌≤◌, cond, ◌⊎◌, ◌↔◌, ◌∷◌, [], ◌++◌, true, false, length, OnOk, OnErr, IsTrue};
+    ghost use Rattle.scmi_codec.specs.Area.{is_well_formed};
+    ghost use Rattle.scmi_codec.specs.declared.frame.Frame.TheVariants.{Good, Malformed};
+    ghost use Rattle.scmi_link.specs.View.{IsOutstanding, is_shut};
+    ghost use Rattle.scmi_link.specs.Calls.{IsRefused, Collects, collected_by};
+    ghost use Rattle.scmi_words.specs.declared.phase.Phase.TheVariants.{Idle, Waiting};
+    ghost use Rattle.scmi_words.specs.SharedTable.{IsSeatAt};
+    ghost use Rattle.scmi_words.specs.WordCaller.{word_caller_view, caller_half, collect_steps, WhyNothing, CloseShows, HasNoDraft, IsWithdrawn, IsSameCaller};
+
+    // Posts a message of this header and payload.
+    pub(crate) fn post_parts(
+        &mut self,
+        table: &SharedTable,
+        header: Header,
+        payload: &Payload,
+    ) -> Result<(), PostError>
+        requires table { IsSeatAt table.now self.old.seat }
+        ensures seat { IsSameCaller self.old self.new }
+        ensures ok { OnOk result (word_caller_view self.new ≡ record (word_caller_view self.old) { posted = (word_caller_view self.old).posted ++ Good (record { header = header; payload = payload.now }) ∷ [] }) }
+        ensures unshut { OnOk result (is_shut (word_caller_view self.old) ≡ false) }
+        ensures outstanding { (result ≡ Err PostError.Outstanding) ↔ IsOutstanding (word_caller_view self.old) }
+        ensures unchanged { result ≡ Err PostError.Outstanding → word_caller_view self.new ≡ word_caller_view self.old }
+        ensures closed { result ≡ Err PostError.Closed → IsRefused (word_caller_view self.old) (word_caller_view self.new) }
+        ensures never_full { result ≢ Err PostError.Full }
+        ensures well_formed { result ≢ Err PostError.WellFormed }
+        ensures withdrawn_stays { IsWithdrawn self.old → IsWithdrawn self.new }
+        ensures draft { HasNoDraft self.old → (result ≡ Err PostError.Closed → is_shut (word_caller_view self.old) ≡ true) → HasNoDraft self.new }
+        ensures steps { (caller_half self.new).steps ≤ (caller_half self.old).steps + (length payload.now.items + 4) }
+    {
+        self.may_post()?;
+        write_command(table, &mut self.seat, header, payload);
+        if hand_over(table, &mut self.seat, self.free) {
+            self.phase = Phase::Waiting;
+            Ok(())
+        } else {
+            self.told = true;
+            Err(PostError::Closed)
+        }
+    }
+
+    // Posts a frame whose length is not well formed: its length and header alone are stored.
+    pub(crate) fn post_malformed(
+        &mut self,
+        table: &SharedTable,
+        length: u32,
+        header: u32,
+    ) -> Result<(), PostError>
+        requires table { IsSeatAt table.now self.old.seat }
+        ensures seat { IsSameCaller self.old self.new }
+        ensures ok { OnOk result (word_caller_view self.new ≡ record (word_caller_view self.old) { posted = (word_caller_view self.old).posted ++ Malformed length header ∷ [] }) }
+        ensures unshut { OnOk result (is_shut (word_caller_view self.old) ≡ false) }
+        ensures well_formed { (result ≡ Err PostError.WellFormed) ↔ (is_well_formed length ≡ true) }
+        ensures outstanding { is_well_formed length ≡ false → (result ≡ Err PostError.Outstanding) ↔ IsOutstanding (word_caller_view self.old) }
+        ensures unchanged { (result ≡ Err PostError.Outstanding) ⊎ (result ≡ Err PostError.WellFormed) → word_caller_view self.new ≡ word_caller_view self.old }
+        ensures closed { result ≡ Err PostError.Closed → IsRefused (word_caller_view self.old) (word_caller_view self.new) }
+        ensures never_full { result ≢ Err PostError.Full }
+        ensures withdrawn_stays { IsWithdrawn self.old → IsWithdrawn self.new }
+        ensures draft { HasNoDraft self.old → (result ≡ Err PostError.Closed → is_shut (word_caller_view self.old) ≡ true) → HasNoDraft self.new }
+        ensures steps { (caller_half self.new).steps ≤ (caller_half self.old).steps + 4 }
+    {
+        if is_well_formed(length) {
+            return Err(PostError::WellFormed);
+        }
+        self.may_post()?;
+        store_frame_word(table, &mut self.seat, LENGTH, length);
+        store_frame_word(table, &mut self.seat, HEADER, header);
+        if hand_over(table, &mut self.seat, self.free) {
+            self.phase = Phase::Waiting;
+            Ok(())
+        } else {
+            self.told = true;
+            Err(PostError::Closed)
+        }
+    }
+
+    // Whether the caller may post, as far as it knows.
+    fn may_post(&self) -> Result<(), PostError>
+        ensures ok { OnOk result ((self.now.phase ≡ Idle) × (self.now.closed ≡ false) × (self.now.told ≡ false)) }
+        ensures outstanding { (result ≡ Err PostError.Outstanding) ↔ IsOutstanding (word_caller_view self.now) }
+        ensures closed { result ≡ Err PostError.Closed → is_shut (word_caller_view self.now) ≡ true }
+        ensures never { (result ≢ Err PostError.Full) × (result ≢ Err PostError.WellFormed) }
+    {
+        match self.phase {
+            Phase::Idle => {}
+            Phase::Waiting => return Err(PostError::Outstanding),
+            _ => return Err(PostError::Closed),
+        }
+        if self.closed || self.told {
+            return Err(PostError::Closed);
+        }
+        Ok(())
+    }
+
+    // Whether a post is outstanding.
+    pub(crate) fn outstanding(&self) -> bool
+        ensures { IsTrue result ↔ IsOutstanding (word_caller_view self.now) }
+    {
+        matches!(self.phase, Phase::Waiting)
+    }
+
+    // Collects the answer, if it stands, into `answer`.
+    pub(crate) fn collect_into(&mut self, table: &SharedTable, answer: &mut Answer) -> Looked
+        requires table { IsSeatAt table.now self.old.seat }
+        ensures seat { IsSameCaller self.old self.new }
+        ensures collects { Collects (word_caller_view self.old) (collected_by result answer.new) (word_caller_view self.new) }
+        ensures stays { ¬ (result ≡ Looked.Got) → answer.new ≡ answer.old }
+        ensures shut { is_shut (word_caller_view self.old) ≡ true → ¬ IsOutstanding (word_caller_view self.old) → result ≡ Looked.Closed }
+        ensures nothing { WhyNothing self.old (collected_by result answer.new) self.new }
+        ensures withdrawn_stays { IsWithdrawn self.old → IsWithdrawn self.new }
+        ensures draft { HasNoDraft self.old → HasNoDraft self.new }
+        ensures steps { (caller_half self.new).steps ≤ (caller_half self.old).steps + collect_steps (collected_by result answer.new) }
+    {
+        let Phase::Waiting = self.phase else {
+            return if self.glance(table) {
+                Looked::Closed
+            } else {
+                Looked::Nothing
+            };
+        };
+        self.collects = self.collects.wrapping_add(1);
+        let status = look(table, &mut self.seat);
+        if is_free(status) {
+            self.phase = Phase::Idle;
+            self.free = without_closed(status);
+            read_answer(table, &mut self.seat, self.free, answer);
+            Looked::Got
+        } else if status == CLOSED + POSTED {
+            self.told = told_after(self.closed, self.told, status);
+            self.phase = Phase::GivenUp;
+            Looked::Closed
+        } else {
+            Looked::Nothing
+        }
+    }
+
+    // A collect with nothing outstanding: whether an end has closed, as far as the caller is now told.
+    fn glance(&mut self, table: &SharedTable) -> bool
+        requires table { IsSeatAt table.now self.old.seat }
+        requires phase { self.old.phase ≢ Waiting }
+        requires idle { ¬ IsOutstanding (word_caller_view self.old) }
+        ensures seat { IsSameCaller self.old self.new }
+        ensures collects { Collects (word_caller_view self.old) (cond result Collected.Closed Collected.Nothing) (word_caller_view self.new) }
+        ensures shut { is_shut (word_caller_view self.old) ≡ true → result ≡ true }
+        ensures nothing { WhyNothing self.old (cond result Collected.Closed Collected.Nothing) self.new }
+        ensures withdrawn_stays { IsWithdrawn self.old → IsWithdrawn self.new }
+        ensures draft { HasNoDraft self.old → HasNoDraft self.new }
+        ensures steps { (caller_half self.new).steps ≤ (caller_half self.old).steps + 1 }
+    {
+        self.collects = self.collects.wrapping_add(1);
+        if self.closed || self.told {
+            return true;
+        }
+        let status = look(table, &mut self.seat);
+        self.told = told_after(self.closed, self.told, status);
+        self.told
+    }
+
+    // Closes the caller's end, and withdraws a post that was not taken.
+    pub(crate) fn close(&mut self, table: &SharedTable) -> Result<Closing, CloseError>
+        requires table { IsSeatAt table.now self.old.seat }
+        ensures seat { IsSameCaller self.old self.new }
+        ensures idle { result ≡ Ok Closing.Idle → ¬ IsOutstanding (word_caller_view self.old) × (word_caller_view self.new ≡ record (word_caller_view self.old) { closed = true }) }
+        ensures withdrawn { result ≡ Ok Closing.Withdrawn → IsOutstanding (word_caller_view self.old) × (word_caller_view self.new ≡ record (word_caller_view self.old) { closed = true; left = true }) }
+        ensures err { OnErr result (IsOutstanding (word_caller_view self.old) × (word_caller_view self.new ≡ word_caller_view self.old)) }
+        ensures shows { CloseShows result self.new }
+        ensures withdrawn_stays { IsWithdrawn self.old → IsWithdrawn self.new }
+        ensures draft { HasNoDraft self.old → HasNoDraft self.new }
+        ensures steps { (caller_half self.new).steps ≤ (caller_half self.old).steps + 2 }
+    {
+        let Phase::Waiting = self.phase else {
+            if !self.closed {
+                shut_caller(table, &mut self.seat, CLOSED);
+                self.closed = true;
+            }
+            return Ok(Closing::Idle);
+        };
+        let found = withdraw(table, &mut self.seat);
+        if found == TAKEN {
+            return Err(CloseError::InService);
+        }
+        if is_free(found) {
+            return Err(CloseError::ReplyWaiting);
+        }
+        if found != POSTED {
+            shut_caller(table, &mut self.seat, CLOSED + FREE);
+        }
+        self.phase = Phase::Withdrawn;
+        self.closed = true;
+        Ok(Closing::Withdrawn)
+    }
 }

@@ -1,18 +1,15 @@
 //! The channel whose ends share words.
-ghost use Rattle.std.specs.Prelude.{◌≡◌};
-ghost use Rattle.scmi_words.specs.declared.layout.TheConstants.{TABLE_WORDS};
 
-use crate::channel_steps::{close_table, join_callee, make_table, split_callee};
 use crate::layout::TABLE_WORDS;
-use crate::mailbox::Words;
 use crate::phase::Phase;
+use crate::shared_table::SharedTable;
+use crate::shared_table::channel_steps::{close_table, join_callee, make_table, split_callee};
 use crate::status_word::FREE;
 use crate::word_callee::WordCallee;
 use crate::word_caller::WordCaller;
 use crate::word_image::{WordImage, words_of};
-use crate::{callee_calls, caller_calls};
-use scmi_codec::{Answer, Frame, Message};
-use scmi_link::{Channel, CloseError, Closing, Collected, LinkError, PostError};
+use scmi_codec::{Answer, Frame, Header, Message, Payload};
+use scmi_link::{Channel, CloseError, Closing, LinkError, Looked, PostError};
 use std::alloc::Global;
 
 /// A channel of shared words: the area of a mailbox (DEN0056B, shared memory transport), a word for
@@ -21,33 +18,34 @@ use std::alloc::Global;
 /// The words of a frame or an answer are stored one at a time. One exchange of the status hands them
 /// over, and it is tried once: no call waits, and none but `make` takes memory.
 ///
-/// Beyond what every channel promises (own): no post answers `Full`. `post`, `post_malformed`,
-/// `collect`, `take` and `answer` make at most k + 4 steps, k being the payload words of the message
-/// handed in or out, and each close at most 3. A `collect` that gives `Nothing` has looked at the
-/// status, and so has a `take` that gives nothing while no answer is owed and no close is known. A
-/// `close_caller` that is refused shows that the post was taken, or that it was answered. What
-/// `gather` leaves stands for the last answer, or for the last frame where it was left untaken.
+/// Beyond what every channel promises (own): no post answers `Full`. `post_parts`, `post_malformed`,
+/// `collect_into`, `take_into`, `answer` and `reply` make at most k + 4 steps, k being the payload
+/// words of the message handed in or out, and each close at most 3. A `collect_into` that gives
+/// `Nothing` has looked at the status, and so has a `take_into` that gives nothing while no answer is
+/// owed and no close is known. A `close_caller` that withdraws leaves the phase `Withdrawn`, for which
+/// the area has status 1 and the frame; one that is refused shows that the post was taken, or that it
+/// was answered. What `gather` leaves stands for the last answer, or for the last frame where it was
+/// left untaken. `post`, `collect` and `take` are the trait's, by these calls.
 #[derive(Drop)]
 pub struct WordChannel {
-    pub(crate) table: Words,
-    ghost shape: { (table.shared.table_id.words ≡ TABLE_WORDS) × (table.shared.table_id.slots ≡ 0) },
+    pub(crate) table: SharedTable,
 }
 
 impl WordChannel {
-    ghost use Rattle.std.specs.Prelude.{◌≡◌};
     ghost use Rattle.scmi_words.specs.Mailbox.{Rule};
+    ghost use Rattle.scmi_words.specs.SharedTable.{IsSeatAt};
     ghost use Rattle.scmi_words.specs.View.{caller_of, callee_of};
 
     /// The last words. The rule holds of them and of what the two ends have done.
     fn take_apart(self, caller: WordCaller, callee: WordCallee) -> [u64; TABLE_WORDS]
-        requires caller { caller.seat.table_id ≡ self.table.shared.table_id }
-        requires callee { callee.seat.table_id ≡ self.table.shared.table_id }
+        requires caller { IsSeatAt self.table caller.seat }
+        requires callee { IsSeatAt self.table callee.seat }
         ensures { Rule result (caller_of caller.seat) (callee_of callee.seat) }
     {
         let WordChannel { table } = self;
         let WordCaller { mut seat, .. } = caller;
         let WordCallee { seat: other, .. } = callee;
-        join_callee(&table.shared, &mut seat, other);
+        join_callee(&table, &mut seat, other);
         let closed = close_table(table, seat);
         let words = words_of(&closed);
         closed.free();
@@ -66,13 +64,14 @@ impl Channel for WordChannel {
     ghost use Rattle.std.specs.Prelude.{◌≡◌, ◌≢◌, ◌+◌, ◌≤◌, ◌⊎◌, ◌↔◌, ◌∷◌, [], ◌++◌, true, false, length, OnOk, OnErr, IfOk};
     ghost use Rattle.scmi_codec.specs.Area.{is_well_formed};
     ghost use Rattle.scmi_codec.specs.declared.frame.Frame.TheVariants.{Good, Malformed};
+    ghost use Rattle.scmi_codec.specs.declared.frame.Answer.TheVariants.{Reply};
     ghost use Rattle.scmi_link.specs.View.{IsOutstanding, Owes, is_shut, new_caller, new_callee};
-    ghost use Rattle.scmi_link.specs.Calls.{IsRefused, Collects, Takes};
+    ghost use Rattle.scmi_link.specs.Calls.{IsRefused, Collects, Takes, frame_if, collected_by};
     ghost use Rattle.scmi_link.specs.Gathered.{Agree, Closed};
     ghost use Rattle.scmi_words.specs.Area.{answer_size};
     ghost use Rattle.scmi_words.specs.Mailbox.{Rule};
     ghost use Rattle.scmi_words.specs.View.{first_caller, first_callee};
-    ghost use Rattle.scmi_words.specs.WordCaller.{word_caller_view, word_caller_name, caller_half, collect_steps, WhyNothing, CloseShows, HasNoDraft};
+    ghost use Rattle.scmi_words.specs.WordCaller.{word_caller_view, word_caller_name, caller_half, collect_steps, WhyNothing, CloseShows, HasNoDraft, IsWithdrawn};
     ghost use Rattle.scmi_words.specs.WordCallee.{word_callee_view, word_callee_name, callee_half, take_steps, WhyNone};
     ghost use Rattle.scmi_words.specs.WordChannel.{word_channel_name};
     ghost use Rattle.scmi_words.specs.WordImage.{StandsAtEnd, image_words, image_area};
@@ -100,7 +99,7 @@ impl Channel for WordChannel {
         let Ok((table, mut seat)) = make_table(alloc) else {
             return Err(LinkError::Memory);
         };
-        let other = split_callee(&table.shared, &mut seat);
+        let other = split_callee(&table, &mut seat);
         let caller = WordCaller {
             seat,
             phase: Phase::Idle,
@@ -119,20 +118,26 @@ impl Channel for WordChannel {
         Ok((WordChannel { table }, caller, callee))
     }
 
-    fn post(&self, caller: &mut WordCaller, message: &Message) -> Result<(), PostError>
+    fn post_parts(
+        &self,
+        caller: &mut WordCaller,
+        header: Header,
+        payload: &Payload,
+    ) -> Result<(), PostError>
         requires name { word_caller_name caller.old ≡ word_channel_name self.now }
         ensures name { word_caller_name caller.new ≡ word_caller_name caller.old }
-        ensures ok { OnOk result (word_caller_view caller.new ≡ record (word_caller_view caller.old) { posted = (word_caller_view caller.old).posted ++ Good message.now ∷ [] }) }
+        ensures ok { OnOk result (word_caller_view caller.new ≡ record (word_caller_view caller.old) { posted = (word_caller_view caller.old).posted ++ Good (record { header = header; payload = payload.now }) ∷ [] }) }
         ensures unshut { OnOk result (is_shut (word_caller_view caller.old) ≡ false) }
         ensures outstanding { (result ≡ Err PostError.Outstanding) ↔ IsOutstanding (word_caller_view caller.old) }
         ensures unchanged { result ≡ Err PostError.Outstanding → word_caller_view caller.new ≡ word_caller_view caller.old }
         ensures closed { result ≡ Err PostError.Closed → IsRefused (word_caller_view caller.old) (word_caller_view caller.new) }
         ensures never_full { result ≢ Err PostError.Full }
         ensures well_formed { result ≢ Err PostError.WellFormed }
+        ensures withdrawn_stays { IsWithdrawn caller.old → IsWithdrawn caller.new }
         ensures draft { HasNoDraft caller.old → (result ≡ Err PostError.Closed → is_shut (word_caller_view caller.old) ≡ true) → HasNoDraft caller.new }
-        ensures steps { (caller_half caller.new).steps ≤ (caller_half caller.old).steps + (length message.now.payload.items + 4) }
+        ensures steps { (caller_half caller.new).steps ≤ (caller_half caller.old).steps + (length payload.now.items + 4) }
     {
-        caller_calls::post(&self.table.shared, caller, message)
+        caller.post_parts(&self.table, header, payload)
     }
 
     fn post_malformed(
@@ -150,40 +155,44 @@ impl Channel for WordChannel {
         ensures unchanged { (result ≡ Err PostError.Outstanding) ⊎ (result ≡ Err PostError.WellFormed) → word_caller_view caller.new ≡ word_caller_view caller.old }
         ensures closed { result ≡ Err PostError.Closed → IsRefused (word_caller_view caller.old) (word_caller_view caller.new) }
         ensures never_full { result ≢ Err PostError.Full }
+        ensures withdrawn_stays { IsWithdrawn caller.old → IsWithdrawn caller.new }
         ensures draft { HasNoDraft caller.old → (result ≡ Err PostError.Closed → is_shut (word_caller_view caller.old) ≡ true) → HasNoDraft caller.new }
         ensures steps { (caller_half caller.new).steps ≤ (caller_half caller.old).steps + 4 }
     {
-        caller_calls::post_malformed(&self.table.shared, caller, length, header)
+        caller.post_malformed(&self.table, length, header)
     }
 
     fn outstanding(caller: &WordCaller) -> bool {
-        caller_calls::outstanding(caller)
+        caller.outstanding()
     }
 
-    fn collect(&self, caller: &mut WordCaller) -> Collected
+    fn collect_into(&self, caller: &mut WordCaller, answer: &mut Answer) -> Looked
         requires name { word_caller_name caller.old ≡ word_channel_name self.now }
         ensures name { word_caller_name caller.new ≡ word_caller_name caller.old }
-        ensures collects { Collects (word_caller_view caller.old) result (word_caller_view caller.new) }
-        ensures shut { is_shut (word_caller_view caller.old) ≡ true → ¬ IsOutstanding (word_caller_view caller.old) → result ≡ Collected.Closed }
-        ensures nothing { WhyNothing caller.old result caller.new }
+        ensures collects { Collects (word_caller_view caller.old) (collected_by result answer.new) (word_caller_view caller.new) }
+        ensures stays { ¬ (result ≡ Looked.Got) → answer.new ≡ answer.old }
+        ensures shut { is_shut (word_caller_view caller.old) ≡ true → ¬ IsOutstanding (word_caller_view caller.old) → result ≡ Looked.Closed }
+        ensures nothing { WhyNothing caller.old (collected_by result answer.new) caller.new }
+        ensures withdrawn_stays { IsWithdrawn caller.old → IsWithdrawn caller.new }
         ensures draft { HasNoDraft caller.old → HasNoDraft caller.new }
-        ensures steps { (caller_half caller.new).steps ≤ (caller_half caller.old).steps + collect_steps result }
+        ensures steps { (caller_half caller.new).steps ≤ (caller_half caller.old).steps + collect_steps (collected_by result answer.new) }
     {
-        caller_calls::collect(&self.table.shared, caller)
+        caller.collect_into(&self.table, answer)
     }
 
-    fn take(&self, callee: &mut WordCallee) -> Option<Frame>
+    fn take_into(&self, callee: &mut WordCallee, frame: &mut Frame) -> bool
         requires name { word_callee_name callee.old ≡ word_channel_name self.now }
         ensures name { word_callee_name callee.new ≡ word_callee_name callee.old }
-        ensures takes { Takes (word_callee_view callee.old) result (word_callee_view callee.new) }
-        ensures none { WhyNone callee.old result callee.new }
-        ensures steps { (callee_half callee.new).steps ≤ (callee_half callee.old).steps + take_steps result }
+        ensures takes { Takes (word_callee_view callee.old) (frame_if result frame.new) (word_callee_view callee.new) }
+        ensures stays { result ≡ false → frame.new ≡ frame.old }
+        ensures none { WhyNone callee.old (frame_if result frame.new) callee.new }
+        ensures steps { (callee_half callee.new).steps ≤ (callee_half callee.old).steps + take_steps (frame_if result frame.new) }
     {
-        callee_calls::take(&self.table.shared, callee)
+        callee.take_into(&self.table, frame)
     }
 
     fn owes(callee: &WordCallee) -> bool {
-        callee_calls::owes(callee)
+        callee.owes()
     }
 
     fn answer(&self, callee: &mut WordCallee, answer: &Answer)
@@ -193,7 +202,17 @@ impl Channel for WordChannel {
         ensures answered { word_callee_view callee.new ≡ record (word_callee_view callee.old) { answered = (word_callee_view callee.old).answered ++ answer.now ∷ [] } }
         ensures steps { (callee_half callee.new).steps ≤ (callee_half callee.old).steps + (answer_size answer.now + 4) }
     {
-        callee_calls::answer(&self.table.shared, callee, answer);
+        callee.answer(&self.table, answer);
+    }
+
+    fn reply(&self, callee: &mut WordCallee, message: &Message)
+        requires name { word_callee_name callee.old ≡ word_channel_name self.now }
+        requires owes { Owes (word_callee_view callee.old) }
+        ensures name { word_callee_name callee.new ≡ word_callee_name callee.old }
+        ensures answered { word_callee_view callee.new ≡ record (word_callee_view callee.old) { answered = (word_callee_view callee.old).answered ++ Reply message.now ∷ [] } }
+        ensures steps { (callee_half callee.new).steps ≤ (callee_half callee.old).steps + (length message.now.payload.items + 4) }
+    {
+        callee.reply(&self.table, message);
     }
 
     fn close_caller(&self, caller: &mut WordCaller) -> Result<Closing, CloseError>
@@ -203,10 +222,11 @@ impl Channel for WordChannel {
         ensures withdrawn { result ≡ Ok Closing.Withdrawn → IsOutstanding (word_caller_view caller.old) × (word_caller_view caller.new ≡ record (word_caller_view caller.old) { closed = true; left = true }) }
         ensures err { OnErr result (IsOutstanding (word_caller_view caller.old) × (word_caller_view caller.new ≡ word_caller_view caller.old)) }
         ensures shows { CloseShows result caller.new }
+        ensures withdrawn_stays { IsWithdrawn caller.old → IsWithdrawn caller.new }
         ensures draft { HasNoDraft caller.old → HasNoDraft caller.new }
         ensures steps { (caller_half caller.new).steps ≤ (caller_half caller.old).steps + 2 }
     {
-        caller_calls::close_caller(&self.table.shared, caller)
+        caller.close(&self.table)
     }
 
     fn close_callee(&self, callee: &mut WordCallee) -> Result<(), CloseError>
@@ -218,7 +238,7 @@ impl Channel for WordChannel {
         ensures err { OnErr result (word_callee_view callee.new ≡ word_callee_view callee.old) }
         ensures steps { (callee_half callee.new).steps ≤ (callee_half callee.old).steps + 1 }
     {
-        callee_calls::close_callee(&self.table.shared, callee)
+        callee.close(&self.table)
     }
 
     fn gather(self, caller: WordCaller, callee: WordCallee) -> WordImage

@@ -1,9 +1,9 @@
-use Rattle.std.proofs.Common.{◌≡◌, ◌+◌, arith, ◌∙◌, sym, ap, map}
+use Rattle.std.proofs.Common.{◌≡◌, ◌+◌, None, length, replicate, arith, ◌∙◌, ap, map}
 use Rattle.scmi_link.specs.View.{new_caller, new_callee}
 use Rattle.scmi_ends.specs.AgentView.{IsNewAgent}
 use Rattle.scmi_ends.specs.Kept.{Keeps}
 use Rattle.scmi_ends.proofs.Turns.{from_push}
-use Rattle.scmi_ends.proofs.Lists.{maps_push, new_push}
+use Rattle.scmi_ends.proofs.Lists.{maps_push, new_push, same_push}
 use Rattle.scmi_ends.proofs.Made.{kept_new}
 use Rattle.scmi_ends.proofs.ends.connect.Goals as goal
 use Rattle.scmi_ends.proofs.ends.connect.Goals.{After-loop-index}
@@ -25,15 +25,21 @@ loop-index-preserved g c =
       agents_a2p = rw (agent, link) (maps_push (λ e. e.a2p_name) (λ k. n k.a2p) c.loop-index.agents.items c.loop-index.links.items c.in-Ok.agent c.in-Ok.link kept.agents_a2p made.agent.of_a2p);
       agents_p2a = rw (agent, link) (maps_push (λ e. e.p2a_name) (λ k. n k.p2a) c.loop-index.agents.items c.loop-index.links.items c.in-Ok.agent c.in-Ok.link kept.agents_p2a made.agent.of_p2a);
       agents = rw agent (from_push IsNewAgent 1 (c.loop-index.index + 1) c.loop-index.agents.items c.in-Ok.agent (omega (arith, c.loop-index.agents.ok.0, kept.agents_made)) kept.agents made.new.0);
+      closed_at = rw c.in-Ok-push-5.ensures.items (same_push c.loop-index.closed_at.items c.loop-index.index None kept.closed_at);
       links_made = omega (arith, c.in-Ok-push.ensures.len, kept.links_made);
       agents_made = omega (arith, c.in-Ok-push-4.ensures.len, kept.agents_made);
     }
 
-keeps : (g : _) (c : After-loop-index g) → Keeps c.args.core.board c.args.core.history (map g.C.Channel.callee_view c.loop-index.callees.items) (map g.C.Channel.caller_view c.loop-index.callers.items)
-keeps g c = rw (c.requires, c.loop-index.invariant.callees, c.loop-index.invariant.callers) (kept_new c.args.core.board c.loop-index.index (omega (arith, c.loop-index-test.false, c.agents-index-end.ensures, c.loop-index.auto.index-end)))
+keeps : (g : _) (c : After-loop-index g) → Keeps c.args.core.board c.args.core.history (map g.C.Channel.callee_view c.loop-index.callees.items) (map g.C.Channel.caller_view c.loop-index.callers.items) c.loop-index.closed_at.items
+keeps g c = rw (c.requires, c.loop-index.invariant.callees, c.loop-index.invariant.callers, c.loop-index.invariant.closed_at) (kept_new c.args.core.board c.loop-index.index (omega (arith, c.loop-index-test.false, c.agents-index-end.ensures, c.loop-index.auto.index-end)))
 
 pub invariant_of-result : goal.invariant_of-result
-invariant_of-result g c = keeps g c
+invariant_of-result g c = keeps g (goal.at.invariant_of-result g c).After-loop-index
 
 pub returns-clause-kept : goal.returns-clause-kept
 returns-clause-kept g c = keeps g (goal.at.returns-clause-kept g c).After-loop-index
+
+pub returns-clause-closed_at : goal.returns-clause-closed_at
+returns-clause-closed_at g c =
+    let all : c.loop-index.index ≡ length c.args.core.board.agents = omega (arith, c.loop-index-test.false, c.agents-index-end.ensures, c.loop-index.auto.index-end) in
+    c.loop-index.invariant.closed_at ∙ ap (λ k. replicate k None) all

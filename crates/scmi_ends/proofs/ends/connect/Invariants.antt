@@ -1,4 +1,4 @@
-use Rattle.std.proofs.Common.{◌≡◌, vec_len, map, replicate}
+use Rattle.std.proofs.Common.{◌≡◌, vec_len, map, replicate, None}
 use Rattle.scmi_link.specs.View.{new_caller, new_callee}
 use Rattle.scmi_ends.specs.Each.{AllFrom}
 use Rattle.scmi_ends.specs.AgentView.{IsNewAgent}
@@ -14,6 +14,7 @@ invariant-loop-index g l = record {
   agents_a2p : map (λ e. e.a2p_name) l.agents.items ≡ map (λ k. g.C.Channel.name k.a2p) l.links.items;
   agents_p2a : map (λ e. e.p2a_name) l.agents.items ≡ map (λ k. g.C.Channel.name k.p2a) l.links.items;
   agents : AllFrom IsNewAgent 1 l.agents.items;
+  closed_at : l.closed_at.items ≡ replicate l.index None;
   links_made : vec_len l.links ≡ l.index;
   agents_made : vec_len l.agents ≡ l.index;
 }

@@ -1,4 +1,4 @@
-use Rattle.std.proofs.Common.{◌≡◌, arith, map, ap, sym, ◌∙◌}
+use Rattle.std.proofs.Common.{◌≡◌, arith}
 use Rattle.scmi_ends.specs.AgentView.{IsOfLink}
 use Rattle.scmi_ends.specs.Headline.{AreGathered}
 use Rattle.scmi_ends.proofs.Gathering.{zip_rest, gathered_step}

@@ -1,7 +1,5 @@
-use Rattle.std.proofs.Common.{◌*◌, ◌+◌, arith, get_or}
+use Rattle.std.proofs.Common.{arith}
 use Rattle.std.proofs.lemmas.Grind.{common_steps}
-use Rattle.std.specs.Char.{digit_value}
-use Rattle.std.specs.Str.Parse.{digits_value}
 use Rattle.std.proofs.lemmas.Int.Digits.{digits_value_more, digits_more}
 use Rattle.scmi_text.proofs.Digits.{all_digits_at, value_so_far}
 use Rattle.scmi_text.proofs.numbers.digits_value.Goals as goal

@@ -1,4 +1,4 @@
-use Rattle.std.proofs.Common.{arith, ◌^◌, ◌≤◌}
+use Rattle.std.proofs.Common.{arith}
 use Rattle.scmi_text.proofs.NumberForms.{none_of_fewer, of_fewer}
 use Rattle.scmi_text.proofs.numbers.word.Goals as goal
 

@@ -1,10 +1,17 @@
-use Rattle.std.proofs.Common.{◌≡◌, ◌+◌, arith, map, ap, sym, ◌∙◌, refl, rules, drop, subst}
-use Rattle.scmi_threads.specs.Seats.{IsReady}
+use Rattle.std.proofs.lemmas.List.{length-append}
+use Rattle.scmi_ends.specs.Each.{AllFrom}
+use Rattle.scmi_threads.specs.ScriptLogs.{orders_of}
+use Rattle.scmi_threads.proofs.Seated.{first_new, all_push}
+use Rattle.std.proofs.Common.{◌≡◌, ◌+◌, ◌∷◌, [], length, arith, map, ap, sym, ◌∙◌, subst}
+use Rattle.scmi_threads.specs.Seats.{IsReady, IsSeated}
 use Rattle.scmi_threads.proofs.Ready.{all_ready, seat_step, some_left, seated, all_seated}
 use Rattle.scmi_threads.proofs.seating.seat_agents.Goals as goal
 
 pub links-init : goal.links-init
 links-init g c = record {
+  seated = subst (AllFrom (IsSeated c.args.scripts.now) 1) (sym c.new-seats.ensures.items) tt;
+  count = ap length c.new-seats.ensures.items;
+  ids = c.requires.fresh;
   a2p = ap (map (λ s. s.end.a2p_name)) c.new-seats.ensures.items;
   p2a = ap (map (λ s. s.end.p2a_name)) c.new-seats.ensures.items;
   left = all_ready (λ k. g.C.Channel.name k.a2p) (λ k. g.C.Channel.name k.p2a) 1 c.args.links.now c.args.ends.items c.requires.a2p c.requires.p2a c.requires.fresh;
@@ -18,10 +25,20 @@ new-seat-requires-clause-ready g c κs within = (subst (λ k. IsReady (g.C.Chann
 
 pub links-preserved : goal.links-preserved
 links-preserved g c =
+    let some = some_left (λ k e. IsReady (g.C.Channel.name k.a2p) (g.C.Channel.name k.p2a) e) c.args.links.now c.links.i c.links.ends.items c.links-test.true c.links.invariant.left in
+    let first = first_new (c.links.i + 1) c.links.ends.items c.remove-end.new.self.items c.remove-end.result c.links.invariant.ids some c.remove-end.ensures.value c.remove-end.ensures.items in
+    let many : 1 + length c.links.seats.items ≡ c.links.i + 1 = omega (arith, c.links.invariant.count) in
     let both = seat_step (λ k e. IsReady (g.C.Channel.name k.a2p) (g.C.Channel.name k.p2a) e) c.args.links.now c.links.i c.index-links-i.result c.links.ends.items c.remove-end.new.self.items c.remove-end.result c.links-test.true c.links.invariant.left c.remove-end.ensures.value c.remove-end.ensures.items in
     record {
-      a2p = seated (λ s. s.end.a2p_name) (λ k. g.C.Channel.name k.a2p) c.links.seats.items c.push.new.self.items c.args.links.now c.links.i c.new-seat.result c.index-links-i.result c.links-test.true c.links.invariant.a2p c.in_ok-push.ensures.items (ap (λ e. e.a2p_name) c.new-seat.ensures ∙ both.0.fits.of_a2p);
-      p2a = seated (λ s. s.end.p2a_name) (λ k. g.C.Channel.name k.p2a) c.links.seats.items c.push.new.self.items c.args.links.now c.links.i c.new-seat.result c.index-links-i.result c.links-test.true c.links.invariant.p2a c.in_ok-push.ensures.items (ap (λ e. e.p2a_name) c.new-seat.ensures ∙ both.0.fits.of_p2a);
+      a2p = seated (λ s. s.end.a2p_name) (λ k. g.C.Channel.name k.a2p) c.links.seats.items c.push.new.self.items c.args.links.now c.links.i c.new-seat.result c.index-links-i.result c.links-test.true c.links.invariant.a2p c.in_ok-push.ensures.items (ap (λ e. e.a2p_name) c.new-seat.ensures.end ∙ both.0.fits.of_a2p);
+      p2a = seated (λ s. s.end.p2a_name) (λ k. g.C.Channel.name k.p2a) c.links.seats.items c.push.new.self.items c.args.links.now c.links.i c.new-seat.result c.index-links-i.result c.links-test.true c.links.invariant.p2a c.in_ok-push.ensures.items (ap (λ e. e.p2a_name) c.new-seat.ensures.end ∙ both.0.fits.of_p2a);
+      seated = subst (AllFrom (IsSeated c.args.scripts.now) 1) (sym c.in_ok-push.ensures.items) (all_push (IsSeated c.args.scripts.now) 1 c.links.seats.items c.new-seat.result c.links.invariant.seated (record {
+        orders = ap (λ s. s.now) c.new-seat.ensures.script ∙ c.script_of-script.ensures ∙ ap (orders_of c.args.scripts.now) (c.id.ensures ∙ first.0 ∙ sym many);
+        log = c.new-seat.ensures.log;
+        caller = ap (λ e. e.caller) c.new-seat.ensures.end ∙ both.0.caller;
+      }));
+      count = ap length c.in_ok-push.ensures.items ∙ length-append c.links.seats.items (c.new-seat.result ∷ []) ∙ ap (λ n. n + 1) c.links.invariant.count;
+      ids = first.1;
       left = both.1;
     }
 

@@ -1,17 +1,23 @@
-use Rattle.std.proofs.Common.{◌≡◌, ◌∙◌, List, length, map, arith, sym, ap}
+use Rattle.std.proofs.Common.{◌≡◌, ◌∙◌, List, length, map, arith, sym, ap, subst}
 use Rattle.std.proofs.lemmas.List.{length-map}
 use Rattle.std.proofs.lemmas.Slice.Zip.{AllZip-long}
 use Rattle.scmi_threads.specs.Logs.{IsLogOf}
-use Rattle.scmi_threads.specs.Seats.{HasRun}
+use Rattle.scmi_threads.specs.Seats.{HasPlayed}
+use Rattle.std.specs.List.{All}
+use Rattle.scmi_ends.specs.Each.{AllFrom}
+use Rattle.scmi_threads.specs.Orders.{IsUndisturbed}
+use Rattle.scmi_threads.specs.ScriptLogs.{IsScriptLog, orders_of}
+use Rattle.scmi_threads.specs.declared.agent_log.AgentLog.{AgentLog}
+use Rattle.scmi_threads.proofs.Seated.{all_follow}
 use Rattle.scmi_threads.proofs.Moves.{zip_maps}
 use Rattle.scmi_threads.proofs.threads.run_agents.Goals as goal
 use Rattle.scmi_threads.proofs.threads.run_agents.Goals.{After-rise-ends}
 
 a2p_names : (g : _) (c : After-rise-ends g) → map (λ agent. agent.a2p_name) c.rise-ends.result.0.items ≡ map (λ link. g.C.Channel.name link.a2p) c.in-Ok.links.items
-a2p_names g c = c.rise-ends.ensures.a2p ∙ zip_maps HasRun (λ seat. seat.end.a2p_name) (λ a b r. r.a2p) c.in_ok-seats.seats.items c.run_beside-controller.result.1.items c.run_beside-controller.ensures.ran ∙ c.in_ok-seats.ensures.a2p ∙ ap (map (λ link. g.C.Channel.name link.a2p)) c.deref.ensures.value
+a2p_names g c = c.rise-ends.ensures.a2p ∙ zip_maps (HasPlayed g.C.Channel.FULL) (λ seat. seat.end.a2p_name) (λ a b r. r.ran.a2p) c.in_ok-seats.seats.items c.run_beside-controller.result.1.items c.run_beside-controller.ensures.ran ∙ c.in_ok-seats.ensures.a2p ∙ ap (map (λ link. g.C.Channel.name link.a2p)) c.deref.ensures.value
 
 p2a_names : (g : _) (c : After-rise-ends g) → map (λ agent. agent.p2a_name) c.rise-ends.result.0.items ≡ map (λ link. g.C.Channel.name link.p2a) c.in-Ok.links.items
-p2a_names g c = c.rise-ends.ensures.p2a ∙ zip_maps HasRun (λ seat. seat.end.p2a_name) (λ a b r. r.p2a) c.in_ok-seats.seats.items c.run_beside-controller.result.1.items c.run_beside-controller.ensures.ran ∙ c.in_ok-seats.ensures.p2a ∙ ap (map (λ link. g.C.Channel.name link.p2a)) c.deref.ensures.value
+p2a_names g c = c.rise-ends.ensures.p2a ∙ zip_maps (HasPlayed g.C.Channel.FULL) (λ seat. seat.end.p2a_name) (λ a b r. r.ran.p2a) c.in_ok-seats.seats.items c.run_beside-controller.result.1.items c.run_beside-controller.ensures.ran ∙ c.in_ok-seats.ensures.p2a ∙ ap (map (λ link. g.C.Channel.name link.p2a)) c.deref.ensures.value
 
 pub seat_agents-requires-clause-a2p : goal.seat_agents-requires-clause-a2p
 seat_agents-requires-clause-a2p g c κs within = rw c.deref.ensures.value c.in-Ok.ensures.ends.0
@@ -23,10 +29,10 @@ pub run_beside-controller-requires-clause-links : goal.run_beside-controller-req
 run_beside-controller-requires-clause-links g c κs within = rw c.deref-2.ensures.value c.in-Ok.ensures.links
 
 pub rise-ends-requires-clause-ends : goal.rise-ends-requires-clause-ends
-rise-ends-requires-clause-ends g c κs within = omega (arith, AllZip-long HasRun c.in_ok-seats.seats.items c.run_beside-controller.result.1.items c.run_beside-controller.ensures.ran, c.in_ok-seats.seats.ok.0, c.run_beside-controller.result.1.ok.0, c.in_ok-room.ensures.exact, c.len.ensures)
+rise-ends-requires-clause-ends g c κs within = omega (arith, AllZip-long (HasPlayed g.C.Channel.FULL) c.in_ok-seats.seats.items c.run_beside-controller.result.1.items c.run_beside-controller.ensures.ran, c.in_ok-seats.seats.ok.0, c.run_beside-controller.result.1.ok.0, c.in_ok-room.ensures.exact, c.len.ensures)
 
 pub rise-ends-requires-clause-logs : goal.rise-ends-requires-clause-logs
-rise-ends-requires-clause-logs g c κs within = omega (arith, AllZip-long HasRun c.in_ok-seats.seats.items c.run_beside-controller.result.1.items c.run_beside-controller.ensures.ran, c.in_ok-seats.seats.ok.0, c.run_beside-controller.result.1.ok.0, c.in_ok-logs.ensures.exact, c.len-2.ensures)
+rise-ends-requires-clause-logs g c κs within = omega (arith, AllZip-long (HasPlayed g.C.Channel.FULL) c.in_ok-seats.seats.items c.run_beside-controller.result.1.items c.run_beside-controller.ensures.ran, c.in_ok-seats.seats.ok.0, c.run_beside-controller.result.1.ok.0, c.in_ok-logs.ensures.exact, c.len-2.ensures)
 
 pub conclude-requires-clause-a2p : goal.conclude-requires-clause-a2p
 conclude-requires-clause-a2p g c κs within = a2p_names g (goal.at.conclude-requires-clause-a2p g c).After-rise-ends
@@ -43,3 +49,11 @@ returns-clause-count g c =
 
 pub returns-clause-headline : goal.returns-clause-headline
 returns-clause-headline g c = rw (← c.new-core.ensures.board) (rw (← c.in-Ok.ensures.controller.0) (rw (← c.run_beside-controller.ensures.goes_on.board) c.conclude.ensures.headline))
+
+pub returns-clause-scripts : goal.returns-clause-scripts
+returns-clause-scripts g c =
+    let follows = λ (logs : List AgentLog). AllFrom (λ a log. IsScriptLog g.C.Channel.FULL (orders_of c.args.scripts.now a) log) 1 logs in
+    subst (λ logs. follows logs.items) (sym c.conclude.ensures.logs)
+    (subst follows (sym c.rise-ends.ensures.same.1)
+    (all_follow g.C.Channel.FULL c.args.scripts.now 1 c.in_ok-seats.seats.items c.run_beside-controller.result.1.items c.in_ok-seats.ensures.seated c.run_beside-controller.ensures.ran
+    (subst (All (λ agent. IsUndisturbed agent.caller)) c.rise-ends.ensures.same.0 c.conclude.ensures.undisturbed)))

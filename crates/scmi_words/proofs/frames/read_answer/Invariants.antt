@@ -4,5 +4,5 @@ use Rattle.scmi_words.proofs.Picks.{reply_of}
 use Rattle.scmi_words.specs.View.{caller_of}
 use Rattle.scmi_words.proofs.frames.read_answer.Given as goal
 
-abbrev pub ghost-read_response : goal.ghost-read_response
-ghost-read_response g a = reply_of (last_or None (caller_of a.seat.now).state.read)
+abbrev pub ghost-read_reply : goal.ghost-read_reply
+ghost-read_reply g a = reply_of (last_or None (caller_of a.seat.now).state.read)

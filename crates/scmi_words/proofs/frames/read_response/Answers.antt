@@ -10,21 +10,22 @@ use Rattle.scmi_words.proofs.Loads.{half_is, payload_more, word_at}
 use Rattle.scmi_words.proofs.frames.read_response.Goals as goal
 
 pub loop-i-preserved : goal.loop-i-preserved
-loop-i-preserved g c = let inv = c.loop-i.invariant in let h = caller_of c.args.seat.now in let m : Message = g.message in
+loop-i-preserved g c = let inv = c.loop-i.invariant in let h = caller_of c.args.seat.now in let m : Message = g.posted in
     let area : answer_area h ≡ frame_words (Good m) = search rules in
     let long : c.load_answer_word-length.result ≡ 4 + 4 * length m.payload.items = word_at c.args.seat.now h m _ 2 0 refl area c.load_answer_word-length.ensures.value (omega arith) (omega arith) in
     let lt : c.loop-i.i < length m.payload.items = omega arith in
     let word : c.load_answer_word.result ≡ get_or (frame_words (Good m)) (2 + c.loop-i.i) 0 = word_at c.loop-i.seat (caller_after h (2 + c.loop-i.i)) m _ (4 + c.loop-i.i) (2 + c.loop-i.i)
     (half_is c.args.seat.now c.loop-i.seat (caller_after h (2 + c.loop-i.i)) inv.0) area c.load_answer_word.ensures.value (omega arith) (omega arith) in (
       search rules,
-      c.push.ensures.items ∙ payload_more m c.loop-i.payload.items c.loop-i.i c.load_answer_word.result lt inv.1 word,
+      c.push.ensures.items ∙ payload_more m c.loop-i.message.payload.items c.loop-i.i c.load_answer_word.result lt inv.1 word,
+      inv.2,
     )
 
 pub returns-clause-value : goal.returns-clause-value
-returns-clause-value g c = let inv = c.loop-i.invariant in let h = caller_of c.args.seat.now in let m : Message = g.message in
+returns-clause-value g c = let inv = c.loop-i.invariant in let h = caller_of c.args.seat.now in let m : Message = g.posted in
     let area : answer_area h ≡ frame_words (Good m) = search rules in
     let long : c.load_answer_word-length.result ≡ 4 + 4 * length m.payload.items = word_at c.args.seat.now h m _ 2 0 refl area c.load_answer_word-length.ensures.value (omega arith) (omega arith) in
     let head : c.load_answer_word-header.result ≡ header_word m.header = word_at c.load_answer_word-length.new.seat (caller_after h 1) m _ 3 1 (half_is c.args.seat.now c.load_answer_word-length.new.seat (caller_after h 1) c.load_answer_word-length.ensures.view) area c.load_answer_word-header.ensures.value (omega arith) (omega arith) in
-    let all : c.loop-i.payload.items ≡ m.payload.items = inv.1 ∙ take_all c.loop-i.i m.payload.items (omega arith) in
-    let lawful : IsLawfulMessage m = search rules in let fields = c.unpack.ensures.fields ∙ (ap header_of head ∙ lawful.header) in
+    let all : c.loop-i.message.payload.items ≡ m.payload.items = inv.1 ∙ take_all c.loop-i.i m.payload.items (omega arith) in
+    let lawful : IsLawfulMessage m = search rules in let fields = inv.2 ∙ (ap header_of head ∙ lawful.header) in
     λ j. record { header = fields j; payload = record { items = all j } }

@@ -1,6 +1,4 @@
-use Rattle.scmi_core.proofs.Ties.{Agrees-new}
 use Rattle.scmi_core.proofs.platform_core.Core.new.Goals as goal
 
 pub invariant_of-result : goal.invariant_of-result
-invariant_of-result c = let made = c.new-tables.ensures in
-    rw c.new.ensures.events (Agrees-new c.args.plan c.new-tables.result made.base made.subscriptions made.values made.pending made.outboxes)
+invariant_of-result c = rw (c.new-2.ensures.events) c.new.ensures.start

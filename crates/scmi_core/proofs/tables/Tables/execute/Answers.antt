@@ -7,5 +7,5 @@ use Rattle.scmi_core.proofs.tables.Tables.execute.Goals as goal
 pub returns-in-Err-clause-stepped : goal.returns-in-Err-clause-stepped
 returns-in-Err-clause-stepped c =
     let unread : command_of c.args.message.now ≡ Err c.in-Err.status = sym c.read.ensures.value ∙ c.in-Err.is in
-    subst (λ r. HasStepped c.args.plan.now c.args.self.now (success_of c.args.agent c.args.message.now.header r c.refusal.result.items) None c.args.self.now) (sym unread)
-    (unread-stepped c.args.plan.now c.args.self.now c.args.agent c.args.message.now.header c.in-Err.status c.refusal.result.items)
+    subst (λ r. HasStepped c.args.plan.now c.args.self.now (success_of c.args.agent c.args.message.now.header r c.set_refusal.new.payload.items) None c.args.self.now) (sym unread)
+    (unread-stepped c.args.plan.now c.args.self.now c.args.agent c.args.message.now.header c.in-Err.status c.set_refusal.new.payload.items)

@@ -13,7 +13,7 @@ returns-clause-stepped c =
     let law = c.agents-agents.ensures.lawful in
     let count = c.agents-agents.ensures.count in
     power-stepped c.args.plan.now c.args.self.now c.accept_state.new.self c.announce.new.self c.execute-done.new.self c.args.agent c.args.header c.args.command
-    c.execute-done.result.reply.items c.execute-done.result.changed c.execute-done.result.later c.state_before-before.result
+    c.execute-done.new.reply.items c.execute-done.result.changed c.execute-done.result.later c.state_before-before.result
     law.few_domains law.few_agents c.requires.first c.requires.last
     c.execute-done.ensures.changed c.execute-done.ensures.later c.execute-done.ensures.states c.execute-done.ensures.subscribed
     c.execute-done.ensures.known_now c.execute-done.ensures.known_later

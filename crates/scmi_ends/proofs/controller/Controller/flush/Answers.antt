@@ -1,4 +1,4 @@
-use Rattle.std.proofs.Common.{◌≡◌, ◌<◌, ◌≤◌, ◌-◌, ◌+◌, length, map, ap, arith, ◌∙◌, slice_set}
+use Rattle.std.proofs.Common.{◌≡◌, ◌<◌, ◌-◌, length, map, ap, arith, ◌∙◌, slice_set}
 use Rattle.std.proofs.lemmas.List.{length-map}
 use Rattle.scmi_ends.specs.Kept.{Keeps}
 use Rattle.scmi_ends.specs.Flush.{CollectsAndFlushes}
@@ -20,8 +20,8 @@ board g c = c.flush_one.ensures.board ∙ c.reserve.ensures.board
 step : (g : _) (c : After-flush_one g) → CollectsAndFlushes g.C.Channel.FULL c.self.inside.core.board c.args.agent c.self.inside.core.history (g.C.Channel.caller_view c.index_mut.result.now) c.flush_one.result c.flush_one.new.core.history (g.C.Channel.caller_view c.flush_one.new.caller)
 step g c = rw (c.reserve.ensures.board, c.reserve.ensures.history) at c.flush_one.ensures.step
 
-keeps : (g : _) (c : After-flush_one g) → Keeps c.flush_one.new.core.board c.flush_one.new.core.history (map g.C.Channel.callee_view c.self.inside.callees.items) (map g.C.Channel.caller_view (slice_set c.self.inside.callers.items (c.args.agent - 1) c.flush_one.new.caller))
-keeps g c = rw (board g c) (kept_flush g.C.Channel.caller_view c.self.inside.core.board c.args.agent (c.args.agent - 1) (map g.C.Channel.callee_view c.self.inside.callees.items) c.self.inside.callers.items c.index_mut.result.now c.flush_one.new.caller c.self.inside.core.history
+keeps : (g : _) (c : After-flush_one g) → Keeps c.flush_one.new.core.board c.flush_one.new.core.history (map g.C.Channel.callee_view c.self.inside.callees.items) (map g.C.Channel.caller_view (slice_set c.self.inside.callers.items (c.args.agent - 1) c.flush_one.new.caller)) c.self.inside.closed_at.items
+keeps g c = rw (board g c) (kept_flush g.C.Channel.caller_view c.self.inside.core.board c.args.agent (c.args.agent - 1) (map g.C.Channel.callee_view c.self.inside.callees.items) c.self.inside.callers.items c.self.inside.closed_at.items c.index_mut.result.now c.flush_one.new.caller c.self.inside.core.history
     (omega arith) (within g c.before) c.index_mut.ensures.value c.self.invariant g.C.Channel.FULL c.flush_one.new.core.history c.flush_one.result (rw (board g c) at c.flush_one.ensures.legal) (step g c))
 
 pub flush_one-requires-clause-name : goal.flush_one-requires-clause-name
@@ -42,6 +42,6 @@ returns-clause-links g c = let at = (goal.at.returns-clause-links g c).After-ind
 pub returns-clause-steps : goal.returns-clause-steps
 returns-clause-steps g c = let at = (goal.at.returns-clause-steps g c).After-index_mut in
     rw (← c.self.view_is) (flushes g.C.Channel.caller_view c.self.inside.callers.items c.args.agent c.index_mut.result.now c.flush_one.new.caller c.self.inside.core.board c.flush_one.new.core.board c.self.inside.core.history c.flush_one.new.core.history
-    _ _ _ _ (within g at) c.index_mut.ensures.value (board g (goal.at.returns-clause-steps g c).After-flush_one)
+    _ _ _ _ _ (within g at) c.index_mut.ensures.value (board g (goal.at.returns-clause-steps g c).After-flush_one)
     (map_same g.C.Channel.caller_name c.self.inside.callers.items (c.args.agent - 1) c.index_mut.result.now c.flush_one.new.caller (within g at) c.index_mut.ensures.value c.flush_one.ensures.name)
     g.C.Channel.FULL c.flush_one.result (step g (goal.at.returns-clause-steps g c).After-flush_one))

@@ -1,4 +1,4 @@
-use Rattle.std.proofs.Common.{◌≡◌, map, ap, ◌∙◌, sym}
+use Rattle.std.proofs.Common.{◌≡◌, map, ap, ◌∙◌}
 use Rattle.scmi_ends.specs.AgentView.{IsOfLink}
 use Rattle.scmi_ends.proofs.Lists.{zipped, zip_both}
 use Rattle.scmi_ends.proofs.Headlines.{headlines}

@@ -1,7 +1,7 @@
-use Rattle.std.proofs.Common.{◌≡◌, ◌<◌, ◌≤◌, ◌-◌, ◌+◌, length, map, ap, arith, subst, sym, ◌∙◌, ℕ, slice_set}
+use Rattle.std.proofs.Common.{◌≡◌, ◌<◌, ◌-◌, length, map, ap, arith, ◌∙◌, slice_set}
 use Rattle.std.proofs.lemmas.List.{length-map}
 use Rattle.scmi_ends.specs.Kept.{Keeps}
-use Rattle.scmi_ends.specs.Serve.{Serves, ServesOne}
+use Rattle.scmi_ends.specs.Serve.{ServesOne}
 use Rattle.scmi_ends.proofs.Lists.{map_same, name_at}
 use Rattle.scmi_ends.proofs.Keeping.{kept_serve}
 use Rattle.scmi_ends.proofs.Places.{serves}
@@ -20,12 +20,12 @@ board g c = c.serve_one.ensures.board ∙ c.reserve.ensures.board
 step : (g : _) (c : After-serve_one g) → ServesOne c.self.inside.core.board c.args.agent c.self.inside.core.history (g.C.Channel.callee_view c.index_mut.result.now) c.serve_one.result c.serve_one.new.core.history (g.C.Channel.callee_view c.serve_one.new.callee)
 step g c = rw (c.reserve.ensures.board, c.reserve.ensures.history) at c.serve_one.ensures.step
 
-keeps : (g : _) (c : After-serve_one g) → Keeps c.serve_one.new.core.board c.serve_one.new.core.history (map g.C.Channel.callee_view (slice_set c.self.inside.callees.items (c.args.agent - 1) c.serve_one.new.callee)) (map g.C.Channel.caller_view c.self.inside.callers.items)
-keeps g c = rw (board g c) (kept_serve g.C.Channel.callee_view c.self.inside.core.board c.args.agent (c.args.agent - 1) c.self.inside.callees.items (map g.C.Channel.caller_view c.self.inside.callers.items) c.index_mut.result.now c.serve_one.new.callee c.self.inside.core.history
-    (omega arith) (within g c.before) c.index_mut.ensures.value c.self.invariant c.serve_one.new.core.history c.serve_one.result (rw (board g c) at c.serve_one.ensures.legal) (step g c))
+keeps : (g : _) (c : After-serve_one g) → Keeps c.serve_one.new.core.board c.serve_one.new.core.history (map g.C.Channel.callee_view (slice_set c.self.inside.callees.items (c.args.agent - 1) c.serve_one.new.callee)) (map g.C.Channel.caller_view c.self.inside.callers.items) c.self.inside.closed_at.items
+keeps g c = rw (board g c) (kept_serve g.C.Channel.callee_view c.self.inside.core.board c.args.agent (c.args.agent - 1) c.self.inside.callees.items (map g.C.Channel.caller_view c.self.inside.callers.items) c.self.inside.closed_at.items c.index_mut.result.now c.serve_one.new.callee c.self.inside.core.history
+    (omega arith) (within g c.before.before) c.index_mut.ensures.value c.self.invariant c.serve_one.new.core.history c.serve_one.result (rw (board g c) at c.serve_one.ensures.legal) (step g c))
 
 pub serve_one-requires-clause-name : goal.serve_one-requires-clause-name
-serve_one-requires-clause-name g c κs inside = name_at g.C.Channel.callee_name (λ l. g.C.Channel.name l.a2p) c.self.inside.callees.items c.args.links.now (c.args.agent - 1) c.index_mut.result.now c.index-links-index.result (names g c) (within g c) c.index_mut.ensures.value
+serve_one-requires-clause-name g c κs inside = name_at g.C.Channel.callee_name (λ l. g.C.Channel.name l.a2p) c.self.inside.callees.items c.args.links.now (c.args.agent - 1) c.index_mut.result.now c.index-links-index.result (names g c.before) (within g c.before) c.index_mut.ensures.value
 
 pub invariant_of-self-2 : goal.invariant_of-self-2
 invariant_of-self-2 g c = keeps g (goal.at.invariant_of-self-2 g c).After-serve_one
@@ -41,6 +41,6 @@ returns-clause-links g c = record {
 
 pub returns-clause-steps : goal.returns-clause-steps
 returns-clause-steps g c = rw (← c.self.view_is) (serves g.C.Channel.callee_view c.self.inside.callees.items c.args.agent c.index_mut.result.now c.serve_one.new.callee c.self.inside.core.board c.serve_one.new.core.board c.self.inside.core.history c.serve_one.new.core.history
-    _ _ _ _ (within g (goal.at.returns-clause-steps g c).After-index_mut) c.index_mut.ensures.value (board g (goal.at.returns-clause-steps g c).After-serve_one)
+    _ _ _ _ _ (within g (goal.at.returns-clause-steps g c).After-index_mut) c.index_mut.ensures.value (board g (goal.at.returns-clause-steps g c).After-serve_one)
     (map_same g.C.Channel.callee_name c.self.inside.callees.items (c.args.agent - 1) c.index_mut.result.now c.serve_one.new.callee (within g (goal.at.returns-clause-steps g c).After-index_mut) c.index_mut.ensures.value c.serve_one.ensures.name)
     c.serve_one.result (step g (goal.at.returns-clause-steps g c).After-serve_one))

@@ -28,4 +28,5 @@ bytes-preserved g c =
     record {
       seen = if_more _ c.bytes.counter c.in-Some.byte _ _ _ _ c.bytes.invariant.seen (rw c.in-Some.is at c.in_ok-byte.ensures.byte) other c.keep.ensures;
       count = omega (arith, c.in_ok-byte.ensures.reads, c.bytes.invariant.count);
+      stops = λ none. c.in_ok-byte.ensures.stops (c.bytes.invariant.stops none);
     }

@@ -1,9 +1,10 @@
-use Rattle.std.proofs.Common.{◌≡◌, ◌+◌, IfSome}
+use Rattle.std.proofs.Common.{◌≡◌, ◌+◌, ◌≤◌, IfSome}
 use Rattle.scmi_run.proofs.FirstLine.{IsSeen}
 use Rattle.scmi_run.proofs.input.Input.read_first_line.Given as goal
 
 abbrev pub invariant-bytes : goal.invariant-bytes
 invariant-bytes g l = record {
   seen : IfSome l.fn.self.left (λ input. IsSeen input l.counter l.self.left l.kept.items);
-  count : l.self.reads ≡ l.fn.self.reads + l.counter;
+  count : l.self.reads + l.tries ≤ l.fn.self.reads + 1048577;
+  stops : l.fn.self.since_failure ≡ 0 → l.self.since_failure ≡ 0;
 }

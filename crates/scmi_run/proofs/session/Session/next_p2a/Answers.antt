@@ -1,4 +1,4 @@
-use Rattle.std.proofs.Common.{◌≡◌, ℕ, ◌-◌, ◌<◌, ◌≤◌, length, map, arith}
+use Rattle.std.proofs.Common.{◌-◌, arith}
 use Rattle.scmi_run.proofs.Together.{of_link, stays}
 use Rattle.scmi_run.proofs.session.Session.next_p2a.Goals as goal
 

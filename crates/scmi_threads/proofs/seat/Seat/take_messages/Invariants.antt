@@ -1,7 +1,11 @@
+use Rattle.scmi_threads.specs.Orders.{IsUnmoved}
 use Rattle.scmi_threads.specs.Seats.{HasRun}
+use Rattle.scmi_threads.proofs.OrderLemmas.{HasTakenMany}
 use Rattle.scmi_threads.proofs.seat.Seat.take_messages.Given as goal
 
 abbrev pub invariant-messages : goal.invariant-messages
 invariant-messages g l = record {
   ran : HasRun l.fn.self l.self;
+  unmoved : IsUnmoved l.fn.self.end.caller l.self.end.caller l.fn.self.log l.self.log;
+  taken : HasTakenMany l._taken l.fn.self.log l.self.log;
 }

@@ -1,0 +1,46 @@
+//! Tests of channels of both kinds, of the platform and its agents over them, and of the program's
+//! text, by their public items alone.
+#![tactic(auto)]
+
+#[cfg(test)]
+mod areas;
+#[cfg(test)]
+mod boards;
+#[cfg(test)]
+mod calls;
+#[cfg(test)]
+mod controller_calls;
+#[cfg(test)]
+mod core_calls;
+#[cfg(test)]
+mod exchanges;
+#[cfg(test)]
+mod gaps;
+#[cfg(test)]
+mod inputs;
+#[cfg(test)]
+mod messages;
+#[cfg(test)]
+mod pair;
+#[cfg(test)]
+mod platform;
+#[cfg(test)]
+mod race;
+#[cfg(test)]
+mod runs;
+#[cfg(test)]
+mod session;
+#[cfg(test)]
+mod text_boards;
+#[cfg(test)]
+mod text_hostile;
+#[cfg(test)]
+mod text_lines;
+#[cfg(test)]
+mod text_numbers;
+#[cfg(test)]
+mod text_output;
+#[cfg(test)]
+mod text_scripts;
+#[cfg(test)]
+mod text_steps;

@@ -1,0 +1,19 @@
+-- The first word of an event in a trace.
+use Rattle.std.specs.Prelude.{ℕ, ◌/◌, ◌%◌, ◌==◌, ◌≤◌, if◌then◌else◌}
+use Rattle.scmi_core.specs.declared.mark.Mark.{Mark}
+use Rattle.scmi_core.specs.declared.mark.Mark.TheVariants.{Advance, Sent, Malformed, Message}
+
+-- what a word marks: its lowest two bits say what the event is, and the bits above them whose
+abbrev pub mark_of : ℕ → Mark
+mark_of word =
+    if word % 4 == 0 then Advance
+    else if word % 4 == 1 then Sent (word / 4)
+    else if word % 4 == 2 then Malformed (word / 4)
+    else Message (word / 4)
+
+-- a mark's agent, if it has one, is at most a number
+abbrev pub HasAgent : Mark → ℕ → Type 0
+HasAgent Advance most = Unit {0}
+HasAgent (Sent a) most = a ≤ most
+HasAgent (Malformed a) most = a ≤ most
+HasAgent (Message a) most = a ≤ most

@@ -1,0 +1,19 @@
+-- What contracts see of a platform that keeps no history.
+use Rattle.std.specs.Prelude.{List}
+use Rattle.scmi_plan.specs.Board.{Board}
+use Rattle.scmi_core.specs.declared.event.Event.{Event}
+use Rattle.scmi_core.specs.declared.tables.Tables.{Tables}
+use Rattle.scmi_core.specs.Agreement.{Agrees}
+
+-- its board, and its tables
+pub record Standing : Type 0 where
+  pub board : Board
+  pub tables : Tables
+
+-- a platform stands where this history leaves it: what it will answer is what the definitions say after that history
+abbrev pub StandsAfter : Standing → List Event → Type 0
+StandsAfter p h = Agrees p.board p.tables h
+
+-- a platform stands where some history leaves it
+abbrev pub HasHistory : Standing → Type 0
+HasHistory p = (h : List Event) × StandsAfter p h

@@ -1,0 +1,202 @@
+//! The platform without its history.
+ghost use Rattle.std.specs.Prelude.{◌≡◌, ◌≢◌, ◌≤◌, ◌<◌, ◌++◌, ◌∷◌, [], ◌⊎◌, ◌↔◌, List, length, true, false, slice_get, IfOk, OnOk, OnErr, IfErr, Err};
+ghost use Rattle.scmi_plan.specs.Plan.{IsLawful};
+ghost use Rattle.std.specs.Option.{option_copied};
+ghost use Rattle.scmi_core.specs.Agents.{IsAgent};
+ghost use Rattle.scmi_core.specs.Pending.{pending};
+ghost use Rattle.scmi_core.specs.History.{answer_to, answer_with, deeds, outbox};
+ghost use Rattle.scmi_core.specs.Tables.{outbox_at};
+ghost use Rattle.scmi_core.specs.Standing.{StandsAfter};
+ghost use Rattle.scmi_core.specs.declared.event.Event.{Event};
+ghost use Rattle.scmi_core.specs.declared.event.Event.TheVariants.{Command as Called, Advance, Sent};
+
+use crate::answered::Answered;
+use crate::core_error::CoreError;
+use crate::tables::Tables;
+use scmi_codec::{Frame, Message};
+use scmi_plan::Plan;
+use std::marker::Model;
+
+/// A platform controller that keeps no history: what SCMI (DEN0056B) and this profile say of a board.
+/// It takes no memory, however long it runs. Contracts see the board and where the platform stands,
+/// and say of every history after which it may stand there what is answered and which one follows.
+#[derive(Drop, Debug)]
+pub struct Platform {
+    plan: Plan,
+    tables: Tables,
+}
+
+impl Model for Platform {
+    ghost use Rattle.scmi_core.specs.Standing.{Standing, HasHistory};
+
+    ghost Value = { Standing };
+
+    ghost view = { λ p. record { board = p.plan; tables = p.tables } };
+
+    ghost invariant = { λ p. HasHistory (record { board = p.plan; tables = p.tables }) };
+}
+
+impl Platform {
+    /// The platform of a board, at the start.
+    pub fn new(plan: Plan) -> Platform
+        ensures board { result.board ≡ plan }
+        ensures start { StandsAfter result [] }
+    {
+        let tables = Tables::new(&plan);
+        Platform { plan, tables }
+    }
+
+    /// The number of agents, 1 to 8. They are numbered from 1.
+    pub fn agents(&self) -> u32
+        ensures count { result ≡ length self.now.board.agents }
+        ensures some { 1 ≤ result }
+        ensures few { result ≤ 8 }
+        ensures lawful { IsLawful self.now.board }
+    {
+        self.plan.agents()
+    }
+
+    /// Executes what an agent posted, and writes the reply where it is to stand; `ChannelError` for a
+    /// malformed frame, and then no reply is written. `NoAgent` where the board lacks the agent, the
+    /// only refusal; then nothing changed.
+    pub fn command(
+        &mut self,
+        agent: u32,
+        frame: &Frame,
+        reply: &mut Message,
+    ) -> Result<Answered, CoreError>
+        ensures answer { (h : List Event) → StandsAfter self.old h → IfOk result (λ x. answer_with x reply.new ≡ answer_to self.old.board agent frame.now h) }
+        ensures event { (h : List Event) → StandsAfter self.old h → OnOk result (StandsAfter self.new (h ++ Called agent frame.now ∷ [])) }
+        ensures board { self.new.board ≡ self.old.board }
+        ensures no_agent { (result ≡ Err CoreError.NoAgent) ↔ ((agent ≡ 0) ⊎ (length self.old.board.agents < agent)) }
+        ensures only { IfErr result (λ e. e ≡ CoreError.NoAgent) }
+        ensures err { OnErr result (self.new ≡ self.old) }
+        ensures kept { OnErr result (reply.new ≡ reply.old) }
+    {
+        self.check_agent(agent)?;
+        Ok(self.execute(agent, frame, reply))
+    }
+
+    /// Completes the first pending set; `false` where nothing is pending, and then nothing changed.
+    pub fn advance(&mut self) -> bool
+        ensures waiting { (h : List Event) → StandsAfter self.old h → (result ≡ false) ↔ (pending self.old.board (deeds self.old.board h) ≡ []) }
+        ensures event { (h : List Event) → StandsAfter self.old h → result ≡ true → StandsAfter self.new (h ++ Advance ∷ []) }
+        ensures same { result ≡ false → self.new ≡ self.old }
+        ensures board { self.new.board ≡ self.old.board }
+    {
+        if self.is_idle() {
+            return false;
+        }
+        self.complete();
+        true
+    }
+
+    /// The first message of an agent's outbox, which is the next to be posted to it;
+    /// `None` where the outbox is empty. `NoAgent` where the board lacks the agent.
+    pub fn front(&self, agent: u32) -> Result<Option<Message>, CoreError>
+        ensures first { (h : List Event) → StandsAfter self.now h → IfOk result (λ message. message ≡ slice_get (outbox self.now.board agent h) 0) }
+        ensures no_agent { (result ≡ Err CoreError.NoAgent) ↔ ((agent ≡ 0) ⊎ (length self.now.board.agents < agent)) }
+        ensures err { IfErr result (λ e. e ≡ CoreError.NoAgent) }
+    {
+        self.check_agent(agent)?;
+        match self.first(agent) {
+            Some(message) => Ok(Some(message.copy())),
+            None => Ok(None),
+        }
+    }
+
+    /// As `front`, for an agent of the board, and without a copy.
+    pub fn first(&self, agent: u32) -> Option<&Message>
+        requires { IsAgent agent self.now.board }
+        ensures { (h : List Event) → StandsAfter self.now h → option_copied result ≡ slice_get (outbox self.now.board agent h) 0 }
+    {
+        let _agents = self.plan.agents();
+        self.tables.first(agent)
+    }
+
+    /// Takes the first message off an agent's outbox, as posted. `NoAgent` where the board lacks the
+    /// agent, and `Nothing` where its outbox is empty; then nothing changed.
+    pub fn sent(&mut self, agent: u32) -> Result<(), CoreError>
+        ensures event { (h : List Event) → StandsAfter self.old h → OnOk result (StandsAfter self.new (h ++ Sent agent ∷ [])) }
+        ensures board { self.new.board ≡ self.old.board }
+        ensures no_agent { (result ≡ Err CoreError.NoAgent) ↔ ((agent ≡ 0) ⊎ (length self.old.board.agents < agent)) }
+        ensures nothing { (h : List Event) → StandsAfter self.old h → (result ≡ Err CoreError.Nothing) ↔ ((1 ≤ agent) × (agent ≤ length self.old.board.agents) × (outbox self.old.board agent h ≡ [])) }
+        ensures memory { result ≢ Err CoreError.Memory }
+        ensures err { OnErr result (self.new ≡ self.old) }
+    {
+        self.check_agent(agent)?;
+        if self.is_empty(agent) {
+            return Err(CoreError::Nothing);
+        }
+        self.take(agent);
+        Ok(())
+    }
+
+    /// Whether an agent's outbox is empty.
+    pub(crate) fn is_empty(&self, agent: u32) -> bool
+        requires first { 1 ≤ agent }
+        requires last { agent ≤ length self.now.board.agents }
+        ensures empty { (result ≡ true) ↔ (outbox_at self.now.tables agent ≡ []) }
+        ensures some { result ≡ false → 0 < length (outbox_at self.now.tables agent) }
+    {
+        let _agents = self.plan.agents();
+        self.tables.is_empty(agent)
+    }
+
+    /// Takes the first message off an agent's outbox.
+    pub(crate) fn take(&mut self, agent: u32)
+        requires first { 1 ≤ agent }
+        requires last { agent ≤ length self.now.board.agents }
+        requires some { 0 < length (outbox_at self.now.tables agent) }
+        ensures lawful { IsLawful self.old.board }
+        ensures event { (h : List Event) → StandsAfter self.old h → StandsAfter self.new (h ++ Sent agent ∷ []) }
+        ensures board { self.new.board ≡ self.old.board }
+    {
+        let _agents = self.plan.agents();
+        self.tables.take(agent);
+    }
+
+    /// Executes a frame of an agent of the board.
+    pub(crate) fn execute(&mut self, agent: u32, frame: &Frame, reply: &mut Message) -> Answered
+        requires first { 1 ≤ agent }
+        requires last { agent ≤ length self.now.board.agents }
+        ensures lawful { IsLawful self.old.board }
+        ensures answer { (h : List Event) → StandsAfter self.old h → answer_with result reply.new ≡ answer_to self.old.board agent frame.now h }
+        ensures event { (h : List Event) → StandsAfter self.old h → StandsAfter self.new (h ++ Called agent frame.now ∷ []) }
+        ensures board { self.new.board ≡ self.old.board }
+    {
+        let _agents = self.plan.agents();
+        self.tables.answer(&self.plan, agent, frame, reply)
+    }
+
+    /// Whether no set is pending.
+    pub(crate) fn is_idle(&self) -> bool
+        ensures idle { (result ≡ true) ↔ (self.now.tables.pending.items ≡ []) }
+        ensures waiting { result ≡ false → 0 < length self.now.tables.pending.items }
+    {
+        self.tables.pending.is_empty()
+    }
+
+    /// Completes the first of the sets that are pending.
+    pub(crate) fn complete(&mut self)
+        requires waiting { 0 < length self.now.tables.pending.items }
+        ensures event { (h : List Event) → StandsAfter self.old h → StandsAfter self.new (h ++ Advance ∷ []) }
+        ensures board { self.new.board ≡ self.old.board }
+    {
+        self.tables.complete(&self.plan);
+    }
+
+    /// Refuses a number that is no agent's.
+    pub(crate) fn check_agent(&self, agent: u32) -> Result<(), CoreError>
+        ensures ok { OnOk result ((1 ≤ agent) × (agent ≤ length self.now.board.agents)) }
+        ensures no_agent { OnErr result ((agent ≡ 0) ⊎ (length self.now.board.agents < agent)) }
+        ensures err { IfErr result (λ e. e ≡ CoreError.NoAgent) }
+        ensures lawful { IsLawful self.now.board }
+    {
+        if (1..=self.plan.agents()).contains(&agent) {
+            Ok(())
+        } else {
+            Err(CoreError::NoAgent)
+        }
+    }
+}

@@ -1,0 +1,108 @@
+//! Both sides of a board on one thread, and what agent 1 does.
+ghost use Rattle.std.specs.Prelude.{◌≡◌};
+
+use crate::lines::Lines;
+use scmi_codec::{Answer, BASE_PROTOCOL, Payload};
+use scmi_core::Core;
+use scmi_ends::{AgentEnd, Controller, Link, ServeError, Served, connect};
+use scmi_link::{Channel, Closing, Collected};
+use std::alloc::Global;
+use std::io::Write;
+use std::marker::Model;
+
+/// The controller of a board, its agents, and the channels between them. A contract sees how many
+/// agents there are.
+#[derive(Drop)]
+pub struct Session<C: Channel> {
+    controller: Controller<C>,
+    links: Vec<Link<C>>,
+    agents: Vec<AgentEnd<C>>,
+}
+
+impl<C: Channel> Model for Session<C> {
+    ghost use Rattle.std.specs.Prelude.{ℕ, length, map};
+    ghost use Rattle.scmi_direct.specs.Session.{BelongTogether};
+
+    ghost Value = { ℕ };
+
+    ghost view = { λ s. length s.agents.items };
+
+    ghost invariant = { λ s. BelongTogether (map (λ l. C.name l.a2p) s.links.items) (map (λ l. C.name l.p2a) s.links.items) s.controller s.agents.items };
+}
+
+impl<C: Channel> Session<C> {
+    ghost use Rattle.std.specs.Prelude.{◌≡◌, ◌≤◌, [], length, IfOk, IfErr};
+
+    /// Both sides, over new channels. The error hands the core back for want of memory.
+    pub fn open(alloc: Global, core: Core) -> Result<Session<C>, Core>
+        requires { core.history ≡ [] }
+        ensures agents { IfOk result (λ session. session ≡ length core.board.agents) }
+        ensures memory { IfErr result (λ c. c ≡ core) }
+    {
+        let (controller, links, agents) = connect(alloc, core)?;
+        Ok(Session {
+            controller,
+            links,
+            agents,
+        })
+    }
+
+    /// Agent 1 asks for the version of the base protocol.
+    pub fn call<W: Write>(&mut self, lines: &mut Lines<'_, W>)
+        requires { 1 ≤ self.old }
+        ensures { self.new ≡ self.old }
+    {
+        match self.agents[0].call(&self.links[0], BASE_PROTOCOL, 0, &Payload::new()) {
+            Ok(token) => lines.number("call", token as usize),
+            Err(_) => lines.answer("call", "refused"),
+        }
+    }
+
+    /// Serves agent 1, and says whether memory was there for it.
+    pub fn serve<W: Write>(&mut self, lines: &mut Lines<'_, W>) -> bool
+        ensures { self.new ≡ self.old }
+    {
+        let answer = self.controller.serve(&self.links, 1);
+        match answer {
+            Ok(Served::Done) => lines.answer("serve", "done"),
+            Ok(Served::Nothing) => lines.answer("serve", "nothing"),
+            Err(ServeError::Memory) => lines.answer("serve", "memory"),
+            Err(ServeError::NoAgent) => lines.answer("serve", "no-agent"),
+        }
+        answer.is_ok()
+    }
+
+    /// Agent 1 looks for its reply.
+    pub fn collect<W: Write>(&mut self, lines: &mut Lines<'_, W>)
+        requires { 1 ≤ self.old }
+        ensures { self.new ≡ self.old }
+    {
+        match self.agents[0].collect(&self.links[0]) {
+            Collected::Got(Answer::Reply(reply)) => lines.message("collect", &reply),
+            _ => lines.answer("collect", "none"),
+        }
+    }
+
+    /// Agent 1 closes its channels.
+    pub fn close<W: Write>(&mut self, lines: &mut Lines<'_, W>)
+        requires { 1 ≤ self.old }
+        ensures { self.new ≡ self.old }
+    {
+        match self.agents[0].close(&self.links[0]) {
+            Ok(Closing::Withdrawn) => lines.answer("close", "withdrawn"),
+            Ok(Closing::Idle) => lines.answer("close", "idle"),
+            Err(_) => lines.answer("close", "refused"),
+        }
+    }
+
+    /// Gathers all ends. The line is the length of the history.
+    pub fn retire<W: Write>(self, lines: &mut Lines<'_, W>) {
+        let Session {
+            controller,
+            links,
+            agents,
+        } = self;
+        let trace = controller.retire(links, agents);
+        lines.number("trace", trace.len());
+    }
+}

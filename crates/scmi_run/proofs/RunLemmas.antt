@@ -1,0 +1,75 @@
+-- What is written of a run.
+use Rattle.std.proofs.Common.{◌≡◌, ℕ, ◌+◌, ◌<◌, ◌≤◌, List, [], ◌∷◌, ◌++◌, length, take, get_or, Option, Some, None, Result, Ok, Err, refl, sym, ap, ◌∙◌, subst, arith, append_assoc}
+use Rattle.std.specs.List.{All, flat_map}
+use Rattle.std.specs.Prelude.{OnOk}
+use Rattle.std.specs.Io.KnownBytes.{Appends}
+use Rattle.std.proofs.lemmas.List.{append-nil, take_more, take_all, length-take}
+use Rattle.scmi_threads.specs.declared.agent_log.AgentLog.{AgentLog}
+use Rattle.scmi_threads.specs.declared.stop.Stop.{Stop}
+use Rattle.scmi_threads.specs.declared.stop.Stop.TheVariants as stop
+use Rattle.scmi_text.specs.ScriptLine.{lines_text}
+use Rattle.scmi_text.specs.StepLine.{step_text}
+use Rattle.scmi_text.specs.declared.step_line.StepLine.{StepLine}
+use Rattle.scmi_text.specs.declared.step_line.StepLine.TheVariants.{Trace}
+use Rattle.scmi_run.specs.Runs.{logs_text}
+use Rattle.scmi_run.specs.Steps.{AreStepLines, IsTextOfSteps}
+
+pub nothing_written : (old : Option (List ℕ)) → Appends old old []
+nothing_written None = tt
+nothing_written (Some bs) = sym (append-nil bs)
+
+written_then : (a b c : Option (List ℕ)) (xs ys : List ℕ) → Appends a b xs → Appends b c ys → Appends a c (xs ++ ys)
+written_then None b c xs ys h k = tt
+written_then (Some as') None c xs ys h k = absurd h
+written_then (Some as') (Some bs) None xs ys h k = absurd k
+written_then (Some as') (Some bs) (Some cs) xs ys h k = k ∙ ap (λ zs. zs ++ ys) h ∙ append_assoc as' xs ys
+
+logs_push : (n : ℕ) (ls : List AgentLog) (l : AgentLog) → logs_text n (ls ++ l ∷ []) ≡ logs_text n ls ++ lines_text (n + length ls) l.lines.items
+logs_push n [] l = append-nil (lines_text n l.lines.items) ∙ ap (λ m. lines_text m l.lines.items) (omega arith)
+logs_push n (x ∷ ls) l = ap (λ zs. lines_text n x.lines.items ++ zs) (logs_push (n + 1) ls l ∙ ap (λ m. logs_text (n + 1) ls ++ lines_text m l.lines.items) (omega arith)) ∙ sym (append_assoc (lines_text n x.lines.items) (logs_text (n + 1) ls) (lines_text (n + length (x ∷ ls)) l.lines.items))
+
+pub logs_step : (a b c : Option (List ℕ)) (ls : List AgentLog) (i : ℕ) (l : AgentLog) → i < length ls → l ≡ get_or ls i l → Appends a b (logs_text 1 (take i ls)) → Appends b c (lines_text (i + 1) l.lines.items) → Appends a c (logs_text 1 (take (i + 1) ls))
+logs_step a b c ls i l below is h k =
+    let number : i + 1 ≡ 1 + length (take i ls) = omega (arith, length-take i ls) in
+    let taken : take i ls ++ l ∷ [] ≡ take (i + 1) ls = ap (λ x. take i ls ++ x ∷ []) is ∙ sym (take_more ls i l below) in
+    subst (Appends a c) (sym (logs_push 1 (take i ls) l) ∙ ap (logs_text 1) taken)
+    (written_then a b c (logs_text 1 (take i ls)) (lines_text (1 + length (take i ls)) l.lines.items) h (subst (λ m. Appends b c (lines_text m l.lines.items)) number k))
+
+pub logs_done : (a b : Option (List ℕ)) (ls : List AgentLog) (i : ℕ) → length ls ≤ i → Appends a b (logs_text 1 (take i ls)) → Appends a b (logs_text 1 ls)
+logs_done a b ls i all h = subst (λ xs. Appends a b (logs_text 1 xs)) (take_all i ls all) h
+
+-- a log that was stopped for neither reason was not stopped
+one_runs : (o : Option Stop) → ¬ (o ≡ Some stop.Memory) → ¬ (o ≡ Some stop.Limit) → o ≡ None
+one_runs None m l = refl
+one_runs (Some stop.Limit) m l = absurd (l refl)
+one_runs (Some stop.Memory) m l = absurd (m refl)
+
+pub none_stopped : (logs : List AgentLog) → All (λ log. ¬ (log.stopped ≡ Some stop.Memory)) logs → All (λ log. ¬ (log.stopped ≡ Some stop.Limit)) logs → All (λ log. log.stopped ≡ None) logs
+none_stopped logs m l = λ k d below. one_runs (get_or logs k d).stopped (m k d below) (l k d below)
+
+pub on_ok : {A E : Type 0} (P Q : Type 0) (r : Result A E) → OnOk r P → (P → Q) → OnOk r Q
+on_ok P Q (Ok x) p f = f p
+on_ok P Q (Err e) p f = tt
+
+-- the lines of steps
+
+pub no_step : (a : Option (List ℕ)) → AreStepLines a a
+no_step a = record { lines = []; text = nothing_written a }
+
+lines_more : (lines : List StepLine) (line : StepLine) → flat_map step_text (lines ++ line ∷ []) ≡ flat_map step_text lines ++ step_text line
+lines_more [] line = append-nil (step_text line)
+lines_more (x ∷ lines) line = ap (λ ys. step_text x ++ ys) (lines_more lines line) ∙ sym (append_assoc (step_text x) (flat_map step_text lines) (step_text line))
+
+pub step_more : (a b c : Option (List ℕ)) (line : StepLine) → AreStepLines a b → Appends b c (step_text line) → AreStepLines a c
+step_more a b c line so_far more = record {
+  lines = so_far.lines ++ line ∷ [];
+  text = subst (Appends a c) (sym (lines_more so_far.lines line)) (written_then a b c (flat_map step_text so_far.lines) (step_text line) so_far.text more);
+}
+
+pub all_steps : {E : Type 0} (r : Result Unit E) (a b c : Option (List ℕ)) (events : ℕ) → AreStepLines a b → OnOk r (Appends b c (step_text (Trace events))) → OnOk r (IsTextOfSteps a c)
+all_steps (Err e) a b c events so_far last = tt
+all_steps (Ok x) a b c events so_far last = record {
+  lines = so_far.lines;
+  events = events;
+  text = written_then a b c (flat_map step_text so_far.lines) (step_text (Trace events)) so_far.text last;
+}

@@ -1,0 +1,5 @@
+use Rattle.scmi_run.proofs.Modes.{on_threads}
+use Rattle.scmi_run.proofs.run.run_in.Goals as goal
+
+pub returns-in-Threads-clause-threads : goal.returns-in-Threads-clause-threads
+returns-in-Threads-clause-threads g c = rw c.in-Threads.is (on_threads _ _ _ _ c.run_threads.ensures.text)

@@ -1,9 +1,0 @@
-mod boards;
-mod clocks;
-mod hostile;
-mod lines;
-mod numbers;
-mod script_lines;
-mod scripts;
-mod step_lines;
-mod steps;

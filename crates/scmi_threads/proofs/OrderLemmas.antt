@@ -1,0 +1,378 @@
+-- What an order's calls leave, put together.
+use Rattle.std.proofs.Common.{◌≡◌, ℕ, suc, ◌+◌, ◌<◌, Bool, true, false, not, List, [], ◌∷◌, ◌++◌, length, map, Option, Some, None, Result, Ok, Err, refl, sym, ap, ◌∙◌, subst, arith, rules, add-one, zero, append_assoc}
+use Rattle.std.specs.List.{All}
+use Rattle.std.proofs.lemmas.List.{append-nil, length-append, map-append, length-map}
+use Rattle.std.proofs.lemmas.List.Elements.{All-head, All-tail, All-cons, All-nil, All-push}
+use Rattle.arrayvec.specs.ArrayVec.{ArrayVec}
+use Rattle.scmi_codec.specs.declared.message.Message.{Message}
+use Rattle.scmi_codec.specs.declared.frame.Frame.{Frame}
+use Rattle.scmi_codec.specs.declared.frame.Answer.TheVariants.{Reply}
+use Rattle.scmi_link.specs.View.{CallerView, IsOutstanding}
+use Rattle.scmi_link.specs.declared.closing.Closing.TheVariants.{Idle, Withdrawn}
+use Rattle.scmi_link.specs.declared.closing.Closing.{Closing}
+use Rattle.scmi_threads.specs.Logs.{IsSameLog}
+use Rattle.scmi_threads.specs.Orders.{IsAtRest, LeavesRest, HasAsked, HasAskedFor, HasLooked, HasMore, HasDone, IsUnmoved, HasTaken, IsGot, ShowsState, ending, stop_of, stop_of_seen, lines_of_seen}
+use Rattle.scmi_threads.specs.Parts.{Part, HasState, Writes, command, state_commands, CallWrites, call_answered, call_refused, call_ran_out, UntilWrites, state_seen, state_not_seen, state_ran_out, state_refused, state_had_no_room, P2aWrites, messages_taken, messages_ran_out, messages_had_no_room, CloseWrites, close_done}
+use Rattle.scmi_threads.specs.declared.agent_log.AgentLog.{AgentLog}
+use Rattle.scmi_threads.specs.declared.line.Line.{Line}
+use Rattle.scmi_threads.specs.declared.line.Line.TheVariants as line
+use Rattle.scmi_threads.specs.declared.order.Order.{Order}
+use Rattle.scmi_threads.specs.declared.order.Order.TheVariants as order
+use Rattle.scmi_threads.specs.declared.stop.Stop.{Stop}
+use Rattle.scmi_threads.specs.declared.stop.Stop.TheVariants as stop
+
+-- a list and its last
+
+all_front : {X : Type 0} (P : X → Type 0) (xs : List X) (x : X) → All P (xs ++ x ∷ []) → All P xs
+all_front P [] x h = All-nil P
+all_front P (y ∷ xs) x h = All-cons P y xs (All-head P y (xs ++ x ∷ []) h) (all_front P xs x (All-tail P y (xs ++ x ∷ []) h))
+
+all_last : {X : Type 0} (P : X → Type 0) (xs : List X) (x : X) → All P (xs ++ x ∷ []) → P x
+all_last P [] x h = All-head P x [] h
+all_last P (y ∷ xs) x h = all_last P xs x (All-tail P y (xs ++ x ∷ []) h)
+
+none_more : {X : Type 0} (xs ys : List X) → ys ≡ xs → ys ≡ xs ++ []
+none_more xs ys e = e ∙ sym (append-nil xs)
+
+-- nothing is outstanding where each post has its answer
+pub rests : (v : CallerView) → length v.posted ≡ length v.read → ¬ (IsOutstanding v)
+rests v h out = absurd (omega (arith, h, out.unread))
+
+nothing_more : (before after : AgentLog) → IsSameLog before after → HasMore (record { posted = []; read = []; taken = []; lines = [] }) before after
+nothing_more before after same = record {
+  posted = none_more before.posted.items after.posted.items same.posted;
+  read = none_more before.read.items after.read.items same.read;
+  taken = none_more before.p2a.items after.p2a.items same.p2a;
+  lines = none_more before.lines.items after.lines.items same.lines;
+}
+
+-- memory was refused before anything was done
+pub nothing_done : (full : Bool) (o : Order) (r : Result (Unit {0}) Stop) (v w : CallerView) (before after : AgentLog) → r ≡ Err stop.Memory → Writes full v.closed (length before.posted.items) o (Some stop.Memory) (record { posted = []; read = []; taken = []; lines = [] }) → IsSameLog before after → HasDone full o (stop_of r) v w before after
+nothing_done full o r v w before after is writes same = subst (λ x. HasDone full o (stop_of x) v w before after) (sym is) (record {
+  part = record { posted = []; read = []; taken = []; lines = [] };
+  writes = writes;
+  more = nothing_more before after same;
+  closed = λ s. absurd (search (rules, s));
+  not_stopped = same.stopped;
+})
+
+-- the same since an earlier log that says the same
+pub done_since : (full : Bool) (o : Order) (s : Option Stop) (v w : CallerView) (first before after : AgentLog) → IsSameLog first before → HasDone full o s v w before after → HasDone full o s v w first after
+done_since full o s v w first before after same done = record {
+  part = done.part;
+  writes = subst (λ fs. Writes full v.closed (length fs) o s done.part) same.posted done.writes;
+  more = record {
+    posted = done.more.posted ∙ ap (λ xs. xs ++ done.part.posted) same.posted;
+    read = done.more.read ∙ ap (λ xs. xs ++ done.part.read) same.read;
+    taken = done.more.taken ∙ ap (λ xs. xs ++ done.part.taken) same.p2a;
+    lines = done.more.lines ∙ ap (λ xs. xs ++ done.part.lines) same.lines;
+  };
+  closed = done.closed;
+  not_stopped = done.not_stopped ∙ same.stopped;
+}
+
+pub still_rests : (before after : AgentLog) → IsSameLog before after → IsAtRest before → IsAtRest after
+still_rests before after same rest = ap length same.posted ∙ rest ∙ sym (ap length same.read)
+
+-- the lines alone have grown, by one
+pub record IsNoted (l : Line) (before after : AgentLog) : Type 0 where
+  pub posted : after.posted.items ≡ before.posted.items
+  pub read : after.read.items ≡ before.read.items
+  pub taken : after.p2a.items ≡ before.p2a.items
+  pub lines : after.lines.items ≡ before.lines.items ++ l ∷ []
+  pub stopped : after.stopped ≡ before.stopped
+
+-- the same since an earlier log that says the same
+pub noted_since : (l : Line) (before mid after : AgentLog) → IsSameLog before mid → IsNoted l mid after → IsNoted l before after
+noted_since l before mid after same noted = record {
+  posted = noted.posted ∙ same.posted;
+  read = noted.read ∙ same.read;
+  taken = noted.taken ∙ same.p2a;
+  lines = noted.lines ∙ ap (λ ls. ls ++ l ∷ []) same.lines;
+  stopped = noted.stopped ∙ same.stopped;
+}
+
+noted_more : (l : Line) (before mid after : AgentLog) → mid.lines.items ≡ before.lines.items → IsNoted l mid after → after.lines.items ≡ before.lines.items ++ l ∷ []
+noted_more l before mid after same noted = noted.lines ∙ ap (λ ls. ls ++ l ∷ []) same
+
+pub call_done : (full : Bool) (protocol id : ℕ) (payload : ArrayVec ℕ) (l : Line) (v w : CallerView) (before mid after : AgentLog) → HasAsked full v.closed (command (length before.posted.items) protocol id payload) l before mid → LeavesRest v w before mid → mid.lines.items ≡ before.lines.items → IsNoted l mid after → HasDone full (order.Call protocol id payload) (stop_of (ending l)) v w before after
+call_done full protocol id payload (line.Got words) v w before mid after asked rest same noted = record {
+  part = record { posted = command (length before.posted.items) protocol id payload ∷ []; read = Reply asked.1.0 ∷ []; taken = []; lines = line.Got asked.1.0.payload ∷ [] };
+  writes = call_answered asked.1.0;
+  more = record {
+    posted = noted.posted ∙ asked.0;
+    read = noted.read ∙ asked.1.2;
+    taken = none_more before.p2a.items after.p2a.items (noted.taken ∙ rest.taken);
+    lines = noted_more (line.Got words) before mid after same noted ∙ ap (λ ws. before.lines.items ++ line.Got ws ∷ []) asked.1.1;
+  };
+  closed = λ s. rest.closed;
+  not_stopped = noted.stopped ∙ rest.stopped;
+}
+call_done full protocol id payload (line.NotPosted error) v w before mid after asked rest same noted = record {
+  part = record { posted = []; read = []; taken = []; lines = line.NotPosted error ∷ [] };
+  writes = call_refused error asked.0;
+  more = record {
+    posted = none_more before.posted.items after.posted.items (noted.posted ∙ asked.1);
+    read = none_more before.read.items after.read.items (noted.read ∙ asked.2);
+    taken = none_more before.p2a.items after.p2a.items (noted.taken ∙ rest.taken);
+    lines = noted_more (line.NotPosted error) before mid after same noted;
+  };
+  closed = λ s. rest.closed;
+  not_stopped = noted.stopped ∙ rest.stopped;
+}
+call_done full protocol id payload line.Limit v w before mid after asked rest same noted = record {
+  part = record { posted = command (length before.posted.items) protocol id payload ∷ []; read = []; taken = []; lines = line.Limit ∷ [] };
+  writes = call_ran_out;
+  more = record {
+    posted = noted.posted ∙ asked.0;
+    read = none_more before.read.items after.read.items (noted.read ∙ asked.1);
+    taken = none_more before.p2a.items after.p2a.items (noted.taken ∙ rest.taken);
+    lines = noted_more line.Limit before mid after same noted;
+  };
+  closed = λ s. rest.closed;
+  not_stopped = noted.stopped ∙ rest.stopped;
+}
+call_done full protocol id payload _ v w before mid after asked rest same noted = absurd asked.1
+
+-- a close
+
+pub close_noted : (full : Bool) (closing : Closing) (v w : CallerView) (before after : AgentLog) → IsNoted (line.Close closing) before after → (closing ≡ Idle → w.closed ≡ true) → (closing ≡ Withdrawn → IsOutstanding v) → length v.posted ≡ length v.read → HasDone full order.Close None v w before after
+close_noted full Withdrawn v w before after noted idle withdrawn rest = absurd (rests v rest (withdrawn refl))
+close_noted full Idle v w before after noted idle withdrawn rest = record {
+  part = record { posted = []; read = []; taken = []; lines = line.Close Idle ∷ [] };
+  writes = close_done;
+  more = record {
+    posted = none_more before.posted.items after.posted.items noted.posted;
+    read = none_more before.read.items after.read.items noted.read;
+    taken = none_more before.p2a.items after.p2a.items noted.taken;
+    lines = noted.lines;
+  };
+  closed = λ s. idle refl;
+  not_stopped = noted.stopped;
+}
+
+-- messages
+
+-- so many messages were taken, and each has its line
+pub record HasTakenMany (count : ℕ) (before after : AgentLog) : Type 0 where
+  pub messages : List Frame
+  pub many : length messages ≡ count
+  pub taken : after.p2a.items ≡ before.p2a.items ++ messages
+  pub lines : after.lines.items ≡ before.lines.items ++ map line.P2a messages
+
+pub none_taken : (before after : AgentLog) → after.p2a.items ≡ before.p2a.items → after.lines.items ≡ before.lines.items → HasTakenMany 0 before after
+none_taken before after taken lines = record {
+  messages = [];
+  many = refl;
+  taken = none_more before.p2a.items after.p2a.items taken;
+  lines = none_more before.lines.items after.lines.items lines;
+}
+
+pub one_taken : (count : ℕ) (before mid after : AgentLog) → HasTakenMany count before mid → HasTaken (Ok tt) mid after → HasTakenMany (count + 1) before after
+one_taken count before mid after so_far took = record {
+  messages = so_far.messages ++ took.0 ∷ [];
+  many = length-append so_far.messages (took.0 ∷ []) ∙ ap (λ n. n + 1) so_far.many;
+  taken = took.1 ∙ ap (λ xs. xs ++ took.0 ∷ []) so_far.taken ∙ append_assoc before.p2a.items so_far.messages (took.0 ∷ []);
+  lines = took.2 ∙ ap (λ xs. xs ++ line.P2a took.0 ∷ []) so_far.lines ∙ append_assoc before.lines.items (map line.P2a so_far.messages) (line.P2a took.0 ∷ []) ∙ ap (λ xs. before.lines.items ++ xs) (sym (map-append line.P2a so_far.messages (took.0 ∷ [])));
+}
+
+pub moved_on : (u v w : CallerView) (before mid after : AgentLog) → IsUnmoved u v before mid → IsUnmoved v w mid after → IsUnmoved u w before after
+moved_on u v w before mid after r s = record { posted = s.posted ∙ r.posted; read = s.read ∙ r.read; stopped = s.stopped ∙ r.stopped; closed = s.closed ∙ r.closed }
+
+pub all_taken : (full : Bool) (count : ℕ) (v w : CallerView) (before after : AgentLog) → IsUnmoved v w before after → HasTakenMany count before after → HasDone full (order.P2a count) None v w before after
+all_taken full count v w before after unmoved took = record {
+  part = record { posted = []; read = []; taken = took.messages; lines = map line.P2a took.messages };
+  writes = messages_taken took.messages took.many;
+  more = record {
+    posted = none_more before.posted.items after.posted.items unmoved.posted;
+    read = none_more before.read.items after.read.items unmoved.read;
+    taken = took.taken;
+    lines = took.lines;
+  };
+  closed = λ s. unmoved.closed;
+  not_stopped = unmoved.stopped;
+}
+
+pub taken_until : (full : Bool) (count taken : ℕ) (why : Stop) (r : Result (Unit {0}) Stop) (u v w : CallerView) (before mid after : AgentLog) → taken < count → r ≡ Err why → IsUnmoved u v before mid → HasTakenMany taken before mid → IsUnmoved v w mid after → HasTaken (Err why) mid after → HasDone full (order.P2a count) (stop_of r) u w before after
+taken_until full count taken why r u v w before mid after below is first so_far then' took = subst (λ x. HasDone full (order.P2a count) (stop_of x) u w before after) (sym is) (go why took) where
+  same : IsUnmoved u w before after
+  same = moved_on u v w before mid after first then'
+
+  go : (why : Stop) → HasTaken (Err why) mid after → HasDone full (order.P2a count) (Some why) u w before after
+  go stop.Limit took = record {
+    part = record { posted = []; read = []; taken = so_far.messages; lines = map line.P2a so_far.messages ++ line.Limit ∷ [] };
+    writes = messages_ran_out so_far.messages (omega (arith, so_far.many));
+    more = record {
+      posted = none_more before.posted.items after.posted.items same.posted;
+      read = none_more before.read.items after.read.items same.read;
+      taken = took.0 ∙ so_far.taken;
+      lines = took.1 ∙ ap (λ xs. xs ++ line.Limit ∷ []) so_far.lines ∙ append_assoc before.lines.items (map line.P2a so_far.messages) (line.Limit ∷ []);
+    };
+    closed = λ s. same.closed;
+    not_stopped = same.stopped;
+  }
+  go stop.Memory took = record {
+    part = record { posted = []; read = []; taken = so_far.messages; lines = map line.P2a so_far.messages };
+    writes = messages_had_no_room so_far.messages (omega (arith, so_far.many));
+    more = record {
+      posted = none_more before.posted.items after.posted.items same.posted;
+      read = none_more before.read.items after.read.items same.read;
+      taken = took.0 ∙ so_far.taken;
+      lines = took.1 ∙ so_far.lines;
+    };
+    closed = λ s. same.closed;
+    not_stopped = same.stopped;
+  }
+
+-- states
+
+length-state_commands : (n domain k : ℕ) → length (state_commands n domain k) ≡ k
+length-state_commands n domain zero = refl
+length-state_commands n domain (suc k) = length-append (state_commands n domain k) (command (n + k) 0x11 0x5 (record { items = domain ∷ [] }) ∷ []) ∙ ap (λ m. m + 1) (length-state_commands n domain k) ∙ add-one k
+
+state_commands_more : (n domain k : ℕ) → state_commands n domain (k + 1) ≡ state_commands n domain k ++ command (n + k) 0x11 0x5 (record { items = domain ∷ [] }) ∷ []
+state_commands_more n domain k = ap (state_commands n domain) (add-one k)
+
+pub none_asked : (domain state : ℕ) (before after : AgentLog) → IsSameLog before after → HasAskedFor domain state 0 before after
+none_asked domain state before after same = record {
+  others = [];
+  many = refl;
+  none_has_it = All-nil (λ reply. ¬ (HasState state reply));
+  posted = none_more before.posted.items after.posted.items same.posted;
+  read = none_more before.read.items after.read.items same.read;
+}
+
+asked_posted : (domain state k : ℕ) (before mid : AgentLog) → HasAskedFor domain state k before mid → length mid.posted.items ≡ length before.posted.items + k
+asked_posted domain state k before mid so_far = ap length so_far.posted ∙ length-append before.posted.items (state_commands (length before.posted.items) domain k) ∙ ap (λ m. length before.posted.items + m) (length-state_commands (length before.posted.items) domain k)
+
+pub asked_rests : (domain state k : ℕ) (before mid : AgentLog) → HasAskedFor domain state k before mid → IsAtRest before → IsAtRest mid
+asked_rests domain state k before mid so_far rest =
+    asked_posted domain state k before mid so_far ∙ omega (arith, rest, so_far.many, ap length so_far.read, length-append before.read.items (map Reply so_far.others), length-map so_far.others Reply)
+
+-- the frame that the next call posts
+next_frame : (domain state k protocol id : ℕ) (payload : ArrayVec ℕ) (before mid : AgentLog) → HasAskedFor domain state k before mid → protocol ≡ 0x11 → id ≡ 0x5 → payload.items ≡ domain ∷ [] → command (length mid.posted.items) protocol id payload ≡ command (length before.posted.items + k) 0x11 0x5 (record { items = domain ∷ [] })
+next_frame domain state k protocol id payload before mid so_far p i w =
+    ap (λ n. command n protocol id payload) (asked_posted domain state k before mid so_far)
+    ∙ ap (λ x. command (length before.posted.items + k) x id payload) p
+    ∙ ap (λ x. command (length before.posted.items + k) 0x11 x payload) i
+    ∙ ap (λ ws. command (length before.posted.items + k) 0x11 0x5 (record { items = ws })) w
+
+-- so many calls asked, and a further one was posted
+module _ (full : Bool) (domain state k protocol id : ℕ) (payload : ArrayVec ℕ) (closed : Bool) (before mid after : AgentLog) (so_far : HasAskedFor domain state k before mid) (p : protocol ≡ 0x11) (i : id ≡ 0x5) (w : payload.items ≡ domain ∷ []) where
+  further : after.posted.items ≡ mid.posted.items ++ command (length mid.posted.items) protocol id payload ∷ [] → after.posted.items ≡ before.posted.items ++ state_commands (length before.posted.items) domain (k + 1)
+  further e = e ∙ ap (λ f. mid.posted.items ++ f ∷ []) (next_frame domain state k protocol id payload before mid so_far p i w) ∙ ap (λ xs. xs ++ command (length before.posted.items + k) 0x11 0x5 (record { items = domain ∷ [] }) ∷ []) so_far.posted ∙ append_assoc before.posted.items (state_commands (length before.posted.items) domain k) (command (length before.posted.items + k) 0x11 0x5 (record { items = domain ∷ [] }) ∷ []) ∙ ap (λ xs. before.posted.items ++ xs) (sym (state_commands_more (length before.posted.items) domain k))
+
+  further_read : (reply : Message) → after.read.items ≡ mid.read.items ++ Reply reply ∷ [] → after.read.items ≡ before.read.items ++ (map Reply so_far.others ++ Reply reply ∷ [])
+  further_read reply e = e ∙ ap (λ xs. xs ++ Reply reply ∷ []) so_far.read ∙ append_assoc before.read.items (map Reply so_far.others) (Reply reply ∷ [])
+
+  pub one_asked : (l : Line) → HasAsked full closed (command (length mid.posted.items) protocol id payload) l mid after → IsGot l → ¬ (ShowsState state l) → HasAskedFor domain state (k + 1) before after
+  one_asked (line.Got words) asked got not = record {
+    others = so_far.others ++ asked.1.0 ∷ [];
+    many = length-append so_far.others (asked.1.0 ∷ []) ∙ ap (λ n. n + 1) so_far.many;
+    none_has_it = All-push (λ reply. ¬ (HasState state reply)) so_far.others asked.1.0 so_far.none_has_it (λ has. not (ap (λ ws. ws.items) asked.1.1 ∙ has));
+    posted = further asked.0;
+    read = further_read asked.1.0 asked.1.2 ∙ ap (λ xs. before.read.items ++ xs) (sym (map-append Reply so_far.others (asked.1.0 ∷ [])));
+  }
+  one_asked _ asked got not = absurd got
+
+  pub looked_seen : (l : Line) → k < 100_000 → HasAsked full closed (command (length mid.posted.items) protocol id payload) l mid after → ShowsState state l → HasLooked full closed domain state (Ok true) before after
+  looked_seen (line.Got words) below asked shows = record {
+    part = record { posted = state_commands (length before.posted.items) domain (length so_far.others + 1); read = map Reply so_far.others ++ Reply asked.1.0 ∷ []; taken = []; lines = line.UntilOk ∷ [] };
+    writes = state_seen so_far.others asked.1.0 (omega (arith, so_far.many)) so_far.none_has_it (sym (ap (λ ws. ws.items) asked.1.1) ∙ shows);
+    posted = further asked.0 ∙ ap (λ m. before.posted.items ++ state_commands (length before.posted.items) domain (m + 1)) (sym so_far.many);
+    read = further_read asked.1.0 asked.1.2;
+    lines = refl;
+  }
+  looked_seen _ below asked shows = absurd shows
+
+  pub looked_in_vain : (l : Line) → k < 100_000 → HasAsked full closed (command (length mid.posted.items) protocol id payload) l mid after → ¬ (IsGot l) → HasLooked full closed domain state (Ok false) before after
+  looked_in_vain (line.Got words) below asked not = absurd (not tt)
+  looked_in_vain (line.NotPosted error) below asked not = record {
+    part = record { posted = state_commands (length before.posted.items) domain (length so_far.others); read = map Reply so_far.others; taken = []; lines = line.UntilLimit ∷ [] };
+    writes = state_refused so_far.others error (omega (arith, so_far.many)) so_far.none_has_it asked.0;
+    posted = asked.1 ∙ so_far.posted ∙ ap (λ m. before.posted.items ++ state_commands (length before.posted.items) domain m) (sym so_far.many);
+    read = asked.2 ∙ so_far.read;
+    lines = refl;
+  }
+  looked_in_vain line.Limit below asked not = record {
+    part = record { posted = state_commands (length before.posted.items) domain (length so_far.others + 1); read = map Reply so_far.others; taken = []; lines = line.UntilLimit ∷ [] };
+    writes = state_ran_out so_far.others (omega (arith, so_far.many)) so_far.none_has_it;
+    posted = further asked.0 ∙ ap (λ m. before.posted.items ++ state_commands (length before.posted.items) domain (m + 1)) (sym so_far.many);
+    read = asked.1 ∙ so_far.read;
+    lines = refl;
+  }
+  looked_in_vain _ below asked not = absurd asked.1
+
+pub looked_to_the_end : (full closed : Bool) (domain state k : ℕ) (before after : AgentLog) → k ≡ 100_000 → HasAskedFor domain state k before after → HasLooked full closed domain state (Ok false) before after
+looked_to_the_end full closed domain state k before after is so_far = record {
+  part = record { posted = state_commands (length before.posted.items) domain (length so_far.others); read = map Reply so_far.others; taken = []; lines = line.UntilLimit ∷ [] };
+  writes = state_not_seen so_far.others (so_far.many ∙ is) so_far.none_has_it;
+  posted = so_far.posted ∙ ap (λ m. before.posted.items ++ state_commands (length before.posted.items) domain m) (sym so_far.many);
+  read = so_far.read;
+  lines = refl;
+}
+
+pub looked_without_room : (full closed : Bool) (domain state k : ℕ) (r : Result Bool Stop) (before mid after : AgentLog) → k < 100_000 → r ≡ Err stop.Memory → HasAskedFor domain state k before mid → IsSameLog mid after → HasLooked full closed domain state r before after
+looked_without_room full closed domain state k r before mid after below is so_far same = subst (λ x. HasLooked full closed domain state x before after) (sym is) (record {
+  part = record { posted = state_commands (length before.posted.items) domain (length so_far.others); read = map Reply so_far.others; taken = []; lines = [] };
+  writes = state_had_no_room so_far.others (omega (arith, so_far.many)) so_far.none_has_it;
+  posted = same.posted ∙ so_far.posted ∙ ap (λ m. before.posted.items ++ state_commands (length before.posted.items) domain m) (sym so_far.many);
+  read = same.read ∙ so_far.read;
+  lines = refl;
+})
+
+no_messages : (full closed : Bool) (n domain state : ℕ) (s : Option Stop) (part : Part) → UntilWrites full closed n domain state s part → part.taken ≡ []
+no_messages full closed n domain state _ _ (state_seen others last below not has) = refl
+no_messages full closed n domain state _ _ (state_not_seen others all not) = refl
+no_messages full closed n domain state _ _ (state_ran_out others below not) = refl
+no_messages full closed n domain state _ _ (state_refused others error below not why) = refl
+no_messages full closed n domain state _ _ (state_had_no_room others below not) = refl
+
+-- the line of an order to wait for a state, if it has one
+pub until_noted : (full : Bool) (domain state : ℕ) (seen : Result Bool Stop) (l : Line) (v w : CallerView) (before mid after : AgentLog) → HasLooked full v.closed domain state seen before mid → lines_of_seen seen ≡ l ∷ [] → LeavesRest v w before mid → mid.lines.items ≡ before.lines.items → IsNoted l mid after → HasDone full (order.Until domain state) (stop_of_seen seen) v w before after
+until_noted full domain state seen l v w before mid after looked is rest same noted = record {
+  part = looked.part;
+  writes = looked.writes;
+  more = record {
+    posted = noted.posted ∙ looked.posted;
+    read = noted.read ∙ looked.read;
+    taken = none_more before.p2a.items after.p2a.items (noted.taken ∙ rest.taken) ∙ ap (λ xs. before.p2a.items ++ xs) (sym (no_messages full v.closed (length before.posted.items) domain state (stop_of_seen seen) looked.part looked.writes));
+    lines = noted_more l before mid after same noted ∙ ap (λ ls. before.lines.items ++ ls) (sym (looked.lines ∙ is));
+  };
+  closed = λ s. rest.closed;
+  not_stopped = noted.stopped ∙ rest.stopped;
+}
+
+-- an order to wait for a state that was refused memory
+pub until_ended : (full : Bool) (domain state : ℕ) (why : Stop) (r : Result (Unit {0}) Stop) (v w : CallerView) (before after : AgentLog) → r ≡ Err why → HasLooked full v.closed domain state (Err why) before after → LeavesRest v w before after → after.lines.items ≡ before.lines.items → HasDone full (order.Until domain state) (stop_of r) v w before after
+until_ended full domain state why r v w before after is looked rest same = subst (λ x. HasDone full (order.Until domain state) (stop_of x) v w before after) (sym is) (record {
+  part = looked.part;
+  writes = looked.writes;
+  more = record {
+    posted = looked.posted;
+    read = looked.read;
+    taken = none_more before.p2a.items after.p2a.items rest.taken ∙ ap (λ xs. before.p2a.items ++ xs) (sym (no_messages full v.closed (length before.posted.items) domain state (Some why) looked.part looked.writes));
+    lines = none_more before.lines.items after.lines.items same ∙ ap (λ ls. before.lines.items ++ ls) (sym looked.lines);
+  };
+  closed = λ s. rest.closed;
+  not_stopped = rest.stopped;
+})
+
+pub left_rest : (u v w : CallerView) (before mid after : AgentLog) → LeavesRest u v before mid → LeavesRest v w mid after → LeavesRest u w before after
+left_rest u v w before mid after r s = record { taken = s.taken ∙ r.taken; stopped = s.stopped ∙ r.stopped; closed = s.closed ∙ r.closed }
+
+-- an order that did not end the script has read an answer for each frame that it posted
+pub writes_rest : (full closed : Bool) (n : ℕ) (o : Order) (part : Part) → Writes full closed n o None part → length part.posted ≡ length part.read
+writes_rest full closed n (order.Call protocol id payload) part w = call_rest part w where
+  call_rest : (part : Part) → CallWrites full closed n protocol id payload None part → length part.posted ≡ length part.read
+  call_rest _ (call_answered reply) = refl
+  call_rest _ (call_refused error why) = refl
+writes_rest full closed n (order.Until domain state) part w = until_rest part w where
+  until_rest : (part : Part) → UntilWrites full closed n domain state None part → length part.posted ≡ length part.read
+  until_rest _ (state_seen others last below not has) = length-state_commands n domain (length others + 1) ∙ sym (length-append (map Reply others) (Reply last ∷ []) ∙ ap (λ m. m + 1) (length-map others Reply))
+writes_rest full closed n (order.P2a count) part w = p2a_rest part w where
+  p2a_rest : (part : Part) → P2aWrites count None part → length part.posted ≡ length part.read
+  p2a_rest _ (messages_taken messages many) = refl
+writes_rest full closed n order.Close part w = close_rest part w where
+  close_rest : (part : Part) → CloseWrites None part → length part.posted ≡ length part.read
+  close_rest _ close_done = refl

@@ -1,0 +1,123 @@
+-- What the calls that carry out an order leave.
+use Rattle.std.specs.Prelude.{◌≡◌, ℕ, Bool, true, false, ◌||◌, List, [], ◌∷◌, ◌++◌, length, map, Option, Some, None, Result, Ok, Err}
+use Rattle.std.specs.List.{All}
+use Rattle.scmi_codec.specs.declared.message.Message.{Message}
+use Rattle.scmi_codec.specs.declared.frame.Frame.{Frame}
+use Rattle.scmi_codec.specs.declared.frame.Answer.{Answer}
+use Rattle.scmi_codec.specs.declared.frame.Answer.TheVariants.{Reply}
+use Rattle.scmi_link.specs.View.{CallerView}
+use Rattle.scmi_threads.specs.Parts.{Part, HasState, IsRefusal, UntilWrites, Writes, state_commands}
+use Rattle.scmi_threads.specs.ScriptLogs.{is_close}
+use Rattle.scmi_threads.specs.declared.agent_log.AgentLog.{AgentLog}
+use Rattle.scmi_threads.specs.declared.line.Line.{Line}
+use Rattle.scmi_threads.specs.declared.line.Line.TheVariants as line
+use Rattle.scmi_threads.specs.declared.order.Order.{Order}
+use Rattle.scmi_threads.specs.declared.stop.Stop.{Stop}
+use Rattle.scmi_threads.specs.declared.stop.Stop.TheVariants as stop
+
+-- the answer is a reply
+abbrev pub IsReply : Answer → Type 0
+IsReply (Reply m) = Unit {0}
+IsReply _ = ⊥
+
+-- nothing has disturbed the agent: it was told of no close, and each answer that it read is a reply
+pub record IsUndisturbed (caller : CallerView) : Type 0 where
+  pub told : caller.told ≡ false
+  pub replies : All IsReply caller.read
+
+-- an answer was read for each frame that was posted
+abbrev pub IsAtRest : AgentLog → Type 0
+IsAtRest log = length log.posted.items ≡ length log.read.items
+
+-- what the calls of a call leave as it was, beside the lines
+pub record LeavesRest (old new : CallerView) (before after : AgentLog) : Type 0 where
+  pub taken : after.p2a.items ≡ before.p2a.items
+  pub stopped : after.stopped ≡ before.stopped
+  pub closed : new.closed ≡ old.closed
+
+-- a wait for a reply, by its line: a reply was read, or none
+abbrev pub HasAwaited : Line → List Answer → List Answer → Type 0
+HasAwaited (line.Got words) old new = (reply : Message) × (words ≡ reply.payload) × (new ≡ old ++ Reply reply ∷ [])
+HasAwaited line.Limit old new = new ≡ old
+HasAwaited _ old new = ⊥
+
+-- a call of a command, by its line: it was refused, or posted and waited for
+abbrev pub HasAsked : Bool → Bool → Frame → Line → AgentLog → AgentLog → Type 0
+HasAsked full closed command (line.NotPosted error) before after = IsRefusal full closed error × (after.posted.items ≡ before.posted.items) × (after.read.items ≡ before.read.items)
+HasAsked full closed command line before after = (after.posted.items ≡ before.posted.items ++ command ∷ []) × HasAwaited line before.read.items after.read.items
+
+-- the line says that a reply came
+abbrev pub IsGot : Line → Type 0
+IsGot (line.Got words) = Unit {0}
+IsGot _ = ⊥
+
+-- the line says that a reply came with status 0 and this state
+abbrev pub ShowsState : ℕ → Line → Type 0
+ShowsState state (line.Got words) = words.items ≡ 0 ∷ state ∷ []
+ShowsState state _ = ⊥
+
+-- how a call ends, by its line
+abbrev pub ending : Line → Result (Unit {0}) Stop
+ending line.Limit = Err stop.Limit
+ending _ = Ok tt
+
+-- so many calls asked for the state of a domain, and none of the replies had the state
+pub record HasAskedFor (domain state count : ℕ) (before after : AgentLog) : Type 0 where
+  pub others : List Message
+  pub many : length others ≡ count
+  pub none_has_it : All (λ reply. ¬ (HasState state reply)) others
+  pub posted : after.posted.items ≡ before.posted.items ++ state_commands (length before.posted.items) domain count
+  pub read : after.read.items ≡ before.read.items ++ map Reply others
+
+-- why the script ends, by whether the state was seen
+abbrev pub stop_of_seen : Result Bool Stop → Option Stop
+stop_of_seen (Ok true) = None
+stop_of_seen (Ok false) = Some stop.Limit
+stop_of_seen (Err why) = Some why
+
+-- the lines of an order to wait for a state, by whether the state was seen
+abbrev pub lines_of_seen : Result Bool Stop → List Line
+lines_of_seen (Ok true) = line.UntilOk ∷ []
+lines_of_seen (Ok false) = line.UntilLimit ∷ []
+lines_of_seen (Err why) = []
+
+-- what asking for a state until it is seen leaves, without the line
+pub record HasLooked (full closed : Bool) (domain state : ℕ) (seen : Result Bool Stop) (before after : AgentLog) : Type 0 where
+  pub part : Part
+  pub writes : UntilWrites full closed (length before.posted.items) domain state (stop_of_seen seen) part
+  pub posted : after.posted.items ≡ before.posted.items ++ part.posted
+  pub read : after.read.items ≡ before.read.items ++ part.read
+  pub lines : part.lines ≡ lines_of_seen seen
+
+-- why an order ended the script, if it did
+abbrev pub stop_of : Result (Unit {0}) Stop → Option Stop
+stop_of (Ok done) = None
+stop_of (Err why) = Some why
+
+-- what the calls that take a message leave as it was
+pub record IsUnmoved (old new : CallerView) (before after : AgentLog) : Type 0 where
+  pub posted : after.posted.items ≡ before.posted.items
+  pub read : after.read.items ≡ before.read.items
+  pub stopped : after.stopped ≡ before.stopped
+  pub closed : new.closed ≡ old.closed
+
+-- one more message was taken and has its line, or none: the turns ran out, or memory was refused
+abbrev pub HasTaken : Result (Unit {0}) Stop → AgentLog → AgentLog → Type 0
+HasTaken (Ok done) before after = (message : Frame) × (after.p2a.items ≡ before.p2a.items ++ message ∷ []) × (after.lines.items ≡ before.lines.items ++ line.P2a message ∷ [])
+HasTaken (Err stop.Limit) before after = (after.p2a.items ≡ before.p2a.items) × (after.lines.items ≡ before.lines.items ++ line.Limit ∷ [])
+HasTaken (Err stop.Memory) before after = (after.p2a.items ≡ before.p2a.items) × (after.lines.items ≡ before.lines.items)
+
+-- the log has this part more
+pub record HasMore (part : Part) (before after : AgentLog) : Type 0 where
+  pub posted : after.posted.items ≡ before.posted.items ++ part.posted
+  pub read : after.read.items ≡ before.read.items ++ part.read
+  pub taken : after.p2a.items ≡ before.p2a.items ++ part.taken
+  pub lines : after.lines.items ≡ before.lines.items ++ part.lines
+
+-- an order was carried out, and wrote its part
+pub record HasDone (full : Bool) (order : Order) (stopped : Option Stop) (old new : CallerView) (before after : AgentLog) : Type 0 where
+  pub part : Part
+  pub writes : Writes full old.closed (length before.posted.items) order stopped part
+  pub more : HasMore part before after
+  pub closed : stopped ≡ None → new.closed ≡ (is_close order || old.closed)
+  pub not_stopped : after.stopped ≡ before.stopped

@@ -1,0 +1,38 @@
+-- How a log follows its script.
+use Rattle.std.specs.Prelude.{◌≡◌, ◌==◌, ℕ, ◌+◌, Bool, true, false, ◌||◌, if◌then◌else◌, List, [], ◌∷◌, length, Option, Some, None}
+use Rattle.std.specs.List.{flat_map}
+use Rattle.scmi_threads.specs.Parts.{Part, Writes}
+use Rattle.scmi_threads.specs.declared.agent_log.AgentLog.{AgentLog}
+use Rattle.scmi_threads.specs.declared.order.Order.{Order}
+use Rattle.scmi_threads.specs.declared.order.Order.TheVariants as order
+use Rattle.scmi_threads.specs.declared.script.Script.{Script}
+use Rattle.scmi_threads.specs.declared.stop.Stop.{Stop}
+
+-- whether the order is to close
+abbrev pub is_close : Order → Bool
+is_close order.Close = true
+is_close _ = false
+
+-- the orders wrote these parts, one after another: all of them, or those up to the one that ended the script
+pub data Follows (full : Bool) : Bool → ℕ → List Order → Option Stop → List Part → Type 0 where
+  all_done : (closed : Bool) (n : ℕ) → Follows full closed n [] None []
+  ends_here : (closed : Bool) (n : ℕ) (order : Order) (orders : List Order) (why : Stop) (part : Part) → Writes full closed n order (Some why) part → Follows full closed n (order ∷ orders) (Some why) (part ∷ [])
+  goes_on : (closed : Bool) (n : ℕ) (order : Order) (orders : List Order) (stopped : Option Stop) (part : Part) (parts : List Part) → Writes full closed n order None part → Follows full (is_close order || closed) (n + length part.posted) orders stopped parts → Follows full closed n (order ∷ orders) stopped (part ∷ parts)
+
+-- the log is these parts, one after another
+pub record IsMadeOf (parts : List Part) (log : AgentLog) : Type 0 where
+  pub posted : log.posted.items ≡ flat_map (λ part. part.posted) parts
+  pub read : log.read.items ≡ flat_map (λ part. part.read) parts
+  pub taken : log.p2a.items ≡ flat_map (λ part. part.taken) parts
+  pub lines : log.lines.items ≡ flat_map (λ part. part.lines) parts
+
+-- the log follows the script: each order, in turn, wrote a part of it, and all of them where the script was not stopped
+pub record IsScriptLog (full : Bool) (orders : List Order) (log : AgentLog) : Type 0 where
+  pub parts : List Part
+  pub made : IsMadeOf parts log
+  pub follows : Follows full false 0 orders log.stopped parts
+
+-- the orders of an agent; none where it has no script
+abbrev pub orders_of : List Script → ℕ → List Order
+orders_of [] agent = []
+orders_of (script ∷ scripts) agent = if script.agent == agent then script.lines.items else orders_of scripts agent

@@ -1,8 +1,0 @@
-use Rattle.std.proofs.Common.{None}
-use Rattle.std.specs.List.{last_or}
-use Rattle.scmi_words.proofs.Picks.{frame_or}
-use Rattle.scmi_words.specs.View.{callee_of}
-use Rattle.scmi_words.proofs.callee_calls.take.Given as goal
-
-abbrev pub ghost-read_frame : goal.ghost-read_frame
-ghost-read_frame a = frame_or (last_or None (callee_of a.seat.now).state.taken)

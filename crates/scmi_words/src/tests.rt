@@ -1,5 +1,0 @@
-//! Worked examples of a word channel.
-
-mod closes;
-mod exchanges;
-mod script;

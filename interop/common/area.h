@@ -1,0 +1,32 @@
+/* The shared area of DEN0056B with a payload of 32 words: 156 bytes, little-endian. */
+#ifndef INTEROP_AREA_H
+#define INTEROP_AREA_H
+#include <stdint.h>
+#include <string.h>
+
+enum {
+	AREA_BYTES = 156,
+	AREA_STATUS = 0x04,
+	AREA_FLAGS = 0x10,
+	AREA_LENGTH = 0x14,
+	AREA_HEADER = 0x18,
+	AREA_PAYLOAD = 0x1c,
+	PAYLOAD_WORDS = 32,
+};
+
+enum { STATUS_FREE = 1, STATUS_ERROR = 2 };
+enum { FLAG_INTERRUPT = 1 };
+
+static inline uint32_t area_word(const uint8_t *area, unsigned int offset)
+{
+	uint32_t word;
+
+	memcpy(&word, area + offset, sizeof(word));
+	return word;
+}
+
+static inline void area_set_word(uint8_t *area, unsigned int offset, uint32_t word)
+{
+	memcpy(area + offset, &word, sizeof(word));
+}
+#endif
