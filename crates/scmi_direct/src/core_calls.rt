@@ -4,7 +4,7 @@ ghost use Rattle.scmi_codec.specs.declared.payload.TheConstants.{PAYLOAD_WORDS};
 
 use crate::lines::Lines;
 use crate::plans::new_plan;
-use scmi_codec::{Frame, Header, Message, POWER_PROTOCOL, payload_of};
+use scmi_codec::{Frame, Header, Message, PAYLOAD_WORDS, POWER_PROTOCOL, payload_of};
 use scmi_core::{Core, CoreError};
 use std::alloc::Global;
 use std::io::Write;
@@ -20,8 +20,27 @@ const ON: u32 = 0;
 
 const OFF: u32 = 0x4000_0000;
 
-/// Commands of agent 1, completions of its sets, and the postings of what it is told. The trace
-/// grows for its first event, its fifth and its ninth: a command, a completion and a posting.
+// The words of an event of each kind, and the most of any: a history takes room for that many.
+const NOTIFY_EVENT: u16 = 5;
+
+const GET_EVENT: u16 = 4;
+
+const SET_EVENT: u16 = 6;
+
+const OTHER_EVENT: u16 = 3;
+
+const LONGEST_EVENT: u16 = 3 + PAYLOAD_WORDS as u16;
+
+// So many reads that the first completion finds room for one longest event less than it needs, and
+// the last posting too, once the room was doubled twice.
+const READS: u16 = (LONGEST_EVENT - NOTIFY_EVENT) / GET_EVENT;
+
+const BEFORE: u16 = NOTIFY_EVENT + READS * GET_EVENT + 2 * SET_EVENT + 2 * OTHER_EVENT;
+
+const LATER_READS: u16 = (3 * LONGEST_EVENT - BEFORE) / GET_EVENT;
+
+/// Commands of agent 1, completions of its sets, and the postings of what it is told. The room of
+/// the history grows for commands, for the first completion, and for the last posting.
 pub fn call_core<W: Write>(alloc: Global, lines: &mut Lines<'_, W>) {
     let Some(plan) = new_plan(alloc, lines) else {
         return;
@@ -29,14 +48,26 @@ pub fn call_core<W: Write>(alloc: Global, lines: &mut Lines<'_, W>) {
     let mut core = Core::new(alloc, plan);
     write_state(lines, &core);
     execute(lines, &mut core, 0, STATE_NOTIFY, &[0, 1]);
-    execute(lines, &mut core, 1, STATE_SET, &[1, 0, ON]);
-    execute(lines, &mut core, 2, STATE_GET, &[0]);
-    execute(lines, &mut core, 3, STATE_GET, &[0]);
-    complete(lines, &mut core);
-    post(lines, &mut core);
-    execute(lines, &mut core, 4, STATE_SET, &[1, 0, OFF]);
-    complete(lines, &mut core);
-    post(lines, &mut core);
+    read_states(lines, &mut core, READS);
+    set_state(lines, &mut core, 1, ON);
+    read_states(lines, &mut core, LATER_READS);
+    set_state(lines, &mut core, 2, OFF);
+}
+
+/// A set of a power domain's state, its completion, and a posting.
+fn set_state<W: Write>(lines: &mut Lines<'_, W>, core: &mut Core, token: u16, state: u32)
+    requires token { token < 1024 }
+{
+    execute(lines, core, token, STATE_SET, &[1, 0, state]);
+    complete(lines, core);
+    post(lines, core);
+}
+
+/// So many reads of a power domain's state.
+fn read_states<W: Write>(lines: &mut Lines<'_, W>, core: &mut Core, count: u16) {
+    'reads: for _ in 0..count {
+        execute(lines, core, 3, STATE_GET, &[0]);
+    }
 }
 
 fn execute<W: Write>(lines: &mut Lines<'_, W>, core: &mut Core, token: u16, id: u8, words: &[u32])
