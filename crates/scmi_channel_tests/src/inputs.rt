@@ -1,6 +1,7 @@
 //! Inputs of the tests, and why they are refused.
 
-use scmi_text::{Lines, TextError, read_board, read_scripts, read_steps};
+use scmi_board::{Lines, TextError, read_board};
+use scmi_text::{read_scripts, read_steps};
 use std::alloc::{AllocError, Global};
 
 /// These parts as one input.

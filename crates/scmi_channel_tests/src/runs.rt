@@ -1,8 +1,9 @@
 //! Agents in threads of their own, over words and over rings.
 
 use crate::boards::reference_plan;
+use scmi_board::Lines;
 use scmi_link::{Channel, Closing, RingChannel};
-use scmi_text::{Lines, read_scripts, write_script_lines};
+use scmi_text::{read_scripts, write_script_lines};
 use scmi_threads::{AgentLog, Gate, OpenGate, Outcome, Stop, run_agents};
 use scmi_words::WordChannel;
 use std::alloc::Global;

@@ -1,8 +1,8 @@
 //! Boards as they are written.
 
 use crate::inputs::{board_fault, joined};
+use scmi_board::{Lines, TextError, TextLine, read_board};
 use scmi_plan::{RateList, Rates, RawPlan};
-use scmi_text::{Lines, TextError, TextLine, read_board};
 use std::alloc::Global;
 use std::process::Abort;
 use std::test::Fail;

@@ -1,7 +1,7 @@
 //! Inputs of a million bytes.
 
 use crate::inputs::{board_fault, count_scripts, count_steps, joined, repeated};
-use scmi_text::{Lines, TextError, read_board};
+use scmi_board::{Lines, TextError, read_board};
 use std::alloc::{AllocError, Global};
 use std::test::Fail;
 

@@ -1,6 +1,6 @@
 //! Lines of an input, and the items of a line.
 
-use scmi_text::{Items, LineError, Lines, TextError, TextLine};
+use scmi_board::{Items, LineError, Lines, TextError, TextLine};
 use std::alloc::Global;
 use std::test::Fail;
 

@@ -1,6 +1,6 @@
 //! Numbers as they are written.
 
-use scmi_text::{byte, number, word};
+use scmi_board::{byte, number, word};
 
 #[test]
 fn a_number_is_decimal_or_hexadecimal(rt: HostRuntime) {

@@ -2,7 +2,8 @@
 
 use crate::inputs::{count_scripts, joined};
 use crate::messages::message;
-use scmi_text::{Lines, TextError, read_scripts};
+use scmi_board::{Lines, TextError};
+use scmi_text::read_scripts;
 use scmi_threads::{Order, Script};
 use std::alloc::Global;
 use std::process::Abort;

@@ -2,7 +2,8 @@
 
 use crate::inputs::{count_steps, joined, repeated};
 use crate::messages::message;
-use scmi_text::{Lines, Step, TextError, read_steps};
+use scmi_board::{Lines, TextError};
+use scmi_text::{Step, read_steps};
 use std::alloc::Global;
 use std::process::Abort;
 use std::test::Fail;

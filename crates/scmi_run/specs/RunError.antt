@@ -2,8 +2,8 @@
 use Rattle.std.specs.Prelude.{ℕ}
 use Rattle.scmi_run.specs.declared.run_error.RunError.{RunError}
 use Rattle.scmi_run.specs.declared.run_error.RunError.TheVariants.{Board, Script, Plan, Limit, Memory, Write}
-use Rattle.scmi_text.specs.declared.text_error.TextError.{TextError}
-use Rattle.scmi_text.specs.declared.text_error.TextError.TheVariants as text
+use Rattle.scmi_board.specs.declared.text_error.TextError.{TextError}
+use Rattle.scmi_board.specs.declared.text_error.TextError.TheVariants as text
 use Rattle.scmi_plan.specs.PlanError.{number}
 use Rattle.scmi_plan.specs.declared.plan_error.PlanError.{PlanError}
 use Rattle.scmi_plan.specs.declared.plan_error.PlanError.TheVariants as plan

@@ -3,7 +3,7 @@ ghost use Rattle.std.specs.Prelude.{◌≡◌};
 ghost use Rattle.std.specs.Option.{option_copied};
 ghost use Rattle.scmi_run.specs.Lines.{only, significant_lines};
 
-use scmi_text::is_significant;
+use scmi_board::is_significant;
 
 /// The line of an input that has just one that counts.
 pub fn only_line(input: &[u8]) -> Option<&[u8]>

@@ -2,8 +2,8 @@
 ghost use Rattle.std.specs.Prelude.{◌≡◌};
 ghost use Rattle.scmi_run.specs.RunError.{status_of, fault_of_text, fault_of_plan};
 
+use scmi_board::TextError;
 use scmi_plan::PlanError;
-use scmi_text::TextError;
 use thiserror::Error;
 
 /// Why a run is refused or stops. Its text is what follows the word `fault`.

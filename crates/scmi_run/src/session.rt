@@ -34,7 +34,8 @@ impl<C: Channel> Model for Session<C> {
 
 impl<C: Channel> Session<C> {
     ghost use Rattle.std.specs.Prelude.{◌≡◌, length, IfOk, IfErr};
-    ghost use Rattle.scmi_text.specs.Step.{IsAgent, IsStepOf};
+    ghost use Rattle.scmi_board.specs.Agent.{IsAgent};
+    ghost use Rattle.scmi_text.specs.Step.{IsStepOf};
 
     /// Both sides of a board, over new channels. `Memory` where memory is refused.
     pub fn open(alloc: Global, plan: Plan) -> Result<Session<C>, RunError>

@@ -1,4 +1,2 @@
-pub mod Digits
 pub mod EightDigits
-pub mod NumberForms
 pub mod ScriptAgents

@@ -1,10 +1,6 @@
-pub mod LineError
-pub mod Lines
 pub mod Names
-pub mod Number
 pub mod ScriptLine
 pub mod Scripts
 pub mod Step
 pub mod StepLine
-pub mod TextError
 pub mod Words

@@ -1,11 +1,8 @@
 -- The agents that scripts name.
-use Rattle.std.specs.Prelude.{ℕ, ◌≤◌, Option, Some, None, IfSome}
+use Rattle.std.specs.Prelude.{ℕ, Option, Some, None, IfSome}
+use Rattle.scmi_board.specs.Agent.{IsAgent}
 use Rattle.scmi_text.specs.declared.step.Step.{Step}
 use Rattle.scmi_text.specs.declared.step.Step.TheVariants.{Call, Raw, Malformed, Serve, Collect, Do, Advance, Flush, P2a, Close, Shut}
-
--- the agents of a board that has so many are numbered from 1
-abbrev pub IsAgent : ℕ → ℕ → Type 0
-IsAgent agents agent = (1 ≤ agent) × (agent ≤ agents)
 
 -- the agent that a step names, if it names one
 abbrev pub step_agent : Step → Option ℕ

@@ -4,11 +4,10 @@ ghost use Rattle.std.specs.List.{All, list_any, IsDistinct};
 ghost use Rattle.std.specs.Ordering.{nat_cmp};
 ghost use Rattle.std.specs.BTreeSet.{contains};
 ghost use Rattle.std.proofs.Props.{props};
-ghost use Rattle.scmi_text.specs.Step.{IsAgent};
+ghost use Rattle.scmi_board.specs.Agent.{IsAgent};
 ghost use Rattle.scmi_text.specs.Scripts.{agents_of, AreOfDistinctAgents};
 
-use crate::items::Items;
-use crate::line_error::LineError;
+use scmi_board::{Items, LineError};
 use scmi_threads::{Order, Script};
 use std::alloc::{AllocError, Global};
 use std::collections::BTreeSet;

@@ -1,15 +1,12 @@
 //! Scripts of agents that run in threads, as they are read.
 ghost use Rattle.std.specs.Prelude.{◌≡◌, IfOk, IfErr};
 ghost use Rattle.std.specs.List.{All};
-ghost use Rattle.scmi_text.specs.Step.{IsAgent};
+ghost use Rattle.scmi_board.specs.Agent.{IsAgent};
 ghost use Rattle.scmi_text.specs.Scripts.{agents_of, AreOfDistinctAgents};
-ghost use Rattle.scmi_text.specs.TextError.{IsOfScript};
+ghost use Rattle.scmi_board.specs.TextError.{IsOfScript};
 
-use crate::items::Items;
-use crate::line_error::LineError;
-use crate::lines::Lines;
 use crate::script_list::ScriptList;
-use crate::text_error::TextError;
+use scmi_board::{Items, LineError, Lines, TextError};
 use scmi_threads::{Order, Script};
 use std::alloc::Global;
 

@@ -2,13 +2,10 @@
 ghost use Rattle.std.specs.Prelude.{IfOk, IfErr};
 ghost use Rattle.std.specs.List.{All};
 ghost use Rattle.scmi_text.specs.Step.{IsStepOf};
-ghost use Rattle.scmi_text.specs.TextError.{IsOfScript};
+ghost use Rattle.scmi_board.specs.TextError.{IsOfScript};
 
-use crate::items::Items;
-use crate::line_error::LineError;
-use crate::lines::Lines;
 use crate::step::Step;
-use crate::text_error::TextError;
+use scmi_board::{Items, LineError, Lines, TextError};
 use scmi_codec::{Header, Message};
 use std::alloc::Global;
 

@@ -1,6 +1,6 @@
 use Rattle.std.proofs.Common.{◌≡◌, filter, map, option_to_list}
 use Rattle.std.specs.Option.{option_copied}
-use Rattle.scmi_text.specs.Lines.{is_significant}
+use Rattle.scmi_board.specs.Lines.{is_significant}
 use Rattle.scmi_run.proofs.lines.only_line.Given as goal
 
 abbrev pub invariant-loop-line : goal.invariant-loop-line

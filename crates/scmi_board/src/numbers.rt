@@ -1,7 +1,7 @@
 //! Numbers as texts write them.
 ghost use Rattle.std.specs.Prelude.{◌≡◌, ◌<◌, ◌≤◌, ◌^◌, SomeIff};
 ghost use Rattle.std.specs.Str.Parse.{IsNumeral, digits_value};
-ghost use Rattle.scmi_text.specs.Number.{IsNumber, has_hexadecimal_mark, number_value};
+ghost use Rattle.scmi_board.specs.Number.{IsNumber, has_hexadecimal_mark, number_value};
 
 /// The value of a number of 64 bits (own): decimal digits with no zero before others, or `0x` and 1
 /// to 16 hexadecimal digits of either case. `None` for any other text, and above 2^64 - 1.

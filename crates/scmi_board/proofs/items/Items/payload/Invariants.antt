@@ -1,5 +1,5 @@
 use Rattle.std.proofs.Common.{length}
-use Rattle.scmi_text.proofs.items.Items.payload.Given as goal
+use Rattle.scmi_board.proofs.items.Items.payload.Given as goal
 
 abbrev pub decreases-loop-self : goal.decreases-loop-self
 decreases-loop-self l = length l.self

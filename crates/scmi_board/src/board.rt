@@ -1,6 +1,6 @@
 //! Boards, as they are read.
 ghost use Rattle.std.specs.Prelude.{IfErr};
-ghost use Rattle.scmi_text.specs.TextError.{IsOfBoard};
+ghost use Rattle.scmi_board.specs.TextError.{IsOfBoard};
 
 use crate::clock_line::read_clock;
 use crate::items::Items;

@@ -1,7 +1,7 @@
 -- What the refusal of an input speaks of.
 use Rattle.std.specs.Prelude.{⊤}
-use Rattle.scmi_text.specs.declared.text_error.TextError.{TextError}
-use Rattle.scmi_text.specs.declared.text_error.TextError.TheVariants.{Board, Script, Memory}
+use Rattle.scmi_board.specs.declared.text_error.TextError.{TextError}
+use Rattle.scmi_board.specs.declared.text_error.TextError.TheVariants.{Board, Script, Memory}
 
 -- a refusal names a line of a board, or want of memory
 abbrev pub IsOfBoard : TextError → Type 0

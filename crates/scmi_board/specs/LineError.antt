@@ -1,9 +1,9 @@
 -- The refusal of an input by a line that was not read.
 use Rattle.std.specs.Prelude.{ℕ}
-use Rattle.scmi_text.specs.declared.line_error.LineError.{LineError}
-use Rattle.scmi_text.specs.declared.line_error.LineError.TheVariants.{Form, Memory}
-use Rattle.scmi_text.specs.declared.text_error.TextError.{TextError}
-use Rattle.scmi_text.specs.declared.text_error.TextError.TheVariants.{Board, Script, Memory as NoMemory}
+use Rattle.scmi_board.specs.declared.line_error.LineError.{LineError}
+use Rattle.scmi_board.specs.declared.line_error.LineError.TheVariants.{Form, Memory}
+use Rattle.scmi_board.specs.declared.text_error.TextError.{TextError}
+use Rattle.scmi_board.specs.declared.text_error.TextError.TheVariants.{Board, Script, Memory as NoMemory}
 
 -- where the line of this number is read as a board's
 abbrev pub board_refusal : LineError → ℕ → TextError

@@ -1,6 +1,6 @@
 //! The lines of an input, with their numbers.
 ghost use Rattle.std.specs.Prelude.{◌≡◌, ◌<◌, length, OnSome, IfSome, true, []};
-ghost use Rattle.scmi_text.specs.Lines.{is_significant};
+ghost use Rattle.scmi_board.specs.Lines.{is_significant};
 
 use std::marker::Model;
 
@@ -23,7 +23,7 @@ pub struct Lines<'a> {
 }
 
 impl<'a> Model for Lines<'a> {
-    ghost use Rattle.scmi_text.specs.Lines.{LinesView};
+    ghost use Rattle.scmi_board.specs.Lines.{LinesView};
 
     ghost Value = { LinesView };
 

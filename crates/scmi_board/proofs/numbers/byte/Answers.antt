@@ -1,6 +1,6 @@
 use Rattle.std.proofs.Common.{arith}
-use Rattle.scmi_text.proofs.NumberForms.{none_of_fewer, of_fewer}
-use Rattle.scmi_text.proofs.numbers.byte.Goals as goal
+use Rattle.scmi_board.proofs.NumberForms.{none_of_fewer, of_fewer}
+use Rattle.scmi_board.proofs.numbers.byte.Goals as goal
 
 pub returns-in_err-number : goal.returns-in_err-number
 returns-in_err-number c = rw c.from_residual.ensures (none_of_fewer 8 c.args.text.now (omega arith) c.in_err-number.ensures)

@@ -2,7 +2,7 @@
 use Rattle.std.proofs.Common.{ℕ, ◌<◌, ◌≤◌, ◌^◌, ◌≡◌, ◌≢◌, true, false, List, length, drop, Option, Some, None, SomeIff, Result, Ok, Err, slice_index, arith}
 use Rattle.std.specs.Result.{OkIff, result_ok}
 use Rattle.std.specs.Str.Parse.{IsNumeral, digits_value}
-use Rattle.scmi_text.specs.Number.{IsNumber, has_hexadecimal_mark, number_value}
+use Rattle.scmi_board.specs.Number.{IsNumber, has_hexadecimal_mark, number_value}
 
 -- behind `0x` stands a number of base 16
 pub hexadecimal : (text : List ℕ) (r : Option ℕ) → has_hexadecimal_mark text ≡ true → length text ≤ 18 → SomeIff r (IsNumeral 16 (drop 2 text) × (digits_value 16 (drop 2 text) < 2 ^ 64)) (digits_value 16 (drop 2 text)) → SomeIff r (IsNumber 64 text) (number_value text)

@@ -1,8 +1,8 @@
 use Rattle.std.proofs.Common.{arith}
 use Rattle.std.proofs.lemmas.Grind.{common_steps}
 use Rattle.std.proofs.lemmas.Int.Digits.{digits_value_more, digits_more}
-use Rattle.scmi_text.proofs.Digits.{all_digits_at, value_so_far}
-use Rattle.scmi_text.proofs.numbers.digits_value.Goals as goal
+use Rattle.scmi_board.proofs.Digits.{all_digits_at, value_so_far}
+use Rattle.scmi_board.proofs.numbers.digits_value.Goals as goal
 
 pub returns-in_err-digit : goal.returns-in_err-digit
 returns-in_err-digit c =

@@ -1,6 +1,6 @@
 //! Why one line was not read.
 ghost use Rattle.std.specs.Prelude.{◌≡◌};
-ghost use Rattle.scmi_text.specs.LineError.{board_refusal, script_refusal};
+ghost use Rattle.scmi_board.specs.LineError.{board_refusal, script_refusal};
 
 use crate::text_error::TextError;
 use std::alloc::AllocError;

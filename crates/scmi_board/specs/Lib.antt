@@ -1,0 +1,5 @@
+pub mod Agent
+pub mod LineError
+pub mod Lines
+pub mod Number
+pub mod TextError
