@@ -22,48 +22,48 @@ pub frame_of-good : (area : List ℕ) (header : HeaderFields) (words : List ℕ)
 frame_of-good area header words few el eh ew =
     rw (el, is_well_formed-true (length words) few, quarter (length words), eh, ew) refl
 
--- an area after a reply
-abbrev pub replied : List ℕ → ℕ → List ℕ → List ℕ
-replied area word words = put_word 0x04 1 (put_words 0x1C words (put_word 0x18 word (put_word 0x14 (4 + 4 * length words) area)))
+-- an area after a message of this header word and these payload words, and then a status word
+abbrev pub replied : List ℕ → ℕ → ℕ → List ℕ → List ℕ
+replied area status word words = put_word 0x04 status (put_words 0x1C words (put_word 0x18 word (put_word 0x14 (4 + 4 * length words) area)))
 
-pub StandsFor-replied : (area : List ℕ) (header : HeaderFields) (word : ℕ) (words : List ℕ) → length area ≡ 156 → length words ≤ 32
-    → AllByRecursion (λ w. w < 2 ^ 32) words → word < 2 ^ 32 → header_of word ≡ header
-    → StandsFor (replied area word words) 1 (Good (record { header = header; payload = record { items = words } }))
-StandsFor-replied area header word words size few small narrow unpacked =
+pub StandsFor-replied : (area : List ℕ) (header : HeaderFields) (status word : ℕ) (words : List ℕ) → length area ≡ 156 → length words ≤ 32
+    → AllByRecursion (λ w. w < 2 ^ 32) words → status < 2 ^ 32 → word < 2 ^ 32 → header_of word ≡ header
+    → StandsFor (replied area status word words) status (Good (record { header = header; payload = record { items = words } }))
+StandsFor-replied area header status word words size few small low narrow unpacked =
     let a : List ℕ = put_word 0x14 (4 + 4 * length words) area in
     let b : List ℕ = put_word 0x18 word a in
     let d : List ℕ = put_words 0x1C words b in
     let la : length a ≡ 156 = length-put_word 0x14 (4 + 4 * length words) area (omega arith) ∙ size in
     let lb : length b ≡ 156 = length-put_word 0x18 word a (omega arith) ∙ la in
     let ld : length d ≡ 156 = length-put_words 0x1C words b (omega arith) ∙ lb in
-    let el : length_at (put_word 0x04 1 d) ≡ 4 + 4 * length words =
-    word_at-put_word_other 0x04 1 d 0x14 (omega arith) (inr (omega arith))
+    let el : length_at (put_word 0x04 status d) ≡ 4 + 4 * length words =
+    word_at-put_word_other 0x04 status d 0x14 (omega arith) (inr (omega arith))
     ∙ word_at-put_words_other 0x1C words b 0x14 (omega arith) (omega arith)
     ∙ word_at-put_word_other 0x18 word a 0x14 (omega arith) (inl (omega arith))
     ∙ word_at-put_word 0x14 (4 + 4 * length words) area (omega arith) (omega arith) in
-    let eh : header_at (put_word 0x04 1 d) ≡ word =
-    word_at-put_word_other 0x04 1 d 0x18 (omega arith) (inr (omega arith))
+    let eh : header_at (put_word 0x04 status d) ≡ word =
+    word_at-put_word_other 0x04 status d 0x18 (omega arith) (inr (omega arith))
     ∙ word_at-put_words_other 0x1C words b 0x18 (omega arith) (omega arith)
     ∙ word_at-put_word 0x18 word a (omega arith) narrow in
-    let ew : words_at 0x1C (length words) (put_word 0x04 1 d) ≡ words =
-    words_at-put_word_other 0x04 1 d 0x1C (length words) (omega arith) (inr (omega arith))
+    let ew : words_at 0x1C (length words) (put_word 0x04 status d) ≡ words =
+    words_at-put_word_other 0x04 status d 0x1C (length words) (omega arith) (inr (omega arith))
     ∙ words_at-put_words 0x1C words b (omega arith) small in
     record {
-      status = word_at-put_word 0x04 1 d (omega arith) (omega arith);
-      frame = frame_of-good (put_word 0x04 1 d) header words few el (ap header_of eh ∙ unpacked) ew;
+      status = word_at-put_word 0x04 status d (omega arith) low;
+      frame = frame_of-good (put_word 0x04 status d) header words few el (ap header_of eh ∙ unpacked) ew;
     }
 
-pub kept-replied : (area : List ℕ) (word : ℕ) (words : List ℕ) (i : ℕ) → length area ≡ 156 → length words ≤ 32
+pub kept-replied : (area : List ℕ) (status word : ℕ) (words : List ℕ) (i : ℕ) → length area ≡ 156 → length words ≤ 32
     → (i < 0x04) ⊎ ((0x08 ≤ i) × (i < 0x14)) ⊎ (0x1C + 4 * length words ≤ i)
-    → get_or (replied area word words) i 0 ≡ get_or area i 0
-kept-replied area word words i size few apart =
+    → get_or (replied area status word words) i 0 ≡ get_or area i 0
+kept-replied area status word words i size few apart =
     let a : List ℕ = put_word 0x14 (4 + 4 * length words) area in
     let b : List ℕ = put_word 0x18 word a in
     let d : List ℕ = put_words 0x1C words b in
     let la : length a ≡ 156 = length-put_word 0x14 (4 + 4 * length words) area (omega arith) ∙ size in
     let lb : length b ≡ 156 = length-put_word 0x18 word a (omega arith) ∙ la in
     let ld : length d ≡ 156 = length-put_words 0x1C words b (omega arith) ∙ lb in
-    get_or-put_word 0x04 1 d i (omega arith) (away apart) ∙ get_or-put_words 0x1C words b i (omega arith) (away' apart)
+    get_or-put_word 0x04 status d i (omega arith) (away apart) ∙ get_or-put_words 0x1C words b i (omega arith) (away' apart)
     ∙ get_or-put_word 0x18 word a i (omega arith) (away'' apart) ∙ get_or-put_word 0x14 (4 + 4 * length words) area i (omega arith) (away3 apart)
   where
     Apart : Type 0

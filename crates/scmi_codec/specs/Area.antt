@@ -3,6 +3,7 @@ use Rattle.std.specs.Prelude.{Bool, ◌≡◌, ℕ, ◌+◌, ◌*◌, ◌/◌, �
 use Rattle.scmi_codec.specs.Word.{word_at, words_at, put_word, put_words}
 use Rattle.scmi_codec.specs.Header.{header_of, header_word}
 use Rattle.scmi_codec.specs.declared.payload.TheConstants.{PAYLOAD_WORDS}
+use Rattle.scmi_codec.specs.declared.message.Message.{Message}
 use Rattle.scmi_codec.specs.declared.frame.Frame.{Frame}
 use Rattle.scmi_codec.specs.declared.frame.Frame.TheVariants.{Good, Malformed}
 use Rattle.scmi_codec.specs.declared.frame.Answer.{Answer}
@@ -49,15 +50,27 @@ StandsForAnswer area frame (Reply m) = StandsFor area 1 (Good m)
 StandsForAnswer area frame Released = StandsFor area 1 frame
 StandsForAnswer area frame ChannelError = StandsFor area 3 frame
 
+-- a byte that is none of the status word, the length, the header and a message's payload
+abbrev pub IsOutside : Message → ℕ → Type 0
+IsOutside m i = (i < 0x04) ⊎ ((0x08 ≤ i) × (i < 0x14)) ⊎ (0x1C + 4 * length m.payload.items ≤ i)
+
 -- a byte that an answer doesn't touch
 abbrev pub IsKept : Answer → ℕ → Type 0
-IsKept (Reply m) i = (i < 0x04) ⊎ ((0x08 ≤ i) × (i < 0x14)) ⊎ (0x1C + 4 * length m.payload.items ≤ i)
+IsKept (Reply m) i = IsOutside m i
 IsKept Released i = (i < 0x04) ⊎ (0x08 ≤ i)
 IsKept ChannelError i = (i < 0x04) ⊎ (0x08 ≤ i)
 
+-- an area after a message was written into it, and then its status word
+abbrev pub written : ℕ → Message → List ℕ → List ℕ
+written status m area =
+    put_word 0x04 status (put_words 0x1C m.payload.items (put_word 0x18 (header_word m.header) (put_word 0x14 (4 + 4 * length m.payload.items) area)))
+
+-- an area after a caller posted a message: the channel is no longer free
+abbrev pub posted : Message → List ℕ → List ℕ
+posted m area = written 0 m area
+
 -- an area after an answer
 abbrev pub answered : Answer → List ℕ → List ℕ
-answered (Reply m) area =
-    put_word 0x04 1 (put_words 0x1C m.payload.items (put_word 0x18 (header_word m.header) (put_word 0x14 (4 + 4 * length m.payload.items) area)))
+answered (Reply m) area = written 1 m area
 answered Released area = put_word 0x04 1 area
 answered ChannelError area = put_word 0x04 3 area

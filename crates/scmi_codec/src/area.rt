@@ -2,9 +2,9 @@
 ghost use Rattle.std.specs.Prelude.{◌≡◌, ◌+◌, ◌*◌, ◌^◌, ◌<◌, ◌≤◌, ℕ, length, IsOk, OnOk, OnErr, IfErr, ◌↔◌, ◌≢◌, slice_index};
 ghost use Rattle.std.specs.List.{AllByRecursion};
 ghost use Rattle.scmi_codec.specs.Word.{words_at, put_words};
-ghost use Rattle.scmi_codec.specs.Area.{frame_of, arrived, answered, is_well_formed, StandsFor, StandsForAnswer, IsKept};
+ghost use Rattle.scmi_codec.specs.Area.{frame_of, arrived, answered, posted, written, is_well_formed, StandsFor, StandsForAnswer, IsKept, IsOutside};
 ghost use Rattle.scmi_codec.specs.declared.frame.Frame.TheVariants.{Good};
-ghost use Rattle.scmi_codec.specs.declared.frame.Answer.TheVariants.{Reply};
+ghost use Rattle.scmi_codec.specs.declared.area.TheConstants.{AREA_BYTES};
 ghost use Rattle.scmi_codec.specs.declared.payload.TheConstants.{PAYLOAD_WORDS};
 
 use crate::channel_status::ChannelStatus;
@@ -106,7 +106,7 @@ pub fn write_answer(area: &mut [u8], answer: &Answer) -> Result<(), AreaError>
         return Err(AreaError::WrongSize);
     }
     match answer {
-        Answer::Reply(message) => write_response(area, message),
+        Answer::Reply(message) => write_with_status(area, message, ChannelStatus::FREE.bits()),
         Answer::Released => write_word(area, STATUS_AT, ChannelStatus::FREE.bits()),
         Answer::ChannelError => {
             let status = ChannelStatus::FREE.union(ChannelStatus::ERROR);
@@ -116,18 +116,36 @@ pub fn write_answer(area: &mut [u8], answer: &Answer) -> Result<(), AreaError>
     Ok(())
 }
 
-/// Writes a response and status word 1.
-fn write_response(area: &mut [u8], message: &Message)
-    requires { length area.old ≡ 156 }
-    ensures written { area.new ≡ answered (Reply message.now) area.old }
-    ensures stands { StandsFor area.new 1 (Good message.now) }
-    ensures kept { (i : ℕ) → IsKept (Reply message.now) i → slice_index area.new i ≡ slice_index area.old i }
+/// Writes a message as a caller posts it: its length, header and payload words, and last the status
+/// word 0, so that the channel is no longer free; every other byte stays (own). `WrongSize` where there
+/// are not `AREA_BYTES` bytes, and then nothing is written.
+pub fn write_message(area: &mut [u8], message: &Message) -> Result<(), AreaError>
+    ensures size { IsOk result ↔ (length area.old ≡ AREA_BYTES) }
+    ensures written { OnOk result (area.new ≡ posted message.now area.old) }
+    ensures arrived { OnOk result (arrived area.new ≡ Some (Good message.now)) }
+    ensures kept { OnOk result ((i : ℕ) → IsOutside message.now i → slice_index area.new i ≡ slice_index area.old i) }
+    ensures err { OnErr result (area.new ≡ area.old) }
+    ensures wrong_size { IfErr result (λ e. e ≡ AreaError.WrongSize) }
+{
+    if area.len() != AREA_BYTES {
+        return Err(AreaError::WrongSize);
+    }
+    write_with_status(area, message, 0);
+    Ok(())
+}
+
+/// Writes a message, and then the status word.
+fn write_with_status(area: &mut [u8], message: &Message, status: u32)
+    requires { length area.old ≡ AREA_BYTES }
+    ensures written { area.new ≡ written status message.now area.old }
+    ensures stands { StandsFor area.new status (Good message.now) }
+    ensures kept { (i : ℕ) → IsOutside message.now i → slice_index area.new i ≡ slice_index area.old i }
 {
     let payload = &message.payload;
     write_word(area, LENGTH_AT, 4 + 4 * payload.len() as u32);
     write_word(area, HEADER_AT, message.header.pack());
     write_payload(area, payload);
-    write_word(area, STATUS_AT, ChannelStatus::FREE.bits());
+    write_word(area, STATUS_AT, status);
 }
 
 fn write_payload(area: &mut [u8], payload: &Payload)

@@ -1,8 +1,9 @@
 //! The messages of SCMI (DEN0056B, version 2.0) and their bytes in the shared area of a channel.
 //!
 //! The main types are `Message`, a header with its payload, and `Command`, what a message asks for.
-//! The main theorems are the contracts of `read_area` and `write_answer` (what the bytes of an area
-//! stand for, every other byte kept) and of `Command::read` and `pack` (each undoes the other).
+//! The main theorems are the contracts of `read_area`, `write_message` and `write_answer` (what the
+//! bytes of an area stand for, every other byte kept) and of `Command::read` and `pack` (each undoes
+//! the other).
 #![tactic(auto)]
 
 mod area;
@@ -22,7 +23,7 @@ mod rate_flags;
 mod status;
 mod word;
 
-pub use area::{AREA_BYTES, AreaError, is_well_formed, read_area, write_answer};
+pub use area::{AREA_BYTES, AreaError, is_well_formed, read_area, write_answer, write_message};
 pub use base_command::{BASE_PROTOCOL, BaseCommand};
 pub use channel_status::ChannelStatus;
 pub use clock_command::{CLOCK_PROTOCOL, ClockCommand};

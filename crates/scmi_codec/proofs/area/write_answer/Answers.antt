@@ -4,7 +4,7 @@ use Rattle.scmi_codec.proofs.area.write_answer.Goals as goal
 
 pub returns-in-Released-clause-stands : goal.returns-in-Released-clause-stands
 returns-in-Released-clause-stands c =
-    rw (c.in-Released.is, c.write_word.ensures, c.bits.ensures tt)
+    rw (c.in-Released.is, c.write_word.ensures, c.bits-in-Released.ensures tt)
     (StandsFor-status c.args.area.now 1 c.if-area-ne-AREA_BYTES.false (omega arith))
 
 pub returns-in-ChannelError-clause-stands : goal.returns-in-ChannelError-clause-stands
