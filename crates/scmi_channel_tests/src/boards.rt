@@ -17,7 +17,7 @@ const DEVICES: [(u32, u32); 2] = [(0b001, 0b001), (0b010, 0)];
 
 /// Agents `ap`, which is trusted, and `modem`; domains `cpu`, `gpu` and `usb`; clocks `core` and `bus`;
 /// a device of `cpu` and `core`, and one of `gpu`.
-pub fn reference_plan(alloc: Global) -> Result<Plan, Fail> {
+pub fn reference_board(alloc: Global) -> Result<RawPlan, Fail> {
     let mut raw = empty(alloc)?;
     for name in ["ap", "modem"] {
         add_agent(alloc, &mut raw, name)?;
@@ -27,6 +27,12 @@ pub fn reference_plan(alloc: Global) -> Result<Plan, Fail> {
     for (domains, clocks) in DEVICES {
         raw.devices.push(Device { domains, clocks })?;
     }
+    Ok(raw)
+}
+
+/// The plan of the reference board.
+pub fn reference_plan(alloc: Global) -> Result<Plan, Fail> {
+    let raw = reference_board(alloc)?;
     Ok(Plan::check(alloc, &raw)?)
 }
 

@@ -13,6 +13,8 @@ mod controller_calls;
 #[cfg(test)]
 mod core_calls;
 #[cfg(test)]
+mod example;
+#[cfg(test)]
 mod exchanges;
 #[cfg(test)]
 mod gaps;
