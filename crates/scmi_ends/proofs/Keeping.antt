@@ -28,6 +28,8 @@ use Rattle.scmi_ends.specs.Each.{AllFrom}
 use Rattle.scmi_ends.specs.Kept.{ExecutesNoneAfter, StayShut, IsServed, IsDelivered, Keeps}
 use Rattle.scmi_ends.specs.Serve.{ServesOne}
 use Rattle.scmi_ends.specs.Flush.{FlushesOne, CollectsAndFlushes}
+use Rattle.scmi_link.specs.declared.closing.Closing.{Closing}
+use Rattle.scmi_link.specs.declared.close_error.CloseError.{CloseError}
 use Rattle.scmi_ends.specs.Shut.{ShutsOne, CollectsAndShuts}
 use Rattle.scmi_ends.proofs.Lists.{at_place, map_at_set, map_same}
 use Rattle.scmi_ends.proofs.Places.{view_at}
@@ -176,9 +178,9 @@ collects_posted v (collected.Got answer) w s = ap (λ u. u.posted) s.read
 collects_posted v collected.Closed w s = ap (λ u. u.posted) s.told
 
 -- a close posts nothing
-pub shuts_posted : (v : CallerView) (r : Result (Unit {0}) ShutError) (w : CallerView) → CollectsAndShuts v r w → w.posted ≡ v.posted
-shuts_posted v r w s = after r s.step ∙ collects_posted v s.answer s.collected s.collects where
-  after : (r : Result (Unit {0}) ShutError) → ShutsOne s.collected r w → w.posted ≡ s.collected.posted
+pub shuts_posted : (shows : CallerView → Result Closing CloseError → Type 0) (v : CallerView) (r : Result (Unit {0}) ShutError) (w : CallerView) → CollectsAndShuts shows v r w → w.posted ≡ v.posted
+shuts_posted shows v r w s = after r s.step ∙ collects_posted v s.answer s.collected s.collects where
+  after : (r : Result (Unit {0}) ShutError) → ShutsOne shows s.collected r w → w.posted ≡ s.collected.posted
   after (Ok done) t = elim t [ inl idle ↦ ap (λ u. u.posted) idle.1 | inr withdrawn ↦ ap (λ u. u.posted) withdrawn.1 ]
   after (Err shut.NoAgent) t = absurd t
   after (Err shut.InService) t = ap (λ u. u.posted) t.1

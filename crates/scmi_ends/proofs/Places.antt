@@ -5,6 +5,8 @@ use Rattle.std.proofs.lemmas.Bool.{false≢true}
 use Rattle.std.specs.Prelude.{slice_get, Option, Some, None, is_some, [], ◌∷◌}
 use Rattle.std.specs.Option.{option_or}
 use Rattle.scmi_link.specs.View.{CallerView, CalleeView, new_caller, new_callee}
+use Rattle.scmi_link.specs.declared.closing.Closing.{Closing}
+use Rattle.scmi_link.specs.declared.close_error.CloseError.{CloseError}
 use Rattle.scmi_plan.specs.Board.{Board}
 use Rattle.scmi_core.specs.declared.event.Event.{Event}
 use Rattle.scmi_ends.specs.declared.served.Served.{Served}
@@ -42,8 +44,8 @@ module _ {D : Type 0} (f : D → CallerView) (ds : List D) (a : ℕ) (x d : D) (
 module _ {D E : Type 0} (f : D → CallerView) (k : E → CalleeView) (ds : List D) (es : List E) (a : ℕ) (x d : D) (y e : E) (board : Board) (h : List Event) (an an' pn pn' : List (List ℕ))
     (lt : a - 1 < length ds) (is : x ≡ get_or ds (a - 1) x) (ep : pn' ≡ pn) (lt' : a - 1 < length es) (is' : y ≡ get_or es (a - 1) y) (ea : an' ≡ an) (closed : k e ≡ record (k y) { closed = true })
     (ps : List (Option ℕ)) (p p' : Option ℕ) (lt'' : a - 1 < length ps) (is'' : p ≡ get_or ps (a - 1) p) (noted : p' ≡ option_or p (Some (length h))) where
-  pub shuts : (r : Result (Unit {0}) ShutError) → CollectsAndShuts (f x) r (f d) → Shuts a (whole board h (map k es) (map f ds) ps an pn) r (whole board h (map k (set es (a - 1) e)) (map f (set ds (a - 1) d)) (set ps (a - 1) p') an' pn')
-  shuts r s = rw (ep, ea, map_at_set f ds (a - 1) d, map_at_set k es (a - 1) e, closed, noted) (record {
+  pub shuts : (shows : CallerView → Result Closing CloseError → Type 0) (r : Result (Unit {0}) ShutError) → CollectsAndShuts shows (f x) r (f d) → Shuts shows a (whole board h (map k es) (map f ds) ps an pn) r (whole board h (map k (set es (a - 1) e)) (map f (set ds (a - 1) d)) (set ps (a - 1) p') an' pn')
+  shuts shows r s = rw (ep, ea, map_at_set f ds (a - 1) d, map_at_set k es (a - 1) e, closed, noted) (record {
     caller = f d;
     step = rw (view_at f ds (a - 1) x new_caller lt is) s;
     same = rw (view_at k es (a - 1) y new_callee lt' is', item_at ps (a - 1) p None lt'' is'') refl;

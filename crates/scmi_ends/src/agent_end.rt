@@ -4,6 +4,7 @@ ghost use Rattle.scmi_codec.specs.Area.{is_well_formed};
 ghost use Rattle.scmi_codec.specs.declared.frame.Frame.TheVariants.{Good, Malformed};
 ghost use Rattle.scmi_link.specs.View.{IsOutstanding, is_shut, new_caller, new_callee};
 ghost use Rattle.scmi_link.specs.Calls.{IsRefused, Collects, collected_by, frame_if};
+ghost use Rattle.scmi_ends.specs.Shut.{ShowsClose};
 
 use crate::link::Link;
 use scmi_codec::{Answer, Frame, Header, Message, Payload};
@@ -205,6 +206,7 @@ impl<C: Channel> AgentEnd<C> {
         ensures idle { result ≡ Ok Closing.Idle → ¬ (IsOutstanding self.old.caller) × (self.new ≡ record self.old { caller = record (self.old.caller) { closed = true }; callee = record (self.old.callee) { closed = true } }) }
         ensures withdrawn { result ≡ Ok Closing.Withdrawn → IsOutstanding self.old.caller × (self.new ≡ record self.old { caller = record (self.old.caller) { closed = true; left = true }; callee = record (self.old.callee) { closed = true } }) }
         ensures err { OnErr result (IsOutstanding self.old.caller × (self.new ≡ self.old)) }
+        ensures shows { ShowsClose C.caller_view C.close_shows self.new.caller result }
     {
         let closing = link.a2p.close_caller(&mut self.caller)?;
         let Ok(()) = link.p2a.close_callee(&mut self.callee) else {

@@ -49,7 +49,7 @@ impl<C: Channel> Controller<C> {
     ghost use Rattle.scmi_ends.specs.Kept.{IsKept};
     ghost use Rattle.scmi_ends.specs.Serve.{Serves};
     ghost use Rattle.scmi_ends.specs.Flush.{Flushes};
-    ghost use Rattle.scmi_ends.specs.Shut.{Shuts};
+    ghost use Rattle.scmi_ends.specs.Shut.{Shuts, ShowsClose};
 
     /// Makes room in the trace, takes one frame off an agent's A2P channel, executes it and answers it.
     ///
@@ -84,8 +84,8 @@ impl<C: Channel> Controller<C> {
     }
 
     /// Completes the first pending set and adds that to the history (own); `Ok(false)` where nothing is
-    /// pending. `Memory` where the trace could not grow is the only refusal. After it, and after
-    /// `Ok(false)`, nothing changed.
+    /// pending. `Memory` where a set is pending and the trace could not grow is the only refusal. After
+    /// it, and after `Ok(false)`, nothing changed.
     pub fn advance(&mut self) -> Result<bool, ServeError>
         ensures kept { IsKept self.new }
         ensures board { self.new.board ≡ self.old.board }
@@ -93,11 +93,8 @@ impl<C: Channel> Controller<C> {
         ensures event { IfOk result (λ did. IsTrue did → self.new ≡ record self.old { history = self.old.history ++ event.Advance ∷ [] }) }
         ensures same { IfOk result (λ did. ¬ (IsTrue did) → self.new ≡ self.old) }
         ensures err { OnErr result (self.new ≡ self.old) }
-        ensures memory { IfErr result (λ error. error ≡ ServeError.Memory) }
+        ensures memory { IfErr result (λ error. (error ≡ ServeError.Memory) × (pending self.old.board (deeds self.old.board self.old.history) ≢ [])) }
     {
-        let Ok(()) = self.core.reserve() else {
-            return Err(ServeError::Memory);
-        };
         match self.core.advance() {
             Ok(did) => Ok(did),
             Err(_) => Err(ServeError::Memory),
@@ -146,7 +143,7 @@ impl<C: Channel> Controller<C> {
         ensures links { IsOfLinks (map (λ link. C.name link.a2p) links.now) (map (λ link. C.name link.p2a) links.now) self.new }
         ensures kept { IsKept self.new }
         ensures board { self.new.board ≡ self.old.board }
-        ensures shuts { result ≢ Err ShutError.NoAgent → Shuts agent self.old result self.new }
+        ensures shuts { result ≢ Err ShutError.NoAgent → Shuts (ShowsClose C.caller_view C.close_shows) agent self.old result self.new }
         ensures no_agent { (result ≡ Err ShutError.NoAgent) ↔ ((agent ≡ 0) ⊎ (length self.old.board.agents < agent)) }
         ensures unchanged { result ≡ Err ShutError.NoAgent → self.new ≡ self.old }
     {

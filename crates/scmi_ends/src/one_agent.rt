@@ -6,7 +6,7 @@ ghost use Rattle.scmi_core.specs.Agents.{IsAgent};
 ghost use Rattle.scmi_core.specs.Legal.{IsLegal};
 ghost use Rattle.scmi_ends.specs.Serve.{ServesOne};
 ghost use Rattle.scmi_ends.specs.Flush.{CollectsAndFlushes};
-ghost use Rattle.scmi_ends.specs.Shut.{CollectsAndShuts};
+ghost use Rattle.scmi_ends.specs.Shut.{CollectsAndShuts, ShowsClose};
 
 use crate::flushed::Flushed;
 use crate::link::Link;
@@ -98,7 +98,7 @@ pub(crate) fn shut_one<C: Channel>(
     ensures p2a { C.caller_name caller.new ≡ C.caller_name caller.old }
     ensures closes { C.callee_view callee.new ≡ record (C.callee_view callee.old) { closed = true } }
     ensures closed_at { closed_at.new ≡ option_or closed_at.old (Some events) }
-    ensures step { CollectsAndShuts (C.caller_view caller.old) result (C.caller_view caller.new) }
+    ensures step { CollectsAndShuts (ShowsClose C.caller_view C.close_shows) (C.caller_view caller.old) result (C.caller_view caller.new) }
 {
     let Ok(()) = link.a2p.close_callee(callee) else {
         unreachable!()

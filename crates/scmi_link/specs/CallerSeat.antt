@@ -1,11 +1,15 @@
 -- What a contract sees of the caller's ends of a pair of rings.
-use Rattle.std.specs.Prelude.{◌≡◌, ℕ, List}
+use Rattle.std.specs.Prelude.{◌≡◌, ℕ, List, Result, Ok, Err}
 use Rattle.rtrb.specs.Ring.{sent, received, SameProducer, SameConsumer, IsPair}
 use Rattle.scmi_link.specs.View.{CallerView}
 use Rattle.scmi_link.specs.Note.{said}
 use Rattle.scmi_link.specs.Rings.{rings_name}
 use Rattle.scmi_link.specs.declared.rings.Rings.{Rings}
 use Rattle.scmi_link.specs.declared.caller_seat.CallerSeat.{CallerSeat}
+use Rattle.scmi_link.specs.declared.closing.Closing.{Closing}
+use Rattle.scmi_link.specs.declared.closing.Closing.TheVariants.{Idle, Withdrawn}
+use Rattle.scmi_link.specs.declared.close_error.CloseError.{CloseError}
+use Rattle.scmi_link.specs.declared.close_error.CloseError.TheVariants.{InService, ReplyWaiting}
 
 -- what the caller has done
 abbrev pub caller_seat_view : CallerSeat → CallerView
@@ -29,3 +33,10 @@ pub record IsCallerOf (name : List ℕ) (c : CallerSeat) : Type 0 where
   pub name_is : rings_name rings ≡ name
   pub posts_into : SameProducer rings.frames.value c.frames
   pub reads_from : IsPair rings.answers.value c.answers
+
+-- how a close may end
+abbrev pub IsIdleOrInService : Result Closing CloseError → Type 0
+IsIdleOrInService (Ok Idle) = Unit {0}
+IsIdleOrInService (Ok Withdrawn) = ⊥
+IsIdleOrInService (Err InService) = Unit {0}
+IsIdleOrInService (Err ReplyWaiting) = ⊥

@@ -1,7 +1,9 @@
 -- What a contract sees of the caller's end of a ring channel.
-use Rattle.std.specs.Prelude.{ℕ, List}
+use Rattle.std.specs.Prelude.{ℕ, List, Result}
 use Rattle.scmi_link.specs.View.{CallerView}
-use Rattle.scmi_link.specs.CallerSeat.{caller_seat_view}
+use Rattle.scmi_link.specs.CallerSeat.{caller_seat_view, IsIdleOrInService}
+use Rattle.scmi_link.specs.declared.closing.Closing.{Closing}
+use Rattle.scmi_link.specs.declared.close_error.CloseError.{CloseError}
 use Rattle.scmi_link.specs.declared.ring_caller.RingCaller.{RingCaller}
 
 -- what the caller has done
@@ -11,3 +13,7 @@ ring_caller_view c = caller_seat_view c.seat
 -- the name of the channel that made it
 abbrev pub ring_caller_name : RingCaller → List ℕ
 ring_caller_name c = c.name.numbers
+
+-- a ring takes no frame back and does not look for its answer: a close is idle, or refused as in service
+abbrev pub ring_close_shows : RingCaller → Result Closing CloseError → Type 0
+ring_close_shows c result = IsIdleOrInService result

@@ -38,7 +38,7 @@ impl CallerSeat {
     ghost use Rattle.scmi_codec.specs.declared.frame.Frame.TheVariants.{Good, Malformed};
     ghost use Rattle.scmi_link.specs.View.{IsOutstanding, is_shut};
     ghost use Rattle.scmi_link.specs.Calls.{IsRefused, Collects, collected_by};
-    ghost use Rattle.scmi_link.specs.CallerSeat.{caller_seat_view, SameCallerRings};
+    ghost use Rattle.scmi_link.specs.CallerSeat.{caller_seat_view, SameCallerRings, IsIdleOrInService};
 
     // Posts a message of this header and payload.
     pub(crate) fn post_parts(&mut self, header: Header, payload: &Payload) -> Result<(), PostError>
@@ -168,6 +168,7 @@ impl CallerSeat {
         ensures idle { result ≡ Ok Closing.Idle → ¬ IsOutstanding (caller_seat_view self.old) × (caller_seat_view self.new ≡ record (caller_seat_view self.old) { closed = true }) }
         ensures withdrawn { ¬ (result ≡ Ok Closing.Withdrawn) }
         ensures err { OnErr result (IsOutstanding (caller_seat_view self.old) × (caller_seat_view self.new ≡ caller_seat_view self.old)) }
+        ensures shows { IsIdleOrInService result }
     {
         if self.waiting {
             return Err(CloseError::InService);

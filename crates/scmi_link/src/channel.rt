@@ -1,5 +1,5 @@
 //! What a channel promises, whatever it is made of.
-ghost use Rattle.std.specs.Prelude.{◌≡◌, ◌↔◌, ◌⊎◌, ℕ, Bool, true, false, List, [], ◌∷◌, ◌++◌, IsTrue, OnOk, OnErr, IfOk};
+ghost use Rattle.std.specs.Prelude.{◌≡◌, ◌↔◌, ◌⊎◌, ℕ, Bool, true, false, List, [], ◌∷◌, ◌++◌, IsTrue, Result, OnOk, OnErr, IfOk};
 ghost use Rattle.scmi_codec.specs.Area.{is_well_formed};
 ghost use Rattle.scmi_codec.specs.declared.frame.Frame.TheVariants.{Good, Malformed};
 ghost use Rattle.scmi_codec.specs.declared.frame.Answer.TheVariants.{Reply};
@@ -49,6 +49,12 @@ pub trait Channel: Sync + Drop {
     ghost caller_view: { Self.Caller → CallerView };
 
     ghost callee_view: { Self.Callee → CalleeView };
+
+    ghost use Rattle.scmi_link.specs.declared.closing.Closing.{Closing};
+    ghost use Rattle.scmi_link.specs.declared.close_error.CloseError.{CloseError};
+
+    // What a close of the caller's end shows by its answer: each kind of channel says it.
+    ghost close_shows: { Self.Caller → Result Closing CloseError → Type 0 };
 
     /// A channel and its two ends, with nothing posted. `Memory` where there was none for it.
     fn make(alloc: Global) -> Result<(Self, Self::Caller, Self::Callee), LinkError>
@@ -196,13 +202,15 @@ pub trait Channel: Sync + Drop {
     /// `Idle` where nothing was outstanding or the end is closed already; `Withdrawn` where the
     /// outstanding frame was not taken and never will be: it is outstanding no more. `InService`
     /// where the outstanding frame was taken, or the channel cannot take it back; `ReplyWaiting`
-    /// where its answer stands to be collected. After a refusal the end is not closed.
+    /// where its answer stands to be collected. After a refusal the end is not closed. What tells one
+    /// answer from another is said by each kind of channel.
     fn close_caller(&self, caller: &mut Self::Caller) -> Result<Closing, CloseError>
         requires { caller_name caller.old ≡ name self.now }
         ensures name { caller_name caller.new ≡ caller_name caller.old }
         ensures idle { result ≡ Ok Closing.Idle → ¬ IsOutstanding (caller_view caller.old) × (caller_view caller.new ≡ record (caller_view caller.old) { closed = true }) }
         ensures withdrawn { result ≡ Ok Closing.Withdrawn → IsOutstanding (caller_view caller.old) × (caller_view caller.new ≡ record (caller_view caller.old) { closed = true; left = true }) }
-        ensures err { OnErr result (IsOutstanding (caller_view caller.old) × (caller_view caller.new ≡ caller_view caller.old)) };
+        ensures err { OnErr result (IsOutstanding (caller_view caller.old) × (caller_view caller.new ≡ caller_view caller.old)) }
+        ensures shows { close_shows caller.new result };
 
     /// Closes the callee's end. `InService` where the callee owes an answer, and then the end is not
     /// closed. Closing twice is `Ok`.

@@ -45,7 +45,7 @@ impl Channel for RingChannel {
     type Rest = ();
 
     ghost use Rattle.scmi_link.specs.RingChannel.{ring_name};
-    ghost use Rattle.scmi_link.specs.RingCaller.{ring_caller_view, ring_caller_name};
+    ghost use Rattle.scmi_link.specs.RingCaller.{ring_caller_view, ring_caller_name, ring_close_shows};
     ghost use Rattle.scmi_link.specs.RingCallee.{ring_callee_view, ring_callee_name};
 
     ghost FULL = { true };
@@ -61,6 +61,8 @@ impl Channel for RingChannel {
     ghost caller_view = { ring_caller_view };
 
     ghost callee_view = { ring_callee_view };
+
+    ghost close_shows = { ring_close_shows };
 
     fn make(alloc: Global) -> Result<(RingChannel, RingCaller, RingCallee), LinkError> {
         let Ok((frames, posted)) = RingBuffer::<Frame>::new(alloc, FRAME_PLACES) else {

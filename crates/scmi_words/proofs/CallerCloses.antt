@@ -146,8 +146,8 @@ module _ (words : List ℕ) (h : CallerHalf) (k : CalleeHalf) (waits : h.state.p
   Refused = (h' : CallerHalf) × Rule words h' k × Refuses h (get_or words 0 0) h'
 
   sees_taken : Rule words h k → IsTaken words h.state k.state → Refused
-  sees_taken r x = let h' = caller_saw_taken h in let n : get_or words 0 0 ≡ TAKEN = x.status ∙ (λ i. status_word Mark.taken (x.unclosed.0 i || x.unclosed.1 i)) in let e = ap length x.taken in let shown = r.shown in
-      (h', counts words h h' k r refl (refl, refl) r.caller_told (omega arith, shown.1), inl (n, refl))
+  sees_taken r x = let h' = caller_saw_taken h in let n : get_or words 0 0 ≡ TAKEN = x.status ∙ (λ i. status_word Mark.taken (x.unclosed.0 i || x.unclosed.1 i)) in let e = ap length x.taken in let f = x.answered in let shown = r.shown in
+      (h', counts words h h' k r refl (refl, refl) r.caller_told (omega arith, shown.1), inl (n, refl, omega arith))
 
   sees_answered : Rule words h k → IsAnswered words h.state k.state → Refused
   sees_answered r x = let h' = caller_saw_answered h in let odd : get_or words 0 0 % 2 ≡ 1 = ap (λ (z : ℕ). z % 2) x.status ∙ answer_odd x.answer (h.state.closed || k.state.closed) in let e = ap length x.taken in let f = x.answered in

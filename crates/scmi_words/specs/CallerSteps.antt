@@ -103,7 +103,7 @@ Sees half n half' =
 -- a withdrawal fails where the frame was taken, or answered, or the callee has closed
 abbrev pub Refuses : CallerHalf → ℕ → CallerHalf → Type 0
 Refuses half n half' =
-    ((n ≡ TAKEN) × (half' ≡ caller_saw_taken half))
+    ((n ≡ TAKEN) × (half' ≡ caller_saw_taken half) × (half.shown_answered < length half.state.posted))
     ⊎ (((n % 2 ≡ FREE) × (half' ≡ caller_saw_answered half))
     ⊎ ((n ≡ CLOSED) × (half' ≡ caller_stranded half)))
 

@@ -63,9 +63,9 @@ abbrev pub WhyNothing : WordCaller → Collected → WordCaller → Type 0
 WhyNothing old Nothing new = SawNothing old new
 WhyNothing old _ new = Unit {0}
 
--- what a close shows: a withdrawal, the phase for which the area has status 1 and the frame; a refusal, that the last post was taken, or that it was answered
-abbrev pub CloseShows : Result Closing CloseError → WordCaller → Type 0
-CloseShows (Ok closing.Idle) caller = Unit {0}
-CloseShows (Ok closing.Withdrawn) caller = IsWithdrawn caller
-CloseShows (Err InService) caller = (caller_half caller).shown_taken ≡ length (caller_half caller).state.posted
-CloseShows (Err ReplyWaiting) caller = (caller_half caller).shown_answered ≡ length (caller_half caller).state.posted
+-- what a close shows: a withdrawal, the phase for which the area has status 1 and the frame; a refusal, that the last post was taken and no answer to it shown, or that it was answered
+abbrev pub CloseShows : WordCaller → Result Closing CloseError → Type 0
+CloseShows caller (Ok closing.Idle) = Unit {0}
+CloseShows caller (Ok closing.Withdrawn) = IsWithdrawn caller
+CloseShows caller (Err InService) = ((caller_half caller).shown_taken ≡ length (caller_half caller).state.posted) × ((caller_half caller).shown_answered < length (caller_half caller).state.posted)
+CloseShows caller (Err ReplyWaiting) = (caller_half caller).shown_answered ≡ length (caller_half caller).state.posted

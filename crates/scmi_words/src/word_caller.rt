@@ -190,7 +190,7 @@ impl WordCaller {
         ensures idle { result ≡ Ok Closing.Idle → ¬ IsOutstanding (word_caller_view self.old) × (word_caller_view self.new ≡ record (word_caller_view self.old) { closed = true }) }
         ensures withdrawn { result ≡ Ok Closing.Withdrawn → IsOutstanding (word_caller_view self.old) × (word_caller_view self.new ≡ record (word_caller_view self.old) { closed = true; left = true }) }
         ensures err { OnErr result (IsOutstanding (word_caller_view self.old) × (word_caller_view self.new ≡ word_caller_view self.old)) }
-        ensures shows { CloseShows result self.new }
+        ensures shows { CloseShows self.new result }
         ensures withdrawn_stays { IsWithdrawn self.old → IsWithdrawn self.new }
         ensures draft { HasNoDraft self.old → HasNoDraft self.new }
         ensures steps { (caller_half self.new).steps ≤ (caller_half self.old).steps + 2 }

@@ -23,9 +23,9 @@ use std::alloc::Global;
 /// words of the message handed in or out, and each close at most 3. A `collect_into` that gives
 /// `Nothing` has looked at the status, and so has a `take_into` that gives nothing while no answer is
 /// owed and no close is known. A `close_caller` that withdraws leaves the phase `Withdrawn`, for which
-/// the area has status 1 and the frame; one that is refused shows that the post was taken, or that it
-/// was answered. What `gather` leaves stands for the last answer, or for the last frame where it was
-/// left untaken. `post`, `collect` and `take` are the trait's, by these calls.
+/// the area has status 1 and the frame; one that is refused shows that the post was taken and not
+/// answered, or that it was answered. What `gather` leaves stands for the last answer, or for the last
+/// frame where it was left untaken. `post`, `collect` and `take` are the trait's, by these calls.
 #[derive(Drop)]
 pub struct WordChannel {
     pub(crate) table: SharedTable,
@@ -89,6 +89,8 @@ impl Channel for WordChannel {
     ghost caller_view = { word_caller_view };
 
     ghost callee_view = { word_callee_view };
+
+    ghost close_shows = { CloseShows };
 
     fn make(alloc: Global) -> Result<(WordChannel, WordCaller, WordCallee), LinkError>
         ensures name { IfOk result (λ r. (word_caller_name r.1 ≡ word_channel_name r.0) × (word_callee_name r.2 ≡ word_channel_name r.0)) }
@@ -221,7 +223,7 @@ impl Channel for WordChannel {
         ensures idle { result ≡ Ok Closing.Idle → ¬ IsOutstanding (word_caller_view caller.old) × (word_caller_view caller.new ≡ record (word_caller_view caller.old) { closed = true }) }
         ensures withdrawn { result ≡ Ok Closing.Withdrawn → IsOutstanding (word_caller_view caller.old) × (word_caller_view caller.new ≡ record (word_caller_view caller.old) { closed = true; left = true }) }
         ensures err { OnErr result (IsOutstanding (word_caller_view caller.old) × (word_caller_view caller.new ≡ word_caller_view caller.old)) }
-        ensures shows { CloseShows result caller.new }
+        ensures shows { CloseShows caller.new result }
         ensures withdrawn_stays { IsWithdrawn caller.old → IsWithdrawn caller.new }
         ensures draft { HasNoDraft caller.old → HasNoDraft caller.new }
         ensures steps { (caller_half caller.new).steps ≤ (caller_half caller.old).steps + 2 }

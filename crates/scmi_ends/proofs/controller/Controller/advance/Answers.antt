@@ -5,10 +5,10 @@ use Rattle.scmi_ends.proofs.controller.Controller.advance.Goals as goal
 use Rattle.scmi_ends.proofs.controller.Controller.advance.Goals.{After-advance}
 
 keeps : (g : _) (c : After-advance g) → Keeps c.advance.new.self.board c.advance.new.self.history (map g.C.Channel.callee_view c.self.inside.callees.items) (map g.C.Channel.caller_view c.self.inside.callers.items) c.self.inside.closed_at.items
-keeps g c = kept_after c.reserve.new.self c.advance.new.self _ _ _ c.advance.result (rw (c.reserve.ensures.board, c.reserve.ensures.history) c.self.invariant) c.advance.ensures.board c.advance.ensures.legal c.advance.ensures.event c.advance.ensures.same c.advance.ensures.err
+keeps g c = kept_after c.self.inside.core c.advance.new.self _ _ _ c.advance.result c.self.invariant c.advance.ensures.board c.advance.ensures.legal c.advance.ensures.event c.advance.ensures.same c.advance.ensures.err
 
-pub invariant_of-self-2 : goal.invariant_of-self-2
-invariant_of-self-2 g c = keeps g (goal.at.invariant_of-self-2 g c).After-advance
+pub invariant_of-self : goal.invariant_of-self
+invariant_of-self g c = keeps g (goal.at.invariant_of-self g c).After-advance
 
 pub returns-clause-kept : goal.returns-clause-kept
 returns-clause-kept g c = keeps g (goal.at.returns-clause-kept g c).After-advance

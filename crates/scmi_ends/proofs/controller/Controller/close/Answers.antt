@@ -39,7 +39,7 @@ keeps g c =
     let closed = kept_close g.C.Channel.callee_view c.self.inside.core.board c.args.agent i c.self.inside.callees.items (map g.C.Channel.caller_view c.self.inside.callers.items) c.self.inside.closed_at.items c.index_mut.result.now c.shut_one.new.callee c.self.inside.core.history (omega arith) (within g c.before.before.before) c.index_mut.ensures.value c.self.invariant c.shut_one.ensures.closes in
     kept_caller g.C.Channel.caller_view c.self.inside.core.board c.args.agent i callees c.self.inside.callers.items places c.index_mut-2.result.now c.shut_one.new.caller c.self.inside.core.history (omega arith) (within_p2a g c.before.before.before) c.index_mut-2.ensures.value
     (rw (noted_here g c) closed)
-    (shuts_posted _ c.shut_one.result _ c.shut_one.ensures.step)
+    (shuts_posted _ _ c.shut_one.result _ c.shut_one.ensures.step)
 
 pub shut_one-requires-clause-a2p : goal.shut_one-requires-clause-a2p
 shut_one-requires-clause-a2p g c κs inside = name_at g.C.Channel.callee_name (λ l. g.C.Channel.name l.a2p) c.self.inside.callees.items c.args.links.now (c.args.agent - 1) c.index_mut.result.now c.index-links-index.result (names g c.before.before) (within g c.before.before) c.index_mut.ensures.value ∙ sym (ap (λ l. g.C.Channel.name l.a2p) c.index-links-index.is)
@@ -72,4 +72,4 @@ returns-clause-shuts g c = λ other. let at = (goal.at.returns-clause-shuts g c)
     (map_same g.C.Channel.callee_name c.self.inside.callees.items (c.args.agent - 1) c.index_mut.result.now c.shut_one.new.callee (within g at) c.index_mut.ensures.value c.shut_one.ensures.a2p)
     c.shut_one.ensures.closes
     c.self.inside.closed_at.items c.index_mut-3.result.now c.shut_one.new.closed_at (within_places g at) c.index_mut-3.ensures.value (noted g (goal.at.returns-clause-shuts g c).After-shut_one)
-    c.shut_one.result c.shut_one.ensures.step)
+    _ c.shut_one.result c.shut_one.ensures.step)
