@@ -1,17 +1,17 @@
-/* The shared area of DEN0056B with a payload of 32 words: 156 bytes, little-endian. */
+/* The shared area of DEN0056B with a payload of 64 words: 284 bytes, little-endian. */
 #ifndef INTEROP_AREA_H
 #define INTEROP_AREA_H
 #include <stdint.h>
 #include <string.h>
 
 enum {
-	AREA_BYTES = 156,
 	AREA_STATUS = 0x04,
 	AREA_FLAGS = 0x10,
 	AREA_LENGTH = 0x14,
 	AREA_HEADER = 0x18,
 	AREA_PAYLOAD = 0x1c,
-	PAYLOAD_WORDS = 32,
+	PAYLOAD_WORDS = 64,
+	AREA_BYTES = AREA_PAYLOAD + 4 * PAYLOAD_WORDS,
 };
 
 enum { STATUS_FREE = 1, STATUS_ERROR = 2 };

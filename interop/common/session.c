@@ -12,6 +12,9 @@
 #include <stdio.h>
 #include <stdlib.h>
 
+/* The longest line: a few words, and each word of a message in ten digits and a space. */
+enum { LINE_BYTES = 64 + 11 * (1 + PAYLOAD_WORDS) };
+
 static const char *kind, *program, *board;
 static char script[1 << 18];
 static char answers[1 << 18];
@@ -50,7 +53,7 @@ static char *after_lines(char *text, unsigned int count)
 /* Appends steps and runs the script; shows what is new in it, and gives the last line. */
 static char *step(const char *steps, unsigned int count)
 {
-	static char last[1024];
+	static char last[LINE_BYTES];
 	char *output, *new, *end;
 
 	if (strlen(script) + strlen(steps) >= sizeof(script))
@@ -112,7 +115,7 @@ static char *words_after(char *line, const char *word)
 
 static void session_answer(uint8_t *area)
 {
-	char post[1024], steps[1100], *line, *words;
+	char post[LINE_BYTES], steps[LINE_BYTES + 64], *line, *words;
 
 	posting(post, sizeof(post), area);
 	snprintf(steps, sizeof(steps), "%sserve %d\ncollect %d\n", post, AGENT, AGENT);

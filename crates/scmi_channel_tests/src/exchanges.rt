@@ -3,47 +3,20 @@
 use crate::areas::{Left, is_left};
 use crate::messages::{HEADER, command, message};
 use crate::pair::Pair;
-use scmi_codec::{Answer, Frame};
+use scmi_codec::{Answer, Frame, PAYLOAD_WORDS};
 use scmi_link::{Channel, Collected, Looked, PostError, RingChannel};
 use scmi_words::WordChannel;
 use std::process::Abort;
 use std::test::Fail;
 
-/// Payload words of a message.
-const WORDS: [u32; 32] = [
-    1,
-    2,
-    3,
-    4,
-    5,
-    6,
-    7,
-    8,
-    9,
-    10,
-    11,
-    12,
-    13,
-    14,
-    15,
-    16,
-    17,
-    18,
-    19,
-    20,
-    21,
-    22,
-    23,
-    24,
-    25,
-    26,
-    27,
-    28,
-    29,
-    30,
-    31,
-    0xffff_ffff,
-];
+/// Payload words of a message that are all different.
+fn words() -> [u32; PAYLOAD_WORDS] {
+    let mut words = [0xffff_ffff; PAYLOAD_WORDS];
+    for i in 1..PAYLOAD_WORDS {
+        words[i] = i as u32;
+    }
+    words
+}
 
 /// Whether an exchange by the calls that give values carries the frame and the answer.
 fn carries<C: Channel>(pair: &mut Pair<C>, frame: &Frame, answer: &Answer) -> bool {
@@ -83,17 +56,18 @@ fn carries_into<C: Channel>(
         && *collected == *answer
 }
 
-/// Messages of 0 to 32 words, and as many answers, by the calls that give values.
+/// Messages of each number of words, and as many answers, by the calls that give values.
 fn exchange_values<C: Channel>(rt: &impl Abort, pair: &mut Pair<C>) {
-    for count in 0..33 {
-        let frame = Frame::Good(message(HEADER, &WORDS[..count]));
-        let answer = Answer::Reply(message(HEADER, &WORDS[32 - count..]));
+    let words = words();
+    for count in 0..PAYLOAD_WORDS + 1 {
+        let frame = Frame::Good(message(HEADER, &words[..count]));
+        let answer = Answer::Reply(message(HEADER, &words[PAYLOAD_WORDS - count..]));
         assert!(rt; carries(pair, &frame, &answer), "{count}");
     }
 }
 
 #[test]
-fn messages_of_0_to_32_words_go_both_ways(rt: HostRuntime) -> Result<(), Fail> {
+fn messages_of_each_number_of_words_go_both_ways(rt: HostRuntime) -> Result<(), Fail> {
     exchange_values(&rt, &mut Pair::<WordChannel>::make(rt.alloc())?);
     exchange_values(&rt, &mut Pair::<RingChannel>::make(rt.alloc())?);
     Ok(())
@@ -103,9 +77,10 @@ fn messages_of_0_to_32_words_go_both_ways(rt: HostRuntime) -> Result<(), Fail> {
 fn exchange_into_buffers<C: Channel>(rt: &impl Abort, pair: &mut Pair<C>) {
     let mut taken = command_frame();
     let mut collected = Answer::Released;
-    for count in 0..33 {
-        let frame = Frame::Good(message(HEADER, &WORDS[..count]));
-        let answer = Answer::Reply(message(HEADER, &WORDS[32 - count..]));
+    let words = words();
+    for count in 0..PAYLOAD_WORDS + 1 {
+        let frame = Frame::Good(message(HEADER, &words[..count]));
+        let answer = Answer::Reply(message(HEADER, &words[PAYLOAD_WORDS - count..]));
         let holds = carries_into(pair, &frame, &answer, &mut taken, &mut collected);
         assert!(rt; holds, "{count}");
     }
@@ -137,7 +112,7 @@ fn short_frame() -> Frame {
 }
 
 fn full_frame() -> Frame {
-    Frame::Good(message(0xffff_ffff, &WORDS))
+    Frame::Good(message(0xffff_ffff, &words()))
 }
 
 fn short_answer() -> Answer {
@@ -180,7 +155,7 @@ fn malformed(length: u32) -> Frame {
 
 /// Whether a malformed frame goes through as it is, one at a time, and a well-formed one does not.
 fn carries_malformed<C: Channel>(pair: &mut Pair<C>) -> bool {
-    let well_formed = malformed(132);
+    let well_formed = malformed(4 + 4 * PAYLOAD_WORDS as u32);
     let frame = malformed(5);
     pair.post(&well_formed) == Err(PostError::WellFormed)
         && pair.post(&frame) == Ok(())

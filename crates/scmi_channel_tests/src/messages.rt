@@ -5,7 +5,7 @@ use scmi_codec::{Answer, Header, Message, Payload};
 /// BASE_PROTOCOL_VERSION with token 5, as a header word.
 pub const HEADER: u32 = 0x0014_4000;
 
-/// The message of a header word and payload words, at most 32 of them.
+/// The message of a header word and payload words, at most `PAYLOAD_WORDS` of them.
 pub fn message(header: u32, words: &[u32]) -> Message {
     let mut payload = Payload::new();
     let _ = payload.try_extend_from_slice(words);

@@ -2,7 +2,7 @@
 
 use crate::boards::reference_plan;
 use crate::messages::message;
-use scmi_codec::{Answer, Frame, Message};
+use scmi_codec::{Answer, Frame, Message, PAYLOAD_WORDS};
 use scmi_core::{Answered, Core, CoreError, Platform};
 use std::alloc::Global;
 use std::process::Abort;
@@ -62,7 +62,7 @@ fn holds(both: &mut Both, line: Line<'_>) -> bool {
 
 /// Whether both answer a message with this reply.
 fn answer(both: &mut Both, agent: u32, frame: &Frame, wanted: &Message) -> bool {
-    let mut reply = message(0xffff_ffff, &[9; 32]);
+    let mut reply = message(0xffff_ffff, &[9; PAYLOAD_WORDS]);
     let first = both.platform.command(agent, frame, &mut reply);
     first == Ok(Answered::Reply)
         && reply == *wanted

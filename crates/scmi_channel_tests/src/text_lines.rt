@@ -1,6 +1,8 @@
 //! Lines of an input, and the items of a line.
 
+use crate::inputs::{joined, repeated};
 use scmi_board::{Items, LineError, Lines, TextError, TextLine};
+use scmi_codec::PAYLOAD_WORDS;
 use std::alloc::Global;
 use std::test::Fail;
 
@@ -102,13 +104,10 @@ fn payload_end(text: &[u8]) -> Option<(usize, u32)> {
 }
 
 #[test]
-fn a_payload_has_at_most_32_words(rt: HostRuntime) {
-    let full = b"0 0 0 0 0 0 0 0 0 0 0 0 0 0 0 0 0 0 0 0 0 0 0 0 0 0 0 0 0 0 0 5 9";
-    let rows: [(&[u8], Option<(usize, u32)>); 8] = [
+fn a_payload_is_the_words_that_are_left(rt: HostRuntime) {
+    let rows: [(&[u8], Option<(usize, u32)>); 6] = [
         (b"1  0x2 4294967295", Some((3, u32::MAX))),
         (b"", Some((0, 0))),
-        (&full[..63], Some((32, 5))),
-        (full, None),
         (b"4294967296", None),
         (b"0 ", None),
         (b"0 x", None),
@@ -117,6 +116,16 @@ fn a_payload_has_at_most_32_words(rt: HostRuntime) {
     for (text, wanted) in rows {
         assert_eq!(rt; payload_end(text), wanted, "{text:?}");
     }
+}
+
+#[test]
+fn a_payload_has_at_most_its_words(rt: HostRuntime) -> Result<(), Fail> {
+    let zeros = repeated(rt.alloc(), b"0 ", PAYLOAD_WORDS - 1)?;
+    let full = joined(rt.alloc(), &[zeros.as_slice(), b"5".as_slice()])?;
+    assert_eq!(rt; payload_end(&full), Some((PAYLOAD_WORDS, 5)));
+    let over = joined(rt.alloc(), &[full.as_slice(), b" 9".as_slice()])?;
+    assert_eq!(rt; payload_end(&over), None);
+    Ok(())
 }
 
 /// Whether the text of a refusal is this.

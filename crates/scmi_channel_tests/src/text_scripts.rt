@@ -1,8 +1,9 @@
 //! Scripts of agents as they are written.
 
-use crate::inputs::{count_scripts, joined};
+use crate::inputs::{count_scripts, joined, repeated};
 use crate::messages::message;
 use scmi_board::{Lines, TextError};
+use scmi_codec::PAYLOAD_WORDS;
 use scmi_text::read_scripts;
 use scmi_threads::{Order, Script};
 use std::alloc::Global;
@@ -91,6 +92,8 @@ fn an_order_stands_behind_a_script(rt: HostRuntime) {
 
 #[test]
 fn an_order_of_another_form_is_refused(rt: HostRuntime) -> Result<(), Fail> {
+    let words = repeated(rt.alloc(), b" 0", PAYLOAD_WORDS + 1)?;
+    let call = joined(rt.alloc(), &[b"call 0 0".as_slice(), words.as_slice()])?;
     let lines: [&[u8]; 39] = [
         b" ",
         b"\t",
@@ -130,7 +133,7 @@ fn an_order_of_another_form_is_refused(rt: HostRuntime) -> Result<(), Fail> {
         b"call 0x10 0 ",
         b"call 0x10 0 x",
         b"call \xff 0",
-        b"call 0 0 0 0 0 0 0 0 0 0 0 0 0 0 0 0 0 0 0 0 0 0 0 0 0 0 0 0 0 0 0 0 0 0 0",
+        call.as_slice(),
     ];
     for line in lines {
         let input = joined(rt.alloc(), &[b"script 1\n\n", line, b"\nclose\n"])?;

@@ -3,6 +3,7 @@
 use crate::inputs::{count_steps, joined, repeated};
 use crate::messages::message;
 use scmi_board::{Lines, TextError};
+use scmi_codec::PAYLOAD_WORDS;
 use scmi_text::{Step, read_steps};
 use std::alloc::Global;
 use std::process::Abort;
@@ -196,9 +197,9 @@ fn an_agent_that_the_board_lacks_is_refused(rt: HostRuntime) -> Result<(), Fail>
     Ok(())
 }
 
-/// Whether a line that begins so may have 32 words behind, and no more.
+/// Whether a line that begins so may have `PAYLOAD_WORDS` words behind, and no more.
 fn check_room(rt: &impl Abort, alloc: Global, line: &[u8]) -> Result<(), Fail> {
-    let words = repeated(alloc, b" 7", 32)?;
+    let words = repeated(alloc, b" 7", PAYLOAD_WORDS)?;
     let full = joined(alloc, &[line, words.as_slice()])?;
     assert!(rt; count_steps(alloc, &full, 1) == Ok(1), "{line:?}");
     let over = joined(alloc, &[full.as_slice(), b" 7".as_slice()])?;
@@ -206,7 +207,7 @@ fn check_room(rt: &impl Abort, alloc: Global, line: &[u8]) -> Result<(), Fail> {
 }
 
 #[test]
-fn a_message_has_at_most_32_words(rt: HostRuntime) -> Result<(), Fail> {
+fn a_message_has_at_most_the_words_of_a_payload(rt: HostRuntime) -> Result<(), Fail> {
     check_room(&rt, rt.alloc(), b"call 1 0 0")?;
     check_room(&rt, rt.alloc(), b"do 1 0 0")?;
     check_room(&rt, rt.alloc(), b"raw 1 0")

@@ -6,17 +6,19 @@ use Rattle.std.proofs.lemmas.Bool.Decides.{nat_tests}
 use Rattle.scmi_codec.specs.Header.{HeaderFields, header_of}
 use Rattle.scmi_codec.specs.Area.{is_well_formed, length_at, header_at, frame_of, StandsFor}
 use Rattle.scmi_codec.specs.Word.{words_at, put_word, put_words}
+use Rattle.scmi_codec.specs.declared.area.TheConstants.{AREA_BYTES}
+use Rattle.scmi_codec.specs.declared.payload.TheConstants.{PAYLOAD_WORDS}
 use Rattle.scmi_codec.specs.declared.frame.Frame.TheVariants.{Good}
 use Rattle.scmi_codec.proofs.WordLemmas.{length-put_word, get_or-put_word, get_or-put_word_above, word_at-put_word, word_at-put_word_other, same_words, same_word_lists, words_at-put_words, words_at-put_word_other, word_at-put_words_other, length-put_words, get_or-put_words}
 
-pub is_well_formed-true : (n : ℕ) → n ≤ 32 → is_well_formed (4 + 4 * n) ≡ true
+pub is_well_formed-true : (n : ℕ) → n ≤ PAYLOAD_WORDS → is_well_formed (4 + 4 * n) ≡ true
 is_well_formed-true n few = grind (arith, nat_tests)
 
 quarter : (n : ℕ) → (4 + 4 * n - 4) / 4 ≡ n
 quarter n = omega arith
 
 -- a frame is read from its three parts
-pub frame_of-good : (area : List ℕ) (header : HeaderFields) (words : List ℕ) → length words ≤ 32 → length_at area ≡ 4 + 4 * length words
+pub frame_of-good : (area : List ℕ) (header : HeaderFields) (words : List ℕ) → length words ≤ PAYLOAD_WORDS → length_at area ≡ 4 + 4 * length words
     → header_of (header_at area) ≡ header → words_at 0x1C (length words) area ≡ words
     → frame_of area ≡ Good (record { header = header; payload = record { items = words } })
 frame_of-good area header words few el eh ew =
@@ -26,16 +28,16 @@ frame_of-good area header words few el eh ew =
 abbrev pub replied : List ℕ → ℕ → ℕ → List ℕ → List ℕ
 replied area status word words = put_word 0x04 status (put_words 0x1C words (put_word 0x18 word (put_word 0x14 (4 + 4 * length words) area)))
 
-pub StandsFor-replied : (area : List ℕ) (header : HeaderFields) (status word : ℕ) (words : List ℕ) → length area ≡ 156 → length words ≤ 32
+pub StandsFor-replied : (area : List ℕ) (header : HeaderFields) (status word : ℕ) (words : List ℕ) → length area ≡ AREA_BYTES → length words ≤ PAYLOAD_WORDS
     → AllByRecursion (λ w. w < 2 ^ 32) words → status < 2 ^ 32 → word < 2 ^ 32 → header_of word ≡ header
     → StandsFor (replied area status word words) status (Good (record { header = header; payload = record { items = words } }))
 StandsFor-replied area header status word words size few small low narrow unpacked =
     let a : List ℕ = put_word 0x14 (4 + 4 * length words) area in
     let b : List ℕ = put_word 0x18 word a in
     let d : List ℕ = put_words 0x1C words b in
-    let la : length a ≡ 156 = length-put_word 0x14 (4 + 4 * length words) area (omega arith) ∙ size in
-    let lb : length b ≡ 156 = length-put_word 0x18 word a (omega arith) ∙ la in
-    let ld : length d ≡ 156 = length-put_words 0x1C words b (omega arith) ∙ lb in
+    let la : length a ≡ AREA_BYTES = length-put_word 0x14 (4 + 4 * length words) area (omega arith) ∙ size in
+    let lb : length b ≡ AREA_BYTES = length-put_word 0x18 word a (omega arith) ∙ la in
+    let ld : length d ≡ AREA_BYTES = length-put_words 0x1C words b (omega arith) ∙ lb in
     let el : length_at (put_word 0x04 status d) ≡ 4 + 4 * length words =
     word_at-put_word_other 0x04 status d 0x14 (omega arith) (inr (omega arith))
     ∙ word_at-put_words_other 0x1C words b 0x14 (omega arith) (omega arith)
@@ -53,16 +55,16 @@ StandsFor-replied area header status word words size few small low narrow unpack
       frame = frame_of-good (put_word 0x04 status d) header words few el (ap header_of eh ∙ unpacked) ew;
     }
 
-pub kept-replied : (area : List ℕ) (status word : ℕ) (words : List ℕ) (i : ℕ) → length area ≡ 156 → length words ≤ 32
+pub kept-replied : (area : List ℕ) (status word : ℕ) (words : List ℕ) (i : ℕ) → length area ≡ AREA_BYTES → length words ≤ PAYLOAD_WORDS
     → (i < 0x04) ⊎ ((0x08 ≤ i) × (i < 0x14)) ⊎ (0x1C + 4 * length words ≤ i)
     → get_or (replied area status word words) i 0 ≡ get_or area i 0
 kept-replied area status word words i size few apart =
     let a : List ℕ = put_word 0x14 (4 + 4 * length words) area in
     let b : List ℕ = put_word 0x18 word a in
     let d : List ℕ = put_words 0x1C words b in
-    let la : length a ≡ 156 = length-put_word 0x14 (4 + 4 * length words) area (omega arith) ∙ size in
-    let lb : length b ≡ 156 = length-put_word 0x18 word a (omega arith) ∙ la in
-    let ld : length d ≡ 156 = length-put_words 0x1C words b (omega arith) ∙ lb in
+    let la : length a ≡ AREA_BYTES = length-put_word 0x14 (4 + 4 * length words) area (omega arith) ∙ size in
+    let lb : length b ≡ AREA_BYTES = length-put_word 0x18 word a (omega arith) ∙ la in
+    let ld : length d ≡ AREA_BYTES = length-put_words 0x1C words b (omega arith) ∙ lb in
     get_or-put_word 0x04 status d i (omega arith) (away apart) ∙ get_or-put_words 0x1C words b i (omega arith) (away' apart)
     ∙ get_or-put_word 0x18 word a i (omega arith) (away'' apart) ∙ get_or-put_word 0x14 (4 + 4 * length words) area i (omega arith) (away3 apart)
   where
@@ -98,7 +100,7 @@ frame_of-same old new same =
     rw (el, eh, ew ((length_at old - 4) / 4)) refl
 
 -- a status alone is written
-pub StandsFor-status : (area : List ℕ) (status : ℕ) → length area ≡ 156 → status < 2 ^ 32 → StandsFor (put_word 0x04 status area) status (frame_of area)
+pub StandsFor-status : (area : List ℕ) (status : ℕ) → length area ≡ AREA_BYTES → status < 2 ^ 32 → StandsFor (put_word 0x04 status area) status (frame_of area)
 StandsFor-status area status size small = record {
   status = word_at-put_word 0x04 status area (omega arith) small;
   frame = frame_of-same area (put_word 0x04 status area) (λ k lo. get_or-put_word_above 0x04 status area k (omega arith) (omega arith));

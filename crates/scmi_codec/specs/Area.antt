@@ -1,4 +1,4 @@
--- The shared area of a channel (DEN0056B, shared memory transport): 156 bytes.
+-- The shared area of a channel (DEN0056B, shared memory transport).
 use Rattle.std.specs.Prelude.{Bool, ◌≡◌, ℕ, ◌+◌, ◌*◌, ◌/◌, ◌-◌, ◌%◌, ◌<◌, ◌≤◌, ◌==◌, nat_le, ◌&&◌, ◌⊎◌, if◌then◌else◌, List, length, Option, Some, None}
 use Rattle.scmi_codec.specs.Word.{word_at, words_at, put_word, put_words}
 use Rattle.scmi_codec.specs.Header.{header_of, header_word}

@@ -17,8 +17,8 @@ use arrayvec::ArrayVec;
 use bitflags::Flags;
 use thiserror::Error;
 
-/// The size of an area in bytes: 28 before the payload, and the payload (own).
-pub const AREA_BYTES: usize = 156;
+/// The size of an area in bytes: the fields before the payload, and the payload (own).
+pub const AREA_BYTES: usize = PAYLOAD_AT + 4 * PAYLOAD_WORDS;
 
 // The places of the fields, in bytes (DEN0056B, shared memory transport).
 const STATUS_AT: usize = 0x04;
@@ -32,7 +32,7 @@ const PAYLOAD_AT: usize = 0x1c;
 /// Why an area was not read or written.
 #[derive(Clone, Copy, PartialEq, Eq, Debug, Error)]
 pub enum AreaError {
-    #[error("an area has 156 bytes")]
+    #[error("an area has {AREA_BYTES} bytes")]
     WrongSize = 1,
 }
 
@@ -47,8 +47,8 @@ pub fn is_well_formed(length: u32) -> bool
 /// The frame that a caller has posted, or `None` for a free channel: of the status word, bit 0 alone
 /// decides (own). `WrongSize` where there are not `AREA_BYTES` bytes.
 pub fn read_area(area: &[u8]) -> Result<Option<Frame>, AreaError>
-    ensures ok { length area.now ≡ 156 → result ≡ Ok (arrived area.now) }
-    ensures wrong_size { length area.now ≢ 156 → result ≡ Err AreaError.WrongSize }
+    ensures ok { length area.now ≡ AREA_BYTES → result ≡ Ok (arrived area.now) }
+    ensures wrong_size { length area.now ≢ AREA_BYTES → result ≡ Err AreaError.WrongSize }
 {
     if area.len() != AREA_BYTES {
         return Err(AreaError::WrongSize);
@@ -63,7 +63,7 @@ pub fn read_area(area: &[u8]) -> Result<Option<Frame>, AreaError>
 
 /// The frame that stands in an area, whatever its status word.
 fn read_frame(area: &[u8]) -> Frame
-    requires { length area.now ≡ 156 }
+    requires { length area.now ≡ AREA_BYTES }
     ensures { result ≡ frame_of area.now }
 {
     let length = read_word(area, LENGTH_AT);
@@ -80,7 +80,7 @@ fn read_frame(area: &[u8]) -> Frame
 
 fn read_payload(area: &[u8], count: usize) -> Payload
     requires few { count ≤ PAYLOAD_WORDS }
-    requires size { length area.now ≡ 156 }
+    requires size { length area.now ≡ AREA_BYTES }
     ensures { result.items ≡ words_at 0x1C count area.now }
 {
     let mut payload = ArrayVec::new();
@@ -95,7 +95,7 @@ fn read_payload(area: &[u8], count: usize) -> Payload
 /// `ChannelError` status word 3 alone; every other byte stays (own). `WrongSize` where there are not
 /// `AREA_BYTES` bytes, and then nothing is written.
 pub fn write_answer(area: &mut [u8], answer: &Answer) -> Result<(), AreaError>
-    ensures size { IsOk result ↔ (length area.old ≡ 156) }
+    ensures size { IsOk result ↔ (length area.old ≡ AREA_BYTES) }
     ensures written { OnOk result (area.new ≡ answered answer.now area.old) }
     ensures stands { OnOk result (StandsForAnswer area.new (frame_of area.old) answer.now) }
     ensures kept { OnOk result ((i : ℕ) → IsKept answer.now i → slice_index area.new i ≡ slice_index area.old i) }
@@ -149,7 +149,7 @@ fn write_with_status(area: &mut [u8], message: &Message, status: u32)
 }
 
 fn write_payload(area: &mut [u8], payload: &Payload)
-    requires size { length area.old ≡ 156 }
+    requires size { length area.old ≡ AREA_BYTES }
     requires few { length payload.now.items ≤ PAYLOAD_WORDS }
     ensures written { area.new ≡ put_words 0x1C payload.now.items area.old }
     ensures words { AllByRecursion (λ w. w < 2 ^ 32) payload.now.items }

@@ -8,7 +8,7 @@ use crate::status::Status;
 use arrayvec::ArrayVec;
 
 /// The most words of a payload (own).
-pub const PAYLOAD_WORDS: usize = 32;
+pub const PAYLOAD_WORDS: usize = 64;
 
 /// The status word of a successful response.
 pub const SUCCESS: u32 = 0;

@@ -10,6 +10,7 @@ use Rattle.scmi_core.specs.Reply.{reply_words}
 use Rattle.scmi_core.specs.History.{deeds}
 use Rattle.scmi_core.proofs.ExampleWords.{request, replies, told}
 use Rattle.scmi_core.specs.BoardB.{board_b}
+use Rattle.scmi_core.specs.BoardC.{board_of_64_rates}
 
 -- rates that are rounded, and set now or later
 clock_rates : List Event
@@ -43,7 +44,7 @@ clock_description =
     ∷ request 1 7 0x14 0x3 (1 ∷ []) ∷ []
 
 clock_description-replies : replies board_b clock_description
-    ≡ (0x00005004 ∷ 0 ∷ 0x5000f ∷ 1 ∷ 0 ∷ 2 ∷ 0 ∷ 3 ∷ 0 ∷ 4 ∷ 0 ∷ 5 ∷ 0 ∷ 6 ∷ 0 ∷ 7 ∷ 0 ∷ 8 ∷ 0 ∷ 9 ∷ 0 ∷ 10 ∷ 0 ∷ 11 ∷ 0 ∷ 12 ∷ 0 ∷ 13 ∷ 0 ∷ 14 ∷ 0 ∷ 15 ∷ 0 ∷ [])
+    ≡ (0x00005004 ∷ 0 ∷ 0x14 ∷ 1 ∷ 0 ∷ 2 ∷ 0 ∷ 3 ∷ 0 ∷ 4 ∷ 0 ∷ 5 ∷ 0 ∷ 6 ∷ 0 ∷ 7 ∷ 0 ∷ 8 ∷ 0 ∷ 9 ∷ 0 ∷ 10 ∷ 0 ∷ 11 ∷ 0 ∷ 12 ∷ 0 ∷ 13 ∷ 0 ∷ 14 ∷ 0 ∷ 15 ∷ 0 ∷ 16 ∷ 0 ∷ 17 ∷ 0 ∷ 18 ∷ 0 ∷ 19 ∷ 0 ∷ 20 ∷ 0 ∷ [])
     ∷ (0x00045004 ∷ 0 ∷ 5 ∷ 16 ∷ 0 ∷ 17 ∷ 0 ∷ 18 ∷ 0 ∷ 19 ∷ 0 ∷ 20 ∷ 0 ∷ []) ∷ (0x00085004 ∷ 0xfffffffb ∷ [])
     ∷ (0x000c5004 ∷ 0 ∷ 0x1003 ∷ 0x3e8 ∷ 0 ∷ 0xfa0 ∷ 0 ∷ 0x1f4 ∷ 0 ∷ []) ∷ (0x00105003 ∷ 0 ∷ 0 ∷ 0x737562 ∷ 0 ∷ 0 ∷ 0 ∷ [])
     ∷ (0x00145001 ∷ 0 ∷ 0x80003 ∷ []) ∷ (0x00185007 ∷ 0 ∷ []) ∷ (0x001c5003 ∷ 0 ∷ 1 ∷ 0x737562 ∷ 0 ∷ 0 ∷ 0 ∷ []) ∷ []
@@ -57,3 +58,19 @@ clock_description-told_ap = refl
 clock_description-told_modem : told board_b 2 clock_description ≡ []
 unfolding clock_description deeds reply_words base_reply power_reply clock_reply over
 clock_description-told_modem = refl
+
+-- a list of 64 rates, in parts of as many as a reply holds
+long_description : List Event
+long_description =
+    request 1 0 0x14 0x4 (0 ∷ 0 ∷ []) ∷ request 1 1 0x14 0x4 (0 ∷ 31 ∷ []) ∷ request 1 2 0x14 0x4 (0 ∷ 62 ∷ []) ∷ request 1 3 0x14 0x4 (0 ∷ 64 ∷ []) ∷ []
+
+long_description-replies : replies board_of_64_rates long_description
+    ≡ (0x00005004 ∷ 0 ∷ 0x21001f ∷ 1 ∷ 0 ∷ 2 ∷ 0 ∷ 3 ∷ 0 ∷ 4 ∷ 0 ∷ 5 ∷ 0 ∷ 6 ∷ 0 ∷ 7 ∷ 0 ∷ 8 ∷ 0 ∷ 9 ∷ 0 ∷ 10 ∷ 0 ∷ 11 ∷ 0 ∷ 12 ∷ 0 ∷ 13 ∷ 0 ∷ 14 ∷ 0 ∷ 15 ∷ 0 ∷ 16 ∷ 0 ∷ 17 ∷ 0 ∷ 18 ∷ 0 ∷ 19 ∷ 0 ∷ 20 ∷ 0 ∷ 21 ∷ 0 ∷ 22 ∷ 0 ∷ 23 ∷ 0 ∷ 24 ∷ 0 ∷ 25 ∷ 0 ∷ 26 ∷ 0 ∷ 27 ∷ 0 ∷ 28 ∷ 0 ∷ 29 ∷ 0 ∷ 30 ∷ 0 ∷ 31 ∷ 0 ∷ [])
+    ∷ (0x00045004 ∷ 0 ∷ 0x2001f ∷ 32 ∷ 0 ∷ 33 ∷ 0 ∷ 34 ∷ 0 ∷ 35 ∷ 0 ∷ 36 ∷ 0 ∷ 37 ∷ 0 ∷ 38 ∷ 0 ∷ 39 ∷ 0 ∷ 40 ∷ 0 ∷ 41 ∷ 0 ∷ 42 ∷ 0 ∷ 43 ∷ 0 ∷ 44 ∷ 0 ∷ 45 ∷ 0 ∷ 46 ∷ 0 ∷ 47 ∷ 0 ∷ 48 ∷ 0 ∷ 49 ∷ 0 ∷ 50 ∷ 0 ∷ 51 ∷ 0 ∷ 52 ∷ 0 ∷ 53 ∷ 0 ∷ 54 ∷ 0 ∷ 55 ∷ 0 ∷ 56 ∷ 0 ∷ 57 ∷ 0 ∷ 58 ∷ 0 ∷ 59 ∷ 0 ∷ 60 ∷ 0 ∷ 61 ∷ 0 ∷ 62 ∷ 0 ∷ [])
+    ∷ (0x00085004 ∷ 0 ∷ 0x2 ∷ 63 ∷ 0 ∷ 64 ∷ 0 ∷ []) ∷ (0x000c5004 ∷ 0xfffffffb ∷ []) ∷ []
+unfolding long_description deeds reply_words base_reply power_reply clock_reply over
+long_description-replies = refl
+
+long_description-told_agent : told board_of_64_rates 1 long_description ≡ []
+unfolding long_description deeds reply_words base_reply power_reply clock_reply over
+long_description-told_agent = refl

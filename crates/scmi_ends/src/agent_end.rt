@@ -123,8 +123,8 @@ impl<C: Channel> AgentEnd<C> {
 
     /// Posts a frame on A2P whose length in bytes is not well formed (own).
     ///
-    /// `WellFormed` where the length is 4 + 4k with k from 0 to 32, and then nothing changed. Else it
-    /// is refused as `call` is.
+    /// `WellFormed` where the length is 4 + 4k with k from 0 to `PAYLOAD_WORDS`, and then nothing
+    /// changed. Else it is refused as `call` is.
     pub fn post_malformed(
         &mut self,
         link: &Link<C>,

@@ -2,7 +2,8 @@
 
 use crate::messages::message;
 use scmi_codec::{
-    AREA_BYTES, Answer, AreaError, Frame, is_well_formed, read_area, write_answer, write_word,
+    AREA_BYTES, Answer, AreaError, Frame, PAYLOAD_WORDS, is_well_formed, read_area, write_answer,
+    write_word,
 };
 
 const HEADER: u32 = 0x0014_4000;
@@ -51,9 +52,9 @@ fn of_the_status_bit_0_alone_frees_a_channel(rt: HostRuntime) {
 }
 
 #[test]
-fn exactly_the_lengths_of_0_to_32_words_are_well_formed(rt: HostRuntime) {
-    for length in 0..141 {
-        let wanted = length % 4 == 0 && length != 0 && length < 136;
+fn exactly_the_lengths_of_0_to_64_words_are_well_formed(rt: HostRuntime) {
+    for length in 0..269 {
+        let wanted = length % 4 == 0 && length != 0 && length <= 260;
         assert_eq!(rt; is_well_formed(length), wanted, "{length}");
         assert_eq!(rt; is_malformed(length), !wanted, "{length}");
     }
@@ -85,13 +86,14 @@ fn an_answer_writes_its_own_bytes_alone(rt: HostRuntime) {
 }
 
 #[test]
-fn an_area_has_156_bytes(rt: HostRuntime) {
-    let mut bytes = [0; 157];
-    for size in [0, 155, 157] {
+fn an_area_has_284_bytes(rt: HostRuntime) {
+    assert_eq!(rt; (AREA_BYTES, PAYLOAD_WORDS), (284, 64));
+    let mut bytes = [0; 285];
+    for size in [0, 156, 283, 285] {
         let read = read_area(&bytes[..size]);
         assert!(rt; read == Err(AreaError::WrongSize), "{size}");
         let written = write_answer(&mut bytes[..size], &Answer::Released);
         assert_eq!(rt; written, Err(AreaError::WrongSize), "{size}");
     }
-    assert!(rt; bytes == [0; 157]);
+    assert!(rt; bytes == [0; 285]);
 }

@@ -94,9 +94,9 @@ fn rates_are_rounded_as_asked(rt: HostRuntime) -> Result<(), Fail> {
     Ok(())
 }
 
-const FIRST_RATES: [u32; 32] = [
-    SUCCESS, 0x5_000f, 1, 0, 2, 0, 3, 0, 4, 0, 5, 0, 6, 0, 7, 0, 8, 0, 9, 0, 10, 0, 11, 0, 12, 0,
-    13, 0, 14, 0, 15, 0,
+const ALL_RATES: [u32; 42] = [
+    SUCCESS, 0x14, 1, 0, 2, 0, 3, 0, 4, 0, 5, 0, 6, 0, 7, 0, 8, 0, 9, 0, 10, 0, 11, 0, 12, 0, 13,
+    0, 14, 0, 15, 0, 16, 0, 17, 0, 18, 0, 19, 0, 20, 0,
 ];
 
 const LAST_RATES: [u32; 12] = [SUCCESS, 0x5, 0x10, 0, 0x11, 0, 0x12, 0, 0x13, 0, 0x14, 0];
@@ -124,7 +124,7 @@ const DISCOVERY: [Row<'static>; 13] = [
     ),
     (1, FREE, 0x14, 0x2, &[0x7], &[SUCCESS, 0], Left::Nothing),
     (1, FREE, 0x14, 0x2, &[0x8], &[NOT_FOUND], Left::Nothing),
-    (1, FREE, 0x14, 0x4, &[2, 0], &FIRST_RATES, Left::Nothing),
+    (1, FREE, 0x14, 0x4, &[2, 0], &ALL_RATES, Left::Nothing),
     (1, FREE, 0x14, 0x4, &[2, 15], &LAST_RATES, Left::Nothing),
     (1, FREE, 0x14, 0x4, &[2, 20], &[OUT_OF_RANGE], Left::Nothing),
     (1, FREE, 0x14, 0x4, &[1, 7], &STEPS, Left::Nothing),

@@ -1,7 +1,7 @@
 //! Commands, and the messages that carry them.
 
 use crate::messages::message;
-use scmi_codec::{BaseCommand, ClockCommand, Command, PowerCommand, Status};
+use scmi_codec::{BaseCommand, ClockCommand, Command, PAYLOAD_WORDS, PowerCommand, Status};
 use std::process::Abort;
 
 /// A header word, payload words, and the command that they carry.
@@ -142,7 +142,7 @@ fn a_message_that_carries_no_command_has_the_status_of_its_first_fault(rt: HostR
         (0x0000_4000, &[0], Status::ProtocolError),
         (0x0000_4404, &[0, 0], Status::ProtocolError),
         (0x0000_5005, &[0; 5], Status::ProtocolError),
-        (0x0000_4000, &[0; 32], Status::ProtocolError),
+        (0x0000_4000, &[0; PAYLOAD_WORDS], Status::ProtocolError),
     ];
     for (header, words, status) in rows {
         let read = Command::read(&message(header, words));

@@ -1,14 +1,14 @@
 //! Copies, and buffers that are written over.
 
 use crate::messages::message;
-use scmi_codec::{Answer, Frame, Message};
+use scmi_codec::{Answer, Frame, Message, PAYLOAD_WORDS};
 
 /// A short message, an empty one and a full one.
 fn messages() -> [Message; 3] {
     [
         message(0x0014_4000, &[1, 2]),
         message(0xffff_ffff, &[]),
-        message(0x0000_4700, &[9; 32]),
+        message(0x0000_4700, &[9; PAYLOAD_WORDS]),
     ]
 }
 

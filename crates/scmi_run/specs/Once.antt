@@ -4,13 +4,14 @@ use Rattle.std.specs.Option.{option_map_or}
 use Rattle.std.specs.Result.{result_ok}
 use Rattle.hex.specs.Hex.{decode_sized, encode_lower}
 use Rattle.scmi_codec.specs.Area.{arrived, answered}
+use Rattle.scmi_codec.specs.declared.area.TheConstants.{AREA_BYTES}
 use Rattle.scmi_core.specs.BoardB.{board_b}
 use Rattle.scmi_core.specs.History.{answer_to}
 use Rattle.scmi_run.specs.Lines.{only, significant_lines}
 
--- the area of an input whose one line that counts is its 312 hexadecimal digits
+-- the area of an input whose one line that counts is its hexadecimal digits, two for each byte
 abbrev pub area_of : List ℕ → Option (List ℕ)
-area_of input = option_and_then (λ line. result_ok (decode_sized line 156)) (only (significant_lines input))
+area_of input = option_and_then (λ line. result_ok (decode_sized line AREA_BYTES)) (only (significant_lines input))
 
 -- an area with the answer to its frame, agent 1's first command on the reference board; a free channel's area as it is
 abbrev pub answered_area : List ℕ → List ℕ

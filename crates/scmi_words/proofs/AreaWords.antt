@@ -1,8 +1,10 @@
 -- The area that words make, word by word.
-use Rattle.std.proofs.Common.{◌≡◌, ℕ, zero, suc, ◌+◌, ◌*◌, ◌-◌, ◌%◌, ◌^◌, ◌<◌, ◌≤◌, ◌⊎◌, inl, inr, List, [], ◌∷◌, ◌++◌, length, take, drop, get_or, slice_index, replicate, refl, sym, ap, ◌∙◌, arith}
-use Rattle.std.proofs.lemmas.List.{get_or-drop, length-drop, length-take-le, take_more, take_all}
+use Rattle.std.proofs.Common.{◌≡◌, ℕ, zero, suc, ◌+◌, ◌*◌, ◌-◌, ◌%◌, ◌^◌, ◌<◌, ◌≤◌, ◌⊎◌, inl, inr, List, [], ◌∷◌, ◌++◌, length, take, drop, get_or, slice_index, replicate, refl, sym, ap, ◌∙◌, arith, true, false, nat_le, length-append}
+use Rattle.std.proofs.lemmas.Bool.Decides.{leb_tells}
+use Rattle.std.proofs.lemmas.List.{get_or_append_left, get_or-append_right, get_or-drop, length-drop, length-take-le, take_more, take_all}
 use lib.ListN.{get_or-replicate, length-replicate}
 use Rattle.std.specs.List.{AllByRecursion}
+use Rattle.byteorder.specs.Endian.{little_bytes}
 use Rattle.scmi_codec.specs.Header.{header_of, header_word}
 use Rattle.scmi_codec.specs.Area.{status_at, length_at, header_at, frame_of}
 use Rattle.scmi_codec.specs.Word.{word_at, words_at, put_word, put_words}
@@ -39,6 +41,11 @@ zeros = replicate AREA_BYTES 0
 
 size_zeros : length zeros ≡ AREA_BYTES
 size_zeros = length-replicate {A = ℕ} AREA_BYTES 0
+
+all_zero : (n i : ℕ) → get_or (replicate {A = ℕ} n 0) i 0 ≡ 0
+all_zero zero i = refl
+all_zero (suc n) zero = refl
+all_zero (suc n) (suc i) = all_zero n i
 
 is_zero : (i : ℕ) → i < AREA_BYTES → get_or zeros i 0 ≡ 0
 is_zero i lt = get_or-replicate {A = ℕ} AREA_BYTES i 0 0 lt
@@ -125,9 +132,41 @@ same_list [] (y ∷ ys) e h = absurd (omega arith)
 same_list (x ∷ xs) [] e h = absurd (omega arith)
 same_list (x ∷ xs) (y ∷ ys) e h = let tail : xs ≡ ys = same_list xs ys (omega arith) (λ i lt. h (suc i) (omega arith)) in λ j. h 0 (omega arith) j ∷ tail j
 
-fresh_written : put_words 0x10 (replicate (TABLE_WORDS - 1) 0) (put_word 0x04 1 (replicate AREA_BYTES 0)) ≡ fresh_area
-unfolding put_words fresh_area
-fresh_written = refl
+-- the bytes of a zero, read anywhere
+zero_byte : (k : ℕ) → get_or (little_bytes 4 0) k 0 ≡ 0
+zero_byte zero = refl
+zero_byte (suc zero) = refl
+zero_byte (suc (suc zero)) = refl
+zero_byte (suc (suc (suc zero))) = refl
+zero_byte (suc (suc (suc (suc k)))) = refl
+
+-- a zero written over zeros
+zero_written : (at : ℕ) (area : List ℕ) → at + 4 ≤ length area → ((i : ℕ) → at ≤ i → get_or area i 0 ≡ 0) → put_word at 0 area ≡ area
+zero_written at area fits over = same_list (put_word at 0 area) area (length-put_word at 0 area fits) (λ i lt. pick i (leb_tells at i) (leb_tells (at + 4) i)) where
+  inside : (i : ℕ) → at ≤ i → i < at + 4 → get_or (put_word at 0 area) i 0 ≡ 0
+  inside i low high =
+      let front : length (take at area) ≡ at = length-take-le at area (omega arith) in
+      get_or_append_left (take at area ++ little_bytes 4 0) (drop (at + 4) area) 0 i (omega (arith, length-append (take at area) (little_bytes 4 0)))
+      ∙ (get_or-append_right (take at area) (little_bytes 4 0) at i 0 front low ∙ zero_byte (i - at))
+
+  pick : (i : ℕ) → ((nat_le at i ≡ true) × (at ≤ i)) ⊎ ((nat_le at i ≡ false) × (i < at)) → ((nat_le (at + 4) i ≡ true) × (at + 4 ≤ i)) ⊎ ((nat_le (at + 4) i ≡ false) × (i < at + 4))
+      → get_or (put_word at 0 area) i 0 ≡ get_or area i 0
+  pick i (inr below) over' = get_or-put_word at 0 area i fits (inl below.1)
+  pick i (inl from) (inl above) = get_or-put_word at 0 area i fits (inr above.1)
+  pick i (inl from) (inr within) = inside i from.1 within.1 ∙ sym (over i from.1)
+
+-- zeros written over zeros
+zeros_written : (at count : ℕ) (area : List ℕ) → at + 4 * count ≤ length area → ((i : ℕ) → at ≤ i → get_or area i 0 ≡ 0) → put_words at (replicate count 0) area ≡ area
+unfolding put_words
+zeros_written at zero area fits over = refl
+zeros_written at (suc count) area fits over = ap (put_words (at + 4) (replicate count 0)) (zero_written at area (omega arith) over)
+    ∙ zeros_written (at + 4) count area (omega arith) (λ i low. over i (omega arith))
+
+fresh_written : put_words 0x10 (replicate (TABLE_WORDS - 1) 0) (put_word 0x04 1 zeros) ≡ fresh_area
+unfolding fresh_area
+fresh_written =
+    let size : length (put_word 0x04 1 zeros) ≡ AREA_BYTES = length-put_word 0x04 1 zeros (omega (arith, size_zeros)) ∙ size_zeros in
+    zeros_written 0x10 (TABLE_WORDS - 1) (put_word 0x04 1 zeros) (omega arith) (λ i low. get_or-put_word 0x04 1 zeros i (omega (arith, size_zeros)) (inr (omega arith)) ∙ all_zero AREA_BYTES i)
 
 -- words of a fresh table
 pub area_fresh : (words : List ℕ) → length words ≡ TABLE_WORDS → get_or words 0 0 % 2 ^ 32 ≡ 1 → ((i : ℕ) → 0 < i → i < TABLE_WORDS → get_or words i 0 ≡ 0) → area_of words ≡ fresh_area
@@ -136,4 +175,4 @@ area_fresh words wide one zero_on =
     let rest : length (drop 1 words) ≡ length words - 1 = length-drop 1 words in
     let size : length (replicate {A = ℕ} (TABLE_WORDS - 1) 0) ≡ (TABLE_WORDS - 1) = length-replicate {A = ℕ} (TABLE_WORDS - 1) 0 in
     let tail : drop 1 words ≡ replicate (TABLE_WORDS - 1) 0 = same_list (drop 1 words) (replicate (TABLE_WORDS - 1) 0) (omega arith) (λ i lt. get_or-drop 1 words i 0 ∙ (zero_on (1 + i) (omega arith) (omega arith) ∙ sym (get_or-replicate {A = ℕ} (TABLE_WORDS - 1) i 0 0 (omega arith)))) in
-    (λ j. put_words 0x10 (tail j) (put_word 0x04 (one j) (replicate AREA_BYTES 0))) ∙ fresh_written
+    (λ j. put_words 0x10 (tail j) (put_word 0x04 (one j) zeros)) ∙ fresh_written

@@ -14,9 +14,9 @@ use Rattle.scmi_words.proofs.Picks.{message_in}
 pub well_formed_test : (k : ℕ) → k ≤ PAYLOAD_WORDS → is_well_formed (4 + 4 * k) ≡ true
 well_formed_test k h = grind (arith, nat_tests)
 
--- a well-formed length has at most 32 words
+-- a well-formed length has at most the words of a payload
 pub well_formed_few : (l : ℕ) → is_well_formed l ≡ true → (l / 4 - 1 ≤ PAYLOAD_WORDS) × (l ≡ 4 + 4 * (l / 4 - 1))
-well_formed_few l e = let a : 4 ≤ l = grind (arith, nat_tests) in let b : l ≤ 132 = grind (arith, nat_tests) in let d : l % 4 ≡ 0 = grind (arith, nat_tests) in (omega arith, omega arith)
+well_formed_few l e = let a : 4 ≤ l = grind (arith, nat_tests) in let b : l ≤ 4 + 4 * PAYLOAD_WORDS = grind (arith, nat_tests) in let d : l % 4 ≡ 0 = grind (arith, nat_tests) in (omega arith, omega arith)
 
 pub unpacked : (m : Message) → IsLawfulMessage m → (let w : Message = record { header = header_of (header_word m.header); payload = m.payload } in w) ≡ m
 unpacked m h = ap (λ (z : HeaderFields). let w : Message = record { header = z; payload = m.payload } in w) h.header
