@@ -1,0 +1,2 @@
+pub mod HandleValues
+pub mod LooseValues

@@ -1,0 +1,12 @@
+-- What a handle owns.
+use Rattle.std.specs.Prelude.{◌≡◌, Option, Some, None}
+use mir.Syntax.{Ty}
+use base.Fml.{Fml, ftrue, fex}
+use denote.RattleType.{RattleType}
+use denote.RawPtr.{Ptr, null_ptr}
+use Rattle.std_alloc.specs.Box.Ownership.{box_owns}
+
+-- nothing, and the pointer is null; or a boxed value at the pointer, and the right to free its block
+abbrev pub held : (Ty → Ptr → Fml) → (R : RattleType) → Ptr → Option (R.Denot) → Fml
+held token R p None = fex (p ≡ null_ptr) (λ _. ftrue)
+held token R p (Some x) = box_owns token R p x

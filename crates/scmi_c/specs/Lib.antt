@@ -1,0 +1,5 @@
+pub mod Handle
+pub mod Standing
+pub mod Calls
+pub mod Refusal
+pub mod Board

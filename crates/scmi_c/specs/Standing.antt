@@ -1,0 +1,22 @@
+-- What a handle stands for, and after which histories.
+use Rattle.std.specs.Prelude.{◌≡◌, List, ⊤}
+use Rattle.scmi_plan.specs.Board.{Board}
+use Rattle.scmi_core.specs.Standing.{StandsAfter}
+use Rattle.scmi_core.specs.declared.event.Event.{Event}
+use Rattle.scmi_c.specs.declared.held.Held.{Held}
+use Rattle.scmi_c.specs.declared.held.Held.TheVariants.{Endless, Recorded}
+
+-- the board of a platform
+abbrev pub board_of : Held → Board
+board_of (Endless p) = p.board
+board_of (Recorded c) = c.board
+
+-- a platform stands where this history leaves it; one that records it has just this history
+abbrev pub StandsAt : Held → List Event → Type 0
+StandsAt (Endless p) h = StandsAfter p h
+StandsAt (Recorded c) h = c.history ≡ h
+
+-- a platform records its history
+abbrev pub IsRecorded : Held → Type 0
+IsRecorded (Endless p) = ⊥
+IsRecorded (Recorded c) = ⊤

@@ -1,0 +1,58 @@
+//! Commands and completions.
+ghost use Rattle.std.specs.Prelude.{◌≡◌, ◌≢◌, ◌↔◌, None, IsSomeAnd, List};
+ghost use Rattle.scmi_codec.specs.Area.{arrived};
+ghost use Rattle.scmi_core.specs.declared.event.Event.TheVariants.{Advance};
+ghost use Rattle.scmi_c.specs.Standing.{IsRecorded};
+ghost use Rattle.scmi_c.specs.Calls.{HasAnswered, HasHappened};
+ghost use Rattle.scmi_c.specs.declared.code.TheConstants.{DONE, NOTHING, MEMORY, NO_PLATFORM};
+
+use crate::area::answer;
+use crate::code::{DONE, MEMORY, NO_PLATFORM, NOTHING, code};
+use crate::handle::Handle;
+use scmi_codec::AREA_BYTES;
+use std::alloc::Global;
+
+/// Executes the frame that stands in an agent's area, and answers it in place. `DONE`; `NO_PLATFORM`;
+/// `NOTHING` where the channel is free; `NO_AGENT`; `MEMORY`, of a platform that keeps its history alone.
+/// After another number than `DONE` nothing changed.
+#[unsafe(no_mangle)]
+pub extern "C" fn scmi_answer(
+    alloc: Global,
+    platform: &mut Handle,
+    agent: u32,
+    area: &mut [u8; AREA_BYTES],
+) -> u32
+    ensures done { result ≡ DONE → IsSomeAnd platform.old.value (λ p. IsSomeAnd platform.new.value (λ k. IsSomeAnd (arrived area.old) (λ frame. HasAnswered p k agent frame area.old area.new))) }
+    ensures no_platform { (result ≡ NO_PLATFORM) ↔ (platform.old.value ≡ None) }
+    ensures free { result ≡ NOTHING → arrived area.old ≡ None }
+    ensures memory { result ≡ MEMORY → IsSomeAnd platform.old.value IsRecorded }
+    ensures kept { result ≢ DONE → (platform.new.value ≡ platform.old.value) × (area.new ≡ area.old) }
+{
+    let Some(mut held) = platform.take(alloc) else {
+        return NO_PLATFORM;
+    };
+    let given = answer(&mut held, agent, area);
+    platform.put(held);
+    code(given)
+}
+
+/// Completes the first pending set. `DONE`; `NO_PLATFORM`; `NOTHING` where none is pending; `MEMORY`, of
+/// a platform that keeps its history alone. After another number than `DONE` nothing changed.
+#[unsafe(no_mangle)]
+pub extern "C" fn scmi_advance(alloc: Global, platform: &mut Handle) -> u32
+    ensures done { result ≡ DONE → IsSomeAnd platform.old.value (λ p. IsSomeAnd platform.new.value (λ k. HasHappened p k Advance)) }
+    ensures no_platform { (result ≡ NO_PLATFORM) ↔ (platform.old.value ≡ None) }
+    ensures memory { result ≡ MEMORY → IsSomeAnd platform.old.value IsRecorded }
+    ensures kept { result ≢ DONE → platform.new.value ≡ platform.old.value }
+{
+    let Some(mut held) = platform.take(alloc) else {
+        return NO_PLATFORM;
+    };
+    let given = held.advance();
+    platform.put(held);
+    match given {
+        Ok(true) => DONE,
+        Ok(false) => NOTHING,
+        Err(_) => MEMORY,
+    }
+}

@@ -1,0 +1,57 @@
+//! Areas that a platform answers and fills.
+ghost use Rattle.std.specs.Prelude.{◌≡◌, ◌≢◌, ◌↔◌, ◌⊎◌, ◌<◌, None, List, length, slice_get, IsSomeAnd, OnOk, OnErr, Err};
+ghost use Rattle.scmi_codec.specs.Area.{arrived};
+ghost use Rattle.scmi_core.specs.History.{outbox};
+ghost use Rattle.scmi_core.specs.declared.event.Event.{Event};
+ghost use Rattle.scmi_c.specs.Standing.{board_of, StandsAt, IsRecorded};
+ghost use Rattle.scmi_c.specs.Calls.{HasAnswered, HasPosted};
+
+use crate::held::Held;
+use crate::refusal::Refusal;
+use scmi_codec::{AREA_BYTES, Answer, Message, read_area, write_answer, write_message};
+use scmi_core::Answered;
+
+/// Executes the frame that stands in an agent's area, and answers it in place. `Nothing` where the
+/// channel is free; else `NoAgent` where the board lacks the agent, and `Memory` where the history could
+/// not grow. Then nothing changed.
+pub fn answer(held: &mut Held, agent: u32, area: &mut [u8; AREA_BYTES]) -> Result<(), Refusal>
+    ensures ok { OnOk result (IsSomeAnd (arrived area.old) (λ frame. HasAnswered held.old held.new agent frame area.old area.new)) }
+    ensures free { (result ≡ Err Refusal.Nothing) ↔ (arrived area.old ≡ None) }
+    ensures no_agent { (result ≡ Err Refusal.NoAgent) ↔ ((arrived area.old ≢ None) × ((agent ≡ 0) ⊎ (length (board_of held.old).agents < agent))) }
+    ensures memory { result ≡ Err Refusal.Memory → IsRecorded held.old }
+    ensures never { result ≢ Err Refusal.NotFree }
+    ensures err { OnErr result (held.new ≡ held.old) }
+    ensures kept { OnErr result (area.new ≡ area.old) }
+{
+    let Ok(Some(frame)) = read_area(area) else {
+        return Err(Refusal::Nothing);
+    };
+    let mut reply = Message::default();
+    let _ = match held.command(agent, &frame, &mut reply)? {
+        Answered::Reply => write_answer(area, &Answer::Reply(reply)),
+        Answered::ChannelError => write_answer(area, &Answer::ChannelError),
+    };
+    Ok(())
+}
+
+/// Writes the first message of an agent's outbox into an area, as a caller posts it. `NoAgent` where the
+/// board lacks the agent, `Nothing` where its outbox is empty, and `NotFree` where the channel still
+/// holds a message. Then nothing changed.
+pub fn post_next(held: &Held, agent: u32, area: &mut [u8; AREA_BYTES]) -> Result<(), Refusal>
+    ensures ok { OnOk result (HasPosted held.now agent area.old area.new) }
+    ensures no_agent { (result ≡ Err Refusal.NoAgent) ↔ ((agent ≡ 0) ⊎ (length (board_of held.now).agents < agent)) }
+    ensures nothing { result ≡ Err Refusal.Nothing → (h : List Event) → StandsAt held.now h → slice_get (outbox (board_of held.now) agent h) 0 ≡ None }
+    ensures not_free { result ≡ Err Refusal.NotFree → arrived area.old ≢ None }
+    ensures free { OnOk result (arrived area.old ≡ None) }
+    ensures never { result ≢ Err Refusal.Memory }
+    ensures kept { OnErr result (area.new ≡ area.old) }
+{
+    let Some(message) = held.front(agent)? else {
+        return Err(Refusal::Nothing);
+    };
+    if !matches!(read_area(area), Ok(None)) {
+        return Err(Refusal::NotFree);
+    }
+    let _ = write_message(area, &message);
+    Ok(())
+}

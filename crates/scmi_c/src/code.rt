@@ -1,0 +1,48 @@
+//! What calls gave, as numbers for C.
+ghost use Rattle.std.specs.Prelude.{◌≡◌};
+ghost use Rattle.scmi_c.specs.Refusal.{code_of};
+
+use crate::refusal::Refusal;
+
+/// The call did what it is for.
+pub const DONE: u32 = 0;
+
+/// The channel is free, no set is pending, or the outbox is empty.
+pub const NOTHING: u32 = 1;
+
+/// Memory was refused.
+pub const MEMORY: u32 = 2;
+
+/// The board lacks the agent.
+pub const NO_AGENT: u32 = 3;
+
+/// The channel is not free.
+pub const NOT_FREE: u32 = 4;
+
+/// The handle holds no platform.
+pub const NO_PLATFORM: u32 = 5;
+
+/// The handle holds a platform.
+pub const IN_USE: u32 = 6;
+
+/// The platform keeps no history.
+pub const NO_HISTORY: u32 = 7;
+
+/// What a rule's number is added to.
+pub const RULE: u32 = 16;
+
+/// What a line's number is added to.
+pub const LINE: u32 = 256;
+
+/// The number of what a call gave.
+pub fn code(given: Result<(), Refusal>) -> u32
+    ensures { result ≡ code_of given }
+{
+    match given {
+        Ok(()) => DONE,
+        Err(Refusal::Nothing) => NOTHING,
+        Err(Refusal::Memory) => MEMORY,
+        Err(Refusal::NoAgent) => NO_AGENT,
+        Err(Refusal::NotFree) => NOT_FREE,
+    }
+}

@@ -1,0 +1,79 @@
+//! A platform as a C program holds it.
+ghost use Rattle.std.specs.Prelude.{◌≡◌, Option, Some, None, MatchOption};
+ghost use Rattle.scmi_c.specs.declared.held.Held.{Held};
+
+use crate::held::Held;
+use crate::loose::Loose;
+use std::alloc::Global;
+use std::marker::Model;
+use std::mem;
+use std::ptr::null_mut;
+
+/// A boxed platform as its pointer, or nothing, which is null.
+#[repr(C)]
+#[derive(Drop)]
+pub struct Handle {
+    at: *mut u8,
+    pub ghost value: { Option Held },
+}
+
+impl Model for Handle {
+    ghost use Rattle.scmi_c.specs.Handle.{held};
+    ghost use Rattle.scmi_c.specs.contracts.held.Held.{the_row};
+    ghost use Rattle.libc.specs.Heap.{chunk};
+
+    ghost also_owns = { λ h. held chunk the_row h.at h.value };
+}
+
+impl Handle {
+    /// Nothing.
+    fn empty() -> Handle
+        ensures { result.value ≡ None }
+    {
+        Handle { at: null_mut() }
+    }
+
+    /// A platform as its pointer.
+    fn of(loose: Loose<Held, Global>) -> Handle
+        ensures { result.value ≡ Some loose.value }
+    {
+        let Loose { at, alloc: _ } = loose;
+        Handle {
+            at: at.cast::<u8>(),
+        }
+    }
+
+    /// The platform again, if there is one.
+    fn into_loose(self, alloc: Global) -> Option<Loose<Held, Global>>
+        ensures { MatchOption result (self.value ≡ None) (λ loose. self.value ≡ Some loose.value) }
+    {
+        let Handle { at } = self;
+        if at.is_null() {
+            None
+        } else {
+            Some(Loose {
+                at: at.cast::<Held>(),
+                alloc,
+            })
+        }
+    }
+
+    /// Takes the platform out, and leaves nothing.
+    pub fn take(&mut self, alloc: Global) -> Option<Box<Held>>
+        ensures taken { MatchOption result (self.old.value ≡ None) (λ held. self.old.value ≡ Some held.value) }
+        ensures left { self.new.value ≡ None }
+    {
+        match mem::replace(self, Handle::empty()).into_loose(alloc) {
+            Some(loose) => Some(loose.into_box()),
+            None => None,
+        }
+    }
+
+    /// Holds a platform, where nothing was held.
+    pub fn put(&mut self, held: Box<Held>)
+        requires { self.old.value ≡ None }
+        ensures { self.new.value ≡ Some held.value }
+    {
+        *self = Handle::of(Loose::of(held));
+    }
+}

@@ -1,0 +1,87 @@
+//! What a handle stands for.
+ghost use Rattle.std.specs.Prelude.{◌≡◌, ◌≢◌, ◌↔◌, ◌⊎◌, ◌<◌, ◌≤◌, [], List, length, true, false, slice_get, IfOk, OnOk, OnErr, IfErr, Ok, Err};
+ghost use Rattle.scmi_core.specs.Pending.{pending};
+ghost use Rattle.scmi_core.specs.History.{answer_to, answer_with, deeds, outbox};
+ghost use Rattle.scmi_core.specs.declared.event.Event.{Event};
+ghost use Rattle.scmi_core.specs.declared.event.Event.TheVariants.{Command as Called, Advance, Sent};
+ghost use Rattle.scmi_c.specs.Standing.{board_of, StandsAt, IsRecorded};
+ghost use Rattle.scmi_c.specs.Calls.{HasHappened};
+
+use scmi_codec::{Frame, Message};
+use scmi_core::{Answered, Core, CoreError, Platform};
+
+/// A platform of either kind.
+#[derive(Drop)]
+pub enum Held {
+    /// It keeps no history, and takes no memory however long it runs.
+    Endless(Platform),
+    /// It keeps its history, which takes memory with each event.
+    Recorded(Core),
+}
+
+impl Held {
+    /// Executes what an agent posted, and writes the reply where it is to stand. `NoAgent` where the
+    /// board lacks the agent, and `Memory` where the history could not grow; then nothing changed.
+    pub fn command(
+        &mut self,
+        agent: u32,
+        frame: &Frame,
+        reply: &mut Message,
+    ) -> Result<Answered, CoreError>
+        ensures answer { (h : List Event) → StandsAt self.old h → IfOk result (λ x. answer_with x reply.new ≡ answer_to (board_of self.old) agent frame.now h) }
+        ensures event { OnOk result (HasHappened self.old self.new (Called agent frame.now)) }
+        ensures no_agent { (result ≡ Err CoreError.NoAgent) ↔ ((agent ≡ 0) ⊎ (length (board_of self.old).agents < agent)) }
+        ensures not_nothing { result ≢ Err CoreError.Nothing }
+        ensures memory { result ≡ Err CoreError.Memory → IsRecorded self.old }
+        ensures err { OnErr result (self.new ≡ self.old) }
+    {
+        match self {
+            Held::Endless(platform) => platform.command(agent, frame, reply),
+            Held::Recorded(core) => core.command_into(agent, frame, reply),
+        }
+    }
+
+    /// Completes the first pending set; `false` where none is pending. `Memory` where the history could
+    /// not grow; then nothing changed.
+    pub fn advance(&mut self) -> Result<bool, CoreError>
+        ensures waiting { (h : List Event) → StandsAt self.old h → IfOk result (λ did. (did ≡ false) ↔ (pending (board_of self.old) (deeds (board_of self.old) h) ≡ [])) }
+        ensures event { IfOk result (λ did. did ≡ true → HasHappened self.old self.new Advance) }
+        ensures same { IfOk result (λ did. did ≡ false → self.new ≡ self.old) }
+        ensures memory { IfErr result (λ e. (e ≡ CoreError.Memory) × IsRecorded self.old) }
+        ensures err { OnErr result (self.new ≡ self.old) }
+    {
+        match self {
+            Held::Endless(platform) => Ok(platform.advance()),
+            Held::Recorded(core) => core.advance(),
+        }
+    }
+
+    /// The first message of an agent's outbox, if there is one. `NoAgent` where the board lacks the
+    /// agent.
+    pub fn front(&self, agent: u32) -> Result<Option<Message>, CoreError>
+        ensures first { (h : List Event) → StandsAt self.now h → IfOk result (λ message. message ≡ slice_get (outbox (board_of self.now) agent h) 0) }
+        ensures no_agent { (result ≡ Err CoreError.NoAgent) ↔ ((agent ≡ 0) ⊎ (length (board_of self.now).agents < agent)) }
+        ensures err { IfErr result (λ e. e ≡ CoreError.NoAgent) }
+    {
+        match self {
+            Held::Endless(platform) => platform.front(agent),
+            Held::Recorded(core) => core.front(agent),
+        }
+    }
+
+    /// Takes the first message off an agent's outbox, as posted. `NoAgent` where the board lacks the
+    /// agent, `Nothing` where its outbox is empty, and `Memory` where the history could not grow; then
+    /// nothing changed.
+    pub fn sent(&mut self, agent: u32) -> Result<(), CoreError>
+        ensures event { OnOk result (HasHappened self.old self.new (Sent agent)) }
+        ensures no_agent { (result ≡ Err CoreError.NoAgent) ↔ ((agent ≡ 0) ⊎ (length (board_of self.old).agents < agent)) }
+        ensures nothing { (h : List Event) → StandsAt self.old h → (result ≡ Err CoreError.Nothing) ↔ ((1 ≤ agent) × (agent ≤ length (board_of self.old).agents) × (outbox (board_of self.old) agent h ≡ [])) }
+        ensures memory { result ≡ Err CoreError.Memory → IsRecorded self.old }
+        ensures err { OnErr result (self.new ≡ self.old) }
+    {
+        match self {
+            Held::Endless(platform) => platform.sent(agent),
+            Held::Recorded(core) => core.sent(agent),
+        }
+    }
+}

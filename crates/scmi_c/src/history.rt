@@ -1,0 +1,44 @@
+//! The history that a platform keeps.
+ghost use Rattle.std.specs.Prelude.{◌≡◌, ◌≢◌, ◌↔◌, None, IsSomeAnd, MatchOption, List, length};
+ghost use Rattle.scmi_core.specs.declared.event.Event.{Event};
+ghost use Rattle.scmi_c.specs.Standing.{StandsAt, IsRecorded};
+ghost use Rattle.scmi_c.specs.declared.code.TheConstants.{DONE, NO_PLATFORM, NO_HISTORY};
+
+use crate::code::{DONE, NO_HISTORY, NO_PLATFORM};
+use crate::handle::Handle;
+use crate::held::Held;
+use std::alloc::Global;
+
+/// Gives the number of events of the history. `DONE`; `NO_PLATFORM`; `NO_HISTORY` of a platform that
+/// keeps none. After another number than `DONE` nothing changed.
+#[unsafe(no_mangle)]
+pub extern "C" fn scmi_history_length(alloc: Global, platform: &mut Handle, events: &mut u64) -> u32
+    ensures done { result ≡ DONE → IsSomeAnd platform.old.value (λ p. (h : List Event) → StandsAt p h → events.new ≡ length h) }
+    ensures platform { platform.new.value ≡ platform.old.value }
+    ensures no_platform { (result ≡ NO_PLATFORM) ↔ (platform.old.value ≡ None) }
+    ensures no_history { result ≡ NO_HISTORY → IsSomeAnd platform.old.value (λ p. ¬ (IsRecorded p)) }
+    ensures kept { result ≢ DONE → events.new ≡ events.old }
+{
+    let Some(held) = platform.take(alloc) else {
+        return NO_PLATFORM;
+    };
+    let given = length_of(&held);
+    platform.put(held);
+    match given {
+        Some(count) => {
+            *events = count as u64;
+            DONE
+        }
+        None => NO_HISTORY,
+    }
+}
+
+/// The number of events of the history, where it is kept.
+fn length_of(held: &Held) -> Option<usize>
+    ensures { MatchOption result (¬ (IsRecorded held.now)) (λ count. (h : List Event) → StandsAt held.now h → count ≡ length h) }
+{
+    match held {
+        Held::Endless(_) => None,
+        Held::Recorded(core) => Some(core.trace().len()),
+    }
+}

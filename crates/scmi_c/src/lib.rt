@@ -1,0 +1,20 @@
+//! The platform controller of SCMI (DEN0056B, version 2.0) for a program in C: the calls of
+//! `include/scmi.h`.
+//!
+//! The main type is `Handle`, a platform as its pointer, and null where there is none. The main theorem
+//! is the contract of `scmi_answer`: the area after it is the definition's answer at that place of a
+//! history which is one event longer, or nothing changed.
+#![tactic(auto)]
+
+mod answer;
+mod area;
+mod board;
+mod code;
+mod handle;
+mod held;
+mod history;
+mod loose;
+mod numbers;
+mod open;
+mod refusal;
+mod send;

@@ -1,0 +1,49 @@
+//! The library's numbers, for `include/scmi.h` to be held against.
+ghost use Rattle.std.specs.Prelude.{◌≡◌};
+ghost use Rattle.scmi_codec.specs.declared.area.TheConstants.{AREA_BYTES};
+ghost use Rattle.scmi_codec.specs.declared.payload.TheConstants.{PAYLOAD_WORDS};
+
+use crate::code::{
+    DONE, IN_USE, LINE, MEMORY, NO_AGENT, NO_HISTORY, NO_PLATFORM, NOT_FREE, NOTHING, RULE,
+};
+use scmi_codec::{AREA_BYTES, PAYLOAD_WORDS};
+
+/// The numbers that C is given or has to know.
+#[repr(C)]
+#[derive(Drop)]
+pub struct Numbers {
+    pub area_bytes: u32,
+    pub payload_words: u32,
+    pub done: u32,
+    pub nothing: u32,
+    pub memory: u32,
+    pub no_agent: u32,
+    pub not_free: u32,
+    pub no_platform: u32,
+    pub in_use: u32,
+    pub no_history: u32,
+    pub rule: u32,
+    pub line: u32,
+}
+
+/// Gives the library's numbers.
+#[unsafe(no_mangle)]
+pub extern "C" fn scmi_numbers(numbers: &mut Numbers)
+    ensures area { numbers.new.area_bytes ≡ AREA_BYTES }
+    ensures payload { numbers.new.payload_words ≡ PAYLOAD_WORDS }
+{
+    *numbers = Numbers {
+        area_bytes: AREA_BYTES as u32,
+        payload_words: PAYLOAD_WORDS as u32,
+        done: DONE,
+        nothing: NOTHING,
+        memory: MEMORY,
+        no_agent: NO_AGENT,
+        not_free: NOT_FREE,
+        no_platform: NO_PLATFORM,
+        in_use: IN_USE,
+        no_history: NO_HISTORY,
+        rule: RULE,
+        line: LINE,
+    };
+}

@@ -1,0 +1,79 @@
+//! Platforms are made and freed.
+ghost use Rattle.std.specs.Prelude.{◌≡◌, ◌≢◌, ◌↔◌, ◌⊎◌, [], Some, None, IsSomeAnd};
+ghost use Rattle.scmi_plan.specs.Plan.{IsLawful};
+ghost use Rattle.scmi_c.specs.Board.{IsFault};
+ghost use Rattle.scmi_c.specs.Standing.{board_of, StandsAt, IsRecorded};
+ghost use Rattle.scmi_c.specs.declared.code.TheConstants.{DONE, IN_USE, MEMORY};
+
+use crate::board::read_plan;
+use crate::code::{DONE, IN_USE, MEMORY};
+use crate::handle::Handle;
+use crate::held::Held;
+use scmi_core::{Core, Platform};
+use std::alloc::Global;
+
+/// Makes a platform of a board's text, which keeps no history and takes no memory from then on. `DONE`;
+/// `IN_USE` where the handle holds a platform; else the number of the text's fault (`read_plan`). After
+/// another number than `DONE` the handle is as it was.
+#[unsafe(no_mangle)]
+pub extern "C" fn scmi_platform_new(alloc: Global, platform: &mut Handle, board: &[u8]) -> u32
+    ensures done { result ≡ DONE → IsSomeAnd platform.new.value (λ p. StandsAt p [] × IsLawful (board_of p) × (¬ (IsRecorded p))) }
+    ensures in_use { (result ≡ IN_USE) ↔ (platform.old.value ≢ None) }
+    ensures faults { (result ≡ DONE) ⊎ (result ≡ IN_USE) ⊎ IsFault result }
+    ensures kept { result ≢ DONE → platform.new.value ≡ platform.old.value }
+{
+    if let Some(held) = platform.take(alloc) {
+        platform.put(held);
+        return IN_USE;
+    }
+    match read_plan(alloc, board) {
+        Ok(plan) => hold(alloc, platform, Held::Endless(Platform::new(plan))),
+        Err(fault) => fault,
+    }
+}
+
+/// As `scmi_platform_new`, of a platform that keeps its history, which takes memory with each event.
+#[unsafe(no_mangle)]
+pub extern "C" fn scmi_platform_new_recorded(
+    alloc: Global,
+    platform: &mut Handle,
+    board: &[u8],
+) -> u32
+    ensures done { result ≡ DONE → IsSomeAnd platform.new.value (λ p. StandsAt p [] × IsLawful (board_of p) × IsRecorded p) }
+    ensures in_use { (result ≡ IN_USE) ↔ (platform.old.value ≢ None) }
+    ensures faults { (result ≡ DONE) ⊎ (result ≡ IN_USE) ⊎ IsFault result }
+    ensures kept { result ≢ DONE → platform.new.value ≡ platform.old.value }
+{
+    if let Some(held) = platform.take(alloc) {
+        platform.put(held);
+        return IN_USE;
+    }
+    match read_plan(alloc, board) {
+        Ok(plan) => hold(alloc, platform, Held::Recorded(Core::new(alloc, plan))),
+        Err(fault) => fault,
+    }
+}
+
+/// Puts a platform into the heap and its handle.
+fn hold(alloc: Global, platform: &mut Handle, held: Held) -> u32
+    requires { platform.old.value ≡ None }
+    ensures done { result ≡ DONE → platform.new.value ≡ Some held }
+    ensures only { (result ≡ DONE) ⊎ (result ≡ MEMORY) }
+    ensures kept { result ≢ DONE → platform.new.value ≡ platform.old.value }
+{
+    match Box::new(alloc, held) {
+        Ok(held) => {
+            platform.put(held);
+            DONE
+        }
+        Err(_) => MEMORY,
+    }
+}
+
+/// Frees a platform; the handle then holds none. Where it held none nothing is done.
+#[unsafe(no_mangle)]
+pub extern "C" fn scmi_platform_free(alloc: Global, platform: &mut Handle)
+    ensures { platform.new.value ≡ None }
+{
+    let _held = platform.take(alloc);
+}

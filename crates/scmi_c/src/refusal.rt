@@ -1,0 +1,35 @@
+//! Why a call did nothing.
+ghost use Rattle.std.specs.Prelude.{◌≡◌};
+ghost use Rattle.scmi_c.specs.Refusal.{refusal_of};
+
+use scmi_core::CoreError;
+use thiserror::Error;
+
+/// Why a call on a platform did nothing.
+#[derive(Clone, Copy, PartialEq, Eq, Debug, Error)]
+pub enum Refusal {
+    /// The channel is free, no set is pending, or the outbox is empty.
+    #[error("there is nothing to do")]
+    Nothing = 1,
+    /// The history could not grow.
+    #[error("out of memory")]
+    Memory = 2,
+    /// The number is no agent's.
+    #[error("the board has no such agent")]
+    NoAgent = 3,
+    /// The channel is not free.
+    #[error("the channel is not free")]
+    NotFree = 4,
+}
+
+impl From<CoreError> for Refusal {
+    ghost from_gives = { λ error refusal. refusal ≡ refusal_of error };
+
+    fn from(error: CoreError) -> Refusal {
+        match error {
+            CoreError::Memory => Refusal::Memory,
+            CoreError::NoAgent => Refusal::NoAgent,
+            CoreError::Nothing => Refusal::Nothing,
+        }
+    }
+}

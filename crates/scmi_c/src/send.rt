@@ -1,0 +1,58 @@
+//! Messages of the platform to agents.
+ghost use Rattle.std.specs.Prelude.{◌≡◌, ◌≢◌, ◌↔◌, None, IsSomeAnd, List, slice_get};
+ghost use Rattle.scmi_codec.specs.Area.{arrived};
+ghost use Rattle.scmi_core.specs.History.{outbox};
+ghost use Rattle.scmi_core.specs.declared.event.Event.{Event};
+ghost use Rattle.scmi_core.specs.declared.event.Event.TheVariants.{Sent};
+ghost use Rattle.scmi_c.specs.Standing.{board_of, StandsAt, IsRecorded};
+ghost use Rattle.scmi_c.specs.Calls.{HasPosted, HasHappened};
+ghost use Rattle.scmi_c.specs.declared.code.TheConstants.{DONE, NOTHING, MEMORY, NO_PLATFORM};
+
+use crate::area::post_next;
+use crate::code::{NO_PLATFORM, code};
+use crate::handle::Handle;
+use crate::refusal::Refusal;
+use scmi_codec::AREA_BYTES;
+use std::alloc::Global;
+
+/// Writes the first message of an agent's outbox into an area, as a caller posts it; it stays in the
+/// outbox. `DONE`; `NO_PLATFORM`; `NO_AGENT`; `NOTHING` where the outbox is empty; `NOT_FREE` where the
+/// area still holds a message. After another number than `DONE` nothing changed.
+#[unsafe(no_mangle)]
+pub extern "C" fn scmi_next(
+    alloc: Global,
+    platform: &mut Handle,
+    agent: u32,
+    area: &mut [u8; AREA_BYTES],
+) -> u32
+    ensures done { result ≡ DONE → IsSomeAnd platform.old.value (λ p. HasPosted p agent area.old area.new) }
+    ensures platform { platform.new.value ≡ platform.old.value }
+    ensures no_platform { (result ≡ NO_PLATFORM) ↔ (platform.old.value ≡ None) }
+    ensures nothing { result ≡ NOTHING → IsSomeAnd platform.old.value (λ p. (h : List Event) → StandsAt p h → slice_get (outbox (board_of p) agent h) 0 ≡ None) }
+    ensures kept { result ≢ DONE → area.new ≡ area.old }
+{
+    let Some(held) = platform.take(alloc) else {
+        return NO_PLATFORM;
+    };
+    let given = post_next(&held, agent, area);
+    platform.put(held);
+    code(given)
+}
+
+/// Takes the first message off an agent's outbox, as posted. `DONE`; `NO_PLATFORM`; `NO_AGENT`;
+/// `NOTHING` where the outbox is empty; `MEMORY`, of a platform that keeps its history alone. After
+/// another number than `DONE` nothing changed.
+#[unsafe(no_mangle)]
+pub extern "C" fn scmi_sent(alloc: Global, platform: &mut Handle, agent: u32) -> u32
+    ensures done { result ≡ DONE → IsSomeAnd platform.old.value (λ p. IsSomeAnd platform.new.value (λ k. HasHappened p k (Sent agent))) }
+    ensures no_platform { (result ≡ NO_PLATFORM) ↔ (platform.old.value ≡ None) }
+    ensures memory { result ≡ MEMORY → IsSomeAnd platform.old.value IsRecorded }
+    ensures kept { result ≢ DONE → platform.new.value ≡ platform.old.value }
+{
+    let Some(mut held) = platform.take(alloc) else {
+        return NO_PLATFORM;
+    };
+    let given = held.sent(agent).map_err(Refusal::from);
+    platform.put(held);
+    code(given)
+}

@@ -1,0 +1,32 @@
+/* The words of an area, little-endian on every machine. */
+#ifndef AREA_H
+#define AREA_H
+#include <stdint.h>
+
+#include "scmi.h"
+
+enum { AREA_STATUS = 0x04, AREA_LENGTH = 0x14, AREA_HEADER = 0x18, AREA_PAYLOAD = 0x1c };
+enum { STATUS_BUSY = 0, STATUS_FREE = 1 };
+
+static inline uint32_t area_word(const uint8_t *area, unsigned at)
+{
+    return (uint32_t)area[at] | (uint32_t)area[at + 1] << 8 | (uint32_t)area[at + 2] << 16 |
+           (uint32_t)area[at + 3] << 24;
+}
+
+static inline void area_set_word(uint8_t *area, unsigned at, uint32_t word)
+{
+    for (unsigned i = 0; i < 4; i++)
+        area[at + i] = (uint8_t)(word >> 8 * i);
+}
+
+/* Writes a command as an agent posts it. */
+static inline void area_post(uint8_t *area, uint32_t header, unsigned count, const uint32_t *words)
+{
+    area_set_word(area, AREA_LENGTH, 4 + 4 * count);
+    area_set_word(area, AREA_HEADER, header);
+    for (unsigned i = 0; i < count; i++)
+        area_set_word(area, AREA_PAYLOAD + 4 * i, words[i]);
+    area_set_word(area, AREA_STATUS, STATUS_BUSY);
+}
+#endif

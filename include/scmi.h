@@ -1,0 +1,120 @@
+/*
+ * The platform controller of SCMI (DEN0056B, version 2.0) for a program in C: libscmi_c.a.
+ *
+ * An area is the shared memory of a channel as the standard lays it out: SCMI_AREA_BYTES bytes, words
+ * little-endian, the status word at 0x04 (bit 0: the channel is free), the length of header and payload at
+ * 0x14, the header at 0x18, the payload from 0x1c on. A free area has status word 1; one of zeros holds a
+ * malformed frame of length 0.
+ *
+ * Every call gives a number from the list below; after any but SCMI_DONE nothing has changed, neither the
+ * platform, nor an area, nor what else it was given. It takes one call on a platform at a time. All calls
+ * on one platform come from one thread; two threads may each have a platform of their own. No call waits,
+ * keeps a pointer that it was given, or reads or writes but what it was given and the platform's own block.
+ * No call may come from a signal handler.
+ *
+ * What this program must see to: that a handle is zero before its first use, and never copied or written;
+ * that a pointer leads to as many bytes as its type says, which nobody else reads or writes during the call.
+ *
+ * The library needs memcpy, memmove and memset, and three calls for memory: rattle_alloc, rattle_realloc and
+ * rattle_dealloc (examples/c/memory.c has them over a block that this program gives). They are called by
+ * scmi_platform_new, scmi_platform_new_recorded and scmi_platform_free, and where a platform that keeps its
+ * history adds to it, and by nothing else.
+ */
+#ifndef SCMI_H
+#define SCMI_H
+
+#include <stddef.h>
+#include <stdint.h>
+
+#ifdef __cplusplus
+extern "C" {
+#endif
+
+#define SCMI_AREA_BYTES 156
+#define SCMI_PAYLOAD_WORDS 32
+
+enum {
+    SCMI_DONE = 0,
+    SCMI_NOTHING = 1,     /* the channel is free, no set is pending, or the outbox is empty */
+    SCMI_MEMORY = 2,      /* memory was refused */
+    SCMI_NO_AGENT = 3,    /* the board has no agent of this number */
+    SCMI_NOT_FREE = 4,    /* the area still holds a message */
+    SCMI_NO_PLATFORM = 5, /* the handle holds no platform */
+    SCMI_IN_USE = 6,      /* the handle holds a platform already */
+    SCMI_NO_HISTORY = 7,  /* the platform keeps no history */
+    SCMI_RULE = 16,       /* + N, from 1 to 5: the first rule that the board breaks */
+    SCMI_LINE = 256       /* + L: line L of the board's text, from 1, has another form */
+};
+
+/* A platform. {0} holds none. */
+typedef struct scmi_platform {
+    void *at;
+} scmi_platform;
+
+/*
+ * Makes a platform of a board's text (docs/SCRIPTS.md, "Boards"), which is `length` bytes. It keeps no history
+ * and takes no memory from then on. SCMI_DONE, SCMI_IN_USE, SCMI_MEMORY, SCMI_RULE + N or SCMI_LINE + L; L is
+ * the last line where `end` is missing, and 0 where there is no line. The rules: 1 counts, 2 names, 3 rates,
+ * 4 devices, 5 the trusted agent.
+ */
+uint32_t scmi_platform_new(scmi_platform *platform, const uint8_t *board, size_t length);
+
+/* As scmi_platform_new, of a platform that keeps its history: it takes memory with its events. */
+uint32_t scmi_platform_new_recorded(scmi_platform *platform, const uint8_t *board, size_t length);
+
+/*
+ * Executes the frame that stands in an agent's area, and answers it in place: the reply and status word 1, or
+ * status word 3 to a malformed frame. SCMI_DONE, SCMI_NO_PLATFORM, SCMI_NOTHING (the channel is free),
+ * SCMI_NO_AGENT, or SCMI_MEMORY of a platform that keeps its history. Agents are numbered from 1.
+ */
+uint32_t scmi_answer(scmi_platform *platform, uint32_t agent, uint8_t area[SCMI_AREA_BYTES]);
+
+/*
+ * Completes the first pending set. SCMI_DONE, SCMI_NO_PLATFORM, SCMI_NOTHING (none is pending), or SCMI_MEMORY
+ * of a platform that keeps its history.
+ */
+uint32_t scmi_advance(scmi_platform *platform);
+
+/*
+ * Writes the first message of an agent's outbox (a delayed response or a notification) into an area, with
+ * status word 0; the platform stays as it was, and the message in the outbox. SCMI_DONE, SCMI_NO_PLATFORM,
+ * SCMI_NO_AGENT, SCMI_NOTHING (the outbox is empty) or SCMI_NOT_FREE (the area holds a message).
+ */
+uint32_t scmi_next(scmi_platform *platform, uint32_t agent, uint8_t area[SCMI_AREA_BYTES]);
+
+/*
+ * Takes the first message off an agent's outbox, as posted. SCMI_DONE, SCMI_NO_PLATFORM, SCMI_NO_AGENT,
+ * SCMI_NOTHING (the outbox is empty), or SCMI_MEMORY of a platform that keeps its history.
+ */
+uint32_t scmi_sent(scmi_platform *platform, uint32_t agent);
+
+/* Gives the number of events of the history. SCMI_DONE, SCMI_NO_PLATFORM or SCMI_NO_HISTORY. */
+uint32_t scmi_history_length(scmi_platform *platform, uint64_t *events);
+
+/* Frees a platform. The handle then holds none; where it held none nothing is done. */
+void scmi_platform_free(scmi_platform *platform);
+
+/* The library's numbers: each is the macro or constant of its name above (scmi_header_fits). */
+typedef struct scmi_library {
+    uint32_t area_bytes, payload_words;
+    uint32_t done, nothing, memory, no_agent, not_free, no_platform, in_use, no_history, rule, line;
+} scmi_library;
+
+void scmi_numbers(scmi_library *library);
+
+/* Whether this header is the library's. */
+static inline int scmi_header_fits(void)
+{
+    scmi_library of;
+
+    scmi_numbers(&of);
+    return of.area_bytes == SCMI_AREA_BYTES && of.payload_words == SCMI_PAYLOAD_WORDS && of.done == SCMI_DONE &&
+           of.nothing == SCMI_NOTHING && of.memory == SCMI_MEMORY && of.no_agent == SCMI_NO_AGENT &&
+           of.not_free == SCMI_NOT_FREE && of.no_platform == SCMI_NO_PLATFORM && of.in_use == SCMI_IN_USE &&
+           of.no_history == SCMI_NO_HISTORY && of.rule == SCMI_RULE && of.line == SCMI_LINE;
+}
+
+#ifdef __cplusplus
+}
+#endif
+#endif
