@@ -30,8 +30,8 @@
 extern "C" {
 #endif
 
-#define SCMI_AREA_BYTES 156
-#define SCMI_PAYLOAD_WORDS 32
+#define SCMI_AREA_BYTES 284
+#define SCMI_PAYLOAD_WORDS 64
 
 enum {
     SCMI_DONE = 0,
