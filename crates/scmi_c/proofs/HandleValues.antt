@@ -1,5 +1,5 @@
 -- The machine value of a handle.
-use Rattle.std.proofs.Common.{◌≡◌, ◌≢◌, ℕ, List, [], ◌∷◌, ◌++◌, refl, subst, lit<}
+use Rattle.std.proofs.Common.{◌≡◌, ℕ, List, [], ◌∷◌, ◌++◌, refl, subst, lit<}
 use lib.Dec.{T}
 use seplogic.Ra.Ura.{Ura}
 use mir.Syntax.{Ty, ty_ptr}
@@ -9,7 +9,7 @@ use base.Fraction.{full_share}
 use base.Logic.{never, ent, guard, guard_i, via, fst∗, snd∗}
 use contract.Monad.{fact_use}
 use types.Logic.{Logic, sem}
-use types.Kit.{Item, Goal, Seq, Step, step, ‵, given, learn, use1, ◌$◌, move, drop, fsplit, fjoin, fpick, fpack, feq_i, feq_l}
+use types.Kit.{Item, Goal, Seq, Step, step, ‵, given, learn, use1, ◌$◌, drop, fsplit, fjoin, fpick, fpack, feq_i, feq_l}
 use denote.RattleType.{RattleType, Valss}
 use denote.Memory.{lone}
 use denote.RawPtr.{Ptr, RawPtr, ptr_val, block_ptr, null_ptr, lies_at, in_a_block, Testable}

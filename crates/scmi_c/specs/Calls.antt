@@ -1,11 +1,11 @@
 -- What calls leave.
-use Rattle.std.specs.Prelude.{◌≡◌, ℕ, List, [], ◌∷◌, ◌++◌, Option, Some, None, slice_get}
+use Rattle.std.specs.Prelude.{◌≡◌, ℕ, List, [], ◌∷◌, ◌++◌, Some, slice_get}
 use Rattle.scmi_codec.specs.Area.{answered, posted}
 use Rattle.scmi_codec.specs.declared.frame.Frame.{Frame}
 use Rattle.scmi_codec.specs.declared.message.Message.{Message}
 use Rattle.scmi_core.specs.History.{answer_to, outbox}
 use Rattle.scmi_core.specs.declared.event.Event.{Event}
-use Rattle.scmi_core.specs.declared.event.Event.TheVariants.{Command as Called, Advance, Sent}
+use Rattle.scmi_core.specs.declared.event.Event.TheVariants.{Command as Called}
 use Rattle.scmi_c.specs.declared.held.Held.{Held}
 use Rattle.scmi_c.specs.Standing.{board_of, StandsAt}
 

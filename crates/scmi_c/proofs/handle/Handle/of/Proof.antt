@@ -1,29 +1,28 @@
-use Rattle.std.proofs.Common.{◌≡◌, ◌≢◌, List, [], ◌∷◌, ◌++◌, refl, sym, ap, subst, lit<}
+use Rattle.std.proofs.Common.{◌≡◌, List, [], ◌∷◌, ◌++◌, refl, sym, subst}
 use mir.Val.{Val, vptr}
 use base.Logic.{SProp, ent, emp, id⊢}
 use prog.Wp.{WpFn}
 use contract.Monad.{fact, fact_i}
 use contract.Running.{tables}
-use types.Kit.{‵, raw, ◌⊛◌, ◌$◌, ◌∵◌, !, qed, by, move, keep, drop, use0, split, join, fsplit, fjoin, suffices}
+use types.Kit.{‵, raw, ◌⊛◌, ◌$◌, ◌∵◌, !, qed, by, move, keep, use0, split, fsplit, fjoin, suffices}
 use types.Part.{agg, sub, whole}
 use types.Run.{stop, fld, of_opd, no_more, and_then, returns, enter}
 use types.ByLocal.{alloc_all, pass_all, free_all, look_at, get, get_in, sets}
 use denote.RattleType.{RattleType, owns}
-use denote.RawPtr.{Ptr, block_ptr, null_ptr, ptr_val}
+use denote.RawPtr.{block_ptr}
 use denote.Signature.{types_at, plain}
-use denote.Steps.{nothing, heard}
+use denote.Steps.{nothing}
 use denote.Triple.Entry.{alive}
 use denote.Triple.Walked.{Stays, stay_dropped, walk_of}
 use Rattle.core.proofs.alloc.Calls.{Goes-blank}
-use Rattle.std.specs.Prelude.{Some, None}
+use Rattle.std.specs.Prelude.{Some}
 use Rattle.std.specs.contracts.alloc.Global as heap
 use Rattle.std.proofs.alloc.Global.TheLaws as heap_laws
 use Rattle.std.specs.contracts.impls.GlobalAllocator.TheImpl.{ghosts}
 use Rattle.std.proofs.raw_atomic.Walks.{proved_at, leaves}
-use Rattle.scmi_c.proofs.LooseValues.{both, Loose, loose_good, loose_in, loose_out}
+use Rattle.scmi_c.proofs.LooseValues.{both, Loose, loose_good, loose_out}
 use Rattle.scmi_c.proofs.HandleValues.{word, handle_in}
 use Rattle.scmi_c.specs.contracts.held.Held as platform
-use Rattle.scmi_c.specs.contracts.handle.Handle as handle
 use Rattle.scmi_c.specs.contracts.handle.Handle.of.{ended, clauses}
 use Rattle.scmi_c.specs.contracts.handle.Handle.of.Key.{name as #self}
 use Rattle.scmi_c.proofs.handle.Handle.of.Statement.{statement}
