@@ -1,18 +1,19 @@
 -- What is written of a run.
-use Rattle.std.proofs.Common.{◌≡◌, ℕ, ◌+◌, ◌<◌, ◌≤◌, List, [], ◌∷◌, ◌++◌, length, take, get_or, Option, Some, None, Result, Ok, Err, refl, sym, ap, ◌∙◌, subst, arith, append_assoc}
+use Rattle.std.proofs.Common.{◌≡◌, ℕ, ◌+◌, ◌<◌, ◌≤◌, List, [], ◌∷◌, ◌++◌, length, take, drop, get_or, Option, Some, None, Result, Ok, Err, refl, sym, ap, ◌∙◌, subst, arith, append_assoc}
 use Rattle.std.specs.List.{All, flat_map}
 use Rattle.std.specs.Prelude.{OnOk}
 use Rattle.std.specs.Io.KnownBytes.{Appends}
-use Rattle.std.proofs.lemmas.List.{append-nil, take_more, take_all, length-take}
+use Rattle.std.proofs.lemmas.List.{append-nil, take_more, take_all, length-take, take-append-drop}
 use Rattle.scmi_threads.specs.declared.agent_log.AgentLog.{AgentLog}
 use Rattle.scmi_threads.specs.declared.stop.Stop.{Stop}
 use Rattle.scmi_threads.specs.declared.stop.Stop.TheVariants as stop
 use Rattle.scmi_text.specs.ScriptLine.{lines_text}
 use Rattle.scmi_text.specs.StepLine.{step_text}
+use Rattle.scmi_text.specs.declared.step.Step.{Step}
 use Rattle.scmi_text.specs.declared.step_line.StepLine.{StepLine}
 use Rattle.scmi_text.specs.declared.step_line.StepLine.TheVariants.{Trace}
 use Rattle.scmi_run.specs.Runs.{logs_text}
-use Rattle.scmi_run.specs.Steps.{AreStepLines, IsTextOfSteps}
+use Rattle.scmi_run.specs.Steps.{IsLineOf, AreLinesOf, AreStepLines, IsTextOfSteps}
 
 pub nothing_written : (old : Option (List ℕ)) → Appends old old []
 nothing_written None = tt
@@ -53,23 +54,49 @@ on_ok P Q (Err e) p f = tt
 
 -- the lines of steps
 
-pub no_step : (a : Option (List ℕ)) → AreStepLines a a
-no_step a = record { lines = []; text = nothing_written a }
+-- one line was written for each of these steps
+pub record SoFar (steps : List Step) (old new : Option (List ℕ)) : Type 0 where
+  pub lines : List StepLine
+  pub follow : AreLinesOf steps lines
+  pub text : Appends old new (flat_map step_text lines)
+
+pub no_step : (a : Option (List ℕ)) → SoFar [] a a
+no_step a = record { lines = []; follow = tt; text = nothing_written a }
 
 lines_more : (lines : List StepLine) (line : StepLine) → flat_map step_text (lines ++ line ∷ []) ≡ flat_map step_text lines ++ step_text line
 lines_more [] line = append-nil (step_text line)
 lines_more (x ∷ lines) line = ap (λ ys. step_text x ++ ys) (lines_more lines line) ∙ sym (append_assoc (step_text x) (flat_map step_text lines) (step_text line))
 
-pub step_more : (a b c : Option (List ℕ)) (line : StepLine) → AreStepLines a b → Appends b c (step_text line) → AreStepLines a c
-step_more a b c line so_far more = record {
-  lines = so_far.lines ++ line ∷ [];
-  text = subst (Appends a c) (sym (lines_more so_far.lines line)) (written_then a b c (flat_map step_text so_far.lines) (step_text line) so_far.text more);
+follow_more : (steps : List Step) (lines : List StepLine) (s : Step) (line : StepLine) → AreLinesOf steps lines → IsLineOf s line → AreLinesOf (steps ++ s ∷ []) (lines ++ line ∷ [])
+follow_more [] [] s line all one = (one, tt)
+follow_more [] (x ∷ lines) s line all one = absurd all
+follow_more (t ∷ steps) [] s line all one = absurd all
+follow_more (t ∷ steps) (x ∷ lines) s line all one = (all.0, follow_more steps lines s line all.1 one)
+
+pub step_more : (steps : List Step) (i : ℕ) (s : Step) (a b c : Option (List ℕ)) (line : StepLine) → i < length steps → s ≡ get_or steps i s → SoFar (take i steps) a b → IsLineOf s line → Appends b c (step_text line) → SoFar (take (i + 1) steps) a c
+step_more steps i s a b c line below is so_far one more =
+    let taken : take i steps ++ s ∷ [] ≡ take (i + 1) steps = ap (λ x. take i steps ++ x ∷ []) is ∙ sym (take_more steps i s below) in record {
+      lines = so_far.lines ++ line ∷ [];
+      follow = subst (λ ts. AreLinesOf ts (so_far.lines ++ line ∷ [])) taken (follow_more (take i steps) so_far.lines s line so_far.follow one);
+      text = subst (Appends a c) (sym (lines_more so_far.lines line)) (written_then a b c (flat_map step_text so_far.lines) (step_text line) so_far.text more);
+    }
+
+-- the lines so far are those of the first steps
+pub first_steps : (steps : List Step) (i : ℕ) (a b : Option (List ℕ)) → SoFar (take i steps) a b → AreStepLines steps a b
+first_steps steps i a b so_far = record {
+  done = take i steps;
+  left = drop i steps;
+  parted = take-append-drop i steps;
+  lines = so_far.lines;
+  follow = so_far.follow;
+  text = so_far.text;
 }
 
-pub all_steps : {E : Type 0} (r : Result Unit E) (a b c : Option (List ℕ)) (events : ℕ) → AreStepLines a b → OnOk r (Appends b c (step_text (Trace events))) → OnOk r (IsTextOfSteps a c)
-all_steps (Err e) a b c events so_far last = tt
-all_steps (Ok x) a b c events so_far last = record {
+pub all_steps : {E : Type 0} (r : Result Unit E) (steps : List Step) (i : ℕ) (a b c : Option (List ℕ)) (events : ℕ) → length steps ≤ i → SoFar (take i steps) a b → OnOk r (Appends b c (step_text (Trace events))) → OnOk r (IsTextOfSteps steps a c)
+all_steps (Err e) steps i a b c events all so_far last = tt
+all_steps (Ok x) steps i a b c events all so_far last = record {
   lines = so_far.lines;
   events = events;
+  follow = subst (λ ts. AreLinesOf ts so_far.lines) (take_all i steps all) so_far.follow;
   text = written_then a b c (flat_map step_text so_far.lines) (step_text (Trace events)) so_far.text last;
 }

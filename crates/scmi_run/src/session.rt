@@ -36,6 +36,7 @@ impl<C: Channel> Session<C> {
     ghost use Rattle.std.specs.Prelude.{◌≡◌, length, IfOk, IfErr};
     ghost use Rattle.scmi_board.specs.Agent.{IsAgent};
     ghost use Rattle.scmi_text.specs.Step.{IsStepOf};
+    ghost use Rattle.scmi_run.specs.Steps.{IsLineOf};
 
     /// Both sides of a board, over new channels. `Memory` where memory is refused.
     pub fn open(alloc: Global, plan: Plan) -> Result<Session<C>, RunError>
@@ -58,6 +59,7 @@ impl<C: Channel> Session<C> {
         requires { IsStepOf self.old step.now }
         ensures agents { self.new ≡ self.old }
         ensures memory { IfErr result (λ e. e ≡ RunError.Memory) }
+        ensures line { IfOk result (λ line. IsLineOf step.now line) }
     {
         match step {
             Step::Call {
@@ -100,10 +102,12 @@ impl<C: Channel> Session<C> {
 
     fn call(&mut self, agent: u32, protocol: u8, message: u8, payload: &Payload) -> StepLine
         requires { IsAgent self.old agent }
-        ensures { self.new ≡ self.old }
+        ensures agents { self.new ≡ self.old }
+        ensures line { IsLineOf (Step.Call agent protocol message payload.now) result }
     {
         let index = agent as usize - 1;
         agent_steps::call(
+            agent,
             &mut self.agents[index],
             &self.links[index],
             protocol,
@@ -114,48 +118,60 @@ impl<C: Channel> Session<C> {
 
     fn post(&mut self, agent: u32, message: &Message) -> StepLine
         requires { IsAgent self.old agent }
-        ensures { self.new ≡ self.old }
+        ensures agents { self.new ≡ self.old }
+        ensures line { IsLineOf (Step.Raw agent message.now) result }
     {
         let index = agent as usize - 1;
-        agent_steps::post(&mut self.agents[index], &self.links[index], message)
+        agent_steps::post(agent, &mut self.agents[index], &self.links[index], message)
     }
 
     fn post_malformed(&mut self, agent: u32, length: u32, header: u32) -> StepLine
         requires { IsAgent self.old agent }
-        ensures { self.new ≡ self.old }
+        ensures agents { self.new ≡ self.old }
+        ensures line { IsLineOf (Step.Malformed agent length header) result }
     {
         let index = agent as usize - 1;
-        agent_steps::post_malformed(&mut self.agents[index], &self.links[index], length, header)
+        agent_steps::post_malformed(
+            agent,
+            &mut self.agents[index],
+            &self.links[index],
+            length,
+            header,
+        )
     }
 
     fn collect(&mut self, agent: u32) -> StepLine
         requires { IsAgent self.old agent }
-        ensures { self.new ≡ self.old }
+        ensures agents { self.new ≡ self.old }
+        ensures line { IsLineOf (Step.Collect agent) result }
     {
         let index = agent as usize - 1;
-        agent_steps::collect(&mut self.agents[index], &self.links[index])
+        agent_steps::collect(agent, &mut self.agents[index], &self.links[index])
     }
 
     fn next_p2a(&mut self, agent: u32) -> StepLine
         requires { IsAgent self.old agent }
-        ensures { self.new ≡ self.old }
+        ensures agents { self.new ≡ self.old }
+        ensures line { IsLineOf (Step.P2a agent) result }
     {
         let index = agent as usize - 1;
-        agent_steps::next_p2a(&mut self.agents[index], &self.links[index])
+        agent_steps::next_p2a(agent, &mut self.agents[index], &self.links[index])
     }
 
     fn close(&mut self, agent: u32) -> StepLine
         requires { IsAgent self.old agent }
-        ensures { self.new ≡ self.old }
+        ensures agents { self.new ≡ self.old }
+        ensures line { IsLineOf (Step.Close agent) result }
     {
         let index = agent as usize - 1;
-        agent_steps::close(&mut self.agents[index], &self.links[index])
+        agent_steps::close(agent, &mut self.agents[index], &self.links[index])
     }
 
     fn serve(&mut self, agent: u32) -> Result<StepLine, RunError>
         requires { IsAgent self.old agent }
         ensures agents { self.new ≡ self.old }
         ensures memory { IfErr result (λ e. e ≡ RunError.Memory) }
+        ensures line { IfOk result (λ line. IsLineOf (Step.Serve agent) line) }
     {
         match self.controller.serve(&self.links, agent) {
             Ok(served) => Ok(StepLine::Served { agent, served }),
@@ -174,6 +190,7 @@ impl<C: Channel> Session<C> {
         requires { IsAgent self.old agent }
         ensures agents { self.new ≡ self.old }
         ensures memory { IfErr result (λ e. e ≡ RunError.Memory) }
+        ensures line { IfOk result (λ line. IsLineOf (Step.Do agent protocol message payload.now) line) }
     {
         match self.call(agent, protocol, message, payload) {
             StepLine::Token { .. } => {}
@@ -186,6 +203,7 @@ impl<C: Channel> Session<C> {
     fn advance(&mut self) -> Result<StepLine, RunError>
         ensures agents { self.new ≡ self.old }
         ensures memory { IfErr result (λ e. e ≡ RunError.Memory) }
+        ensures line { IfOk result (λ line. IsLineOf Step.Advance line) }
     {
         match self.controller.advance() {
             Ok(more) => Ok(StepLine::Advanced { more }),
@@ -197,6 +215,7 @@ impl<C: Channel> Session<C> {
         requires { IsAgent self.old agent }
         ensures agents { self.new ≡ self.old }
         ensures memory { IfErr result (λ e. e ≡ RunError.Memory) }
+        ensures line { IfOk result (λ line. IsLineOf (Step.Flush agent) line) }
     {
         match self.controller.flush(&self.links, agent) {
             Ok(flushed) => Ok(StepLine::Flushed { agent, flushed }),
@@ -206,7 +225,8 @@ impl<C: Channel> Session<C> {
 
     fn shut(&mut self, agent: u32) -> StepLine
         requires { IsAgent self.old agent }
-        ensures { self.new ≡ self.old }
+        ensures agents { self.new ≡ self.old }
+        ensures line { IsLineOf (Step.Shut agent) result }
     {
         let shut = self.controller.close(&self.links, agent);
         StepLine::Shut {

@@ -1,5 +1,5 @@
 //! The modes `steps rings` and `steps words`: a board and a script, all on one thread.
-ghost use Rattle.std.specs.Prelude.{◌≡◌, ◌≤◌, ◌+◌, ◌⊎◌, length, IfErr, IsErrOf, OnOk};
+ghost use Rattle.std.specs.Prelude.{◌≡◌, ◌≤◌, ◌+◌, ◌⊎◌, List, length, IfErr, IsErrOf, OnOk};
 ghost use Rattle.std.specs.List.{All};
 ghost use Rattle.std.specs.Io.KnownBytes.{Appends};
 ghost use Rattle.scmi_text.specs.Step.{IsStepOf};
@@ -26,15 +26,15 @@ use std::io::Write;
 /// Reads a board and a script, makes its steps one by one, and writes the line of each, and then the
 /// length of the history. `Size`, `Read`, `Board`, `Script` and `Plan` where the input is refused; after
 /// each of these nothing is written. `Memory` where memory is refused, and `Write` where the output
-/// fails: after these the lines of the steps before are written.
+/// fails: after these the lines of the steps before are written, one for each of them.
 pub fn run_steps<R: CountedRead, W: Write>(
     alloc: Global,
     reader: &mut R,
     writer: &mut W,
     kind: Kind,
 ) -> Result<(), RunError>
-    ensures text { OnOk result (IsTextOfSteps (W.contents writer.old) (W.contents writer.new)) }
-    ensures memory { IsErrOf result RunError.Memory → AreStepLines (W.contents writer.old) (W.contents writer.new) }
+    ensures text { OnOk result ((steps : List Step) × IsTextOfSteps steps (W.contents writer.old) (W.contents writer.new)) }
+    ensures memory { IsErrOf result RunError.Memory → (steps : List Step) × AreStepLines steps (W.contents writer.old) (W.contents writer.new) }
     ensures kept { IfErr result (λ e. status_of e ≡ 2 → writer.new ≡ writer.old) }
     ensures reads { R.reads reader.new ≤ R.reads reader.old + (INPUT_BYTES + 1) }
     ensures stops { StopsAtFailure result (R.since_failure reader.old) (R.since_failure reader.new) }
@@ -57,8 +57,8 @@ fn step_through<C: Channel, W: Write>(
     writer: &mut W,
 ) -> Result<(), RunError>
     requires { All (IsStepOf (length plan.agents)) steps.now }
-    ensures text { OnOk result (IsTextOfSteps (W.contents writer.old) (W.contents writer.new)) }
-    ensures memory { IsErrOf result RunError.Memory → AreStepLines (W.contents writer.old) (W.contents writer.new) }
+    ensures text { OnOk result (IsTextOfSteps steps.now (W.contents writer.old) (W.contents writer.new)) }
+    ensures memory { IsErrOf result RunError.Memory → AreStepLines steps.now (W.contents writer.old) (W.contents writer.new) }
     ensures errors { IfErr result (λ e. (e ≡ RunError.Memory) ⊎ (e ≡ RunError.Write)) }
 {
     let mut session = Session::<C>::open(alloc, plan)?;

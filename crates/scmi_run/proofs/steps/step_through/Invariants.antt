@@ -1,9 +1,10 @@
-use Rattle.std.proofs.Common.{◌≡◌, length}
-use Rattle.scmi_run.specs.Steps.{AreStepLines}
+use Rattle.std.proofs.Common.{◌≡◌, length, take}
+use Rattle.scmi_run.specs.Steps.{AreLinesOf}
+use Rattle.scmi_run.proofs.RunLemmas.{SoFar}
 use Rattle.scmi_run.proofs.steps.step_through.Given as goal
 
 abbrev pub invariant-loop-step : goal.invariant-loop-step
 invariant-loop-step g l = record {
   agents : l.session ≡ length l.fn.plan.agents;
-  so_far : AreStepLines (g.W.Write.contents l.fn.writer) (g.W.Write.contents l.writer);
+  so_far : SoFar (take l.step-index l.fn.steps) (g.W.Write.contents l.fn.writer) (g.W.Write.contents l.writer);
 }
