@@ -1,5 +1,5 @@
 -- What a handle stands for, and after which histories.
-use Rattle.std.specs.Prelude.{◌≡◌, List, ⊤}
+use Rattle.std.specs.Prelude.{◌≡◌, ◌<◌, ◌⊎◌, ℕ, List, length, ⊤}
 use Rattle.scmi_plan.specs.Board.{Board}
 use Rattle.scmi_core.specs.Standing.{StandsAfter}
 use Rattle.scmi_core.specs.declared.event.Event.{Event}
@@ -15,6 +15,10 @@ board_of (Recorded c) = c.board
 abbrev pub StandsAt : Held → List Event → Type 0
 StandsAt (Endless p) h = StandsAfter p h
 StandsAt (Recorded c) h = c.history ≡ h
+
+-- a number is no agent's of the board
+abbrev pub IsNoAgent : ℕ → Held → Type 0
+IsNoAgent agent p = (agent ≡ 0) ⊎ (length (board_of p).agents < agent)
 
 -- a platform records its history
 abbrev pub IsRecorded : Held → Type 0

@@ -1,10 +1,13 @@
 //! Commands and completions.
-ghost use Rattle.std.specs.Prelude.{◌≡◌, ◌≢◌, ◌↔◌, None, IsSomeAnd, List};
+ghost use Rattle.std.specs.Prelude.{◌≡◌, ◌≢◌, ◌↔◌, ◌⊎◌, ◌≤◌, [], None, IsSomeAnd, List};
 ghost use Rattle.scmi_codec.specs.Area.{arrived};
+ghost use Rattle.scmi_core.specs.Pending.{pending};
+ghost use Rattle.scmi_core.specs.History.{deeds};
+ghost use Rattle.scmi_core.specs.declared.event.Event.{Event};
 ghost use Rattle.scmi_core.specs.declared.event.Event.TheVariants.{Advance};
-ghost use Rattle.scmi_c.specs.Standing.{IsRecorded};
+ghost use Rattle.scmi_c.specs.Standing.{board_of, StandsAt, IsNoAgent, IsRecorded};
 ghost use Rattle.scmi_c.specs.Calls.{HasAnswered, HasHappened};
-ghost use Rattle.scmi_c.specs.declared.code.TheConstants.{DONE, NOTHING, MEMORY, NO_PLATFORM};
+ghost use Rattle.scmi_c.specs.declared.code.TheConstants.{DONE, NOTHING, MEMORY, NO_AGENT, NO_PLATFORM};
 
 use crate::area::answer;
 use crate::code::{DONE, MEMORY, NO_PLATFORM, NOTHING, code};
@@ -25,6 +28,8 @@ pub extern "C" fn scmi_answer(
     ensures done { result ≡ DONE → IsSomeAnd platform.old.value (λ p. IsSomeAnd platform.new.value (λ k. IsSomeAnd (arrived area.old) (λ frame. HasAnswered p k agent frame area.old area.new))) }
     ensures no_platform { (result ≡ NO_PLATFORM) ↔ (platform.old.value ≡ None) }
     ensures free { result ≡ NOTHING → arrived area.old ≡ None }
+    ensures no_agent { result ≡ NO_AGENT → IsSomeAnd platform.old.value (IsNoAgent agent) }
+    ensures only { (result ≤ NO_AGENT) ⊎ (result ≡ NO_PLATFORM) }
     ensures memory { result ≡ MEMORY → IsSomeAnd platform.old.value IsRecorded }
     ensures kept { result ≢ DONE → (platform.new.value ≡ platform.old.value) × (area.new ≡ area.old) }
 {
@@ -41,6 +46,8 @@ pub extern "C" fn scmi_answer(
 #[unsafe(no_mangle)]
 pub extern "C" fn scmi_advance(alloc: Global, platform: &mut Handle) -> u32
     ensures done { result ≡ DONE → IsSomeAnd platform.old.value (λ p. IsSomeAnd platform.new.value (λ k. HasHappened p k Advance)) }
+    ensures nothing { result ≡ NOTHING → IsSomeAnd platform.old.value (λ p. (h : List Event) → StandsAt p h → pending (board_of p) (deeds (board_of p) h) ≡ []) }
+    ensures only { (result ≤ MEMORY) ⊎ (result ≡ NO_PLATFORM) }
     ensures no_platform { (result ≡ NO_PLATFORM) ↔ (platform.old.value ≡ None) }
     ensures memory { result ≡ MEMORY → IsSomeAnd platform.old.value IsRecorded }
     ensures kept { result ≢ DONE → platform.new.value ≡ platform.old.value }

@@ -1,5 +1,5 @@
 //! The history that a platform keeps.
-ghost use Rattle.std.specs.Prelude.{◌≡◌, ◌≢◌, ◌↔◌, None, IsSomeAnd, MatchOption, List, length};
+ghost use Rattle.std.specs.Prelude.{◌⊎◌, ◌≡◌, ◌≢◌, ◌↔◌, None, IsSomeAnd, MatchOption, List, length};
 ghost use Rattle.scmi_core.specs.declared.event.Event.{Event};
 ghost use Rattle.scmi_c.specs.Standing.{StandsAt, IsRecorded};
 ghost use Rattle.scmi_c.specs.declared.code.TheConstants.{DONE, NO_PLATFORM, NO_HISTORY};
@@ -17,6 +17,7 @@ pub extern "C" fn scmi_history_length(alloc: Global, platform: &mut Handle, even
     ensures platform { platform.new.value ≡ platform.old.value }
     ensures no_platform { (result ≡ NO_PLATFORM) ↔ (platform.old.value ≡ None) }
     ensures no_history { result ≡ NO_HISTORY → IsSomeAnd platform.old.value (λ p. ¬ (IsRecorded p)) }
+    ensures only { (result ≡ DONE) ⊎ (result ≡ NO_PLATFORM) ⊎ (result ≡ NO_HISTORY) }
     ensures kept { result ≢ DONE → events.new ≡ events.old }
 {
     let Some(held) = platform.take(alloc) else {

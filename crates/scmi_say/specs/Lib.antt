@@ -1,0 +1,10 @@
+pub mod Commands
+pub mod Digits
+pub mod Field
+pub mod Heading
+pub mod Literal
+pub mod Names
+pub mod Replies
+pub mod Text
+pub mod Told
+pub mod Words

@@ -1,0 +1,29 @@
+//! What an area of shared memory is, in words: messages, fields and statuses by their names (DEN0056B).
+//!
+//! The main type is `Told`, what an area is; `tell` makes it of the bytes, and `write_told` writes it.
+//! The main theorems are the contracts of `tell` (what is told is the codec's frame and command, and
+//! an answer that was written is told as that answer) and of `write_told` (the text, to its last byte).
+#![tactic(auto)]
+
+mod area;
+mod commands;
+mod digits;
+mod field;
+mod heading;
+mod literal;
+mod names;
+mod reply;
+mod telling;
+mod text;
+mod told;
+mod values;
+mod words;
+
+pub use area::write_area;
+pub use commands::command_fields;
+pub use field::{FIELDS, Field, Fields};
+pub use names::{message_name, notification_name, protocol_name, status_name};
+pub use reply::{reply_fields, response_status};
+pub use telling::tell;
+pub use text::write_told;
+pub use told::Told;
