@@ -5,6 +5,7 @@ use seplogic.Ra.Ura.{Ura}
 use mir.Syntax.{Ty, ty_ptr}
 use mir.Val.{Val, vstruct, vcons, vnil, of_list, has_ty, WT}
 use mir.Raw.{raw as bare}
+use base.Fml.{Fml}
 use base.Fraction.{full_share}
 use base.Logic.{never, ent, guard, guard_i, via, fst∗, snd∗}
 use contract.Monad.{fact_use}
@@ -20,10 +21,15 @@ use Rattle.std.specs.Prelude.{Option, Some, None}
 use Rattle.std.specs.declared.alloc.Global.{Global}
 use Rattle.std.proofs.GlobalToken.{dealloc_token-Testable}
 use Rattle.std_alloc.specs.Box.Ownership.{box_owns}
-use Rattle.libc.specs.Heap.{chunk}
+use Rattle.std.specs.contracts.impls.GlobalAllocator.TheImpl.{ghosts}
+use Rattle.std.proofs.Handle.{handle as heap}
 use Rattle.scmi_c.specs.Handle.{held}
 use Rattle.scmi_c.specs.contracts.held.Held as platform
 use Rattle.scmi_c.specs.contracts.handle.Handle as handle
+
+-- the right to free a block of the heap
+abbrev pub chunk : Ty → Ptr → Fml
+chunk = ghosts.dealloc_token heap
 
 abbrev pub word : Ptr → Val
 word p = vstruct (vcons (ptr_val p) vnil)
@@ -46,10 +52,14 @@ tested {𝓤 = 𝓤} 𝓛 a p x =
 
 module _ {M : Type 1} {𝓤 : Ura M} {𝓛 : Logic 𝓤} {K : Type 0} {Γ : List (Item 𝓤)} {G : Goal 𝓤 𝓛.H} where
   pub handle_in : K → (p : Ptr) (x : Option (platform.the_row).Denot)
-      → Step K 𝓛 (‵ ((handle.the_row).own_val (record { at = p; value = x }) (word p ∷ [])) ∷ Γ) G (‵ (held chunk platform.the_row p x) ∷ Γ) G
+      → Step K 𝓛 (‵ ((handle.the_row).own_val (record { at = p; value = x }) (word p ∷ [])) ∷ Γ) G (‵ (held ghosts.dealloc_token platform.the_row p x) ∷ Γ) G
   handle_in t p x = step (λ s.
       nothing t $ feq_i t (List Val) (ptr_val p ∷ []) (ptr_val p ∷ []) refl $ fjoin t $ feq_i t (List Val) (word p ∷ []) (word p ∷ []) refl $ fjoin t $
       fpack t (Valss (RawPtr ∷ [])) (within (shape handle.the_type) (p, tt) (word p ∷ [])) (ptr_val p ∷ [], tt) $ fjoin t $ s)
+
+  pub handle_in_some : K → (a : Global) (p : Ptr) (x : (platform.the_row).Denot)
+      → Step K 𝓛 (‵ ((handle.the_row).own_val (record { at = p; value = Some x }) (word p ∷ [])) ∷ Γ) G (‵ (box_owns (ghosts.dealloc_token a) platform.the_row p x) ∷ Γ) G
+  handle_in_some t a p x = step (λ s. fpack t Global (λ heap. box_owns (ghosts.dealloc_token heap) platform.the_row p x) a $ handle_in t p (Some x) $ s)
 
   pub handle_open : K → (a : Global) (p : Ptr) (m : Option (platform.the_row).Denot) (vs : List Val)
       → (m ≡ None → vs ≡ word null_ptr ∷ [] → Seq K 𝓛 Γ G)
@@ -60,6 +70,6 @@ module _ {M : Type 1} {𝓤 : Ura M} {𝓛 : Logic 𝓤} {K : Type 0} {Γ : List
       (subst (λ (p' : Ptr). vs ≡ word p' ∷ []) e (subst (λ (ps : List Val). vs ≡ vstruct (of_list (ps ++ [])) ∷ []) ep ev))))))
   handle_open t a p (Some x) vs none one =
       fsplit t $ fpick t (λ vss. fsplit t $ feq_l t (λ ev. fsplit t $ feq_l t (λ ep. drop t $
-      in_a_block t p (λ p'. box_owns chunk platform.the_row p' x) (fst∗ 𝓤 (never 𝓤) (sem 𝓛 (chunk (bare (lone (platform.the_row).mir)) null_ptr))) (λ b o e.
+      fpick t (λ _. in_a_block t p (λ p'. box_owns chunk platform.the_row p' x) (fst∗ 𝓤 (never 𝓤) (sem 𝓛 (chunk (bare (lone (platform.the_row).mir)) null_ptr))) (λ b o e.
       use1 𝓛 (given (Testable (block_ptr b o)) (‵ (box_owns chunk platform.the_row (block_ptr b o) x))) (tested 𝓛 a (block_ptr b o) x) $ learn t (λ is. one b o x refl
-      (subst (λ (p' : Ptr). vs ≡ word p' ∷ []) e (subst (λ (ps : List Val). vs ≡ vstruct (of_list (ps ++ [])) ∷ []) ep ev)) is)))))
+      (subst (λ (p' : Ptr). vs ≡ word p' ∷ []) e (subst (λ (ps : List Val). vs ≡ vstruct (of_list (ps ++ [])) ∷ []) ep ev)) is))))))

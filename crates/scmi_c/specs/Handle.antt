@@ -4,9 +4,10 @@ use mir.Syntax.{Ty}
 use base.Fml.{Fml, ftrue, fex}
 use denote.RattleType.{RattleType}
 use denote.RawPtr.{Ptr, null_ptr}
+use Rattle.std.specs.declared.alloc.Global.{Global}
 use Rattle.std_alloc.specs.Box.Ownership.{box_owns}
 
 -- nothing, and the pointer is null; or a boxed value at the pointer, and the right to free its block
-abbrev pub held : (Ty → Ptr → Fml) → (R : RattleType) → Ptr → Option (R.Denot) → Fml
+abbrev pub held : (Global → Ty → Ptr → Fml) → (R : RattleType) → Ptr → Option (R.Denot) → Fml
 held token R p None = fex (p ≡ null_ptr) (λ _. ftrue)
-held token R p (Some x) = box_owns token R p x
+held token R p (Some x) = fex Global (λ heap. box_owns (token heap) R p x)

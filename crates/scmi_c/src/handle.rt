@@ -20,9 +20,9 @@ pub struct Handle {
 impl Model for Handle {
     ghost use Rattle.scmi_c.specs.Handle.{held};
     ghost use Rattle.scmi_c.specs.contracts.held.Held.{the_row};
-    ghost use Rattle.libc.specs.Heap.{chunk};
+    ghost use Rattle.std.specs.contracts.impls.GlobalAllocator.TheImpl.{ghosts};
 
-    ghost also_owns = { λ h. held chunk the_row h.at h.value };
+    ghost also_owns = { λ h. held ghosts.dealloc_token the_row h.at h.value };
 }
 
 impl Handle {

@@ -21,7 +21,7 @@ use Rattle.std.proofs.alloc.Global.TheLaws as heap_laws
 use Rattle.std.specs.contracts.impls.GlobalAllocator.TheImpl.{ghosts}
 use Rattle.std.proofs.raw_atomic.Walks.{proved_at, leaves}
 use Rattle.scmi_c.proofs.LooseValues.{both, Loose, loose_good, loose_out}
-use Rattle.scmi_c.proofs.HandleValues.{word, handle_in}
+use Rattle.scmi_c.proofs.HandleValues.{word, handle_in_some}
 use Rattle.scmi_c.specs.contracts.held.Held as platform
 use Rattle.scmi_c.specs.contracts.handle.Handle.of.{ended, clauses}
 use Rattle.scmi_c.specs.contracts.handle.Handle.of.Key.{name as #self}
@@ -40,6 +40,6 @@ of_spec 𝓤 𝓛 𝓜 𝓡 wired =
     suffices ! (Run (w ∷ [])) (subst (λ (us : List Val). ent 𝓤 (Run (w ∷ [])) (Run us)) (sym (λ i. ws i ++ [])) (id⊢ 𝓤 (Run (w ∷ [])))) $
     enter ! 𝓣.C 𝓣.Λ fn (w ∷ []) Post $ alloc_all ! (λ l. pass_all ! refl (loose_good R Z LZ ghosts b o h fits, tt) $
     sets ! (of_opd ! (get_in ! (fld ! refl (stop !)) (sub ! 0 refl (whole !)))) refl (tt, tt) $ sets ! (agg ! (and_then ! (get ! refl) (no_more !))) refl (tt, (tt, tt)) $
-    handle_in ! (block_ptr b o) (Some v.value) $
+    handle_in_some ! v.alloc (block_ptr b o) v.value $
     use0 𝓛 (raw (fact 𝓤 (Some v.value ≡ Some v.value))) (fact_i 𝓤 (Some v.value ≡ Some v.value) (emp 𝓤) refl) $ nothing ! $ nothing ! $ fjoin ! $
     returns ! (look_at ! 0 refl) $ free_all ! refl $ move ! (5 ∷ 0 ∷ 2 ∷ 1 ∷ []) $ keep ! (0 ∷ 1 ∷ 2 ∷ 3 ∷ []) $ by ! (leaves 𝓛 En hs c z (word (block_ptr b o)) (record { at = block_ptr b o; value = Some v.value }) (tt, tt) (tt, tt)))))
