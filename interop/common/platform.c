@@ -20,7 +20,10 @@ const struct platform *platform_open(const char *kind, const char *program, cons
 {
 	const char *board = read_file(board_file);
 
-	/* A platform that is linked, not run, has its line here. */
+#ifdef WITH_LIBRARY
+	if (!strcmp(kind, "library"))
+		return library_open(program, board);
+#endif
 	if (!strcmp(kind, "once"))
 		return single_open(program, board);
 	if (!strcmp(kind, "words") || !strcmp(kind, "rings"))

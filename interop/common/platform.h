@@ -2,9 +2,7 @@
  * The other side of an agent's channels: what answers the areas that the agent fills.
  *
  * An agent's harness knows a platform by these calls alone, so a new kind of platform is one more file
- * beside session.c and single.c and one more line in platform.c. A library that answers an area in place
- * fits the calls as they are: `answer` is its call for an area, `advance` its call for one pending set,
- * `next_message` its call for the next message as an area.
+ * beside session.c, single.c and library.c and one more line in platform.c.
  */
 #ifndef INTEROP_PLATFORM_H
 #define INTEROP_PLATFORM_H
@@ -28,10 +26,11 @@ struct platform {
 	bool remembers;
 };
 
-/* The platform of the kind: `words` or `rings`, a session over such channels, or `once`. */
+/* The platform of the kind: `words` or `rings`, a session over such channels, `once`, or `library`. */
 const struct platform *platform_open(const char *kind, const char *program, const char *board_file);
 const struct platform *session_open(const char *kind, const char *program, const char *board);
 const struct platform *single_open(const char *program, const char *board);
+const struct platform *library_open(const char *program, const char *board);
 
 /* The same messages in a session of their own, from its start. */
 void session_restart(void);
