@@ -1,0 +1,48 @@
+/*
+ * One command again and again, for ./bench to count what an answer takes:
+ *
+ *     answers post|answer COUNT HEADER WORD..
+ *
+ * `post` writes the command into the area COUNT times, `answer` has it answered each time too.
+ */
+#include <stdio.h>
+#include <stdlib.h>
+#include <string.h>
+
+#include "area.h"
+#include "memory.h"
+
+static const char board[] = "board Acme Lab 0x00010000 1\n"
+                            "agent ap\n"
+                            "agent modem\n"
+                            "domain cpu off san\n"
+                            "clock pix on 1 list 1,2,3,4,5,6,7,8,9,10,11,12,13,14,15,16,17,18,19,20\n"
+                            "end\n";
+static uint8_t memory[64 * 1024];
+
+int main(int argc, char **argv)
+{
+    uint8_t area[SCMI_AREA_BYTES] = { 0 };
+    scmi_platform platform = { 0 };
+    uint32_t words[SCMI_PAYLOAD_WORDS], header;
+    unsigned long times;
+    unsigned count = (unsigned)argc - 4;
+
+    if (argc < 4 || count > SCMI_PAYLOAD_WORDS)
+        return 64;
+    times = strtoul(argv[2], NULL, 0);
+    header = (uint32_t)strtoul(argv[3], NULL, 0);
+    for (unsigned i = 0; i < count; i++)
+        words[i] = (uint32_t)strtoul(argv[4 + i], NULL, 0);
+    memory_give(memory, sizeof(memory));
+    if (scmi_platform_new(&platform, (const uint8_t *)board, sizeof(board) - 1) != SCMI_DONE)
+        return 1;
+    for (unsigned long i = 0; i < times; i++) {
+        area_post(area, header, count, words);
+        if (!strcmp(argv[1], "answer") && scmi_answer(&platform, 1, area) != SCMI_DONE)
+            return 1;
+    }
+    printf("%u\n", (unsigned)area_word(area, AREA_STATUS));
+    scmi_platform_free(&platform);
+    return 0;
+}
