@@ -1,20 +1,7 @@
 #include "platform.h"
+#include "program.h"
 #include <stdio.h>
 #include <stdlib.h>
-
-static char *read_file(const char *name)
-{
-	static char text[1 << 16];
-	FILE *file = fopen(name, "r");
-
-	if (!file) {
-		perror(name);
-		exit(70);
-	}
-	text[fread(text, 1, sizeof(text) - 1, file)] = 0;
-	fclose(file);
-	return text;
-}
 
 const struct platform *platform_open(const char *kind, const char *program, const char *board_file)
 {

@@ -71,3 +71,17 @@ char *program_run(const char *program, const char *input)
 	}
 	return output;
 }
+
+char *read_file(const char *name)
+{
+	static char text[1 << 16];
+	FILE *file = fopen(name, "r");
+
+	if (!file) {
+		perror(name);
+		exit(70);
+	}
+	text[fread(text, 1, sizeof(text) - 1, file)] = 0;
+	fclose(file);
+	return text;
+}

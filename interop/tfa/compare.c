@@ -164,20 +164,6 @@ static void answer_of_ours(const char *kind, const char *program, const char *bo
 	answer_of_output(program_run(program, input), answer, size);
 }
 
-static char *read_file(const char *name)
-{
-	static char text[LINE];
-	FILE *file = fopen(name, "r");
-
-	if (!file) {
-		perror(name);
-		exit(70);
-	}
-	text[fread(text, 1, sizeof(text) - 1, file)] = 0;
-	fclose(file);
-	return text;
-}
-
 static FILE *open_cases(const char *name)
 {
 	FILE *file = fopen(name, "r");
