@@ -1,7 +1,4 @@
-mod AheadLemmas
-pub mod FirstLine
 pub mod OneLine
-pub mod RestLemmas
 mod Together
 mod Scripts
 mod Modes

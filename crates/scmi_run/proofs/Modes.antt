@@ -1,7 +1,7 @@
 -- The mode that a first line names.
 use Rattle.std.proofs.Common.{◌≡◌, ℕ, List, take, get_or, Option, None, Some, IfSome, Result, Ok, Err, OnOk, sym, ap, ◌∙◌, refl, subst, arith}
 use Rattle.std.specs.List.{before_first}
-use Rattle.scmi_run.specs.Lines.{is_line_feed}
+use Rattle.scmi_input.specs.Lines.{is_line_feed}
 use Rattle.scmi_run.specs.Mode.{text_of}
 use Rattle.scmi_run.specs.Runs.{IsTextOfRun, may_be_full}
 use Rattle.scmi_run.specs.declared.kind.Kind.{Kind}

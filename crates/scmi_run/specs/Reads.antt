@@ -1,22 +1,9 @@
--- What contracts see of the reads of an input.
-use Rattle.std.specs.Prelude.{◌≡◌, ℕ, List, Option, Result, Ok, Err, MatchResult, ◌⊎◌}
-use Rattle.scmi_run.specs.declared.read_error.ReadError.{ReadError}
-use Rattle.scmi_run.specs.declared.read_error.ReadError.TheVariants.{Interrupted, Failed}
+-- What a run does once a read fails.
+use Rattle.std.specs.Prelude.{ℕ, Result}
+use Rattle.scmi_input.specs.Reads.{StopsWith}
 use Rattle.scmi_run.specs.declared.run_error.RunError.{RunError}
 use Rattle.scmi_run.specs.declared.run_error.RunError.TheVariants.{Read}
 
--- the bytes that are left to read, where they are known; how often the reader was read; and how often from the first read on that failed
-pub record ReadsView : Type 0 where
-  pub left : Option (List ℕ)
-  pub reads : ℕ
-  pub since_failure : ℕ
-
--- how many reads that failed a read is: one that is interrupted did not fail
-abbrev pub failures : {T : Type 0} → Result T ReadError → ℕ
-failures (Ok x) = 0
-failures (Err Interrupted) = 0
-failures (Err Failed) = 1
-
 -- a read that fails is the last, and the error is then `Read`
 abbrev pub StopsAtFailure : {T : Type 0} → Result T RunError → ℕ → ℕ → Type 0
-StopsAtFailure r old new = old ≡ 0 → MatchResult r (λ _. new ≡ 0) (λ e. (new ≡ 0) ⊎ ((new ≡ 1) × (e ≡ Read)))
+StopsAtFailure r old new = StopsWith Read r old new

@@ -6,19 +6,13 @@
 #![tactic(auto)]
 
 mod agent_steps;
-mod ahead;
 mod answer;
 mod board_agents;
-mod counted_read;
-mod counted_reader;
-mod input;
 mod kind;
 mod lines;
 mod mode;
 mod once;
-mod read_error;
 mod reference_board;
-mod rest;
 mod run;
 mod run_error;
 mod session;

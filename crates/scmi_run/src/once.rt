@@ -3,15 +3,14 @@ ghost use Rattle.std.specs.Prelude.{◌≡◌, ◌≢◌, ◌<◌, ◌≤◌, �
 ghost use Rattle.std.specs.Io.KnownBytes.{Appends};
 ghost use Rattle.scmi_run.specs.Once.{area_of, area_text, answered_area};
 ghost use Rattle.scmi_run.specs.Reads.{StopsAtFailure};
-ghost use Rattle.scmi_run.specs.declared.input.TheConstants.{INPUT_BYTES};
+ghost use Rattle.scmi_input.specs.declared.input.TheConstants.{INPUT_BYTES};
 
 use crate::answer::answer_area;
-use crate::counted_read::CountedRead;
 use crate::lines::only_line;
-use crate::rest::read_rest;
 use crate::run_error::RunError;
 use hex::FromHex;
 use scmi_codec::AREA_BYTES;
+use scmi_input::{CountedRead, read_rest};
 use std::alloc::Global;
 use std::io::Write;
 

@@ -2,23 +2,21 @@
 ghost use Rattle.std.specs.Prelude.{◌≡◌, ◌≤◌, ◌+◌, ◌*◌, IfErr, IfSome, IsSomeAnd, OnOk, codes};
 ghost use Rattle.std.specs.List.{after_first, before_first};
 ghost use Rattle.std.specs.Io.KnownBytes.{Appends};
-ghost use Rattle.scmi_run.specs.Lines.{is_line_feed};
+ghost use Rattle.scmi_input.specs.Lines.{is_line_feed};
 ghost use Rattle.scmi_run.specs.Mode.{text_of};
 ghost use Rattle.scmi_run.specs.Once.{area_of, area_text, answered_area};
 ghost use Rattle.scmi_run.specs.Reads.{StopsAtFailure};
 ghost use Rattle.scmi_run.specs.RunError.{status_of};
 ghost use Rattle.scmi_run.specs.Runs.{IsTextOfRun, may_be_full};
-ghost use Rattle.scmi_run.specs.declared.input.TheConstants.{INPUT_BYTES};
+ghost use Rattle.scmi_input.specs.declared.input.TheConstants.{INPUT_BYTES};
 ghost use Rattle.scmi_run.specs.declared.kind.Kind.{Kind as KindOf};
 
-use crate::counted_read::CountedRead;
-use crate::counted_reader::CountedReader;
-use crate::input::Input;
 use crate::mode::Mode;
 use crate::once::run_once;
 use crate::run_error::RunError;
 use crate::steps::run_steps;
 use crate::threads::run_threads;
+use scmi_input::{CountedRead, CountedReader, Input};
 use scmi_threads::Gate;
 use std::alloc::Global;
 use std::io::{Read, Write};

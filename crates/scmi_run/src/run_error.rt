@@ -1,8 +1,9 @@
 //! Why a run is refused or stops.
 ghost use Rattle.std.specs.Prelude.{◌≡◌};
-ghost use Rattle.scmi_run.specs.RunError.{status_of, fault_of_text, fault_of_plan};
+ghost use Rattle.scmi_run.specs.RunError.{status_of, fault_of_input, fault_of_text, fault_of_plan};
 
 use scmi_board::TextError;
+use scmi_input::InputError;
 use scmi_plan::PlanError;
 use thiserror::Error;
 
@@ -52,6 +53,18 @@ impl RunError {
             RunError::Limit => 3,
             RunError::Memory => 4,
             _ => 2,
+        }
+    }
+}
+
+impl From<InputError> for RunError {
+    ghost from_gives = { λ error fault. fault ≡ fault_of_input error };
+
+    fn from(error: InputError) -> RunError {
+        match error {
+            InputError::Size => RunError::Size,
+            InputError::Read => RunError::Read,
+            InputError::Memory => RunError::Memory,
         }
     }
 }

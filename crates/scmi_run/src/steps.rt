@@ -7,15 +7,14 @@ ghost use Rattle.scmi_text.specs.StepLine.{step_text};
 ghost use Rattle.scmi_run.specs.Reads.{StopsAtFailure};
 ghost use Rattle.scmi_run.specs.RunError.{status_of};
 ghost use Rattle.scmi_run.specs.Steps.{AreStepLines, IsTextOfSteps};
-ghost use Rattle.scmi_run.specs.declared.input.TheConstants.{INPUT_BYTES};
+ghost use Rattle.scmi_input.specs.declared.input.TheConstants.{INPUT_BYTES};
 
 use crate::board_agents::agents_of;
-use crate::counted_read::CountedRead;
 use crate::kind::Kind;
-use crate::rest::read_rest;
 use crate::run_error::RunError;
 use crate::session::Session;
 use scmi_board::{Lines, read_board};
+use scmi_input::{CountedRead, read_rest};
 use scmi_link::{Channel, RingChannel};
 use scmi_plan::Plan;
 use scmi_text::{Step, StepLine, read_steps, write_step_line};

@@ -7,14 +7,13 @@ ghost use Rattle.scmi_threads.specs.Scripts.{AreScriptsOf};
 ghost use Rattle.scmi_run.specs.Reads.{StopsAtFailure};
 ghost use Rattle.scmi_run.specs.RunError.{status_of};
 ghost use Rattle.scmi_run.specs.Runs.{IsTextOfRun, IsTextOfStoppedRun, logs_text, may_be_full};
-ghost use Rattle.scmi_run.specs.declared.input.TheConstants.{INPUT_BYTES};
+ghost use Rattle.scmi_input.specs.declared.input.TheConstants.{INPUT_BYTES};
 
 use crate::board_agents::agents_of;
-use crate::counted_read::CountedRead;
 use crate::kind::Kind;
-use crate::rest::read_rest;
 use crate::run_error::RunError;
 use scmi_board::{Lines, read_board};
+use scmi_input::{CountedRead, read_rest};
 use scmi_link::{Channel, RingChannel};
 use scmi_plan::Plan;
 use scmi_text::{read_scripts, write_script_lines};

@@ -1,0 +1,3 @@
+mod AheadLemmas
+pub mod FirstLine
+pub mod RestLemmas

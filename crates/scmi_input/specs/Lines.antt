@@ -1,0 +1,15 @@
+-- The first line of an input.
+use Rattle.std.specs.Prelude.{ℕ, ◌==◌, Bool, List}
+use Rattle.std.specs.List.{before_first, after_first}
+
+-- whether a byte ends a line
+abbrev pub is_line_feed : ℕ → Bool
+is_line_feed b = b == 10
+
+-- the bytes before the first line feed
+abbrev pub first_line : List ℕ → List ℕ
+first_line input = before_first is_line_feed input
+
+-- the bytes behind the first line feed
+abbrev pub after_line : List ℕ → List ℕ
+after_line input = after_first is_line_feed input

@@ -1,0 +1,26 @@
+-- What contracts see of the reads of an input.
+use Rattle.std.specs.Prelude.{◌≡◌, ℕ, List, Option, Result, Ok, Err, MatchResult, ◌⊎◌}
+use Rattle.scmi_input.specs.declared.input_error.InputError.{InputError}
+use Rattle.scmi_input.specs.declared.input_error.InputError.TheVariants.{Read}
+use Rattle.scmi_input.specs.declared.read_error.ReadError.{ReadError}
+use Rattle.scmi_input.specs.declared.read_error.ReadError.TheVariants.{Interrupted, Failed}
+
+-- the bytes that are left to read, where they are known; how often the reader was read; and how often from the first read on that failed
+pub record ReadsView : Type 0 where
+  pub left : Option (List ℕ)
+  pub reads : ℕ
+  pub since_failure : ℕ
+
+-- how many reads that failed a read is: one that is interrupted did not fail
+abbrev pub failures : {T : Type 0} → Result T ReadError → ℕ
+failures (Ok x) = 0
+failures (Err Interrupted) = 0
+failures (Err Failed) = 1
+
+-- a read that fails is the last, and the error is then this one
+abbrev pub StopsWith : {T E : Type 0} → E → Result T E → ℕ → ℕ → Type 0
+StopsWith failed r old new = old ≡ 0 → MatchResult r (λ _. new ≡ 0) (λ e. (new ≡ 0) ⊎ ((new ≡ 1) × (e ≡ failed)))
+
+-- a read that fails is the last, and the error is then `Read`
+abbrev pub StopsAtFailure : {T : Type 0} → Result T InputError → ℕ → ℕ → Type 0
+StopsAtFailure r old new = StopsWith Read r old new

@@ -1,0 +1,91 @@
+//! Bytes that are read ahead.
+ghost use Rattle.std.specs.Prelude.{◌≡◌, ◌==◌, ◌+◌, ◌<◌, ◌≤◌, [], ◌∷◌, ◌++◌, length, take, IfNone, IfSome, OnOk, OnErr};
+ghost use Rattle.std.specs.Io.KnownBytes.{Consumes, IsAtEnd, Keeps};
+ghost use Rattle.scmi_input.specs.Reads.{failures};
+
+use crate::counted_read::CountedRead;
+use crate::read_error::ReadError;
+use std::marker::Model;
+
+/// The most bytes that are read ahead.
+pub const AHEAD_BYTES: usize = 4096;
+
+/// Bytes that were read and not taken yet, at most `AHEAD_BYTES`. A contract sees them.
+#[derive(Drop)]
+pub struct Ahead {
+    bytes: [u8; AHEAD_BYTES],
+    start: usize,
+    end: usize,
+}
+
+impl Model for Ahead {
+    ghost use Rattle.std.specs.Prelude.{ℕ, ◌≤◌, List, take, drop};
+    ghost use Rattle.scmi_input.specs.declared.ahead.TheConstants.{AHEAD_BYTES};
+
+    ghost Value = { List ℕ };
+
+    ghost view = { λ a. drop a.start (take a.end a.bytes) };
+
+    ghost invariant = { λ a. (a.start ≤ a.end) × (a.end ≤ AHEAD_BYTES) };
+}
+
+impl Ahead {
+    /// No bytes.
+    pub fn new() -> Ahead
+        ensures { result ≡ [] }
+    {
+        Ahead {
+            bytes: [0; AHEAD_BYTES],
+            start: 0,
+            end: 0,
+        }
+    }
+
+    /// Whether there are none.
+    pub fn is_empty(&self) -> bool
+        ensures { result ≡ (length self.now == 0) }
+    {
+        self.start == self.end
+    }
+
+    /// Takes the first byte, if there is one.
+    pub fn take_byte(&mut self) -> Option<u8>
+        ensures none { IfNone result ((self.old ≡ []) × (self.new ≡ [])) }
+        ensures some { IfSome result (λ byte. self.old ≡ byte ∷ self.new) }
+    {
+        if self.start == self.end {
+            return None;
+        }
+        let byte = self.bytes[self.start];
+        self.start += 1;
+        Some(byte)
+    }
+
+    /// Moves as many bytes as both have from the front into `buffer`.
+    pub fn take_into(&mut self, buffer: &mut [u8]) -> usize
+        ensures bound { result ≤ length buffer.new }
+        ensures bytes { self.old ≡ take result buffer.new ++ self.new }
+        ensures some { result ≡ 0 → 0 < length buffer.new → self.old ≡ [] }
+    {
+        let count = (self.end - self.start).min(buffer.len());
+        buffer[..count].copy_from_slice(&self.bytes[self.start..self.start + count]);
+        self.start += count;
+        count
+    }
+
+    /// Reads ahead, at most once. Nothing may be left from before.
+    pub fn fill<R: CountedRead>(&mut self, reader: &mut R) -> Result<(), ReadError>
+        requires { self.old ≡ [] }
+        ensures ok { OnOk result (Consumes (R.remaining reader.old) (R.remaining reader.new) self.new) }
+        ensures end { OnOk result (self.new ≡ [] → IsAtEnd (R.remaining reader.new)) }
+        ensures err { OnErr result (Keeps (R.remaining reader.old) (R.remaining reader.new)) }
+        ensures none { OnErr result (self.new ≡ []) }
+        ensures reads { R.reads reader.new ≤ R.reads reader.old + 1 }
+        ensures failure { R.since_failure reader.old ≡ 0 → R.since_failure reader.new ≡ failures result }
+    {
+        self.start = 0;
+        self.end = 0;
+        self.end = reader.read(&mut self.bytes)?;
+        Ok(())
+    }
+}

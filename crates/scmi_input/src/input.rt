@@ -1,0 +1,147 @@
+//! The input, whose first line is read before the rest.
+ghost use Rattle.std.specs.Prelude.{◌≡◌, ◌<◌, ◌≤◌, ◌+◌, ◌⊎◌, length, take, Some, IfOk, IfErr, IsErrOf, OnOk, IfSome, MatchOption, ◌∷◌, ◌++◌, []};
+ghost use Rattle.std.specs.Io.{ReadsAtMost};
+ghost use Rattle.std.specs.Io.KnownBytes.{Consumes, IsAtEnd, Keeps, ReadConsumes, prepend_known};
+ghost use Rattle.scmi_input.specs.Lines.{first_line, after_line};
+ghost use Rattle.scmi_input.specs.Reads.{StopsAtFailure, failures};
+
+use crate::ahead::Ahead;
+use crate::counted_read::CountedRead;
+use crate::input_error::InputError;
+use crate::read_error::ReadError;
+use arrayvec::ArrayVec;
+use std::marker::Model;
+
+/// The most bytes of the first line, without its line feed, and of what follows it (own).
+pub const INPUT_BYTES: usize = 1_048_576;
+
+/// The most bytes of a first line that are kept: more than any mode's text has.
+pub const KEPT_BYTES: usize = 16;
+
+/// A reader, and the bytes that were read ahead. It is itself a reader, of what is left behind the
+/// first line.
+#[derive(Drop)]
+pub struct Input<R: CountedRead + Drop> {
+    reader: R,
+    ahead: Ahead,
+}
+
+impl<R: CountedRead + Drop> Model for Input<R> {
+    ghost use Rattle.std.specs.Io.KnownBytes.{prepend_known};
+    ghost use Rattle.scmi_input.specs.Reads.{ReadsView};
+
+    ghost Value = { ReadsView };
+
+    ghost view = { λ i. record {
+      left = prepend_known i.ahead (R.remaining i.reader);
+      reads = R.reads i.reader;
+      since_failure = R.since_failure i.reader;
+    } };
+}
+
+impl<R: CountedRead + Drop> Input<R> {
+    /// The input of a reader.
+    pub fn new(reader: R) -> Input<R>
+        ensures left { result.left ≡ R.remaining reader }
+        ensures reads { result.reads ≡ R.reads reader }
+        ensures since_failure { result.since_failure ≡ R.since_failure reader }
+    {
+        Input {
+            reader,
+            ahead: Ahead::new(),
+        }
+    }
+
+    /// The next byte, or `None` at the end. So many reads may be tried for it.
+    fn next_byte(&mut self, tries: &mut usize) -> Result<Option<u8>, InputError>
+        ensures reads { self.new.reads + tries.new ≤ self.old.reads + tries.old }
+        ensures stops { StopsAtFailure result self.old.since_failure self.new.since_failure }
+        ensures byte { IfOk result (λ next. MatchOption next
+            (Consumes self.old.left self.new.left [] × IsAtEnd self.new.left)
+            (λ byte. Consumes self.old.left self.new.left (byte ∷ []))) }
+        ensures errors { IfErr result (λ e. e ≡ InputError.Read) }
+    {
+        if self.ahead.is_empty() {
+            refill(&mut self.ahead, &mut self.reader, tries)?;
+        }
+        Ok(self.ahead.take_byte())
+    }
+
+    /// The first bytes of the first line, at most `KEPT_BYTES` of them, by at most `INPUT_BYTES + 1`
+    /// reads. What is left is what stands behind its line feed. `Size` where the line is longer than
+    /// `INPUT_BYTES`; `Read` at a read that fails, or where reads are interrupted so often that these
+    /// are not enough.
+    pub fn read_first_line(&mut self) -> Result<ArrayVec<u8, KEPT_BYTES>, InputError>
+        ensures reads { self.new.reads ≤ self.old.reads + (INPUT_BYTES + 1) }
+        ensures stops { StopsAtFailure result self.old.since_failure self.new.since_failure }
+        ensures line { IfOk result (λ kept. IfSome self.old.left (λ input.
+            kept.items ≡ take KEPT_BYTES (first_line input))) }
+        ensures rest { OnOk result (IfSome self.old.left (λ input. self.new.left ≡ Some (after_line input))) }
+        ensures size { IsErrOf result InputError.Size →
+            IfSome self.old.left (λ input. INPUT_BYTES < length (first_line input)) }
+        ensures errors { IfErr result (λ e. (e ≡ InputError.Size) ⊎ (e ≡ InputError.Read)) }
+    {
+        let mut kept = ArrayVec::new();
+        let mut tries = INPUT_BYTES + 1;
+        'bytes: for _ in 0..INPUT_BYTES + 1 {
+            let Some(byte) = self.next_byte(&mut tries)? else {
+                return Ok(kept);
+            };
+            if byte == b'\n' {
+                return Ok(kept);
+            }
+            keep(&mut kept, byte);
+        }
+        Err(InputError::Size)
+    }
+}
+
+impl<R: CountedRead + Drop> CountedRead for Input<R> {
+    ghost remaining = { λ i. i.left };
+
+    ghost reads = { λ i. i.reads };
+
+    ghost since_failure = { λ i. i.since_failure };
+
+    fn read(&mut self, buffer: &mut [u8]) -> Result<usize, ReadError> {
+        if self.ahead.is_empty() {
+            return self.reader.read(buffer);
+        }
+        Ok(self.ahead.take_into(buffer))
+    }
+}
+
+/// Reads ahead where nothing is left from before, by so many tries. `Read` at a read that fails, and
+/// where each try was interrupted.
+fn refill<R: CountedRead>(
+    ahead: &mut Ahead,
+    reader: &mut R,
+    tries: &mut usize,
+) -> Result<(), InputError>
+    requires { ahead.old ≡ [] }
+    ensures reads { R.reads reader.new + tries.new ≤ R.reads reader.old + tries.old }
+    ensures stops { StopsAtFailure result (R.since_failure reader.old) (R.since_failure reader.new) }
+    ensures bytes { OnOk result
+        (Keeps (R.remaining reader.old) (prepend_known ahead.new (R.remaining reader.new))) }
+    ensures end { OnOk result (ahead.new ≡ [] → IsAtEnd (R.remaining reader.new)) }
+    ensures errors { IfErr result (λ e. e ≡ InputError.Read) }
+{
+    'tries: while *tries > 0 {
+        *tries -= 1;
+        match ahead.fill(reader) {
+            Ok(()) => return Ok(()),
+            Err(ReadError::Interrupted) => {}
+            Err(ReadError::Failed) => return Err(InputError::Read),
+        }
+    }
+    Err(InputError::Read)
+}
+
+/// Keeps a byte if there is room.
+fn keep(kept: &mut ArrayVec<u8, KEPT_BYTES>, byte: u8)
+    ensures { kept.new.items ≡ take KEPT_BYTES (kept.old.items ++ byte ∷ []) }
+{
+    if !kept.is_full() {
+        kept.push(byte);
+    }
+}
