@@ -1,0 +1,40 @@
+-- The bytes of a line of a dump.
+use Rattle.std.specs.Prelude.{ℕ, ◌==◌, ◌&&◌, ◌||◌, nat_lt, Bool, if◌then◌else◌, List, [], ◌∷◌, ◌++◌, length, drop, reverse, slice_index, Option, Some, None}
+use Rattle.std.specs.List.{slice_split}
+use Rattle.std.specs.Option.{option_map}
+use Rattle.std.specs.Result.{result_ok}
+use Rattle.hex.specs.Hex.{decode_of}
+
+-- whether a byte stands between the items of a line: a space, a tab or a carriage return
+abbrev pub is_gap : ℕ → Bool
+is_gap b = (b == 32) || (b == 9) || (b == 13)
+
+-- whether an item has the mark of a number, `0x`, and something behind it
+abbrev pub has_mark : List ℕ → Bool
+has_mark item = nat_lt 2 (length item) && (slice_index item 0 == 48) && (slice_index item 1 == 120)
+
+-- bytes that stand as two hexadecimal digits each, of either case, the high one first
+abbrev pub bytes_of : List ℕ → Option (List ℕ)
+bytes_of digits = result_ok (decode_of digits)
+
+-- a number's bytes, the lowest first
+abbrev pub number_bytes : List ℕ → Option (List ℕ)
+number_bytes digits = option_map reverse (bytes_of digits)
+
+-- the bytes of an item: a number behind its mark, or a word of eight digits, is its bytes from the lowest on; any other item is bytes in their order
+abbrev pub item_bytes : List ℕ → Option (List ℕ)
+item_bytes item = if has_mark item then number_bytes (drop 2 item) else if length item == 8 then number_bytes item else bytes_of item
+
+-- one after the other, where both are there
+abbrev pub joined : Option (List ℕ) → Option (List ℕ) → Option (List ℕ)
+joined (Some a) (Some b) = Some (a ++ b)
+joined _ _ = None
+
+-- the bytes of items, one after the other
+abbrev pub items_bytes : List (List ℕ) → Option (List ℕ)
+items_bytes [] = Some []
+items_bytes (item ∷ items) = joined (item_bytes item) (items_bytes items)
+
+-- the bytes of a line, where each of its items has some
+abbrev pub line_bytes : List ℕ → Option (List ℕ)
+line_bytes line = items_bytes (slice_split is_gap line)

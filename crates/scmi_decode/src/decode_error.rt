@@ -1,0 +1,49 @@
+//! Why an input is not decoded.
+ghost use Rattle.std.specs.Prelude.{◌≡◌};
+ghost use Rattle.scmi_decode.specs.DecodeError.{fault_of_input, status_of};
+
+use scmi_input::InputError;
+use thiserror::Error;
+
+/// Why an input is not decoded. Its text is what follows the word `fault`.
+#[derive(Clone, Copy, Debug, PartialEq, Eq, Error)]
+pub enum DecodeError {
+    /// The input is longer than `INPUT_BYTES`.
+    #[error("size")]
+    Size,
+    /// A read failed, or reads were interrupted too often.
+    #[error("read")]
+    Read,
+    /// Memory was refused.
+    #[error("memory")]
+    Memory,
+    /// The output failed.
+    #[error("write")]
+    Write,
+}
+
+impl DecodeError {
+    /// The exit status of a run that ends so: 1 for a failed output, 2 for a refused input, 4 for want
+    /// of memory.
+    pub fn status(&self) -> u8
+        ensures { result ≡ status_of self.now }
+    {
+        match self {
+            DecodeError::Write => 1,
+            DecodeError::Memory => 4,
+            DecodeError::Size | DecodeError::Read => 2,
+        }
+    }
+}
+
+impl From<InputError> for DecodeError {
+    ghost from_gives = { λ error fault. fault ≡ fault_of_input error };
+
+    fn from(error: InputError) -> DecodeError {
+        match error {
+            InputError::Size => DecodeError::Size,
+            InputError::Read => DecodeError::Read,
+            InputError::Memory => DecodeError::Memory,
+        }
+    }
+}

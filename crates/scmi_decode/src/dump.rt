@@ -1,0 +1,75 @@
+//! The bytes of a line of a dump.
+ghost use Rattle.std.specs.Prelude.{◌≡◌, ◌≢◌, IfOk, map, reverse, length};
+ghost use Rattle.std.specs.Option.{option_map};
+ghost use Rattle.scmi_decode.specs.Dump.{bytes_of, number_bytes, has_mark, item_bytes, items_bytes, line_bytes};
+
+use crate::lines::items_of;
+use hex::FromHexError;
+use std::alloc::{AllocError, Global};
+
+/// The bytes that stand in a line, `None` where an item of it is of another form. An item is bytes of
+/// two hexadecimal digits each; or a number, its lowest byte first: eight digits, or `0x` and digits
+/// (own). The only error is want of memory.
+pub fn line_bytes(alloc: Global, line: &[u8]) -> Result<Option<Vec<u8>>, AllocError>
+    ensures { IfOk result (λ found. option_map (λ bytes. bytes.items) found ≡ line_bytes line.now) }
+{
+    let items = items_of(alloc, line)?;
+    items_bytes(alloc, items.as_slice())
+}
+
+/// The bytes of items, one after the other.
+fn items_bytes(alloc: Global, items: &[&[u8]]) -> Result<Option<Vec<u8>>, AllocError>
+    ensures { IfOk result (λ found. option_map (λ bytes. bytes.items) found ≡
+        items_bytes (map (λ item. item.now) items.now)) }
+{
+    let mut all = Vec::new(alloc);
+    'items: for item in items {
+        let Some(bytes) = item_bytes(alloc, *item)? else {
+            return Ok(None);
+        };
+        all.extend_from_slice(&bytes)?;
+    }
+    Ok(Some(all))
+}
+
+/// The bytes of an item.
+fn item_bytes(alloc: Global, item: &[u8]) -> Result<Option<Vec<u8>>, AllocError>
+    ensures { IfOk result (λ found. option_map (λ bytes. bytes.items) found ≡ item_bytes item.now) }
+{
+    if has_mark(item) {
+        return number_bytes(alloc, &item[2..]);
+    }
+    if item.len() == 8 {
+        return number_bytes(alloc, item);
+    }
+    bytes_of(alloc, item)
+}
+
+/// Whether an item begins with `0x`, and has something behind it.
+fn has_mark(item: &[u8]) -> bool
+    ensures { result ≡ has_mark item.now }
+{
+    item.len() > 2 && item[0] == b'0' && item[1] == b'x'
+}
+
+/// The bytes of a number, the lowest first.
+fn number_bytes(alloc: Global, digits: &[u8]) -> Result<Option<Vec<u8>>, AllocError>
+    ensures { IfOk result (λ found. option_map (λ bytes. bytes.items) found ≡ number_bytes digits.now) }
+{
+    let mut found = bytes_of(alloc, digits)?;
+    if let Some(bytes) = &mut found {
+        bytes.reverse();
+    }
+    Ok(found)
+}
+
+/// The bytes of digits, two for each.
+fn bytes_of(alloc: Global, digits: &[u8]) -> Result<Option<Vec<u8>>, AllocError>
+    ensures { IfOk result (λ found. option_map (λ bytes. bytes.items) found ≡ bytes_of digits.now) }
+{
+    match hex::decode(alloc, digits) {
+        Ok(bytes) => Ok(Some(bytes)),
+        Err(FromHexError::OutOfMemory) => Err(AllocError),
+        Err(_) => Ok(None),
+    }
+}
