@@ -107,6 +107,16 @@ def sessions(here, examples):
             *over_both(Threads, "two agents in threads", *stored(here, "two_agents"))]
 
 
+def decoded(crate):
+    """The first areas of the stored run of scmi_decode: those before its first blank line."""
+    stdin, _, _ = (crate / "stdin").read_bytes().partition(b"\n\n")
+    stdin += b"\n"
+    lines = (crate / "stdout").read_bytes().splitlines(keepends=True)
+    numbers = [int(line.split()[0]) if line[:1].isdigit() else 0 for line in lines]
+    end = next(at for at, number in enumerate(numbers) if number > stdin.count(b"\n"))
+    return Steps("areas in words", stdin, b"".join(lines[:end]))
+
+
 class Direct:
     """The calls that are made one by one. A refused call is followed by the same call again."""
 
