@@ -5,20 +5,25 @@
 //! an answer that was written is told as that answer) and of `write_told` (the text, to its last byte).
 #![tactic(auto)]
 
+mod answering;
 mod area;
+mod command_text;
 mod commands;
 mod digits;
 mod field;
+mod frame_text;
 mod heading;
 mod literal;
 mod names;
 mod reply;
+mod reply_text;
 mod telling;
 mod text;
 mod told;
 mod values;
 mod words;
 
+pub use answering::{tell_answered, tell_written};
 pub use area::write_area;
 pub use commands::command_fields;
 pub use field::{FIELDS, Field, Fields};

@@ -3,7 +3,7 @@ use Rattle.scmi_say.specs.Heading.{name_text}
 use Rattle.scmi_say.specs.Literal.{literal}
 use Rattle.scmi_say.specs.Text.{misfit_name}
 use Rattle.scmi_say.proofs.Chains.{OnOk-append}
-use Rattle.scmi_say.proofs.text.write_misfit_name.Goals as goal
+use Rattle.scmi_say.proofs.command_text.write_misfit_name.Goals as goal
 
 pub returns : goal.returns
 unfolding misfit_name

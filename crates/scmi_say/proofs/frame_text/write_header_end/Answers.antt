@@ -4,7 +4,7 @@ use Rattle.scmi_say.specs.Digits.{eight_digits}
 use Rattle.scmi_say.specs.Literal.{literal}
 use Rattle.scmi_say.specs.Text.{header_end}
 use Rattle.scmi_say.proofs.Chains.{OnOk-append}
-use Rattle.scmi_say.proofs.text.write_header_end.Goals as goal
+use Rattle.scmi_say.proofs.frame_text.write_header_end.Goals as goal
 
 pub returns : goal.returns
 unfolding header_end

@@ -1,6 +1,6 @@
 use Rattle.scmi_say.specs.Text.{misfit_line, misfit_start, misfit_end}
 use Rattle.scmi_say.proofs.Chains.{OnOk-append}
-use Rattle.scmi_say.proofs.text.write_misfit_line.Goals as goal
+use Rattle.scmi_say.proofs.command_text.write_misfit_line.Goals as goal
 
 pub returns : goal.returns
 unfolding misfit_line

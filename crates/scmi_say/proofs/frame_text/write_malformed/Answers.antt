@@ -4,7 +4,7 @@ use Rattle.scmi_say.specs.Heading.{state_text}
 use Rattle.scmi_say.specs.Literal.{literal}
 use Rattle.scmi_say.specs.Text.{malformed_text, length_text}
 use Rattle.scmi_say.proofs.Chains.{OnOk-append}
-use Rattle.scmi_say.proofs.text.write_malformed.Goals as goal
+use Rattle.scmi_say.proofs.frame_text.write_malformed.Goals as goal
 
 pub returns : goal.returns
 unfolding malformed_text

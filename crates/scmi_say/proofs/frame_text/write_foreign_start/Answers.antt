@@ -3,7 +3,7 @@ use Rattle.scmi_say.specs.Heading.{state_text}
 use Rattle.scmi_say.specs.Literal.{literal}
 use Rattle.scmi_say.specs.Text.{foreign_start}
 use Rattle.scmi_say.proofs.Chains.{OnOk-append}
-use Rattle.scmi_say.proofs.text.write_foreign_start.Goals as goal
+use Rattle.scmi_say.proofs.frame_text.write_foreign_start.Goals as goal
 
 pub returns : goal.returns
 unfolding foreign_start

@@ -1,0 +1,28 @@
+//! What an area is once something was written into it.
+ghost use Rattle.std.specs.Prelude.{◌≡◌};
+ghost use Rattle.scmi_codec.specs.Area.{answered, frame_of, posted};
+ghost use Rattle.scmi_codec.specs.declared.frame.Frame.TheVariants.{Good};
+ghost use Rattle.scmi_say.specs.Told.{told_answer, told_posted};
+
+use crate::telling::tell;
+use crate::told::Told;
+use scmi_codec::{AREA_BYTES, Answer, Message, write_answer, write_message};
+
+/// Answers the frame of an area as a callee does, and says what the area then is: that answer, or where
+/// it has no words of its own the frame that it was given to.
+pub fn tell_answered(area: &mut [u8; AREA_BYTES], answer: &Answer) -> Told
+    ensures told { result ≡ told_answer (frame_of area.old) answer.now }
+    ensures area { area.new ≡ answered answer.now area.old }
+{
+    let _ = write_answer(area, answer);
+    tell(area)
+}
+
+/// Writes a message as a caller posts it, and says what the area then is: that message, which waits.
+pub fn tell_written(area: &mut [u8; AREA_BYTES], message: &Message) -> Told
+    ensures told { result ≡ told_posted (Good message.now) }
+    ensures area { area.new ≡ posted message.now area.old }
+{
+    let _ = write_message(area, message);
+    tell(area)
+}
