@@ -1,5 +1,5 @@
-//! Tests of channels of both kinds, of the platform and its agents over them, and of the program's
-//! text, by their public items alone.
+//! Tests of channels of both kinds, of the platform and its agents over them, and of what no session
+//! shows of the program's text, by their public items alone.
 #![tactic(auto)]
 
 #[cfg(test)]
@@ -19,9 +19,9 @@ mod exchanges;
 #[cfg(test)]
 mod gaps;
 #[cfg(test)]
-mod inputs;
-#[cfg(test)]
 mod messages;
+#[cfg(test)]
+mod output_lines;
 #[cfg(test)]
 mod pair;
 #[cfg(test)]
@@ -29,20 +29,8 @@ mod platform;
 #[cfg(test)]
 mod race;
 #[cfg(test)]
+mod readers;
+#[cfg(test)]
 mod runs;
 #[cfg(test)]
 mod session;
-#[cfg(test)]
-mod text_boards;
-#[cfg(test)]
-mod text_hostile;
-#[cfg(test)]
-mod text_lines;
-#[cfg(test)]
-mod text_numbers;
-#[cfg(test)]
-mod text_output;
-#[cfg(test)]
-mod text_scripts;
-#[cfg(test)]
-mod text_steps;
