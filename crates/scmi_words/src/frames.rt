@@ -88,12 +88,25 @@ fn read_reply(table: &SharedTable, seat: &mut TableSeat, answer: &mut Answer)
 {
     match answer {
         Answer::Reply(message) => read_response(table, seat, message),
-        _ => {
-            let mut message = Message::default();
-            read_response(table, seat, &mut message);
-            *answer = Answer::Reply(message);
-        }
+        _ => read_new_response(table, seat, answer),
     }
+}
+
+/// Loads the response that the caller collected, into a new message. A function clears its locals at its
+/// entry, so the message is not one of `read_reply`.
+#[inline(never)]
+fn read_new_response(table: &SharedTable, seat: &mut TableSeat, answer: &mut Answer)
+    ghost posted: { Message }
+    requires table { IsSeatAt table.now seat.old }
+    requires half { HasCaller seat.old × ((caller_of seat.old).state.phase ≡ Idle) × ((caller_of seat.old).state.draft ≡ []) }
+    requires area { answer_area (caller_of seat.old) ≡ frame_words (Good posted) }
+    requires lawful { IsLawfulMessage posted }
+    ensures value { answer.new ≡ Reply posted }
+    ensures view { CallerBecomes seat.old (caller_after (caller_of seat.old) (2 + length posted.payload.items)) seat.new }
+{
+    let mut message = Message::default();
+    read_response(table, seat, &mut message);
+    *answer = Answer::Reply(message);
 }
 
 /// Loads the frame that the callee took, into `frame`.
@@ -115,12 +128,33 @@ pub fn read_frame(table: &SharedTable, seat: &mut TableSeat, frame: &mut Frame)
     let count = (length / 4 - 1) as usize;
     match frame {
         Frame::Good(message) => read_message(table, seat, header, count, message),
-        Frame::Malformed { .. } => {
-            let mut message = Message::default();
-            read_message(table, seat, header, count, &mut message);
-            *frame = Frame::Good(message);
-        }
+        Frame::Malformed { .. } => read_new_message(table, seat, header, count, frame),
     }
+}
+
+/// Loads the payload of the frame that the callee took, into a new message of this header word, which is
+/// not a local of `read_frame`.
+#[inline(never)]
+fn read_new_message(
+    table: &SharedTable,
+    seat: &mut TableSeat,
+    header: u32,
+    count: usize,
+    frame: &mut Frame,
+)
+    ghost posted: { Message }
+    requires table { IsSeatAt table.now seat.old }
+    requires half { HasCallee seat.old × IsOwing (callee_of seat.old) × ((callee_of seat.old).state.draft ≡ []) }
+    requires area { frame_area (callee_of seat.old) ≡ frame_words (Good posted) }
+    requires lawful { IsLawfulMessage posted }
+    requires header { header ≡ header_word posted.header }
+    requires count { count ≡ length posted.payload.items }
+    ensures value { frame.new ≡ Good posted }
+    ensures view { CalleeBecomes seat.old (callee_after (callee_of seat.old) count) seat.new }
+{
+    let mut message = Message::default();
+    read_message(table, seat, header, count, &mut message);
+    *frame = Frame::Good(message);
 }
 
 /// Loads the payload of the frame that the callee took, into a message of this header word.

@@ -60,8 +60,8 @@ pub read_message-requires : goal.read_message-requires
 read_message-requires g c = let at = (goal.at.read_message-requires g c).After-is_well_formed in let well : is_well_formed c.load_frame_word-length.result ≡ true = search rules in
     (search rules, ((search rules, search rules, search rules), (read g at well, (few g at well, (head g at well, count g at well)))))
 
-pub read_message-requires-in-Malformed : goal.read_message-requires-in-Malformed
-read_message-requires-in-Malformed g c = let at = (goal.at.read_message-requires-in-Malformed g c).After-is_well_formed in let well : is_well_formed c.load_frame_word-length.result ≡ true = search rules in
+pub read_new_message-requires : goal.read_new_message-requires
+read_new_message-requires g c = let at = (goal.at.read_new_message-requires g c).After-is_well_formed in let well : is_well_formed c.load_frame_word-length.result ≡ true = search rules in
     (search rules, ((search rules, search rules, search rules), (read g at well, (few g at well, (head g at well, count g at well)))))
 
 pub returns-in-Good-clause-value : goal.returns-in-Good-clause-value
@@ -74,8 +74,8 @@ returns-in-Good-clause-view g c = let at = (goal.at.returns-in-Good-clause-view 
 
 pub returns-in-Malformed-clause-value : goal.returns-in-Malformed-clause-value
 returns-in-Malformed-clause-value g c = let at = (goal.at.returns-in-Malformed-clause-value g c).After-is_well_formed in let well : is_well_formed c.load_frame_word-length.result ≡ true = search rules in
-    ap (λ m. Good m) c.read_message-in-Malformed.ensures.value ∙ sym (good g at well)
+    c.read_new_message.ensures.value ∙ sym (good g at well)
 
 pub returns-in-Malformed-clause-view : goal.returns-in-Malformed-clause-view
 returns-in-Malformed-clause-view g c = let at = (goal.at.returns-in-Malformed-clause-view g c).After-is_well_formed in let well : is_well_formed c.load_frame_word-length.result ≡ true = search rules in
-    steps g at well _ c.read_message-in-Malformed.ensures.view
+    steps g at well _ c.read_new_message.ensures.view
