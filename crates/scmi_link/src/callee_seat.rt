@@ -5,9 +5,10 @@ ghost use Rattle.scmi_link.specs.Note.{said, has_closing, ends_well};
 ghost use Rattle.scmi_link.specs.Bit.{bit};
 
 use crate::close_error::CloseError;
+use crate::drop_first::drop_first;
 use crate::note::Note;
 use rtrb::{Consumer, Producer};
-use scmi_codec::{Answer, Frame};
+use scmi_codec::{Answer, Frame, Message};
 
 /// The callee's ends of a pair of rings, and what the callee has done.
 #[derive(Drop)]
@@ -28,6 +29,7 @@ pub struct CalleeSeat {
 
 impl CalleeSeat {
     ghost use Rattle.std.specs.Prelude.{◌≡◌, ◌++◌, ◌∷◌, [], ◌↔◌, true, OnOk, OnErr};
+    ghost use Rattle.scmi_codec.specs.declared.frame.Answer.TheVariants.{Reply};
     ghost use Rattle.scmi_link.specs.View.{Owes};
     ghost use Rattle.scmi_link.specs.Calls.{Takes, frame_if};
     ghost use Rattle.scmi_link.specs.CalleeSeat.{callee_seat_view, SameCalleeRings};
@@ -44,7 +46,7 @@ impl CalleeSeat {
             return false;
         }
         frame.copy_from(self.frames.peek_known());
-        let _ = self.frames.pop_known();
+        drop_first(&mut self.frames);
         self.owing = true;
         true
     }
@@ -56,6 +58,18 @@ impl CalleeSeat {
         ensures answered { callee_seat_view self.new ≡ record (callee_seat_view self.old) { answered = (callee_seat_view self.old).answered ++ answer.now ∷ [] } }
     {
         self.answers.push_reserved(Note::Said(answer.copy()));
+        self.owing = false;
+    }
+
+    // Puts a reply that is owed into the ring, as `answer`.
+    pub(crate) fn reply(&mut self, message: &Message)
+        requires { Owes (callee_seat_view self.old) }
+        ensures rings { SameCalleeRings self.old self.new }
+        ensures answered { callee_seat_view self.new ≡ record (callee_seat_view self.old) { answered = (callee_seat_view self.old).answered ++ Reply message.now ∷ [] } }
+    {
+        let mut own = Message::default();
+        own.copy_from(message);
+        self.answers.push_reserved(Note::Said(Answer::Reply(own)));
         self.owing = false;
     }
 

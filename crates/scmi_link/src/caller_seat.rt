@@ -1,16 +1,18 @@
 //! The caller's ends of a pair of rings, and what the caller has done.
-ghost use Rattle.std.specs.Prelude.{◌≡◌, ◌+◌, true, false, length};
-ghost use Rattle.rtrb.specs.Ring.{sent, received, known_free};
+ghost use Rattle.std.specs.Prelude.{◌≡◌, ◌<◌, ◌+◌, ◌++◌, ◌∷◌, [], true, false, length};
+ghost use Rattle.rtrb.specs.Ring.{sent, received, known_free, SameProducer};
+ghost use Rattle.scmi_codec.specs.declared.frame.Frame.TheVariants.{Good};
 ghost use Rattle.scmi_link.specs.Note.{said, has_closing};
 ghost use Rattle.scmi_link.specs.Bit.{bit};
 
 use crate::close_error::CloseError;
 use crate::closing::Closing;
+use crate::drop_first::drop_first;
 use crate::looked::Looked;
 use crate::note::Note;
 use crate::post_error::PostError;
 use rtrb::{Consumer, Producer};
-use scmi_codec::{Answer, Frame, Header, Message, Payload, payload_of};
+use scmi_codec::{Answer, Frame, Header, Message, Payload, set_payload};
 
 /// The caller's ends of a pair of rings, and what the caller has done.
 #[derive(Drop)]
@@ -52,10 +54,7 @@ impl CallerSeat {
         ensures well_formed { ¬ (result ≡ Err PostError.WellFormed) }
     {
         self.may_post()?;
-        self.frames.push_reserved(Frame::Good(Message {
-            header,
-            payload: payload_of(payload.as_slice()),
-        }));
+        push_message(&mut self.frames, header, payload);
         self.waiting = true;
         Ok(())
     }
@@ -125,12 +124,12 @@ impl CallerSeat {
         match self.answers.peek_known() {
             Note::Said(found) => {
                 answer.copy_from(found);
-                let _ = self.answers.pop_known();
+                drop_first(&mut self.answers);
                 self.waiting = false;
                 Looked::Got
             }
             Note::Closing => {
-                let _ = self.answers.pop_known();
+                drop_first(&mut self.answers);
                 self.told = true;
                 self.waiting = false;
                 self.left = true;
@@ -150,15 +149,13 @@ impl CallerSeat {
         if self.told || self.answers.is_empty() {
             return self.told;
         }
-        if let Note::Said(_) = self.answers.peek_known() {
-            return false;
-        }
-        match self.answers.pop_known() {
+        match self.answers.peek_known() {
+            Note::Said(_) => false,
             Note::Closing => {
+                drop_first(&mut self.answers);
                 self.told = true;
                 true
             }
-            Note::Said(_) => unreachable!(),
         }
     }
 
@@ -176,4 +173,18 @@ impl CallerSeat {
         self.closed = true;
         Ok(Closing::Idle)
     }
+}
+
+// Posts a message where there is a place for it. A function clears its locals at its entry, so the message is
+// none of those of `post_parts`, which may refuse.
+#[inline(never)]
+fn push_message(frames: &mut Producer<Frame>, header: Header, payload: &Payload)
+    requires { 0 < known_free frames.old }
+    ensures ring { SameProducer frames.old frames.new }
+    ensures sent { sent frames.new ≡ sent frames.old ++ Good (record { header = header; payload = payload.now }) ∷ [] }
+{
+    let mut message = Message::default();
+    message.header = header;
+    set_payload(&mut message.payload, payload.as_slice());
+    frames.push_reserved(Frame::Good(message));
 }

@@ -12,6 +12,7 @@ mod channel;
 mod close_error;
 mod closing;
 mod collected;
+mod drop_first;
 mod link_error;
 mod looked;
 mod note;

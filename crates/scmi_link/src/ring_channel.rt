@@ -15,7 +15,7 @@ use crate::ring_caller::RingCaller;
 use crate::rings::{RingNames, Rings};
 use boxcar::tag::Tag;
 use rtrb::RingBuffer;
-use scmi_codec::{Answer, Frame, Header, Payload, is_well_formed};
+use scmi_codec::{Answer, Frame, Header, Message, Payload, is_well_formed};
 use std::alloc::Global;
 use std::snapshot::Snapshot;
 
@@ -142,6 +142,10 @@ impl Channel for RingChannel {
 
     fn answer(&self, callee: &mut RingCallee, answer: &Answer) {
         callee.seat.answer(answer);
+    }
+
+    fn reply(&self, callee: &mut RingCallee, message: &Message) {
+        callee.seat.reply(message);
     }
 
     fn close_caller(&self, caller: &mut RingCaller) -> Result<Closing, CloseError> {

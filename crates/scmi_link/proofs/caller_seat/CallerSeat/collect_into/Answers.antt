@@ -9,24 +9,24 @@ use Rattle.scmi_link.specs.CallerSeat.{caller_seat_view}
 use Rattle.scmi_link.proofs.NoteLemmas.{said-said, said-closing, has_closing-said, has_closing-closing}
 use Rattle.scmi_link.proofs.RingSteps.{or_true, told_now, first_is}
 use Rattle.scmi_link.proofs.caller_seat.CallerSeat.collect_into.Goals as goal
-use Rattle.scmi_link.proofs.caller_seat.CallerSeat.collect_into.Goals.{After-pop_known, After-pop_known-in-Closing}
+use Rattle.scmi_link.proofs.caller_seat.CallerSeat.collect_into.Goals.{After-drop_first, After-drop_first-in-Closing}
 
 -- what was popped is what was seen first
-popped : (c : After-pop_known) → c.pop_known.result ≡ Said c.in-Said.found
-popped c = first_is _ _ _ _ c.peek_known.ensures c.pop_known.ensures.received.1 ∙ c.in-Said.is
+popped : (c : After-drop_first) → c.drop_first.ensures.dropped.0 ≡ Said c.in-Said.found
+popped c = first_is _ _ _ _ c.peek_known.ensures c.drop_first.ensures.dropped.2 ∙ c.in-Said.is
 
 -- an answer was taken out of the ring
-answer_came : (c : After-pop_known) → received c.pop_known.new.self ≡ received c.args.self.now.answers ++ Said c.in-Said.found ∷ []
-answer_came c = c.pop_known.ensures.received.0 ∙ ap (λ ns. ns ++ c.pop_known.result ∷ []) c.is_empty.ensures.looked.1 ∙ ap (λ n. received c.args.self.now.answers ++ n ∷ []) (popped c)
+answer_came : (c : After-drop_first) → received c.drop_first.new.ring ≡ received c.args.self.now.answers ++ Said c.in-Said.found ∷ []
+answer_came c = c.drop_first.ensures.dropped.1 ∙ ap (λ ns. ns ++ c.drop_first.ensures.dropped.0 ∷ []) c.is_empty.ensures.looked.1 ∙ ap (λ n. received c.args.self.now.answers ++ n ∷ []) (popped c)
 
-one_answer : (c : After-pop_known) → said (received c.pop_known.new.self) ≡ said (received c.args.self.now.answers) ++ c.in-Said.found ∷ []
+one_answer : (c : After-drop_first) → said (received c.drop_first.new.ring) ≡ said (received c.args.self.now.answers) ++ c.in-Said.found ∷ []
 one_answer c = ap said (answer_came c) ∙ said-said (received c.args.self.now.answers) c.in-Said.found
 
 -- the closing note was taken out of the ring
-note_came : (c : After-pop_known-in-Closing) → received c.pop_known-in-Closing.new.self ≡ received c.args.self.now.answers ++ Closing ∷ []
-note_came c = c.pop_known-in-Closing.ensures.received.0 ∙ ap (λ ns. ns ++ c.pop_known-in-Closing.result ∷ []) c.is_empty.ensures.looked.1 ∙ ap (λ n. received c.args.self.now.answers ++ n ∷ []) (first_is _ _ _ _ c.peek_known.ensures c.pop_known-in-Closing.ensures.received.1 ∙ c.in-Closing.is)
+note_came : (c : After-drop_first-in-Closing) → received c.drop_first-in-Closing.new.ring ≡ received c.args.self.now.answers ++ Closing ∷ []
+note_came c = c.drop_first-in-Closing.ensures.dropped.1 ∙ ap (λ ns. ns ++ c.drop_first-in-Closing.ensures.dropped.0 ∷ []) c.is_empty.ensures.looked.1 ∙ ap (λ n. received c.args.self.now.answers ++ n ∷ []) (first_is _ _ _ _ c.peek_known.ensures c.drop_first-in-Closing.ensures.dropped.2 ∙ c.in-Closing.is)
 
-no_answer : (c : After-pop_known-in-Closing) → said (received c.pop_known-in-Closing.new.self) ≡ said (received c.args.self.now.answers)
+no_answer : (c : After-drop_first-in-Closing) → said (received c.drop_first-in-Closing.new.ring) ≡ said (received c.args.self.now.answers)
 no_answer c = ap said (note_came c) ∙ said-closing (received c.args.self.now.answers)
 
 pub invariant_of-self-in-Said-clause-counted : goal.invariant_of-self-in-Said-clause-counted
@@ -55,7 +55,7 @@ returns-in-Said-clause-collects c =
     let p = c.args.self.now in
     let waited = ap bit c.if-not-self.false in
     let stays = p.one c.if-not-self.false in
-    let read = one_answer (goal.at.returns-in-Said-clause-collects c).After-pop_known ∙ ap (λ a. said (received p.answers) ++ a ∷ []) (sym c.copy_from.ensures) in
+    let read = one_answer (goal.at.returns-in-Said-clause-collects c).After-drop_first ∙ ap (λ a. said (received p.answers) ++ a ∷ []) (sym c.copy_from.ensures) in
     record {
       was_outstanding = record { unread = omega (arith, p.counted, waited, ap bit stays); stays = stays };
       read = λ i. record (caller_seat_view p) { read = read i; collects = one_more p.collects };
@@ -66,7 +66,7 @@ returns-in-Closing-clause-collects c =
     let p = c.args.self.now in
     let waited = c.if-not-self.false in
     let stays = p.one waited in
-    let read = no_answer (goal.at.returns-in-Closing-clause-collects c).After-pop_known-in-Closing in
+    let read = no_answer (goal.at.returns-in-Closing-clause-collects c).After-drop_first-in-Closing in
     let told = told_now p.told p.closed p.waiting waited p.quiet in
     let outstanding : IsOutstanding (caller_seat_view p) = record { unread = omega (arith, p.counted, ap bit waited, ap bit stays); stays = stays } in
     record {
