@@ -1,9 +1,11 @@
 //! The shared area of a channel.
-ghost use Rattle.std.specs.Prelude.{◌≡◌, ◌+◌, ◌*◌, ◌^◌, ◌<◌, ◌≤◌, ℕ, length, IsOk, OnOk, OnErr, IfErr, ◌↔◌, ◌≢◌, slice_index};
+ghost use Rattle.std.specs.Prelude.{◌≡◌, ◌+◌, ◌*◌, ◌^◌, ◌<◌, ◌≤◌, ℕ, length, IsOk, OnOk, OnErr, IfErr, ◌↔◌, ◌≢◌, true, is_some, is_none, slice_index};
 ghost use Rattle.std.specs.List.{AllByRecursion};
+ghost use Rattle.scmi_codec.specs.Header.{header_of};
 ghost use Rattle.scmi_codec.specs.Word.{words_at, put_words};
 ghost use Rattle.scmi_codec.specs.Area.{frame_of, arrived, answered, posted, written, is_well_formed, StandsFor, StandsForAnswer, IsKept, IsOutside};
 ghost use Rattle.scmi_codec.specs.declared.frame.Frame.TheVariants.{Good};
+ghost use Rattle.scmi_codec.specs.declared.frame.Answer.TheVariants.{Reply};
 ghost use Rattle.scmi_codec.specs.declared.area.TheConstants.{AREA_BYTES};
 ghost use Rattle.scmi_codec.specs.declared.payload.TheConstants.{PAYLOAD_WORDS};
 
@@ -50,44 +52,94 @@ pub fn read_area(area: &[u8]) -> Result<Option<Frame>, AreaError>
     ensures ok { length area.now ≡ AREA_BYTES → result ≡ Ok (arrived area.now) }
     ensures wrong_size { length area.now ≢ AREA_BYTES → result ≡ Err AreaError.WrongSize }
 {
-    if area.len() != AREA_BYTES {
-        return Err(AreaError::WrongSize);
-    }
-    let status = ChannelStatus::from_bits_retain(read_word(area, STATUS_AT));
-    if status.contains(ChannelStatus::FREE) {
-        Ok(None)
+    let mut frame = Frame::Good(Message::default());
+    if read_area_into(area, &mut frame)? {
+        Ok(Some(frame))
     } else {
-        Ok(Some(read_frame(area)))
+        Ok(None)
     }
 }
 
-/// The frame that stands in an area, whatever its status word.
-fn read_frame(area: &[u8]) -> Frame
+/// Reads the frame that a caller has posted, as `read_area`, into `frame`, and says whether there is
+/// one. Only the words that are there are written.
+pub fn read_area_into(area: &[u8], frame: &mut Frame) -> Result<bool, AreaError>
+    ensures ok { length area.now ≡ AREA_BYTES → result ≡ Ok (is_some (arrived area.now)) }
+    ensures frame { result ≡ Ok true → arrived area.now ≡ Some frame.new }
+    ensures stays { result ≢ Ok true → frame.new ≡ frame.old }
+    ensures wrong_size { length area.now ≢ AREA_BYTES → result ≡ Err AreaError.WrongSize }
+{
+    if is_free(area)? {
+        return Ok(false);
+    }
+    read_frame(area, frame);
+    Ok(true)
+}
+
+/// Whether a channel is free, as `read_area` says it.
+pub fn is_free(area: &[u8]) -> Result<bool, AreaError>
+    ensures ok { length area.now ≡ AREA_BYTES → result ≡ Ok (is_none (arrived area.now)) }
+    ensures wrong_size { length area.now ≢ AREA_BYTES → result ≡ Err AreaError.WrongSize }
+{
+    check_size(area)?;
+    let status = ChannelStatus::from_bits_retain(read_word(area, STATUS_AT));
+    Ok(status.contains(ChannelStatus::FREE))
+}
+
+/// Refuses bytes that are no area for their number.
+fn check_size(area: &[u8]) -> Result<(), AreaError>
+    ensures ok { OnOk result (length area.now ≡ AREA_BYTES) }
+    ensures err { OnErr result (length area.now ≢ AREA_BYTES) }
+    ensures wrong_size { IfErr result (λ e. e ≡ AreaError.WrongSize) }
+{
+    if area.len() == AREA_BYTES {
+        Ok(())
+    } else {
+        Err(AreaError::WrongSize)
+    }
+}
+
+/// Reads the frame that stands in an area, whatever its status word, into `frame`.
+fn read_frame(area: &[u8], frame: &mut Frame)
     requires { length area.now ≡ AREA_BYTES }
-    ensures { result ≡ frame_of area.now }
+    ensures { frame.new ≡ frame_of area.now }
 {
     let length = read_word(area, LENGTH_AT);
     let header = read_word(area, HEADER_AT);
-    if is_well_formed(length) {
-        Frame::Good(Message {
-            header: Header::unpack(header),
-            payload: read_payload(area, (length as usize - 4) / 4),
-        })
-    } else {
-        Frame::Malformed { length, header }
+    if !is_well_formed(length) {
+        *frame = Frame::Malformed { length, header };
+        return;
+    }
+    let count = (length as usize - 4) / 4;
+    match frame {
+        Frame::Good(message) => read_message(area, header, count, message),
+        Frame::Malformed { .. } => {
+            let mut message = Message::default();
+            read_message(area, header, count, &mut message);
+            *frame = Frame::Good(message);
+        }
     }
 }
 
-fn read_payload(area: &[u8], count: usize) -> Payload
+/// Reads a message of this header word and so many payload words of an area into `message`.
+fn read_message(area: &[u8], header: u32, count: usize, message: &mut Message)
     requires few { count ≤ PAYLOAD_WORDS }
     requires size { length area.now ≡ AREA_BYTES }
-    ensures { result.items ≡ words_at 0x1C count area.now }
+    ensures header { message.new.header ≡ header_of header }
+    ensures words { message.new.payload.items ≡ words_at 0x1C count area.now }
 {
-    let mut payload = ArrayVec::new();
+    message.header = Header::unpack(header);
+    read_payload(area, count, &mut message.payload);
+}
+
+fn read_payload(area: &[u8], count: usize, payload: &mut Payload)
+    requires few { count ≤ PAYLOAD_WORDS }
+    requires size { length area.now ≡ AREA_BYTES }
+    ensures { payload.new.items ≡ words_at 0x1C count area.now }
+{
+    payload.clear();
     for i in 0..count {
         payload.push(read_word(area, PAYLOAD_AT + 4 * i));
     }
-    payload
 }
 
 /// Writes the callee's answer over the message, and marks the channel free. A response writes the
@@ -102,9 +154,7 @@ pub fn write_answer(area: &mut [u8], answer: &Answer) -> Result<(), AreaError>
     ensures err { OnErr result (area.new ≡ area.old) }
     ensures wrong_size { IfErr result (λ e. e ≡ AreaError.WrongSize) }
 {
-    if area.len() != AREA_BYTES {
-        return Err(AreaError::WrongSize);
-    }
+    check_size(area)?;
     match answer {
         Answer::Reply(message) => write_with_status(area, message, ChannelStatus::FREE.bits()),
         Answer::Released => write_word(area, STATUS_AT, ChannelStatus::FREE.bits()),
@@ -113,6 +163,20 @@ pub fn write_answer(area: &mut [u8], answer: &Answer) -> Result<(), AreaError>
             write_word(area, STATUS_AT, status.bits());
         }
     }
+    Ok(())
+}
+
+/// Writes a response, as `write_answer` writes a reply, from where it stands.
+pub fn write_reply(area: &mut [u8], message: &Message) -> Result<(), AreaError>
+    ensures size { IsOk result ↔ (length area.old ≡ AREA_BYTES) }
+    ensures written { OnOk result (area.new ≡ answered (Reply message.now) area.old) }
+    ensures stands { OnOk result (StandsForAnswer area.new (frame_of area.old) (Reply message.now)) }
+    ensures kept { OnOk result ((i : ℕ) → IsKept (Reply message.now) i → slice_index area.new i ≡ slice_index area.old i) }
+    ensures err { OnErr result (area.new ≡ area.old) }
+    ensures wrong_size { IfErr result (λ e. e ≡ AreaError.WrongSize) }
+{
+    check_size(area)?;
+    write_with_status(area, message, ChannelStatus::FREE.bits());
     Ok(())
 }
 
@@ -127,9 +191,7 @@ pub fn write_message(area: &mut [u8], message: &Message) -> Result<(), AreaError
     ensures err { OnErr result (area.new ≡ area.old) }
     ensures wrong_size { IfErr result (λ e. e ≡ AreaError.WrongSize) }
 {
-    if area.len() != AREA_BYTES {
-        return Err(AreaError::WrongSize);
-    }
+    check_size(area)?;
     write_with_status(area, message, 0);
     Ok(())
 }

@@ -23,7 +23,10 @@ mod rate_flags;
 mod status;
 mod word;
 
-pub use area::{AREA_BYTES, AreaError, is_well_formed, read_area, write_answer, write_message};
+pub use area::{
+    AREA_BYTES, AreaError, is_free, is_well_formed, read_area, read_area_into, write_answer,
+    write_message, write_reply,
+};
 pub use base_command::{BASE_PROTOCOL, BaseCommand};
 pub use channel_status::ChannelStatus;
 pub use clock_command::{CLOCK_PROTOCOL, ClockCommand};
