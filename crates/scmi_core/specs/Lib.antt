@@ -1,3 +1,4 @@
+pub mod Window
 pub mod Deed
 pub mod Permissions
 pub mod Subscriptions

@@ -28,7 +28,7 @@ use Rattle.scmi_core.specs.declared.outbox.TheConstants.{OUTBOX_ROOM}
 
 -- an agent's outbox
 abbrev pub outbox_at : Tables → ℕ → List Message
-outbox_at t a = (get_or t.outboxes (a - 1) (record { items = [] })).items
+outbox_at t a = get_or t.outboxes (a - 1) []
 
 -- the length of an agent's outbox and its pending sets together
 abbrev pub load_at : Tables → ℕ → ℕ

@@ -12,6 +12,7 @@ mod event;
 mod events;
 mod load;
 mod mark;
+mod message_ring;
 mod outbox;
 mod p2a_message;
 mod pending_set;

@@ -1,16 +1,16 @@
 //! The messages that the platform has for each agent.
 ghost use Rattle.std.specs.Prelude.{◌≡◌, ◌≢◌, ◌↔◌, ◌≤◌, ◌<◌, ◌++◌, ◌∷◌, [], ℕ, length, true, false, drop, slice_get, IfSome};
 ghost use Rattle.std.specs.Option.{option_copied};
+ghost use Rattle.scmi_codec.specs.declared.payload.TheConstants.{PAYLOAD_WORDS};
 ghost use Rattle.scmi_plan.specs.declared.limits.TheConstants.{AGENTS, DOMAINS};
 ghost use Rattle.scmi_core.specs.Outbox.{response_for};
 ghost use Rattle.scmi_core.specs.Tables.{outbox_at};
 ghost use Rattle.scmi_core.specs.Step.{told_at, announced_at, SameButOutboxes};
 ghost use Rattle.scmi_core.specs.declared.outbox.TheConstants.{OUTBOX_ROOM};
 
-use crate::p2a_message::{response_to, state_changed};
+use crate::message_ring::MessageRing;
 use crate::pending_set::Setting;
 use crate::tables::Tables;
-use arrayvec::ArrayVec;
 use scmi_codec::{Header, Message};
 
 /// The most that an agent's outbox and its pending sets are together (own), and so the room of an
@@ -18,7 +18,7 @@ use scmi_codec::{Header, Message};
 pub const OUTBOX_ROOM: usize = 16;
 
 /// The messages for an agent that are not posted yet, the oldest first. It takes no memory.
-pub type Outbox = ArrayVec<Message, OUTBOX_ROOM>;
+pub type Outbox = MessageRing;
 
 impl Tables {
     /// The first message of an agent's outbox.
@@ -27,7 +27,7 @@ impl Tables {
         requires last { agent ≤ AGENTS }
         ensures { option_copied result ≡ slice_get (outbox_at self.now agent) 0 }
     {
-        self.outboxes[agent as usize - 1].as_slice().first()
+        self.outboxes[agent as usize - 1].first()
     }
 
     /// Whether an agent's outbox is empty.
@@ -49,7 +49,7 @@ impl Tables {
         ensures others { (a : ℕ) → 1 ≤ a → a ≢ agent → outbox_at self.new a ≡ outbox_at self.old a }
         ensures kept { SameButOutboxes self.old self.new }
     {
-        self.outboxes[agent as usize - 1].remove(0);
+        self.outboxes[agent as usize - 1].pop();
     }
 
     /// Puts the delayed response to a set into its agent's outbox, if it is wanted.
@@ -61,7 +61,7 @@ impl Tables {
         ensures kept { SameButOutboxes self.old self.new }
     {
         if wanted {
-            self.put(agent, response_to(header, setting));
+            self.put_response(agent, header, setting);
         }
     }
 
@@ -103,19 +103,20 @@ impl Tables {
         if self.load(agent) < OUTBOX_ROOM
             && (self.power.subscribers(domain) >> (agent - 1)) & 1 == 1
         {
-            self.put(agent, state_changed(causer, domain, state));
+            self.put_state_changed(agent, causer, domain, state);
         }
     }
 
-    /// Puts a message into an agent's outbox.
-    pub fn put(&mut self, agent: u32, message: Message)
+    /// Puts a message of this header and these payload words into an agent's outbox.
+    pub fn put(&mut self, agent: u32, header: Header, words: &[u32])
         requires first { 1 ≤ agent }
         requires last { agent ≤ AGENTS }
         requires room { length (outbox_at self.now agent) < OUTBOX_ROOM }
-        ensures put { outbox_at self.new agent ≡ outbox_at self.old agent ++ message ∷ [] }
+        requires few { length words.now ≤ PAYLOAD_WORDS }
+        ensures put { outbox_at self.new agent ≡ outbox_at self.old agent ++ record { header = header; payload = record { items = words.now } } ∷ [] }
         ensures others { (a : ℕ) → 1 ≤ a → a ≢ agent → outbox_at self.new a ≡ outbox_at self.old a }
         ensures kept { SameButOutboxes self.old self.new }
     {
-        self.outboxes[agent as usize - 1].push(message);
+        self.outboxes[agent as usize - 1].push(header, words);
     }
 }

@@ -1,56 +1,62 @@
 //! The messages of the platform to agents.
-ghost use Rattle.std.specs.Prelude.{◌≡◌};
+ghost use Rattle.std.specs.Prelude.{◌≡◌, ◌≢◌, ◌≤◌, ◌<◌, ◌++◌, ◌∷◌, [], ℕ, length};
+ghost use Rattle.scmi_plan.specs.declared.limits.TheConstants.{AGENTS};
 ghost use Rattle.scmi_core.specs.Outbox.{state_changed, response_to};
+ghost use Rattle.scmi_core.specs.Tables.{outbox_at};
+ghost use Rattle.scmi_core.specs.Step.{SameButOutboxes};
+ghost use Rattle.scmi_core.specs.declared.outbox.TheConstants.{OUTBOX_ROOM};
 
 use crate::pending_set::Setting;
-use scmi_codec::{Header, Message, POWER_PROTOCOL, SUCCESS, payload_of, rate_words};
+use crate::tables::Tables;
+use scmi_codec::{Header, POWER_PROTOCOL, SUCCESS, rate_words};
 
 // Message types (DEN0056B, message header).
 const DELAYED_RESPONSE: u8 = 2;
 
 const NOTIFICATION: u8 = 3;
 
-/// The notification that an agent set a domain to a state.
-pub fn state_changed(causer: u32, domain: u32, state: u32) -> Message
-    ensures { result ≡ state_changed causer domain state }
-{
-    Message {
-        header: Header {
+impl Tables {
+    /// Puts the notification that an agent set a domain to a state into an agent's outbox.
+    pub fn put_state_changed(&mut self, agent: u32, causer: u32, domain: u32, state: u32)
+        requires first { 1 ≤ agent }
+        requires last { agent ≤ AGENTS }
+        requires room { length (outbox_at self.now agent) < OUTBOX_ROOM }
+        ensures put { outbox_at self.new agent ≡ outbox_at self.old agent ++ state_changed causer domain state ∷ [] }
+        ensures others { (a : ℕ) → 1 ≤ a → a ≢ agent → outbox_at self.new a ≡ outbox_at self.old a }
+        ensures kept { SameButOutboxes self.old self.new }
+    {
+        let header = Header {
             reserved: 0,
             token: 0,
             protocol: POWER_PROTOCOL,
             kind: NOTIFICATION,
             id: 0,
-        },
-        payload: payload_of(&[causer, domain, state]),
+        };
+        self.put(agent, header, &[causer, domain, state]);
     }
-}
 
-/// The response to a set that is complete.
-pub fn response_to(header: Header, setting: Setting) -> Message
-    ensures { result ≡ response_to header setting }
-{
-    let Header {
-        token,
-        protocol,
-        id,
-        ..
-    } = header;
-    let payload = match setting {
-        Setting::State(domain, state) => payload_of(&[SUCCESS, domain, state]),
-        Setting::Rate(clock, rate) => {
-            let [low, high] = rate_words(rate);
-            payload_of(&[SUCCESS, clock, low, high])
-        }
-    };
-    Message {
-        header: Header {
+    /// Puts the response to a set that is complete into an agent's outbox.
+    pub fn put_response(&mut self, agent: u32, header: Header, setting: Setting)
+        requires first { 1 ≤ agent }
+        requires last { agent ≤ AGENTS }
+        requires room { length (outbox_at self.now agent) < OUTBOX_ROOM }
+        ensures put { outbox_at self.new agent ≡ outbox_at self.old agent ++ response_to header setting ∷ [] }
+        ensures others { (a : ℕ) → 1 ≤ a → a ≢ agent → outbox_at self.new a ≡ outbox_at self.old a }
+        ensures kept { SameButOutboxes self.old self.new }
+    {
+        let header = Header {
             reserved: 0,
-            token,
-            protocol,
+            token: header.token,
+            protocol: header.protocol,
             kind: DELAYED_RESPONSE,
-            id,
-        },
-        payload,
+            id: header.id,
+        };
+        match setting {
+            Setting::State(domain, state) => self.put(agent, header, &[SUCCESS, domain, state]),
+            Setting::Rate(clock, rate) => {
+                let [low, high] = rate_words(rate);
+                self.put(agent, header, &[SUCCESS, clock, low, high]);
+            }
+        }
     }
 }

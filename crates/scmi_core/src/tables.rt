@@ -57,14 +57,14 @@ impl Tables {
             clocks: ClockState::new(plan),
             pending: ArrayVec::new(),
             outboxes: [
-                ArrayVec::new(),
-                ArrayVec::new(),
-                ArrayVec::new(),
-                ArrayVec::new(),
-                ArrayVec::new(),
-                ArrayVec::new(),
-                ArrayVec::new(),
-                ArrayVec::new(),
+                Outbox::new(),
+                Outbox::new(),
+                Outbox::new(),
+                Outbox::new(),
+                Outbox::new(),
+                Outbox::new(),
+                Outbox::new(),
+                Outbox::new(),
             ],
         }
     }

@@ -1,0 +1,94 @@
+//! Messages in the places of a ring.
+ghost use Rattle.std.specs.Prelude.{◌≡◌, ◌<◌, ◌≤◌, ◌++◌, ◌∷◌, [], length, drop, slice_get};
+ghost use Rattle.std.specs.Option.{option_copied};
+ghost use Rattle.scmi_codec.specs.declared.payload.TheConstants.{PAYLOAD_WORDS};
+ghost use Rattle.scmi_core.specs.declared.outbox.TheConstants.{OUTBOX_ROOM};
+
+use crate::outbox::OUTBOX_ROOM;
+use scmi_codec::{Header, Message, set_payload};
+use std::array;
+use std::marker::Model;
+
+/// At most `OUTBOX_ROOM` messages, the oldest first. Each is written and read where it stands, and none
+/// moves when the oldest is taken off.
+#[derive(Debug, Drop)]
+pub struct MessageRing {
+    slots: [Message; OUTBOX_ROOM],
+    // The place of the oldest.
+    oldest: usize,
+    count: usize,
+}
+
+impl Model for MessageRing {
+    ghost use Rattle.std.specs.Prelude.{List, length, ◌<◌, ◌≤◌, ◌≡◌};
+    ghost use Rattle.scmi_codec.specs.declared.message.Message.{Message};
+    ghost use Rattle.scmi_core.specs.Window.{window};
+    ghost use Rattle.scmi_core.specs.declared.outbox.TheConstants.{OUTBOX_ROOM};
+
+    ghost Value = { List Message };
+
+    ghost view = { λ r. window r.oldest r.count r.slots };
+
+    ghost invariant = { λ r. (r.oldest < OUTBOX_ROOM) × (r.count ≤ OUTBOX_ROOM) × (length r.slots ≡ OUTBOX_ROOM) };
+}
+
+impl MessageRing {
+    /// No messages.
+    pub fn new() -> MessageRing
+        ensures { result ≡ [] }
+    {
+        MessageRing {
+            slots: array::from_fn(|_| Message::default()),
+            oldest: 0,
+            count: 0,
+        }
+    }
+
+    /// The number of messages.
+    pub fn len(&self) -> usize
+        ensures count { result ≡ length self.now }
+        ensures few { result ≤ OUTBOX_ROOM }
+    {
+        self.count
+    }
+
+    /// The oldest message.
+    pub fn first(&self) -> Option<&Message>
+        ensures { option_copied result ≡ slice_get self.now 0 }
+    {
+        if self.count == 0 {
+            None
+        } else {
+            Some(&self.slots[self.oldest])
+        }
+    }
+
+    /// Takes the oldest message off.
+    pub fn pop(&mut self)
+        requires { 0 < length self.old }
+        ensures { self.new ≡ drop 1 self.old }
+    {
+        self.oldest = (self.oldest + 1) % OUTBOX_ROOM;
+        self.count -= 1;
+    }
+
+    /// Writes a message of this header and these payload words behind the others.
+    pub fn push(&mut self, header: Header, words: &[u32])
+        requires room { length self.old < OUTBOX_ROOM }
+        requires few { length words.now ≤ PAYLOAD_WORDS }
+        ensures { self.new ≡ self.old ++ record { header = header; payload = record { items = words.now } } ∷ [] }
+    {
+        let place = (self.oldest + self.count) % OUTBOX_ROOM;
+        set_message(&mut self.slots[place], header, words);
+        self.count += 1;
+    }
+}
+
+/// Makes a message one of this header and these payload words, where it stands.
+fn set_message(message: &mut Message, header: Header, words: &[u32])
+    requires { length words.now ≤ PAYLOAD_WORDS }
+    ensures { message.new ≡ record { header = header; payload = record { items = words.now } } }
+{
+    message.header = header;
+    set_payload(&mut message.payload, words);
+}
