@@ -129,6 +129,7 @@ impl<C: Channel> Controller<C> {
             &links[index].p2a,
             &mut self.callers[index],
             agent,
+            &mut self.room,
         ))
     }
 

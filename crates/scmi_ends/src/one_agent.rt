@@ -44,13 +44,15 @@ pub(crate) fn serve_one<C: Channel>(
     Served::Done
 }
 
-// Collects on P2A, and then posts the first message of the agent's outbox. The trace has room for it.
+// Collects on P2A into `room`, and then posts the first message of the agent's outbox. The trace has room
+// for it.
 #[tactic(auto, using(crate::proofs::Places::nothing_first))]
 pub(crate) fn flush_one<C: Channel>(
     core: &mut Core,
     p2a: &C,
     caller: &mut C::Caller,
     agent: u32,
+    room: &mut Room,
 ) -> Flushed
     requires name { C.caller_name caller.old ≡ C.name p2a.now }
     requires room { 0 < core.old.room }
@@ -61,24 +63,21 @@ pub(crate) fn flush_one<C: Channel>(
     ensures legal { IsLegal core.new.board core.new.history }
     ensures step { CollectsAndFlushes C.FULL core.old.board agent core.old.history (C.caller_view caller.old) result core.new.history (C.caller_view caller.new) }
 {
-    let _ = p2a.collect_into(caller, &mut Answer::Released);
+    let _ = p2a.collect_into(caller, &mut room.release);
     if C::outstanding(caller) {
         return Flushed::Waiting;
     }
-    let Ok(front) = core.front(agent) else {
-        unreachable!()
-    };
-    let Some(message) = front else {
+    let Some(message) = core.first(agent) else {
         return Flushed::Nothing;
     };
-    match p2a.post(caller, &message) {
-        Ok(()) => match core.sent(agent) {
-            Ok(()) => Flushed::Posted,
-            Err(_) => unreachable!(),
-        },
+    match p2a.post(caller, message) {
+        Ok(()) => {
+            core.mark_sent(agent);
+            Flushed::Posted
+        }
         Err(PostError::Closed) => Flushed::Closed,
-        Err(PostError::Full) => Flushed::Waiting,
-        Err(PostError::Outstanding | PostError::WellFormed) => unreachable!(),
+        // `Full`: nothing is outstanding, and a message is well formed.
+        Err(_) => Flushed::Waiting,
     }
 }
 

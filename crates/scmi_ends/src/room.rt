@@ -1,12 +1,13 @@
 //! Where a command and its answer stand while they are served.
-use scmi_codec::{Frame, Message};
+use scmi_codec::{Answer, Frame, Message};
 
-// The frame taken last and the last reply, which the next ones are written over, so that no call makes them
-// anew.
+// The frame taken last, the last reply, and what an agent released a message with last. The next ones are
+// written over them, so that no call makes them anew.
 #[derive(Drop)]
 pub(crate) struct Room {
     pub(crate) frame: Frame,
     pub(crate) reply: Message,
+    pub(crate) release: Answer,
 }
 
 impl Room {
@@ -14,6 +15,7 @@ impl Room {
         Room {
             frame: Frame::Good(Message::default()),
             reply: Message::default(),
+            release: Answer::Released,
         }
     }
 }

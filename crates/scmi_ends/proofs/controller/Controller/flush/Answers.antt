@@ -22,10 +22,10 @@ step g c = rw (c.reserve.ensures.board, c.reserve.ensures.history) at c.flush_on
 
 keeps : (g : _) (c : After-flush_one g) → Keeps c.flush_one.new.core.board c.flush_one.new.core.history (map g.C.Channel.callee_view c.self.inside.callees.items) (map g.C.Channel.caller_view (slice_set c.self.inside.callers.items (c.args.agent - 1) c.flush_one.new.caller)) c.self.inside.closed_at.items
 keeps g c = rw (board g c) (kept_flush g.C.Channel.caller_view c.self.inside.core.board c.args.agent (c.args.agent - 1) (map g.C.Channel.callee_view c.self.inside.callees.items) c.self.inside.callers.items c.self.inside.closed_at.items c.index_mut.result.now c.flush_one.new.caller c.self.inside.core.history
-    (omega arith) (within g c.before) c.index_mut.ensures.value c.self.invariant g.C.Channel.FULL c.flush_one.new.core.history c.flush_one.result (rw (board g c) at c.flush_one.ensures.legal) (step g c))
+    (omega arith) (within g c.before.before) c.index_mut.ensures.value c.self.invariant g.C.Channel.FULL c.flush_one.new.core.history c.flush_one.result (rw (board g c) at c.flush_one.ensures.legal) (step g c))
 
 pub flush_one-requires-clause-name : goal.flush_one-requires-clause-name
-flush_one-requires-clause-name g c κs inside = name_at g.C.Channel.caller_name (λ l. g.C.Channel.name l.p2a) c.self.inside.callers.items c.args.links.now (c.args.agent - 1) c.index_mut.result.now c.index-links-index.result (names g c) (within g c) c.index_mut.ensures.value
+flush_one-requires-clause-name g c κs inside = name_at g.C.Channel.caller_name (λ l. g.C.Channel.name l.p2a) c.self.inside.callers.items c.args.links.now (c.args.agent - 1) c.index_mut.result.now c.index-links-index.result (names g c.before) (within g c.before) c.index_mut.ensures.value
 
 pub invariant_of-self-2 : goal.invariant_of-self-2
 invariant_of-self-2 g c = keeps g (goal.at.invariant_of-self-2 g c).After-flush_one
