@@ -24,7 +24,7 @@ use Rattle.std_alloc.specs.Box.Ownership.{box_owns}
 use Rattle.std.specs.contracts.impls.GlobalAllocator.TheImpl.{ghosts}
 use Rattle.std.proofs.Handle.{handle as heap}
 use Rattle.scmi_c.specs.Handle.{held}
-use Rattle.scmi_c.specs.contracts.held.Held as platform
+use Rattle.scmi_c.specs.contracts.desk.Desk as platform
 use Rattle.scmi_c.specs.contracts.handle.Handle as handle
 
 -- the right to free a block of the heap

@@ -33,11 +33,11 @@ pub extern "C" fn scmi_answer(
     ensures memory { result ≡ MEMORY → IsSomeAnd platform.old.value IsRecorded }
     ensures kept { result ≢ DONE → (platform.new.value ≡ platform.old.value) × (area.new ≡ area.old) }
 {
-    let Some(mut held) = platform.take(alloc) else {
+    let Some(mut desk) = platform.take(alloc) else {
         return NO_PLATFORM;
     };
-    let given = answer(&mut held, agent, area);
-    platform.put(held);
+    let given = answer(&mut desk, agent, area);
+    platform.put(desk);
     code(given)
 }
 
@@ -52,11 +52,11 @@ pub extern "C" fn scmi_advance(alloc: Global, platform: &mut Handle) -> u32
     ensures memory { result ≡ MEMORY → IsSomeAnd platform.old.value IsRecorded }
     ensures kept { result ≢ DONE → platform.new.value ≡ platform.old.value }
 {
-    let Some(mut held) = platform.take(alloc) else {
+    let Some(mut desk) = platform.take(alloc) else {
         return NO_PLATFORM;
     };
-    let given = held.advance();
-    platform.put(held);
+    let given = desk.held.advance();
+    platform.put(desk);
     match given {
         Ok(true) => DONE,
         Ok(false) => NOTHING,

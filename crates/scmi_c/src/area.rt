@@ -6,29 +6,31 @@ ghost use Rattle.scmi_core.specs.declared.event.Event.{Event};
 ghost use Rattle.scmi_c.specs.Standing.{board_of, StandsAt, IsRecorded};
 ghost use Rattle.scmi_c.specs.Calls.{HasAnswered, HasPosted};
 
+use crate::desk::Desk;
 use crate::held::Held;
 use crate::refusal::Refusal;
-use scmi_codec::{AREA_BYTES, Answer, Message, read_area, write_answer, write_message};
+use scmi_codec::{
+    AREA_BYTES, Answer, is_free, read_area_into, write_answer, write_message, write_reply,
+};
 use scmi_core::Answered;
 
 /// Executes the frame that stands in an agent's area, and answers it in place. `Nothing` where the
 /// channel is free; else `NoAgent` where the board lacks the agent, and `Memory` where the history could
 /// not grow. Then nothing changed.
-pub fn answer(held: &mut Held, agent: u32, area: &mut [u8; AREA_BYTES]) -> Result<(), Refusal>
-    ensures ok { OnOk result (IsSomeAnd (arrived area.old) (λ frame. HasAnswered held.old held.new agent frame area.old area.new)) }
+pub fn answer(desk: &mut Desk, agent: u32, area: &mut [u8; AREA_BYTES]) -> Result<(), Refusal>
+    ensures ok { OnOk result (IsSomeAnd (arrived area.old) (λ frame. HasAnswered desk.old desk.new agent frame area.old area.new)) }
     ensures free { (result ≡ Err Refusal.Nothing) ↔ (arrived area.old ≡ None) }
-    ensures no_agent { (result ≡ Err Refusal.NoAgent) ↔ ((arrived area.old ≢ None) × ((agent ≡ 0) ⊎ (length (board_of held.old).agents < agent))) }
-    ensures memory { result ≡ Err Refusal.Memory → IsRecorded held.old }
+    ensures no_agent { (result ≡ Err Refusal.NoAgent) ↔ ((arrived area.old ≢ None) × ((agent ≡ 0) ⊎ (length (board_of desk.old).agents < agent))) }
+    ensures memory { result ≡ Err Refusal.Memory → IsRecorded desk.old }
     ensures never { result ≢ Err Refusal.NotFree }
-    ensures err { OnErr result (held.new ≡ held.old) }
+    ensures err { OnErr result (desk.new ≡ desk.old) }
     ensures kept { OnErr result (area.new ≡ area.old) }
 {
-    let Ok(Some(frame)) = read_area(area) else {
+    let Ok(true) = read_area_into(area, &mut desk.frame) else {
         return Err(Refusal::Nothing);
     };
-    let mut reply = Message::default();
-    let _ = match held.command(agent, &frame, &mut reply)? {
-        Answered::Reply => write_answer(area, &Answer::Reply(reply)),
+    let _ = match desk.held.command(agent, &desk.frame, &mut desk.reply)? {
+        Answered::Reply => write_reply(area, &desk.reply),
         Answered::ChannelError => write_answer(area, &Answer::ChannelError),
     };
     Ok(())
@@ -46,12 +48,12 @@ pub fn post_next(held: &Held, agent: u32, area: &mut [u8; AREA_BYTES]) -> Result
     ensures never { result ≢ Err Refusal.Memory }
     ensures kept { OnErr result (area.new ≡ area.old) }
 {
-    let Some(message) = held.front(agent)? else {
+    let Some(message) = held.first(agent)? else {
         return Err(Refusal::Nothing);
     };
-    if !matches!(read_area(area), Ok(None)) {
+    let Ok(true) = is_free(area) else {
         return Err(Refusal::NotFree);
-    }
-    let _ = write_message(area, &message);
+    };
+    let _ = write_message(area, message);
     Ok(())
 }

@@ -2,7 +2,7 @@
 ghost use Rattle.std.specs.Prelude.{◌≡◌, Option, Some, None, MatchOption};
 ghost use Rattle.scmi_c.specs.declared.held.Held.{Held};
 
-use crate::held::Held;
+use crate::desk::Desk;
 use crate::loose::Loose;
 use std::alloc::Global;
 use std::marker::Model;
@@ -19,7 +19,7 @@ pub struct Handle {
 
 impl Model for Handle {
     ghost use Rattle.scmi_c.specs.Handle.{held};
-    ghost use Rattle.scmi_c.specs.contracts.held.Held.{the_row};
+    ghost use Rattle.scmi_c.specs.contracts.desk.Desk.{the_row};
     ghost use Rattle.std.specs.contracts.impls.GlobalAllocator.TheImpl.{ghosts};
 
     ghost also_owns = { λ h. held ghosts.dealloc_token the_row h.at h.value };
@@ -34,7 +34,7 @@ impl Handle {
     }
 
     /// A platform as its pointer.
-    fn of(loose: Loose<Held, Global>) -> Handle
+    fn of(loose: Loose<Desk, Global>) -> Handle
         ensures { result.value ≡ Some loose.value }
     {
         let Loose { at, alloc: _ } = loose;
@@ -44,7 +44,7 @@ impl Handle {
     }
 
     /// The platform again, if there is one.
-    fn into_loose(self, alloc: Global) -> Option<Loose<Held, Global>>
+    fn into_loose(self, alloc: Global) -> Option<Loose<Desk, Global>>
         ensures { MatchOption result (self.value ≡ None) (λ loose. self.value ≡ Some loose.value) }
     {
         let Handle { at } = self;
@@ -52,15 +52,15 @@ impl Handle {
             None
         } else {
             Some(Loose {
-                at: at.cast::<Held>(),
+                at: at.cast::<Desk>(),
                 alloc,
             })
         }
     }
 
     /// Takes the platform out, and leaves nothing.
-    pub fn take(&mut self, alloc: Global) -> Option<Box<Held>>
-        ensures taken { MatchOption result (self.old.value ≡ None) (λ held. self.old.value ≡ Some held.value) }
+    pub fn take(&mut self, alloc: Global) -> Option<Box<Desk>>
+        ensures taken { MatchOption result (self.old.value ≡ None) (λ desk. self.old.value ≡ Some desk.value) }
         ensures left { self.new.value ≡ None }
     {
         match mem::replace(self, Handle::empty()).into_loose(alloc) {
@@ -70,10 +70,10 @@ impl Handle {
     }
 
     /// Holds a platform, where nothing was held.
-    pub fn put(&mut self, held: Box<Held>)
+    pub fn put(&mut self, desk: Box<Desk>)
         requires { self.old.value ≡ None }
-        ensures { self.new.value ≡ Some held.value }
+        ensures { self.new.value ≡ Some desk.value }
     {
-        *self = Handle::of(Loose::of(held));
+        *self = Handle::of(Loose::of(desk));
     }
 }

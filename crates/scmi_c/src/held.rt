@@ -1,5 +1,6 @@
 //! What a handle stands for.
 ghost use Rattle.std.specs.Prelude.{◌≡◌, ◌≢◌, ◌↔◌, ◌⊎◌, ◌<◌, ◌≤◌, [], List, length, true, false, slice_get, IfOk, OnOk, OnErr, IfErr, Ok, Err};
+ghost use Rattle.std.specs.Option.{option_copied};
 ghost use Rattle.scmi_core.specs.Pending.{pending};
 ghost use Rattle.scmi_core.specs.History.{answer_to, answer_with, deeds, outbox};
 ghost use Rattle.scmi_core.specs.declared.event.Event.{Event};
@@ -58,14 +59,27 @@ impl Held {
 
     /// The first message of an agent's outbox, if there is one. `NoAgent` where the board lacks the
     /// agent.
-    pub fn front(&self, agent: u32) -> Result<Option<Message>, CoreError>
-        ensures first { (h : List Event) → StandsAt self.now h → IfOk result (λ message. message ≡ slice_get (outbox (board_of self.now) agent h) 0) }
+    pub fn first(&self, agent: u32) -> Result<Option<&Message>, CoreError>
+        ensures first { (h : List Event) → StandsAt self.now h → IfOk result (λ message. option_copied message ≡ slice_get (outbox (board_of self.now) agent h) 0) }
         ensures no_agent { (result ≡ Err CoreError.NoAgent) ↔ ((agent ≡ 0) ⊎ (length (board_of self.now).agents < agent)) }
         ensures err { IfErr result (λ e. e ≡ CoreError.NoAgent) }
     {
+        if agent == 0 || agent > self.agents() {
+            return Err(CoreError::NoAgent);
+        }
+        Ok(match self {
+            Held::Endless(platform) => platform.first(agent),
+            Held::Recorded(core) => core.first(agent),
+        })
+    }
+
+    /// The number of agents of the board.
+    fn agents(&self) -> u32
+        ensures { result ≡ length (board_of self.now).agents }
+    {
         match self {
-            Held::Endless(platform) => platform.front(agent),
-            Held::Recorded(core) => core.front(agent),
+            Held::Endless(platform) => platform.agents(),
+            Held::Recorded(core) => core.agents(),
         }
     }
 

@@ -20,11 +20,11 @@ pub extern "C" fn scmi_history_length(alloc: Global, platform: &mut Handle, even
     ensures only { (result ≡ DONE) ⊎ (result ≡ NO_PLATFORM) ⊎ (result ≡ NO_HISTORY) }
     ensures kept { result ≢ DONE → events.new ≡ events.old }
 {
-    let Some(held) = platform.take(alloc) else {
+    let Some(desk) = platform.take(alloc) else {
         return NO_PLATFORM;
     };
-    let given = length_of(&held);
-    platform.put(held);
+    let given = length_of(&desk.held);
+    platform.put(desk);
     match given {
         Some(count) => {
             *events = count as u64;

@@ -10,6 +10,7 @@ mod answer;
 mod area;
 mod board;
 mod code;
+mod desk;
 mod handle;
 mod held;
 mod history;

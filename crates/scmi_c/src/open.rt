@@ -7,6 +7,7 @@ ghost use Rattle.scmi_c.specs.declared.code.TheConstants.{DONE, IN_USE, MEMORY};
 
 use crate::board::read_plan;
 use crate::code::{DONE, IN_USE, MEMORY};
+use crate::desk::Desk;
 use crate::handle::Handle;
 use crate::held::Held;
 use scmi_core::{Core, Platform};
@@ -22,8 +23,8 @@ pub extern "C" fn scmi_platform_new(alloc: Global, platform: &mut Handle, board:
     ensures faults { (result ≡ DONE) ⊎ (result ≡ IN_USE) ⊎ IsFault result }
     ensures kept { result ≢ DONE → platform.new.value ≡ platform.old.value }
 {
-    if let Some(held) = platform.take(alloc) {
-        platform.put(held);
+    if let Some(desk) = platform.take(alloc) {
+        platform.put(desk);
         return IN_USE;
     }
     match read_plan(alloc, board) {
@@ -44,8 +45,8 @@ pub extern "C" fn scmi_platform_new_recorded(
     ensures faults { (result ≡ DONE) ⊎ (result ≡ IN_USE) ⊎ IsFault result }
     ensures kept { result ≢ DONE → platform.new.value ≡ platform.old.value }
 {
-    if let Some(held) = platform.take(alloc) {
-        platform.put(held);
+    if let Some(desk) = platform.take(alloc) {
+        platform.put(desk);
         return IN_USE;
     }
     match read_plan(alloc, board) {
@@ -61,9 +62,9 @@ fn hold(alloc: Global, platform: &mut Handle, held: Held) -> u32
     ensures only { (result ≡ DONE) ⊎ (result ≡ MEMORY) }
     ensures kept { result ≢ DONE → platform.new.value ≡ platform.old.value }
 {
-    match Box::new(alloc, held) {
-        Ok(held) => {
-            platform.put(held);
+    match Box::new(alloc, Desk::new(held)) {
+        Ok(desk) => {
+            platform.put(desk);
             DONE
         }
         Err(_) => MEMORY,
@@ -75,5 +76,5 @@ fn hold(alloc: Global, platform: &mut Handle, held: Held) -> u32
 pub extern "C" fn scmi_platform_free(alloc: Global, platform: &mut Handle)
     ensures { platform.new.value ≡ None }
 {
-    let _held = platform.take(alloc);
+    let _desk = platform.take(alloc);
 }

@@ -34,11 +34,11 @@ pub extern "C" fn scmi_next(
     ensures only { (result ≤ NO_PLATFORM) × (result ≢ MEMORY) }
     ensures kept { result ≢ DONE → area.new ≡ area.old }
 {
-    let Some(held) = platform.take(alloc) else {
+    let Some(desk) = platform.take(alloc) else {
         return NO_PLATFORM;
     };
-    let given = post_next(&held, agent, area);
-    platform.put(held);
+    let given = post_next(&desk.held, agent, area);
+    platform.put(desk);
     code(given)
 }
 
@@ -55,10 +55,10 @@ pub extern "C" fn scmi_sent(alloc: Global, platform: &mut Handle, agent: u32) ->
     ensures memory { result ≡ MEMORY → IsSomeAnd platform.old.value IsRecorded }
     ensures kept { result ≢ DONE → platform.new.value ≡ platform.old.value }
 {
-    let Some(mut held) = platform.take(alloc) else {
+    let Some(mut desk) = platform.take(alloc) else {
         return NO_PLATFORM;
     };
-    let given = held.sent(agent).map_err(Refusal::from);
-    platform.put(held);
+    let given = desk.held.sent(agent).map_err(Refusal::from);
+    platform.put(desk);
     code(given)
 }

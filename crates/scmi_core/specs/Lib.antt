@@ -1,4 +1,3 @@
-pub mod Window
 pub mod Deed
 pub mod Permissions
 pub mod Subscriptions
@@ -13,6 +12,7 @@ pub mod Bounds
 pub mod Mark
 pub mod Trace
 pub mod Platform
+pub mod Window
 pub mod Tables
 pub mod Step
 pub mod Agreement

@@ -30,7 +30,7 @@ use Rattle.std.proofs.raw_atomic.Walks.{proved_at, leaves}
 use Rattle.std_alloc.proofs.ResultValues.{and_tt}
 use Rattle.scmi_c.proofs.LooseValues.{both, Loose, loose_good, loose_in}
 use Rattle.scmi_c.proofs.HandleValues.{word, handle_open}
-use Rattle.scmi_c.specs.contracts.held.Held as platform
+use Rattle.scmi_c.specs.contracts.desk.Desk as platform
 use Rattle.scmi_c.specs.contracts.handle.Handle as handle
 use Rattle.scmi_c.specs.contracts.handle.Handle.into_loose.{ended, clauses}
 use Rattle.scmi_c.specs.contracts.handle.Handle.into_loose.Key.{name as #self}

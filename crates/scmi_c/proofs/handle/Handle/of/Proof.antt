@@ -22,7 +22,7 @@ use Rattle.std.specs.contracts.impls.GlobalAllocator.TheImpl.{ghosts}
 use Rattle.std.proofs.raw_atomic.Walks.{proved_at, leaves}
 use Rattle.scmi_c.proofs.LooseValues.{both, Loose, loose_good, loose_out}
 use Rattle.scmi_c.proofs.HandleValues.{word, handle_in_some}
-use Rattle.scmi_c.specs.contracts.held.Held as platform
+use Rattle.scmi_c.specs.contracts.desk.Desk as platform
 use Rattle.scmi_c.specs.contracts.handle.Handle.of.{ended, clauses}
 use Rattle.scmi_c.specs.contracts.handle.Handle.of.Key.{name as #self}
 use Rattle.scmi_c.proofs.handle.Handle.of.Statement.{statement}
