@@ -209,9 +209,7 @@ impl<C: Channel> AgentEnd<C> {
         ensures shows { ShowsClose C.caller_view C.close_shows self.new.caller result }
     {
         let closing = link.a2p.close_caller(&mut self.caller)?;
-        let Ok(()) = link.p2a.close_callee(&mut self.callee) else {
-            unreachable!()
-        };
+        link.p2a.close_callee(&mut self.callee)?;
         Ok(closing)
     }
 }

@@ -100,7 +100,7 @@ pub(crate) fn shut_one<C: Channel>(
     ensures step { CollectsAndShuts (ShowsClose C.caller_view C.close_shows) (C.caller_view caller.old) result (C.caller_view caller.new) }
 {
     let Ok(()) = link.a2p.close_callee(callee) else {
-        unreachable!()
+        return Err(ShutError::InService);
     };
     *closed_at = closed_at.or(Some(events));
     let _ = link.p2a.collect_into(caller, &mut Answer::Released);
