@@ -16,9 +16,9 @@
  * that a pointer leads to as many bytes as its type says, which nobody else reads or writes during the call.
  *
  * The library needs memcpy, memmove and memset, and three calls for memory: rattle_alloc, rattle_realloc and
- * rattle_dealloc (examples/c/memory.c has them over a block that this program gives). They are called by
- * scmi_platform_new, scmi_platform_new_recorded and scmi_platform_free, and where a platform that keeps its
- * history adds to it, and by nothing else.
+ * rattle_dealloc: scmi_memory.c beside this header has them over blocks that the program gives, scmi_heap.c over
+ * the heap. They are called by scmi_platform_new, scmi_platform_new_recorded and scmi_platform_free, and where a
+ * platform that keeps its history adds to it, and by nothing else.
  */
 #ifndef SCMI_H
 #define SCMI_H
@@ -93,6 +93,15 @@ uint32_t scmi_history_length(scmi_platform *platform, uint64_t *events);
 
 /* Frees a platform. The handle then holds none; where it held none nothing is done. */
 void scmi_platform_free(scmi_platform *platform);
+
+/* What the compiler can see of them: an area is 28 bytes and the payload, a handle one pointer. */
+#if defined(__cplusplus) && __cplusplus >= 201103L
+static_assert(SCMI_AREA_BYTES == 28 + 4 * SCMI_PAYLOAD_WORDS, "the size of an area");
+static_assert(sizeof(scmi_platform) == sizeof(void *), "the size of a handle");
+#elif defined(__STDC_VERSION__) && __STDC_VERSION__ >= 201112L
+_Static_assert(SCMI_AREA_BYTES == 28 + 4 * SCMI_PAYLOAD_WORDS, "the size of an area");
+_Static_assert(sizeof(scmi_platform) == sizeof(void *), "the size of a handle");
+#endif
 
 /* The library's numbers: each is the macro or constant of its name above (scmi_header_fits). */
 typedef struct scmi_library {

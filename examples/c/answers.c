@@ -10,7 +10,7 @@
 #include <string.h>
 
 #include "area.h"
-#include "memory.h"
+#include "scmi_memory.h"
 
 static const char board[] = "board Acme Lab 0x00010000 1\n"
                             "agent ap\n"
@@ -34,7 +34,7 @@ int main(int argc, char **argv)
     header = (uint32_t)strtoul(argv[3], NULL, 0);
     for (unsigned i = 0; i < count; i++)
         words[i] = (uint32_t)strtoul(argv[4 + i], NULL, 0);
-    memory_give(memory, sizeof(memory));
+    scmi_memory_give(memory, sizeof(memory));
     if (scmi_platform_new(&platform, (const uint8_t *)board, sizeof(board) - 1) != SCMI_DONE)
         return 1;
     for (unsigned long i = 0; i < times; i++) {

@@ -6,7 +6,7 @@
 #include <string.h>
 
 #include "area.h"
-#include "memory.h"
+#include "scmi_memory.h"
 
 static const char board[] = "board Acme Lab 0x00010000 1\n"
                             "agent ap\n"
@@ -53,7 +53,7 @@ static void tell(scmi_platform *platform, uint32_t agent)
 static void run(scmi_platform *platform)
 {
     uint64_t events = 0;
-    size_t requests = memory_requests();
+    size_t requests = scmi_memory_requests();
 
     call(platform, 1, 0x00144000, 0, NULL);                                   /* PROTOCOL_VERSION, token 5 */
     call(platform, 2, 0x00004406, 2, (uint32_t[]){ 0, 1 });                   /* POWER_STATE_NOTIFY of cpu */
@@ -65,7 +65,7 @@ static void run(scmi_platform *platform)
     tell(platform, 1);
     tell(platform, 2);
     printf("history %u", (unsigned)scmi_history_length(platform, &events));
-    printf(": %u events, memory %s\n", (unsigned)events, memory_requests() == requests ? "not asked for" : "asked for");
+    printf(": %u events, memory %s\n", (unsigned)events, scmi_memory_requests() == requests ? "not asked for" : "asked for");
 }
 
 int main(void)
@@ -75,23 +75,24 @@ int main(void)
 
     if (!scmi_header_fits())
         return printf("scmi.h is not the library's\n"), 1;
-    memory_give(memory, sizeof(memory));
+    scmi_memory_give(memory, sizeof(memory));
     printf("no platform %u, bad board %u, no end %u, unlawful board %u\n",
            (unsigned)scmi_answer(&platform, 1, area),
            (unsigned)scmi_platform_new(&platform, (const uint8_t *)"board x\n", 8),
            (unsigned)scmi_platform_new(&platform, (const uint8_t *)board, 28 + 9),
            (unsigned)scmi_platform_new(&platform, (const uint8_t *)"board V S 1 3\nagent a\nend\n", 26));
-    printf("new %u", (unsigned)scmi_platform_new(&platform, (const uint8_t *)board, strlen(board)));
+    printf("new %u",
+           (unsigned)scmi_platform_new_in(&platform, memory, sizeof(memory), (const uint8_t *)board, strlen(board)));
     printf(", again %u\n", (unsigned)scmi_platform_new(&platform, (const uint8_t *)board, strlen(board)));
     run(&platform);
     scmi_platform_free(&platform);
-    memory_give(memory, sizeof(memory));
+    scmi_memory_give(memory, sizeof(memory));
     printf("recorded %u\n",
            (unsigned)scmi_platform_new_recorded(&platform, (const uint8_t *)board, strlen(board)));
     run(&platform);
     scmi_platform_free(&platform);
     printf("freed %d\n", platform.at == NULL);
-    memory_give(memory, 100);
-    printf("little memory %u\n", (unsigned)scmi_platform_new(&platform, (const uint8_t *)board, strlen(board)));
+    printf("little memory %u\n",
+           (unsigned)scmi_platform_new_in(&platform, memory, 100, (const uint8_t *)board, strlen(board)));
     return 0;
 }

@@ -19,8 +19,8 @@ class Numbers(ctypes.Structure):
 
 
 memory = ctypes.create_string_buffer(1 << 16)
-library.memory_give.argtypes = [ctypes.c_void_p, ctypes.c_size_t]
-library.memory_give(memory, len(memory))
+library.scmi_memory_give.argtypes = [ctypes.c_void_p, ctypes.c_size_t]
+library.scmi_memory_give(memory, len(memory))
 numbers = Numbers()
 library.scmi_numbers(ctypes.byref(numbers))
 platform = Platform()

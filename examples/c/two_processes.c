@@ -17,14 +17,12 @@
 #include <unistd.h>
 
 #include "area.h"
-#include "memory.h"
 
 enum { PLACE = 512, ENDED = 2 * PLACE, FILE_BYTES = 3 * PLACE, TURNS = 20000 };
 _Static_assert(SCMI_AREA_BYTES <= PLACE, "an area has its place in the file");
 _Static_assert(sizeof(_Atomic uint32_t) == 4 && ATOMIC_INT_LOCK_FREE == 2, "a status word is one word");
 
 static const char board[] = "board Acme Lab 0x00010000 1\nagent ap\ndomain cpu off san\nend\n";
-static uint8_t memory[64 * 1024];
 static uint8_t *file;
 
 /* A little-endian word of the file, which is the machine's own on every machine that this is for. */
@@ -124,7 +122,6 @@ int main(int count, char **words)
     int status = 1, opened = count == 2 ? open(words[1], O_RDWR | O_CREAT | O_TRUNC, 0600) : -1;
     pid_t child;
 
-    memory_give(memory, sizeof(memory));
     if (opened < 0 || ftruncate(opened, FILE_BYTES) != 0 ||
         (file = mmap(NULL, FILE_BYTES, PROT_READ | PROT_WRITE, MAP_SHARED, opened, 0)) == MAP_FAILED ||
         scmi_platform_new(&platform, (const uint8_t *)board, strlen(board)) != SCMI_DONE)

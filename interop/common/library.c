@@ -5,7 +5,7 @@
  * last byte.
  */
 #include "checks.h"
-#include "memory.h"
+#include "scmi_memory.h"
 #include "platform.h"
 #include "scmi.h"
 #include <stdio.h>
@@ -86,7 +86,7 @@ const struct platform *library_open(const char *path, const char *board)
 	};
 
 	session = session_open("words", path, board);
-	memory_give(memory, sizeof(memory));
+	scmi_memory_give(memory, sizeof(memory));
 	need("scmi_platform_new", scmi_platform_new(&library, (const uint8_t *)board, strlen(board)));
 	return &platform;
 }

@@ -1,11 +1,10 @@
 /*
- * The three calls for memory that the library makes, over one block that the program gives. Nothing is used
- * again before the next memory_give: a platform takes its memory when it is made, and none from then on.
+ * The three calls for memory that the library makes, over the block that was given last. What was taken is not
+ * used again: a platform takes its memory when it is made, and none from then on.
  */
-#include "memory.h"
+#include "scmi_memory.h"
 
 #include <stdbool.h>
-#include <stdint.h>
 #include <string.h>
 
 struct tried {
@@ -16,14 +15,14 @@ struct tried {
 static uint8_t *block;
 static size_t room, used, requests;
 
-void memory_give(void *given, size_t bytes)
+void scmi_memory_give(void *given, size_t bytes)
 {
     block = given;
     room = bytes;
     used = 0;
 }
 
-size_t memory_requests(void)
+size_t scmi_memory_requests(void)
 {
     return requests;
 }
