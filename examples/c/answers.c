@@ -1,9 +1,10 @@
 /*
  * One command again and again, for ./bench to count what an answer takes:
  *
- *     answers post|answer COUNT HEADER WORD..
+ *     answers post|answer|exchange COUNT HEADER WORD..
  *
- * `post` writes the command into the area COUNT times, `answer` has it answered each time too.
+ * `post` writes the command into the area COUNT times, `answer` has it answered each time too, and `exchange`
+ * reads the words of each reply besides.
  */
 #include <stdio.h>
 #include <stdlib.h>
@@ -20,11 +21,20 @@ static const char board[] = "board Acme Lab 0x00010000 1\n"
                             "end\n";
 static uint8_t memory[64 * 1024];
 
+static uint32_t read_reply(const uint8_t *area)
+{
+    uint32_t sum = 0;
+
+    for (unsigned i = 0; 4 * i + 4 < area_word(area, AREA_LENGTH); i++)
+        sum += area_word(area, AREA_PAYLOAD + 4 * i);
+    return sum;
+}
+
 int main(int argc, char **argv)
 {
     uint8_t area[SCMI_AREA_BYTES] = { 0 };
     scmi_platform platform = { 0 };
-    uint32_t words[SCMI_PAYLOAD_WORDS], header;
+    uint32_t words[SCMI_PAYLOAD_WORDS], header, sum = 0;
     unsigned long times;
     unsigned count = (unsigned)argc - 4;
 
@@ -39,10 +49,12 @@ int main(int argc, char **argv)
         return 1;
     for (unsigned long i = 0; i < times; i++) {
         area_post(area, header, count, words);
-        if (!strcmp(argv[1], "answer") && scmi_answer(&platform, 1, area) != SCMI_DONE)
+        if (strcmp(argv[1], "post") && scmi_answer(&platform, 1, area) != SCMI_DONE)
             return 1;
+        if (!strcmp(argv[1], "exchange"))
+            sum += read_reply(area);
     }
-    printf("%u\n", (unsigned)area_word(area, AREA_STATUS));
+    printf("%u %u\n", (unsigned)area_word(area, AREA_STATUS), (unsigned)sum);
     scmi_platform_free(&platform);
     return 0;
 }
