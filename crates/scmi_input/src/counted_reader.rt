@@ -22,7 +22,11 @@ impl<'a, R: Read> Model for CountedReader<'a, R> {
 
     ghost Value = { ReadsView };
 
-    ghost view = { λ r. record { left = R.remaining r.reader.now; reads = r.reads; since_failure = r.since_failure } };
+    ghost view = { λ r. record {
+      left = R.remaining r.reader.now;
+      reads = r.reads;
+      since_failure = r.since_failure;
+    } };
 }
 
 impl<'a, R: Read> CountedReader<'a, R> {

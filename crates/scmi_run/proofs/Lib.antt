@@ -1,5 +1,4 @@
 pub mod OneLine
-mod Together
 mod Scripts
 mod Modes
 pub mod RunLemmas

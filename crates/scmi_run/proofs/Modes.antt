@@ -1,8 +1,9 @@
 -- The mode that a first line names.
 use Rattle.std.proofs.Common.{◌≡◌, ℕ, List, take, get_or, Option, None, Some, IfSome, Result, Ok, Err, OnOk, sym, ap, ◌∙◌, refl, subst, arith}
-use Rattle.std.specs.List.{before_first}
-use Rattle.scmi_input.specs.Lines.{is_line_feed}
+use Rattle.scmi_input.specs.Lines.{first_line}
+use Rattle.scmi_input.specs.declared.input.TheConstants.{KEPT_BYTES}
 use Rattle.scmi_run.specs.Mode.{text_of}
+use Rattle.scmi_run.specs.Program.{RunsThreads}
 use Rattle.scmi_run.specs.Runs.{IsTextOfRun, may_be_full}
 use Rattle.scmi_run.specs.declared.kind.Kind.{Kind}
 use Rattle.scmi_run.specs.declared.kind.Kind.TheVariants.{Rings, Words}
@@ -10,7 +11,7 @@ use Rattle.scmi_run.specs.declared.mode.Mode.{Mode}
 use Rattle.scmi_run.specs.declared.mode.Mode.TheVariants.{Once, Steps, Threads}
 
 -- a mode whose text is that of threads over a kind is that mode
-same_mode : (m : Mode) (k : Kind) → take 16 (text_of (Threads k)) ≡ text_of m → m ≡ Threads k
+same_mode : (m : Mode) (k : Kind) → take KEPT_BYTES (text_of (Threads k)) ≡ text_of m → m ≡ Threads k
 same_mode Once Rings same = absurd cc
 same_mode Once Words same = absurd cc
 same_mode (Steps Rings) Rings same = absurd cc
@@ -28,8 +29,8 @@ on_threads (Err e) kind old new holds = tt
 on_threads (Ok x) kind old new holds = λ k same. let is : kind ≡ k = cc in subst (λ q. IsTextOfRun (may_be_full q) old new) is holds
 
 -- what holds where the mode is that of threads holds where the first line is its text
-pub where_threads : {T E : Type 0} (r : Result T E) (known : Option (List ℕ)) (m : Mode) (kept : List ℕ) (old new : Option (List ℕ)) → IfSome known (λ input. kept ≡ take 16 (before_first is_line_feed input)) → kept ≡ text_of m
-    → OnOk r ((k : Kind) → m ≡ Threads k → IsTextOfRun (may_be_full k) old new) → OnOk r (IfSome known (λ input. (k : Kind) → before_first is_line_feed input ≡ text_of (Threads k) → IsTextOfRun (may_be_full k) old new))
+pub where_threads : {T E : Type 0} (r : Result T E) (known : Option (List ℕ)) (m : Mode) (kept : List ℕ) (old new : Option (List ℕ)) → IfSome known (λ input. kept ≡ take KEPT_BYTES (first_line input)) → kept ≡ text_of m
+    → OnOk r ((k : Kind) → m ≡ Threads k → IsTextOfRun (may_be_full k) old new) → OnOk r (RunsThreads known old new)
 where_threads (Err e) known m kept old new first is holds = tt
 where_threads (Ok x) None m kept old new first is holds = tt
-where_threads (Ok x) (Some input) m kept old new first is holds = λ k line. holds k (same_mode m k (ap (λ (xs : List ℕ). take 16 xs) (sym line) ∙ sym first ∙ is))
+where_threads (Ok x) (Some input) m kept old new first is holds = λ k line. holds k (same_mode m k (ap (λ (xs : List ℕ). take KEPT_BYTES xs) (sym line) ∙ sym first ∙ is))

@@ -13,7 +13,8 @@ use Rattle.scmi_text.specs.declared.step.Step.{Step}
 use Rattle.scmi_text.specs.declared.step_line.StepLine.{StepLine}
 use Rattle.scmi_text.specs.declared.step_line.StepLine.TheVariants.{Trace}
 use Rattle.scmi_run.specs.Runs.{logs_text}
-use Rattle.scmi_run.specs.Steps.{IsLineOf, AreLinesOf, AreStepLines, IsTextOfSteps}
+use Rattle.scmi_session.specs.StepLines.{IsLineOf}
+use Rattle.scmi_run.specs.Steps.{AreLinesOf, AreStepLines, IsTextOfSteps}
 
 pub nothing_written : (old : Option (List ℕ)) → Appends old old []
 nothing_written None = tt

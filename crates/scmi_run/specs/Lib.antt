@@ -3,6 +3,6 @@ pub mod Reads
 pub mod Lines
 pub mod Mode
 pub mod Once
-pub mod Session
 pub mod Steps
 pub mod Runs
+pub mod Program

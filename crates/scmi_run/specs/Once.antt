@@ -1,7 +1,8 @@
 -- What the mode `once` reads and writes.
-use Rattle.std.specs.Prelude.{ℕ, List, [], ◌∷◌, ◌++◌, Option, option_and_then}
+use Rattle.std.specs.Prelude.{ℕ, List, [], ◌∷◌, ◌++◌, Option, option_and_then, IsSomeAnd}
 use Rattle.std.specs.Option.{option_map_or}
 use Rattle.std.specs.Result.{result_ok}
+use Rattle.std.specs.Io.KnownBytes.{Appends}
 use Rattle.hex.specs.Hex.{decode_sized, encode_lower}
 use Rattle.scmi_codec.specs.Area.{arrived, answered}
 use Rattle.scmi_codec.specs.declared.area.TheConstants.{AREA_BYTES}
@@ -20,3 +21,7 @@ answered_area area = option_map_or (λ frame. answered (answer_to board_b 1 fram
 -- an area in lower-case digits, and a line feed
 abbrev pub area_text : List ℕ → List ℕ
 area_text area = encode_lower area ++ (10 ∷ [])
+
+-- the input has an area, and what is written is the text of that area with its answer
+abbrev pub IsAnswerTo : List ℕ → Option (List ℕ) → Option (List ℕ) → Type 0
+IsAnswerTo input old new = IsSomeAnd (area_of input) (λ area. Appends old new (area_text (answered_area area)))

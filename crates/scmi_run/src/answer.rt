@@ -34,8 +34,5 @@ fn reference_plan(alloc: Global) -> Result<Plan, RunError>
     ensures plan { IfOk result (λ plan. plan ≡ board_b) }
     ensures memory { IfErr result (λ e. e ≡ RunError.Memory) }
 {
-    let Ok(raw) = reference_board(alloc) else {
-        return Err(RunError::Memory);
-    };
-    Plan::check(alloc, &raw).map_err(|_| RunError::Memory)
+    Plan::check(alloc, &reference_board(alloc)?).map_err(|_| RunError::Memory)
 }

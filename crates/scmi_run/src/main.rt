@@ -1,11 +1,10 @@
 //! The program: a platform controller and its agents over standard input and output.
 //!
-//! Its first line names a mode. The main types are `Mode` and `Session`, both sides on one thread; the
+//! Its first line names a mode. The main type is `Mode`; the
 //! main theorem is the contract of `run_once`: what is written is the area that was read with the
 //! answer of agent 1's first command, to the last byte.
 #![tactic(auto)]
 
-mod agent_steps;
 mod answer;
 mod board_agents;
 mod kind;
@@ -15,7 +14,6 @@ mod once;
 mod reference_board;
 mod run;
 mod run_error;
-mod session;
 mod steps;
 mod threads;
 

@@ -1,7 +1,7 @@
 //! The mode `once`: one area in, one area out.
-ghost use Rattle.std.specs.Prelude.{◌≡◌, ◌≢◌, ◌<◌, ◌≤◌, ◌+◌, ◌⊎◌, length, Some, None, IfSome, IfErr, IsErrOf, OnOk, IsSomeAnd, MatchResult};
+ghost use Rattle.std.specs.Prelude.{◌≡◌, ◌≢◌, ◌<◌, ◌≤◌, ◌+◌, ◌⊎◌, length, Some, None, IfSome, IfErr, IsErrOf, OnOk, MatchResult};
 ghost use Rattle.std.specs.Io.KnownBytes.{Appends};
-ghost use Rattle.scmi_run.specs.Once.{area_of, area_text, answered_area};
+ghost use Rattle.scmi_run.specs.Once.{IsAnswerTo, area_of, area_text};
 ghost use Rattle.scmi_run.specs.Reads.{StopsAtFailure};
 ghost use Rattle.scmi_input.specs.declared.input.TheConstants.{INPUT_BYTES};
 
@@ -24,12 +24,18 @@ pub fn run_once<R: CountedRead, W: Write>(
     reader: &mut R,
     writer: &mut W,
 ) -> Result<(), RunError>
-    ensures answer { OnOk result (IfSome (R.remaining reader.old) (λ input. IsSomeAnd (area_of input) (λ area. Appends (W.contents writer.old) (W.contents writer.new) (area_text (answered_area area))))) }
-    ensures area { IsErrOf result RunError.Area → IfSome (R.remaining reader.old) (λ input. area_of input ≡ None) }
-    ensures no_area { IfSome (R.remaining reader.old) (λ input. area_of input ≡ None → IsErrOf result RunError.Area ⊎ IsErrOf result RunError.Size ⊎ IsErrOf result RunError.Read ⊎ IsErrOf result RunError.Memory) }
-    ensures size { IsErrOf result RunError.Size → IfSome (R.remaining reader.old) (λ input. INPUT_BYTES < length input) }
+    ensures answer { OnOk result (IfSome (R.remaining reader.old)
+        (λ input. IsAnswerTo input (W.contents writer.old) (W.contents writer.new))) }
+    ensures area { IsErrOf result RunError.Area →
+        IfSome (R.remaining reader.old) (λ input. area_of input ≡ None) }
+    ensures no_area { IfSome (R.remaining reader.old) (λ input. area_of input ≡ None →
+        IsErrOf result RunError.Area ⊎ IsErrOf result RunError.Size ⊎
+        IsErrOf result RunError.Read ⊎ IsErrOf result RunError.Memory) }
+    ensures size { IsErrOf result RunError.Size →
+        IfSome (R.remaining reader.old) (λ input. INPUT_BYTES < length input) }
     ensures kept { IfErr result (λ e. e ≢ RunError.Write → writer.new ≡ writer.old) }
-    ensures errors { IfErr result (λ e. (e ≡ RunError.Size) ⊎ (e ≡ RunError.Read) ⊎ (e ≡ RunError.Area) ⊎ (e ≡ RunError.Memory) ⊎ (e ≡ RunError.Write)) }
+    ensures errors { IfErr result (λ e. (e ≡ RunError.Size) ⊎ (e ≡ RunError.Read) ⊎
+        (e ≡ RunError.Area) ⊎ (e ≡ RunError.Memory) ⊎ (e ≡ RunError.Write)) }
     ensures reads { R.reads reader.new ≤ R.reads reader.old + (INPUT_BYTES + 1) }
     ensures stops { StopsAtFailure result (R.since_failure reader.old) (R.since_failure reader.new) }
 {
@@ -41,7 +47,9 @@ pub fn run_once<R: CountedRead, W: Write>(
 
 /// The area that the one line of an input has as its digits, of either case.
 fn read_area_line(input: &[u8]) -> Result<[u8; AREA_BYTES], RunError>
-    ensures { MatchResult result (λ area. area_of input.now ≡ Some area) (λ e. (e ≡ RunError.Area) × (area_of input.now ≡ None)) }
+    ensures { MatchResult result
+        (λ area. area_of input.now ≡ Some area)
+        (λ e. (e ≡ RunError.Area) × (area_of input.now ≡ None)) }
 {
     let Some(line) = only_line(input) else {
         return Err(RunError::Area);

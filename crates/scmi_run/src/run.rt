@@ -1,14 +1,11 @@
 //! A run from its first line to its exit status.
-ghost use Rattle.std.specs.Prelude.{◌≡◌, ◌≤◌, ◌+◌, ◌*◌, IfErr, IfSome, IsSomeAnd, OnOk, codes};
-ghost use Rattle.std.specs.List.{after_first, before_first};
-ghost use Rattle.std.specs.Io.KnownBytes.{Appends};
-ghost use Rattle.scmi_input.specs.Lines.{is_line_feed};
-ghost use Rattle.scmi_run.specs.Mode.{text_of};
-ghost use Rattle.scmi_run.specs.Once.{area_of, area_text, answered_area};
+ghost use Rattle.std.specs.Prelude.{◌≡◌, ◌≤◌, ◌+◌, ◌*◌, IfErr, IfSome, OnOk};
+ghost use Rattle.scmi_input.specs.declared.input.TheConstants.{INPUT_BYTES};
+ghost use Rattle.scmi_run.specs.Once.{IsAnswerTo};
+ghost use Rattle.scmi_run.specs.Program.{AnswersOnce, RunsThreads};
 ghost use Rattle.scmi_run.specs.Reads.{StopsAtFailure};
 ghost use Rattle.scmi_run.specs.RunError.{status_of};
 ghost use Rattle.scmi_run.specs.Runs.{IsTextOfRun, may_be_full};
-ghost use Rattle.scmi_input.specs.declared.input.TheConstants.{INPUT_BYTES};
 ghost use Rattle.scmi_run.specs.declared.kind.Kind.{Kind as KindOf};
 
 use crate::mode::Mode;
@@ -32,8 +29,10 @@ pub fn run_program<T: Threads + Wait + Sync, G: Gate, R: Read, W: Write>(
     reader: &mut R,
     writer: &mut W,
 ) -> u8
-    ensures answer { result ≡ 0 → IfSome (R.remaining reader.old) (λ input. before_first is_line_feed input ≡ codes "once" → IsSomeAnd (area_of (after_first is_line_feed input)) (λ area. Appends (W.contents writer.old) (W.contents writer.new) (area_text (answered_area area)))) }
-    ensures text { result ≡ 0 → IfSome (R.remaining reader.old) (λ input. (kind : KindOf) → before_first is_line_feed input ≡ text_of (Mode.Threads kind) → IsTextOfRun (may_be_full kind) (W.contents writer.old) (W.contents writer.new)) }
+    ensures answer { result ≡ 0 →
+        AnswersOnce (R.remaining reader.old) (W.contents writer.old) (W.contents writer.new) }
+    ensures text { result ≡ 0 →
+        RunsThreads (R.remaining reader.old) (W.contents writer.old) (W.contents writer.new) }
 {
     let mut input = Input::new(CountedReader::new(reader));
     run_input(rt, alloc, gate, &mut input, writer)
@@ -48,8 +47,8 @@ pub fn run_input<T: Threads + Wait + Sync, G: Gate, R: CountedRead + Drop, W: Wr
     input: &mut Input<R>,
     writer: &mut W,
 ) -> u8
-    ensures answer { result ≡ 0 → IfSome input.old.left (λ bytes. before_first is_line_feed bytes ≡ codes "once" → IsSomeAnd (area_of (after_first is_line_feed bytes)) (λ area. Appends (W.contents writer.old) (W.contents writer.new) (area_text (answered_area area)))) }
-    ensures text { result ≡ 0 → IfSome input.old.left (λ bytes. (kind : KindOf) → before_first is_line_feed bytes ≡ text_of (Mode.Threads kind) → IsTextOfRun (may_be_full kind) (W.contents writer.old) (W.contents writer.new)) }
+    ensures answer { result ≡ 0 → AnswersOnce input.old.left (W.contents writer.old) (W.contents writer.new) }
+    ensures text { result ≡ 0 → RunsThreads input.old.left (W.contents writer.old) (W.contents writer.new) }
     ensures reads { input.new.reads ≤ input.old.reads + 2 * (INPUT_BYTES + 1) }
     ensures stops { input.old.since_failure ≡ 0 → input.new.since_failure ≤ 1 }
 {
@@ -70,11 +69,13 @@ fn run_mode<T: Threads + Wait + Sync, G: Gate, R: CountedRead + Drop, W: Write>(
     input: &mut Input<R>,
     writer: &mut W,
 ) -> Result<(), RunError>
-    ensures answer { OnOk result (IfSome input.old.left (λ bytes. before_first is_line_feed bytes ≡ codes "once" → IsSomeAnd (area_of (after_first is_line_feed bytes)) (λ area. Appends (W.contents writer.old) (W.contents writer.new) (area_text (answered_area area))))) }
-    ensures text { OnOk result (IfSome input.old.left (λ bytes. (kind : KindOf) → before_first is_line_feed bytes ≡ text_of (Mode.Threads kind) → IsTextOfRun (may_be_full kind) (W.contents writer.old) (W.contents writer.new))) }
+    ensures answer { OnOk result
+        (AnswersOnce input.old.left (W.contents writer.old) (W.contents writer.new)) }
+    ensures text { OnOk result
+        (RunsThreads input.old.left (W.contents writer.old) (W.contents writer.new)) }
     ensures kept { IfErr result (λ e. status_of e ≡ 2 → writer.new ≡ writer.old) }
     ensures reads { input.new.reads ≤ input.old.reads + 2 * (INPUT_BYTES + 1) }
-    ensures stops { StopsAtFailure result (input.old.since_failure) (input.new.since_failure) }
+    ensures stops { StopsAtFailure result input.old.since_failure input.new.since_failure }
 {
     let line = input.read_first_line()?;
     let mode = Mode::of_line(&line).ok_or(RunError::Mode)?;
@@ -90,8 +91,10 @@ fn run_in<T: Threads + Wait + Sync, G: Gate, R: CountedRead, W: Write>(
     reader: &mut R,
     writer: &mut W,
 ) -> Result<(), RunError>
-    ensures once { OnOk result (mode ≡ Mode.Once → IfSome (R.remaining reader.old) (λ input. IsSomeAnd (area_of input) (λ area. Appends (W.contents writer.old) (W.contents writer.new) (area_text (answered_area area))))) }
-    ensures threads { OnOk result ((kind : KindOf) → mode ≡ Mode.Threads kind → IsTextOfRun (may_be_full kind) (W.contents writer.old) (W.contents writer.new)) }
+    ensures once { OnOk result (mode ≡ Mode.Once → IfSome (R.remaining reader.old)
+        (λ input. IsAnswerTo input (W.contents writer.old) (W.contents writer.new))) }
+    ensures threads { OnOk result ((kind : KindOf) → mode ≡ Mode.Threads kind →
+        IsTextOfRun (may_be_full kind) (W.contents writer.old) (W.contents writer.new)) }
     ensures kept { IfErr result (λ e. status_of e ≡ 2 → writer.new ≡ writer.old) }
     ensures reads { R.reads reader.new ≤ R.reads reader.old + (INPUT_BYTES + 1) }
     ensures stops { StopsAtFailure result (R.since_failure reader.old) (R.since_failure reader.new) }

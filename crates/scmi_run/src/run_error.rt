@@ -5,10 +5,12 @@ ghost use Rattle.scmi_run.specs.RunError.{status_of, fault_of_input, fault_of_te
 use scmi_board::TextError;
 use scmi_input::InputError;
 use scmi_plan::PlanError;
+use std::alloc::AllocError;
+use std::fmt;
 use thiserror::Error;
 
 /// Why a run is refused or stops. Its text is what follows the word `fault`.
-#[derive(Clone, Copy, Debug, PartialEq, Eq, Error)]
+#[derive(Clone, Copy, PartialEq, Eq, Error)]
 pub enum RunError {
     /// The first line names no mode.
     #[error("mode")]
@@ -54,6 +56,24 @@ impl RunError {
             RunError::Memory => 4,
             _ => 2,
         }
+    }
+}
+
+// The text is all that there is to see, and the proof of a derived `Debug` is long.
+impl fmt::Debug for RunError {
+    fn fmt<W: fmt::Write>(&self, f: &mut fmt::Formatter<W>) -> fmt::Result {
+        fmt::Display::fmt(self, f)
+    }
+}
+
+impl From<AllocError> for RunError {
+    ghost use Rattle.std.specs.Prelude.{◌≡◌};
+    ghost use Rattle.scmi_run.specs.declared.run_error.RunError.TheVariants.{Memory};
+
+    ghost from_gives = { λ _ fault. fault ≡ Memory };
+
+    fn from(_error: AllocError) -> RunError {
+        RunError::Memory
     }
 }
 

@@ -12,11 +12,11 @@ ghost use Rattle.scmi_input.specs.declared.input.TheConstants.{INPUT_BYTES};
 use crate::board_agents::agents_of;
 use crate::kind::Kind;
 use crate::run_error::RunError;
-use crate::session::Session;
 use scmi_board::{Lines, read_board};
 use scmi_input::{CountedRead, read_rest};
 use scmi_link::{Channel, RingChannel};
 use scmi_plan::Plan;
+use scmi_session::Session;
 use scmi_text::{Step, StepLine, read_steps, write_step_line};
 use scmi_words::WordChannel;
 use std::alloc::Global;
@@ -32,8 +32,10 @@ pub fn run_steps<R: CountedRead, W: Write>(
     writer: &mut W,
     kind: Kind,
 ) -> Result<(), RunError>
-    ensures text { OnOk result ((steps : List Step) × IsTextOfSteps steps (W.contents writer.old) (W.contents writer.new)) }
-    ensures memory { IsErrOf result RunError.Memory → (steps : List Step) × AreStepLines steps (W.contents writer.old) (W.contents writer.new) }
+    ensures text { OnOk result ((steps : List Step) ×
+        IsTextOfSteps steps (W.contents writer.old) (W.contents writer.new)) }
+    ensures memory { IsErrOf result RunError.Memory →
+        (steps : List Step) × AreStepLines steps (W.contents writer.old) (W.contents writer.new) }
     ensures kept { IfErr result (λ e. status_of e ≡ 2 → writer.new ≡ writer.old) }
     ensures reads { R.reads reader.new ≤ R.reads reader.old + (INPUT_BYTES + 1) }
     ensures stops { StopsAtFailure result (R.since_failure reader.old) (R.since_failure reader.new) }
@@ -57,7 +59,8 @@ fn step_through<C: Channel, W: Write>(
 ) -> Result<(), RunError>
     requires { All (IsStepOf (length plan.agents)) steps.now }
     ensures text { OnOk result (IsTextOfSteps steps.now (W.contents writer.old) (W.contents writer.new)) }
-    ensures memory { IsErrOf result RunError.Memory → AreStepLines steps.now (W.contents writer.old) (W.contents writer.new) }
+    ensures memory { IsErrOf result RunError.Memory →
+        AreStepLines steps.now (W.contents writer.old) (W.contents writer.new) }
     ensures errors { IfErr result (λ e. (e ≡ RunError.Memory) ⊎ (e ≡ RunError.Write)) }
 {
     let mut session = Session::<C>::open(alloc, plan)?;

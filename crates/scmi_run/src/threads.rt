@@ -38,8 +38,11 @@ pub fn run_threads<T: Threads + Wait + Sync, G: Gate, R: CountedRead, W: Write>(
     kind: Kind,
 ) -> Result<(), RunError>
     ensures text { OnOk result (IsTextOfRun (may_be_full kind) (W.contents writer.old) (W.contents writer.new)) }
-    ensures limit { IsErrOf result RunError.Limit → IsTextOfStoppedRun (may_be_full kind) (W.contents writer.old) (W.contents writer.new) }
-    ensures memory { IsErrOf result RunError.Memory → (writer.new ≡ writer.old) ⊎ IsTextOfStoppedRun (may_be_full kind) (W.contents writer.old) (W.contents writer.new) }
+    ensures limit { IsErrOf result RunError.Limit →
+        IsTextOfStoppedRun (may_be_full kind) (W.contents writer.old) (W.contents writer.new) }
+    ensures memory { IsErrOf result RunError.Memory →
+        (writer.new ≡ writer.old) ⊎
+        IsTextOfStoppedRun (may_be_full kind) (W.contents writer.old) (W.contents writer.new) }
     ensures kept { IfErr result (λ e. status_of e ≡ 2 → writer.new ≡ writer.old) }
     ensures reads { R.reads reader.new ≤ R.reads reader.old + (INPUT_BYTES + 1) }
     ensures stops { StopsAtFailure result (R.since_failure reader.old) (R.since_failure reader.new) }
@@ -67,8 +70,11 @@ fn write_run<C: Channel, T: Threads + Wait + Sync, G: Gate, W: Write>(
 ) -> Result<(), RunError>
     requires scripts { AreScriptsOf (length plan.agents) scripts.now }
     ensures text { OnOk result (IsTextOfRun C.FULL (W.contents writer.old) (W.contents writer.new)) }
-    ensures limit { IsErrOf result RunError.Limit → IsTextOfStoppedRun C.FULL (W.contents writer.old) (W.contents writer.new) }
-    ensures memory { IsErrOf result RunError.Memory → (writer.new ≡ writer.old) ⊎ IsTextOfStoppedRun C.FULL (W.contents writer.old) (W.contents writer.new) }
+    ensures limit { IsErrOf result RunError.Limit →
+        IsTextOfStoppedRun C.FULL (W.contents writer.old) (W.contents writer.new) }
+    ensures memory { IsErrOf result RunError.Memory →
+        (writer.new ≡ writer.old) ⊎
+        IsTextOfStoppedRun C.FULL (W.contents writer.old) (W.contents writer.new) }
     ensures err { IfErr result (λ e. ¬ (status_of e ≡ 2)) }
 {
     let agents = plan.agents();

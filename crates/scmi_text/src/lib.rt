@@ -17,6 +17,6 @@ mod words;
 
 pub use script_line::{write_script_line, write_script_lines};
 pub use scripts::read_scripts;
-pub use step::Step;
+pub use step::{AgentStep, Call, PlatformStep, Step};
 pub use step_line::{StepLine, write_step_line};
 pub use steps::read_steps;

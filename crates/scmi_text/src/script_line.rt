@@ -13,7 +13,8 @@ use std::io::Write;
 /// Writes the line of an agent (own), straight to the writer. The error is the writer's; some parts
 /// may then be written.
 pub fn write_script_line<W: Write>(writer: &mut W, agent: u32, line: &Line) -> io::Result<()>
-    ensures { OnOk result (Appends (W.contents writer.old) (W.contents writer.new) (line_text agent line.now)) }
+    ensures { OnOk result
+        (Appends (W.contents writer.old) (W.contents writer.new) (line_text agent line.now)) }
 {
     match line {
         Line::Got(payload) => {
@@ -36,7 +37,8 @@ pub fn write_script_line<W: Write>(writer: &mut W, agent: u32, line: &Line) -> i
 /// Writes the lines of an agent in their order. The error is the writer's; some of them may then be
 /// written.
 pub fn write_script_lines<W: Write>(writer: &mut W, agent: u32, lines: &[Line]) -> io::Result<()>
-    ensures { OnOk result (Appends (W.contents writer.old) (W.contents writer.new) (lines_text agent lines.now)) }
+    ensures { OnOk result
+        (Appends (W.contents writer.old) (W.contents writer.new) (lines_text agent lines.now)) }
 {
     'lines: for line in lines {
         write_script_line(writer, agent, line)?;

@@ -4,55 +4,48 @@ use scmi_codec::{Message, Payload};
 /// One line of a script: which call is made.
 #[derive(PartialEq, Eq, Debug, Drop)]
 pub enum Step {
-    /// The agent posts a command of this protocol and message id.
-    Call {
-        agent: u32,
-        protocol: u8,
-        message: u8,
-        payload: Payload,
-    },
-    /// The agent posts this message.
-    Raw {
-        agent: u32,
-        message: Message,
-    },
-    /// The agent posts a malformed frame of this length in bytes and this header word.
-    Malformed {
-        agent: u32,
-        length: u32,
-        header: u32,
-    },
-    /// The platform serves the agent.
-    Serve {
-        agent: u32,
-    },
-    /// The agent collects.
-    Collect {
-        agent: u32,
-    },
+    /// The agent makes this call.
+    Agent { agent: u32, step: AgentStep },
+    /// The platform makes this call, of the agent's channels.
+    Platform { agent: u32, step: PlatformStep },
     /// Call, serve and collect in turn.
-    Do {
-        agent: u32,
-        protocol: u8,
-        message: u8,
-        payload: Payload,
-    },
+    Do { agent: u32, call: Call },
     /// The platform completes one pending set.
     Advance,
-    /// The platform posts the first message of the agent's outbox.
-    Flush {
-        agent: u32,
-    },
-    /// The agent takes a P2A message.
-    P2a {
-        agent: u32,
-    },
-    /// The agent closes its end.
-    Close {
-        agent: u32,
-    },
-    /// The platform closes its end of the agent's channels.
-    Shut {
-        agent: u32,
-    },
+}
+
+/// A call that an agent makes.
+#[derive(PartialEq, Eq, Debug, Drop)]
+pub enum AgentStep {
+    /// It posts a command with its next token.
+    Call(Call),
+    /// It posts this message.
+    Raw(Message),
+    /// It posts a malformed frame of this length in bytes and this header word.
+    Malformed { length: u32, header: u32 },
+    /// It collects.
+    Collect,
+    /// It takes a P2A message.
+    P2a,
+    /// It closes its end.
+    Close,
+}
+
+/// A call that the platform makes of one agent's channels.
+#[derive(Clone, Copy, PartialEq, Eq, Debug)]
+pub enum PlatformStep {
+    /// It serves the agent.
+    Serve,
+    /// It posts the first message of the agent's outbox.
+    Flush,
+    /// It closes its end of the agent's channels.
+    Shut,
+}
+
+/// A command that an agent posts, but for its token.
+#[derive(PartialEq, Eq, Debug, Drop)]
+pub struct Call {
+    pub protocol: u8,
+    pub message: u8,
+    pub payload: Payload,
 }

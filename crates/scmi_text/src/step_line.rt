@@ -100,7 +100,9 @@ pub fn write_step_line<W: Write>(writer: &mut W, line: &StepLine) -> io::Result<
 }
 
 fn write_collected<W: Write>(writer: &mut W, agent: u32, collected: &Collected) -> io::Result<()>
-    ensures { OnOk result (Appends (W.contents writer.old) (W.contents writer.new) (decimal agent ++ collected_text collected.now ++ codes "\n")) }
+    ensures { OnOk result
+        (Appends (W.contents writer.old) (W.contents writer.new)
+        (decimal agent ++ collected_text collected.now ++ codes "\n")) }
 {
     match collected {
         Collected::Nothing => writeln!(writer, "{agent} nothing"),
@@ -116,7 +118,9 @@ fn write_collected<W: Write>(writer: &mut W, agent: u32, collected: &Collected) 
 }
 
 fn write_p2a<W: Write>(writer: &mut W, agent: u32, frame: &Option<Frame>) -> io::Result<()>
-    ensures { OnOk result (Appends (W.contents writer.old) (W.contents writer.new) (decimal agent ++ codes " p2a" ++ p2a_text frame.now ++ codes "\n")) }
+    ensures { OnOk result
+        (Appends (W.contents writer.old) (W.contents writer.new)
+        (decimal agent ++ codes " p2a" ++ p2a_text frame.now ++ codes "\n")) }
 {
     match frame {
         None => writeln!(writer, "{agent} p2a none"),
@@ -126,7 +130,9 @@ fn write_p2a<W: Write>(writer: &mut W, agent: u32, frame: &Option<Frame>) -> io:
 
 /// Writes the line of a P2A frame that an agent took.
 pub(crate) fn write_frame<W: Write>(writer: &mut W, agent: u32, frame: &Frame) -> io::Result<()>
-    ensures { OnOk result (Appends (W.contents writer.old) (W.contents writer.new) (decimal agent ++ codes " p2a" ++ frame_text frame.now ++ codes "\n")) }
+    ensures { OnOk result
+        (Appends (W.contents writer.old) (W.contents writer.new)
+        (decimal agent ++ codes " p2a" ++ frame_text frame.now ++ codes "\n")) }
 {
     match frame {
         Frame::Good(message) => {

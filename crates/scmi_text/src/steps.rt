@@ -1,10 +1,10 @@
 //! Scripts that run on one thread, as they are read.
-ghost use Rattle.std.specs.Prelude.{IfOk, IfErr};
+ghost use Rattle.std.specs.Prelude.{◌≡◌, Some, IfOk, IfErr};
 ghost use Rattle.std.specs.List.{All};
-ghost use Rattle.scmi_text.specs.Step.{IsStepOf};
+ghost use Rattle.scmi_text.specs.Step.{IsStepOf, step_agent};
 ghost use Rattle.scmi_board.specs.TextError.{IsOfScript};
 
-use crate::step::Step;
+use crate::step::{AgentStep, Call, PlatformStep, Step};
 use scmi_board::{Items, LineError, Lines, TextError};
 use scmi_codec::{Header, Message};
 use std::alloc::Global;
@@ -37,76 +37,57 @@ fn read_step(text: &[u8], agents: u32) -> Result<Step, LineError>
 {
     let mut items = Items::new(text);
     let step = match items.next_item()? {
-        b"call" => read_call(&mut items, agents)?,
-        b"raw" => read_raw(&mut items, agents)?,
-        b"bad" => read_malformed(&mut items, agents)?,
-        b"serve" => Step::Serve {
-            agent: items.next_agent(agents)?,
-        },
-        b"collect" => Step::Collect {
-            agent: items.next_agent(agents)?,
-        },
-        b"do" => read_do(&mut items, agents)?,
         b"advance" => Step::Advance,
-        b"flush" => Step::Flush {
-            agent: items.next_agent(agents)?,
-        },
-        b"p2a" => Step::P2a {
-            agent: items.next_agent(agents)?,
-        },
-        b"close" => Step::Close {
-            agent: items.next_agent(agents)?,
-        },
-        b"shut" => Step::Shut {
-            agent: items.next_agent(agents)?,
-        },
-        _ => return Err(LineError::Form),
+        name => {
+            let agent = items.next_agent(agents)?;
+            read_step_of(agent, name, &mut items)?
+        }
     };
     items.finish()?;
     Ok(step)
 }
 
-/// What follows `call`: `A P M W..`.
-fn read_call(items: &mut Items<'_>, agents: u32) -> Result<Step, LineError>
-    ensures { IfOk result (IsStepOf agents) }
+/// What follows the agent, where the line has this name.
+fn read_step_of(agent: u32, name: &[u8], items: &mut Items<'_>) -> Result<Step, LineError>
+    ensures { IfOk result (λ step. step_agent step ≡ Some agent) }
 {
-    Ok(Step::Call {
-        agent: items.next_agent(agents)?,
-        protocol: items.next_byte()?,
-        message: items.next_byte()?,
-        payload: items.payload()?,
-    })
-}
-
-/// What follows `raw`: `A H W..`.
-fn read_raw(items: &mut Items<'_>, agents: u32) -> Result<Step, LineError>
-    ensures { IfOk result (IsStepOf agents) }
-{
-    let agent = items.next_agent(agents)?;
-    let message = Message {
-        header: Header::unpack(items.next_word()?),
-        payload: items.payload()?,
+    let step = match name {
+        b"do" => {
+            let call = read_call(items)?;
+            return Ok(Step::Do { agent, call });
+        }
+        b"serve" => PlatformStep::Serve,
+        b"flush" => PlatformStep::Flush,
+        b"shut" => PlatformStep::Shut,
+        _ => {
+            let step = read_agent_step(name, items)?;
+            return Ok(Step::Agent { agent, step });
+        }
     };
-    Ok(Step::Raw { agent, message })
+    Ok(Step::Platform { agent, step })
 }
 
-/// What follows `bad`: `A LENGTH H`.
-fn read_malformed(items: &mut Items<'_>, agents: u32) -> Result<Step, LineError>
-    ensures { IfOk result (IsStepOf agents) }
-{
-    Ok(Step::Malformed {
-        agent: items.next_agent(agents)?,
-        length: items.next_word()?,
-        header: items.next_word()?,
-    })
+fn read_agent_step(name: &[u8], items: &mut Items<'_>) -> Result<AgentStep, LineError> {
+    match name {
+        b"call" => Ok(AgentStep::Call(read_call(items)?)),
+        b"raw" => Ok(AgentStep::Raw(Message {
+            header: Header::unpack(items.next_word()?),
+            payload: items.payload()?,
+        })),
+        b"bad" => Ok(AgentStep::Malformed {
+            length: items.next_word()?,
+            header: items.next_word()?,
+        }),
+        b"collect" => Ok(AgentStep::Collect),
+        b"p2a" => Ok(AgentStep::P2a),
+        b"close" => Ok(AgentStep::Close),
+        _ => Err(LineError::Form),
+    }
 }
 
-/// What follows `do`: `A P M W..`.
-fn read_do(items: &mut Items<'_>, agents: u32) -> Result<Step, LineError>
-    ensures { IfOk result (IsStepOf agents) }
-{
-    Ok(Step::Do {
-        agent: items.next_agent(agents)?,
+/// What a call is of: `P M W..`.
+fn read_call(items: &mut Items<'_>) -> Result<Call, LineError> {
+    Ok(Call {
         protocol: items.next_byte()?,
         message: items.next_byte()?,
         payload: items.payload()?,

@@ -10,7 +10,8 @@ use std::io::Write;
 
 /// Writes the header word and the payload words, each behind a space.
 pub(crate) fn write_message<W: Write>(writer: &mut W, message: &Message) -> io::Result<()>
-    ensures { OnOk result (Appends (W.contents writer.old) (W.contents writer.new) (message_text message.now)) }
+    ensures { OnOk result
+        (Appends (W.contents writer.old) (W.contents writer.new) (message_text message.now)) }
 {
     write_word(writer, message.header.pack())?;
     write_words(writer, message.payload.as_slice())

@@ -3,7 +3,7 @@ use Rattle.scmi_run.proofs.RunLemmas.{all_steps, first_steps, no_step, step_more
 use Rattle.scmi_run.proofs.steps.step_through.Goals as goal
 
 pub loop-step-init : goal.loop-step-init
-loop-step-init g c = record { agents = c.in_ok-session.ensures.agents; so_far = no_step _ }
+loop-step-init g c = record { agents = c.in_ok-session.ensures; so_far = no_step _ }
 
 pub loop-step-preserved : goal.loop-step-preserved
 loop-step-preserved g c = record {

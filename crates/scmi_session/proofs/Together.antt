@@ -4,7 +4,7 @@ use Rattle.scmi_ends.specs.AgentView.{AgentView, IsOfLink}
 use Rattle.scmi_ends.specs.ControllerView.{ControllerView}
 use Rattle.scmi_ends.proofs.Lists.{map_same}
 use Rattle.scmi_ends.proofs.Places.{of_link_at}
-use Rattle.scmi_run.specs.Session.{BelongTogether, HasSameNames}
+use Rattle.scmi_session.specs.Session.{BelongTogether, HasSameNames}
 
 module _ {L : Type 0} (a2p p2a : L → List ℕ) (links : List L) (platform : ControllerView) (agents : List AgentView) (i : ℕ) (agent : AgentView)
     (together : BelongTogether (map a2p links) (map p2a links) platform agents) (inside : i < length agents) (is : agent ≡ get_or agents i agent) where

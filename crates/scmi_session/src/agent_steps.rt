@@ -1,44 +1,63 @@
-//! What one agent does in a step, and the line that is written for it. Each call is given the agent's
-//! number and its own end and link.
+//! What one agent does in a step, and the line that is written for it, by its own end and link.
 ghost use Rattle.scmi_ends.specs.AgentView.{IsOfLink};
-ghost use Rattle.scmi_text.specs.declared.step.Step.TheVariants as step;
-ghost use Rattle.scmi_run.specs.Session.{HasSameNames};
-ghost use Rattle.scmi_run.specs.Steps.{IsLineOf};
+ghost use Rattle.scmi_text.specs.declared.step.AgentStep.TheVariants as step;
+ghost use Rattle.scmi_session.specs.Session.{HasSameNames};
+ghost use Rattle.scmi_session.specs.StepLines.{IsAgentLine};
 
-use scmi_codec::{Message, Payload};
+use scmi_codec::Message;
 use scmi_ends::{AgentEnd, Link};
 use scmi_link::Channel;
-use scmi_text::StepLine;
+use scmi_text::{AgentStep, Call, StepLine};
+
+/// The agent makes a call.
+pub fn make<C: Channel>(
+    agent: u32,
+    step: &AgentStep,
+    end: &mut AgentEnd<C>,
+    link: &Link<C>,
+) -> StepLine
+    requires { IsOfLink (C.name link.now.a2p) (C.name link.now.p2a) end.old }
+    ensures names { HasSameNames end.old end.new }
+    ensures line { IsAgentLine agent step.now result }
+{
+    match step {
+        AgentStep::Call(command) => call(agent, command, end, link),
+        AgentStep::Raw(message) => post(agent, message, end, link),
+        AgentStep::Malformed { length, header } => {
+            post_malformed(agent, *length, *header, end, link)
+        }
+        AgentStep::Collect => collect(agent, end, link),
+        AgentStep::P2a => next_p2a(agent, end, link),
+        AgentStep::Close => close(agent, end, link),
+    }
+}
 
 /// The agent posts a command with its next token.
 pub fn call<C: Channel>(
     agent: u32,
+    command: &Call,
     end: &mut AgentEnd<C>,
     link: &Link<C>,
-    protocol: u8,
-    message: u8,
-    payload: &Payload,
 ) -> StepLine
     requires { IsOfLink (C.name link.now.a2p) (C.name link.now.p2a) end.old }
     ensures names { HasSameNames end.old end.new }
-    ensures line { IsLineOf (step.Call agent protocol message payload.now) result }
+    ensures line { IsAgentLine agent (step.Call command.now) result }
 {
-    match end.call(link, protocol, message, payload) {
+    match end.call(link, command.protocol, command.message, &command.payload) {
         Ok(token) => StepLine::Token { agent, token },
         Err(refusal) => StepLine::NotPosted { agent, refusal },
     }
 }
 
-/// The agent posts a message as it stands.
-pub fn post<C: Channel>(
+fn post<C: Channel>(
     agent: u32,
+    message: &Message,
     end: &mut AgentEnd<C>,
     link: &Link<C>,
-    message: &Message,
 ) -> StepLine
     requires { IsOfLink (C.name link.now.a2p) (C.name link.now.p2a) end.old }
     ensures names { HasSameNames end.old end.new }
-    ensures line { IsLineOf (step.Raw agent message.now) result }
+    ensures line { IsAgentLine agent (step.Raw message.now) result }
 {
     match end.post(link, message) {
         Ok(()) => StepLine::Posted { agent },
@@ -46,17 +65,16 @@ pub fn post<C: Channel>(
     }
 }
 
-/// The agent posts a frame whose length in bytes is not well formed.
-pub fn post_malformed<C: Channel>(
+fn post_malformed<C: Channel>(
     agent: u32,
-    end: &mut AgentEnd<C>,
-    link: &Link<C>,
     length: u32,
     header: u32,
+    end: &mut AgentEnd<C>,
+    link: &Link<C>,
 ) -> StepLine
     requires { IsOfLink (C.name link.now.a2p) (C.name link.now.p2a) end.old }
     ensures names { HasSameNames end.old end.new }
-    ensures line { IsLineOf (step.Malformed agent length header) result }
+    ensures line { IsAgentLine agent (step.Malformed length header) result }
 {
     match end.post_malformed(link, length, header) {
         Ok(()) => StepLine::Posted { agent },
@@ -64,31 +82,28 @@ pub fn post_malformed<C: Channel>(
     }
 }
 
-/// The agent looks once for its reply.
-pub fn collect<C: Channel>(agent: u32, end: &mut AgentEnd<C>, link: &Link<C>) -> StepLine
+fn collect<C: Channel>(agent: u32, end: &mut AgentEnd<C>, link: &Link<C>) -> StepLine
     requires { IsOfLink (C.name link.now.a2p) (C.name link.now.p2a) end.old }
     ensures names { HasSameNames end.old end.new }
-    ensures line { IsLineOf (step.Collect agent) result }
+    ensures line { IsAgentLine agent step.Collect result }
 {
     let collected = end.collect(link);
     StepLine::Collected { agent, collected }
 }
 
-/// The agent takes a P2A message.
-pub fn next_p2a<C: Channel>(agent: u32, end: &mut AgentEnd<C>, link: &Link<C>) -> StepLine
+fn next_p2a<C: Channel>(agent: u32, end: &mut AgentEnd<C>, link: &Link<C>) -> StepLine
     requires { IsOfLink (C.name link.now.a2p) (C.name link.now.p2a) end.old }
     ensures names { HasSameNames end.old end.new }
-    ensures line { IsLineOf (step.P2a agent) result }
+    ensures line { IsAgentLine agent step.P2a result }
 {
     let frame = end.next_p2a(link);
     StepLine::P2a { agent, frame }
 }
 
-/// The agent closes its ends.
-pub fn close<C: Channel>(agent: u32, end: &mut AgentEnd<C>, link: &Link<C>) -> StepLine
+fn close<C: Channel>(agent: u32, end: &mut AgentEnd<C>, link: &Link<C>) -> StepLine
     requires { IsOfLink (C.name link.now.a2p) (C.name link.now.p2a) end.old }
     ensures names { HasSameNames end.old end.new }
-    ensures line { IsLineOf (step.Close agent) result }
+    ensures line { IsAgentLine agent step.Close result }
 {
     match end.close(link) {
         Ok(closing) => StepLine::Closed {
