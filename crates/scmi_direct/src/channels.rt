@@ -51,7 +51,7 @@ pub fn withdraw<C: Channel, W: Write>(alloc: Global, lines: &mut Lines<'_, W>) {
 }
 
 /// Both sides of the board. Where memory is refused the core comes back, and is connected again.
-fn open<C: Channel, W: Write>(alloc: Global, lines: &mut Lines<'_, W>) -> Option<Session<C>>
+pub fn open<C: Channel, W: Write>(alloc: Global, lines: &mut Lines<'_, W>) -> Option<Session<C>>
     ensures { IfSome result (λ session. 1 ≤ session) }
 {
     let core = Core::new(alloc, new_plan(alloc, lines)?);

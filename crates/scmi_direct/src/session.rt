@@ -83,6 +83,17 @@ impl<C: Channel> Session<C> {
         }
     }
 
+    /// Agent 1 posts a command of the base protocol that asks for its version, with these payload words;
+    /// it is served, and its answer read into `answer`.
+    pub fn exchange(&mut self, payload: &Payload, answer: &mut Answer)
+        requires { 1 ≤ self.old }
+        ensures { self.new ≡ self.old }
+    {
+        let _ = self.agents[0].call(&self.links[0], BASE_PROTOCOL, 0, payload);
+        let _ = self.controller.serve(&self.links, 1);
+        let _ = self.agents[0].collect_into(&self.links[0], answer);
+    }
+
     /// Agent 1 closes its channels.
     pub fn close<W: Write>(&mut self, lines: &mut Lines<'_, W>)
         requires { 1 ≤ self.old }
