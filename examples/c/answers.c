@@ -17,6 +17,8 @@ static const char board[] = "board Acme Lab 0x00010000 1\n"
                             "agent ap\n"
                             "agent modem\n"
                             "domain cpu off san\n"
+                            "clock core on 100 list 100,200,300\n"
+                            "clock bus off 1000 steps 1000 4000 500\n"
                             "clock pix on 1 list 1,2,3,4,5,6,7,8,9,10,11,12,13,14,15,16,17,18,19,20\n"
                             "end\n";
 static uint8_t memory[64 * 1024];
