@@ -1,4 +1,4 @@
-//! Tests of the messages, the boards and the three protocols, by their public items alone.
+//! Tests of the messages, the boards, the three protocols and the chart, by their public items alone.
 #![tactic(auto)]
 
 #[cfg(test)]
@@ -9,6 +9,8 @@ mod base;
 mod bench;
 #[cfg(test)]
 mod boards;
+#[cfg(test)]
+mod chart;
 #[cfg(test)]
 mod clock;
 #[cfg(test)]
