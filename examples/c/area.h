@@ -10,14 +10,19 @@ enum { STATUS_BUSY = 0, STATUS_FREE = 1 };
 
 static inline uint32_t area_word(const uint8_t *area, unsigned at)
 {
-    return (uint32_t)area[at] | (uint32_t)area[at + 1] << 8 | (uint32_t)area[at + 2] << 16 |
-           (uint32_t)area[at + 3] << 24;
+    const uint8_t *bytes = area + at;
+
+    return (uint32_t)bytes[0] | (uint32_t)bytes[1] << 8 | (uint32_t)bytes[2] << 16 | (uint32_t)bytes[3] << 24;
 }
 
 static inline void area_set_word(uint8_t *area, unsigned at, uint32_t word)
 {
-    for (unsigned i = 0; i < 4; i++)
-        area[at + i] = (uint8_t)(word >> 8 * i);
+    uint8_t *bytes = area + at;
+
+    bytes[0] = (uint8_t)word;
+    bytes[1] = (uint8_t)(word >> 8);
+    bytes[2] = (uint8_t)(word >> 16);
+    bytes[3] = (uint8_t)(word >> 24);
 }
 
 /* Writes a command as an agent posts it. */
