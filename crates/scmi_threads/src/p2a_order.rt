@@ -4,9 +4,8 @@ use crate::limits::TURNS;
 use crate::line::Line;
 use crate::seat::Seat;
 use crate::stop::Stop;
-use scmi_ends::Pause;
 use scmi_link::Channel;
-use std::sync::Wait;
+use std::thread::yield_now;
 
 impl<'a, C: Channel> Seat<'a, C> {
     ghost use Rattle.std.specs.Prelude.{◌≡◌, ◌<◌, vec_len, vec_capacity, IsTrue};
@@ -16,29 +15,28 @@ impl<'a, C: Channel> Seat<'a, C> {
     ghost use Rattle.scmi_threads.specs.declared.order.Order.TheVariants as order;
 
     /// Takes so many P2A messages, and notes each.
-    pub(crate) fn take_messages<R: Wait>(&mut self, rt: &R, count: u32) -> Result<(), Stop>
+    pub(crate) fn take_messages(&mut self, count: u32) -> Result<(), Stop>
         ensures ran { HasRun self.old self.new }
         ensures done { HasDone C.FULL (order.P2a count) (stop_of result) self.old.end.caller self.new.end.caller self.old.log self.new.log }
     {
         'messages: for _taken in 0..count {
-            self.take_message(rt)?;
+            self.take_message()?;
         }
         Ok(())
     }
 
     // Looks for a message, at most `TURNS` times, and notes it.
-    fn take_message<R: Wait>(&mut self, rt: &R) -> Result<(), Stop>
+    fn take_message(&mut self) -> Result<(), Stop>
         ensures ran { HasRun self.old self.new }
         ensures unmoved { IsUnmoved self.old.end.caller self.new.end.caller self.old.log self.new.log }
         ensures taken { HasTaken result self.old.log self.new.log }
     {
         self.log.reserve_message()?;
-        let mut pause = Pause::new();
         'turns: for _ in 0..TURNS {
             if self.look() {
                 return Ok(());
             }
-            pause.wait(rt);
+            yield_now();
         }
         self.log.note(Line::Limit);
         Err(Stop::Limit)

@@ -3,7 +3,7 @@ ghost use Rattle.std.specs.Prelude.{map};
 ghost use Rattle.scmi_ends.specs.ControllerView.{IsOfLinks};
 ghost use Rattle.scmi_threads.specs.Rounds.{AllOpen, GoesOn};
 
-use scmi_ends::{Controller, Flushed, Link, Pause, ServeError, Served};
+use scmi_ends::{Controller, Link, ServeError};
 use scmi_link::Channel;
 use std::sync::Wait;
 use std::sync::atomic::{AtomicUsize, Ordering};
@@ -21,43 +21,34 @@ pub(crate) fn run_rounds<C: Channel, R: Wait>(
     requires open_ends { AllOpen controller }
     ensures { GoesOn (map (λ link. C.name link.a2p) links.now) (map (λ link. C.name link.p2a) links.now) controller result.0 }
 {
-    let mut pause = Pause::new();
     let mut refused = false;
     'rounds: for _ in rt.forever() {
         let last = ended.load(Ordering::SeqCst) >= links.len();
-        let round = run_round(&mut controller, links, agents);
-        refused = round.is_err();
+        refused = run_round(&mut controller, links, agents).is_err();
         if refused || last {
             break;
-        }
-        if round == Ok(true) {
-            pause.reset();
-        } else {
-            pause.wait(rt);
         }
     }
     (controller, refused)
 }
 
-// Serves each agent, completes one pending set, and flushes each agent's outbox. Says whether there was
-// anything to do.
+// Serves each agent, completes one pending set, and flushes each agent's outbox.
 #[tactic(auto, using(crate::proofs::Opened::serves_open, crate::proofs::Opened::flushes_open))]
 fn run_round<C: Channel>(
     controller: &mut Controller<C>,
     links: &[Link<C>],
     agents: u32,
-) -> Result<bool, ServeError>
+) -> Result<(), ServeError>
     requires links { IsOfLinks (map (λ link. C.name link.a2p) links.now) (map (λ link. C.name link.p2a) links.now) controller.old }
     requires open_ends { AllOpen controller.old }
     ensures { GoesOn (map (λ link. C.name link.a2p) links.now) (map (λ link. C.name link.p2a) links.now) controller.old controller.new }
 {
-    let mut busy = false;
     'served: for agent in 1..agents.saturating_add(1) {
-        busy |= controller.serve(links, agent)? == Served::Done;
+        controller.serve(links, agent)?;
     }
-    busy |= controller.advance()?;
+    controller.advance()?;
     'flushed: for agent in 1..agents.saturating_add(1) {
-        busy |= controller.flush(links, agent)? == Flushed::Posted;
+        controller.flush(links, agent)?;
     }
-    Ok(busy)
+    Ok(())
 }
