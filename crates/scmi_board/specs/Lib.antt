@@ -1,4 +1,3 @@
-pub mod Agent
 pub mod LineError
 pub mod Lines
 pub mod Number

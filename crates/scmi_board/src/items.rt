@@ -1,6 +1,6 @@
 //! The items of a line.
 ghost use Rattle.std.specs.Prelude.{◌≡◌, ◌<◌, ◌≤◌, ◌==◌, length, is_ok, IfOk, OnOk};
-ghost use Rattle.scmi_board.specs.Agent.{IsAgent};
+ghost use Rattle.scmi_plan.specs.Agent.{IsAgent};
 
 use crate::line_error::LineError;
 use crate::numbers::{byte, number, word};

@@ -1,5 +1,6 @@
 -- What a handle stands for, and after which histories.
-use Rattle.std.specs.Prelude.{◌≡◌, ◌<◌, ◌⊎◌, ℕ, List, length, ⊤}
+use Rattle.std.specs.Prelude.{◌≡◌, ℕ, List, length, ⊤}
+use Rattle.scmi_plan.specs.Agent.{IsNoAgent}
 use Rattle.scmi_plan.specs.Board.{Board}
 use Rattle.scmi_core.specs.Standing.{StandsAfter}
 use Rattle.scmi_core.specs.declared.event.Event.{Event}
@@ -17,8 +18,8 @@ StandsAt (Endless p) h = StandsAfter p h
 StandsAt (Recorded c) h = c.history ≡ h
 
 -- a number is no agent's of the board
-abbrev pub IsNoAgent : ℕ → Held → Type 0
-IsNoAgent agent p = (agent ≡ 0) ⊎ (length (board_of p).agents < agent)
+abbrev pub LacksAgent : ℕ → Held → Type 0
+LacksAgent agent p = IsNoAgent (length (board_of p).agents) agent
 
 -- a platform records its history
 abbrev pub IsRecorded : Held → Type 0

@@ -5,7 +5,7 @@ ghost use Rattle.scmi_core.specs.Pending.{pending};
 ghost use Rattle.scmi_core.specs.History.{deeds};
 ghost use Rattle.scmi_core.specs.declared.event.Event.{Event};
 ghost use Rattle.scmi_core.specs.declared.event.Event.TheVariants.{Advance};
-ghost use Rattle.scmi_c.specs.Standing.{board_of, StandsAt, IsNoAgent, IsRecorded};
+ghost use Rattle.scmi_c.specs.Standing.{board_of, StandsAt, LacksAgent, IsRecorded};
 ghost use Rattle.scmi_c.specs.Calls.{HasAnswered, HasHappened};
 ghost use Rattle.scmi_c.specs.declared.code.TheConstants.{DONE, NOTHING, MEMORY, NO_AGENT, NO_PLATFORM};
 
@@ -28,7 +28,7 @@ pub extern "C" fn scmi_answer(
     ensures done { result ≡ DONE → IsSomeAnd platform.old.value (λ p. IsSomeAnd platform.new.value (λ k. IsSomeAnd (arrived area.old) (λ frame. HasAnswered p k agent frame area.old area.new))) }
     ensures no_platform { (result ≡ NO_PLATFORM) ↔ (platform.old.value ≡ None) }
     ensures free { result ≡ NOTHING → arrived area.old ≡ None }
-    ensures no_agent { result ≡ NO_AGENT → IsSomeAnd platform.old.value (IsNoAgent agent) }
+    ensures no_agent { result ≡ NO_AGENT → IsSomeAnd platform.old.value (LacksAgent agent) }
     ensures only { (result ≤ NO_AGENT) ⊎ (result ≡ NO_PLATFORM) }
     ensures memory { result ≡ MEMORY → IsSomeAnd platform.old.value IsRecorded }
     ensures kept { result ≢ DONE → (platform.new.value ≡ platform.old.value) × (area.new ≡ area.old) }

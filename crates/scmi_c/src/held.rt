@@ -1,6 +1,7 @@
 //! What a handle stands for.
-ghost use Rattle.std.specs.Prelude.{◌≡◌, ◌≢◌, ◌↔◌, ◌⊎◌, ◌<◌, ◌≤◌, [], List, length, true, false, slice_get, IfOk, OnOk, OnErr, IfErr, Ok, Err};
+ghost use Rattle.std.specs.Prelude.{◌≡◌, ◌≢◌, ◌↔◌, ◌≤◌, [], List, length, true, false, slice_get, IfOk, OnOk, OnErr, IfErr, Ok, Err};
 ghost use Rattle.std.specs.Option.{option_copied};
+ghost use Rattle.scmi_plan.specs.Agent.{IsNoAgent};
 ghost use Rattle.scmi_core.specs.Pending.{pending};
 ghost use Rattle.scmi_core.specs.History.{answer_to, answer_with, deeds, outbox};
 ghost use Rattle.scmi_core.specs.declared.event.Event.{Event};
@@ -31,7 +32,7 @@ impl Held {
     ) -> Result<Answered, CoreError>
         ensures answer { (h : List Event) → StandsAt self.old h → IfOk result (λ x. answer_with x reply.new ≡ answer_to (board_of self.old) agent frame.now h) }
         ensures event { OnOk result (HasHappened self.old self.new (Called agent frame.now)) }
-        ensures no_agent { (result ≡ Err CoreError.NoAgent) ↔ ((agent ≡ 0) ⊎ (length (board_of self.old).agents < agent)) }
+        ensures no_agent { (result ≡ Err CoreError.NoAgent) ↔ IsNoAgent (length (board_of self.old).agents) agent }
         ensures not_nothing { result ≢ Err CoreError.Nothing }
         ensures memory { result ≡ Err CoreError.Memory → IsRecorded self.old }
         ensures err { OnErr result (self.new ≡ self.old) }
@@ -61,7 +62,7 @@ impl Held {
     /// agent.
     pub fn first(&self, agent: u32) -> Result<Option<&Message>, CoreError>
         ensures first { (h : List Event) → StandsAt self.now h → IfOk result (λ message. option_copied message ≡ slice_get (outbox (board_of self.now) agent h) 0) }
-        ensures no_agent { (result ≡ Err CoreError.NoAgent) ↔ ((agent ≡ 0) ⊎ (length (board_of self.now).agents < agent)) }
+        ensures no_agent { (result ≡ Err CoreError.NoAgent) ↔ IsNoAgent (length (board_of self.now).agents) agent }
         ensures err { IfErr result (λ e. e ≡ CoreError.NoAgent) }
     {
         if agent == 0 || agent > self.agents() {
@@ -88,7 +89,7 @@ impl Held {
     /// nothing changed.
     pub fn sent(&mut self, agent: u32) -> Result<(), CoreError>
         ensures event { OnOk result (HasHappened self.old self.new (Sent agent)) }
-        ensures no_agent { (result ≡ Err CoreError.NoAgent) ↔ ((agent ≡ 0) ⊎ (length (board_of self.old).agents < agent)) }
+        ensures no_agent { (result ≡ Err CoreError.NoAgent) ↔ IsNoAgent (length (board_of self.old).agents) agent }
         ensures nothing { (h : List Event) → StandsAt self.old h → (result ≡ Err CoreError.Nothing) ↔ ((1 ≤ agent) × (agent ≤ length (board_of self.old).agents) × (outbox (board_of self.old) agent h ≡ [])) }
         ensures memory { result ≡ Err CoreError.Memory → IsRecorded self.old }
         ensures err { OnErr result (self.new ≡ self.old) }

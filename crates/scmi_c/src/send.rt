@@ -4,7 +4,7 @@ ghost use Rattle.scmi_codec.specs.Area.{arrived};
 ghost use Rattle.scmi_core.specs.History.{outbox};
 ghost use Rattle.scmi_core.specs.declared.event.Event.{Event};
 ghost use Rattle.scmi_core.specs.declared.event.Event.TheVariants.{Sent};
-ghost use Rattle.scmi_c.specs.Standing.{board_of, StandsAt, IsNoAgent, IsRecorded};
+ghost use Rattle.scmi_c.specs.Standing.{board_of, StandsAt, LacksAgent, IsRecorded};
 ghost use Rattle.scmi_c.specs.Calls.{HasPosted, HasHappened};
 ghost use Rattle.scmi_c.specs.declared.code.TheConstants.{DONE, NOTHING, MEMORY, NO_AGENT, NOT_FREE, NO_PLATFORM};
 
@@ -29,7 +29,7 @@ pub extern "C" fn scmi_next(
     ensures platform { platform.new.value ≡ platform.old.value }
     ensures no_platform { (result ≡ NO_PLATFORM) ↔ (platform.old.value ≡ None) }
     ensures nothing { result ≡ NOTHING → IsSomeAnd platform.old.value (λ p. (h : List Event) → StandsAt p h → slice_get (outbox (board_of p) agent h) 0 ≡ None) }
-    ensures no_agent { result ≡ NO_AGENT → IsSomeAnd platform.old.value (IsNoAgent agent) }
+    ensures no_agent { result ≡ NO_AGENT → IsSomeAnd platform.old.value (LacksAgent agent) }
     ensures not_free { result ≡ NOT_FREE → arrived area.old ≢ None }
     ensures only { (result ≤ NO_PLATFORM) × (result ≢ MEMORY) }
     ensures kept { result ≢ DONE → area.new ≡ area.old }
@@ -49,7 +49,7 @@ pub extern "C" fn scmi_next(
 pub extern "C" fn scmi_sent(alloc: Global, platform: &mut Handle, agent: u32) -> u32
     ensures done { result ≡ DONE → IsSomeAnd platform.old.value (λ p. IsSomeAnd platform.new.value (λ k. HasHappened p k (Sent agent))) }
     ensures nothing { result ≡ NOTHING → IsSomeAnd platform.old.value (λ p. (h : List Event) → StandsAt p h → outbox (board_of p) agent h ≡ []) }
-    ensures no_agent { result ≡ NO_AGENT → IsSomeAnd platform.old.value (IsNoAgent agent) }
+    ensures no_agent { result ≡ NO_AGENT → IsSomeAnd platform.old.value (LacksAgent agent) }
     ensures only { (result ≤ NO_AGENT) ⊎ (result ≡ NO_PLATFORM) }
     ensures no_platform { (result ≡ NO_PLATFORM) ↔ (platform.old.value ≡ None) }
     ensures memory { result ≡ MEMORY → IsSomeAnd platform.old.value IsRecorded }

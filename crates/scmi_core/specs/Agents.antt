@@ -1,5 +1,5 @@
 -- What one agent did and was told.
-use Rattle.std.specs.Prelude.{ℕ, ◌==◌, if◌then◌else◌, List, [], ◌∷◌, length, Option, Some, None, ◌≤◌}
+use Rattle.std.specs.Prelude.{ℕ, ◌==◌, if◌then◌else◌, List, [], ◌∷◌, Option, Some, None}
 use Rattle.std.specs.List.{filter_map}
 use Rattle.scmi_codec.specs.declared.frame.Frame.{Frame}
 use Rattle.scmi_codec.specs.declared.frame.Answer.{Answer}
@@ -8,10 +8,6 @@ use Rattle.scmi_core.specs.declared.event.Event.{Event}
 use Rattle.scmi_core.specs.declared.event.Event.TheVariants.{Command}
 use Rattle.scmi_core.specs.History.{answer_to}
 use Rattle.scmi_core.specs.Deed.{gathered}
-
--- agents are numbered from 1; 0 is the platform
-abbrev pub IsAgent : ℕ → Board → Type 0
-IsAgent a board = (1 ≤ a) × (a ≤ length board.agents)
 
 -- the frame of an event, if it is a command of agent a
 abbrev pub frame_from : ℕ → Event → Option Frame

@@ -1,8 +1,8 @@
 //! The platform without its history.
-ghost use Rattle.std.specs.Prelude.{◌≡◌, ◌≢◌, ◌≤◌, ◌<◌, ◌++◌, ◌∷◌, [], ◌⊎◌, ◌↔◌, List, length, true, false, slice_get, IfOk, OnOk, OnErr, IfErr, Err};
+ghost use Rattle.std.specs.Prelude.{◌≡◌, ◌≢◌, ◌≤◌, ◌<◌, ◌++◌, ◌∷◌, [], ◌↔◌, List, length, true, false, slice_get, IfOk, OnOk, OnErr, IfErr, Err};
 ghost use Rattle.scmi_plan.specs.Plan.{IsLawful};
 ghost use Rattle.std.specs.Option.{option_copied};
-ghost use Rattle.scmi_core.specs.Agents.{IsAgent};
+ghost use Rattle.scmi_plan.specs.Agent.{IsAgent, IsNoAgent};
 ghost use Rattle.scmi_core.specs.Pending.{pending};
 ghost use Rattle.scmi_core.specs.History.{answer_to, answer_with, deeds, outbox};
 ghost use Rattle.scmi_core.specs.Tables.{outbox_at};
@@ -68,7 +68,7 @@ impl Platform {
         ensures answer { (h : List Event) → StandsAfter self.old h → IfOk result (λ x. answer_with x reply.new ≡ answer_to self.old.board agent frame.now h) }
         ensures event { (h : List Event) → StandsAfter self.old h → OnOk result (StandsAfter self.new (h ++ Called agent frame.now ∷ [])) }
         ensures board { self.new.board ≡ self.old.board }
-        ensures no_agent { (result ≡ Err CoreError.NoAgent) ↔ ((agent ≡ 0) ⊎ (length self.old.board.agents < agent)) }
+        ensures no_agent { (result ≡ Err CoreError.NoAgent) ↔ IsNoAgent (length self.old.board.agents) agent }
         ensures only { IfErr result (λ e. e ≡ CoreError.NoAgent) }
         ensures err { OnErr result (self.new ≡ self.old) }
         ensures kept { OnErr result (reply.new ≡ reply.old) }
@@ -95,7 +95,7 @@ impl Platform {
     /// `None` where the outbox is empty. `NoAgent` where the board lacks the agent.
     pub fn front(&self, agent: u32) -> Result<Option<Message>, CoreError>
         ensures first { (h : List Event) → StandsAfter self.now h → IfOk result (λ message. message ≡ slice_get (outbox self.now.board agent h) 0) }
-        ensures no_agent { (result ≡ Err CoreError.NoAgent) ↔ ((agent ≡ 0) ⊎ (length self.now.board.agents < agent)) }
+        ensures no_agent { (result ≡ Err CoreError.NoAgent) ↔ IsNoAgent (length self.now.board.agents) agent }
         ensures err { IfErr result (λ e. e ≡ CoreError.NoAgent) }
     {
         self.check_agent(agent)?;
@@ -107,7 +107,7 @@ impl Platform {
 
     /// As `front`, for an agent of the board, and without a copy.
     pub fn first(&self, agent: u32) -> Option<&Message>
-        requires { IsAgent agent self.now.board }
+        requires { IsAgent (length self.now.board.agents) agent }
         ensures { (h : List Event) → StandsAfter self.now h → option_copied result ≡ slice_get (outbox self.now.board agent h) 0 }
     {
         let _agents = self.plan.agents();
@@ -119,7 +119,7 @@ impl Platform {
     pub fn sent(&mut self, agent: u32) -> Result<(), CoreError>
         ensures event { (h : List Event) → StandsAfter self.old h → OnOk result (StandsAfter self.new (h ++ Sent agent ∷ [])) }
         ensures board { self.new.board ≡ self.old.board }
-        ensures no_agent { (result ≡ Err CoreError.NoAgent) ↔ ((agent ≡ 0) ⊎ (length self.old.board.agents < agent)) }
+        ensures no_agent { (result ≡ Err CoreError.NoAgent) ↔ IsNoAgent (length self.old.board.agents) agent }
         ensures nothing { (h : List Event) → StandsAfter self.old h → (result ≡ Err CoreError.Nothing) ↔ ((1 ≤ agent) × (agent ≤ length self.old.board.agents) × (outbox self.old.board agent h ≡ [])) }
         ensures memory { result ≢ Err CoreError.Memory }
         ensures err { OnErr result (self.new ≡ self.old) }
@@ -188,8 +188,8 @@ impl Platform {
 
     /// Refuses a number that is no agent's.
     pub(crate) fn check_agent(&self, agent: u32) -> Result<(), CoreError>
-        ensures ok { OnOk result ((1 ≤ agent) × (agent ≤ length self.now.board.agents)) }
-        ensures no_agent { OnErr result ((agent ≡ 0) ⊎ (length self.now.board.agents < agent)) }
+        ensures ok { OnOk result (IsAgent (length self.now.board.agents) agent) }
+        ensures no_agent { OnErr result (IsNoAgent (length self.now.board.agents) agent) }
         ensures err { IfErr result (λ e. e ≡ CoreError.NoAgent) }
         ensures lawful { IsLawful self.now.board }
     {

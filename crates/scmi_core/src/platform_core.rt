@@ -1,7 +1,7 @@
 //! The platform controller.
-ghost use Rattle.std.specs.Prelude.{◌≡◌, ◌≢◌, ◌≤◌, ◌<◌, ◌++◌, ◌∷◌, [], ◌⊎◌, ◌↔◌, length, true, false, slice_get, IsOk, IfOk, OnOk, OnErr, IfErr, Ok, Err};
+ghost use Rattle.std.specs.Prelude.{◌≡◌, ◌≢◌, ◌≤◌, ◌<◌, ◌++◌, ◌∷◌, [], ◌↔◌, length, true, false, slice_get, IsOk, IfOk, OnOk, OnErr, IfErr, Ok, Err};
 ghost use Rattle.std.specs.Option.{option_copied};
-ghost use Rattle.scmi_core.specs.Agents.{IsAgent};
+ghost use Rattle.scmi_plan.specs.Agent.{IsAgent, IsNoAgent};
 ghost use Rattle.scmi_core.specs.Bounds.{HasBounds, HasResponses};
 ghost use Rattle.scmi_core.specs.Pending.{pending};
 ghost use Rattle.scmi_core.specs.History.{answer_to, answer_with, deeds, outbox};
@@ -80,7 +80,7 @@ impl Core {
         ensures event { OnOk result (self.new.history ≡ self.old.history ++ Called agent frame.now ∷ []) }
         ensures board { self.new.board ≡ self.old.board }
         ensures legal { IsLegal self.new.board self.new.history }
-        ensures no_agent { (result ≡ Err CoreError.NoAgent) ↔ ((agent ≡ 0) ⊎ (length self.old.board.agents < agent)) }
+        ensures no_agent { (result ≡ Err CoreError.NoAgent) ↔ IsNoAgent (length self.old.board.agents) agent }
         ensures memory { 0 < self.old.room → result ≢ Err CoreError.Memory }
         ensures not_nothing { result ≢ Err CoreError.Nothing }
         ensures err { OnErr result (self.new ≡ self.old) }
@@ -104,7 +104,7 @@ impl Core {
         ensures event { OnOk result (self.new.history ≡ self.old.history ++ Called agent frame.now ∷ []) }
         ensures board { self.new.board ≡ self.old.board }
         ensures legal { IsLegal self.new.board self.new.history }
-        ensures no_agent { (result ≡ Err CoreError.NoAgent) ↔ ((agent ≡ 0) ⊎ (length self.old.board.agents < agent)) }
+        ensures no_agent { (result ≡ Err CoreError.NoAgent) ↔ IsNoAgent (length self.old.board.agents) agent }
         ensures memory { 0 < self.old.room → result ≢ Err CoreError.Memory }
         ensures not_nothing { result ≢ Err CoreError.Nothing }
         ensures err { OnErr result (self.new ≡ self.old) }
@@ -118,7 +118,7 @@ impl Core {
     /// As `command_into`, for an agent of the board and with room in the trace, which `reserve` makes;
     /// so it is never refused.
     pub fn execute(&mut self, agent: u32, frame: &Frame, reply: &mut Message) -> Answered
-        requires agent { IsAgent agent self.old.board }
+        requires agent { IsAgent (length self.old.board.agents) agent }
         requires room { 0 < self.old.room }
         ensures answer { answer_with result reply.new ≡ answer_to self.old.board agent frame.now self.old.history }
         ensures event { self.new.history ≡ self.old.history ++ Called agent frame.now ∷ [] }
@@ -155,7 +155,7 @@ impl Core {
     /// the outbox is empty. `NoAgent` where the board lacks the agent.
     pub fn front(&self, agent: u32) -> Result<Option<Message>, CoreError>
         ensures first { IfOk result (λ message. message ≡ slice_get (outbox self.now.board agent self.now.history) 0) }
-        ensures no_agent { (result ≡ Err CoreError.NoAgent) ↔ ((agent ≡ 0) ⊎ (length self.now.board.agents < agent)) }
+        ensures no_agent { (result ≡ Err CoreError.NoAgent) ↔ IsNoAgent (length self.now.board.agents) agent }
         ensures err { IfErr result (λ e. e ≡ CoreError.NoAgent) }
     {
         self.platform.front(agent)
@@ -163,7 +163,7 @@ impl Core {
 
     /// As `front`, for an agent of the board, and without a copy; so it is never refused.
     pub fn first(&self, agent: u32) -> Option<&Message>
-        requires { IsAgent agent self.now.board }
+        requires { IsAgent (length self.now.board.agents) agent }
         ensures { option_copied result ≡ slice_get (outbox self.now.board agent self.now.history) 0 }
     {
         self.platform.first(agent)
@@ -176,7 +176,7 @@ impl Core {
         ensures event { OnOk result (self.new.history ≡ self.old.history ++ Sent agent ∷ []) }
         ensures board { self.new.board ≡ self.old.board }
         ensures legal { IsLegal self.new.board self.new.history }
-        ensures no_agent { (result ≡ Err CoreError.NoAgent) ↔ ((agent ≡ 0) ⊎ (length self.old.board.agents < agent)) }
+        ensures no_agent { (result ≡ Err CoreError.NoAgent) ↔ IsNoAgent (length self.old.board.agents) agent }
         ensures nothing { (result ≡ Err CoreError.Nothing) ↔ ((1 ≤ agent) × (agent ≤ length self.old.board.agents) × (outbox self.old.board agent self.old.history ≡ [])) }
         ensures memory { 0 < self.old.room → result ≢ Err CoreError.Memory }
         ensures err { OnErr result (self.new ≡ self.old) }
@@ -193,7 +193,7 @@ impl Core {
     /// As `sent`, for an agent of the board whose outbox has a message, and with room in the trace,
     /// which `reserve` makes; so it is never refused.
     pub fn mark_sent(&mut self, agent: u32)
-        requires agent { IsAgent agent self.old.board }
+        requires agent { IsAgent (length self.old.board.agents) agent }
         requires some { 0 < length (outbox self.old.board agent self.old.history) }
         requires room { 0 < self.old.room }
         ensures event { self.new.history ≡ self.old.history ++ Sent agent ∷ [] }

@@ -1,5 +1,6 @@
 //! The platform's side of all agents' channels.
-ghost use Rattle.std.specs.Prelude.{◌≡◌, ◌≢◌, ◌<◌, ◌++◌, ◌∷◌, ◌↔◌, ◌⊎◌, [], true, length, map, IfOk, OnErr, IfErr, IsTrue};
+ghost use Rattle.std.specs.Prelude.{◌≡◌, ◌≢◌, ◌<◌, ◌++◌, ◌∷◌, ◌↔◌, [], true, length, map, IfOk, OnErr, IfErr, IsTrue};
+ghost use Rattle.scmi_plan.specs.Agent.{IsNoAgent};
 ghost use Rattle.scmi_core.specs.History.{deeds};
 ghost use Rattle.scmi_core.specs.Pending.{pending};
 ghost use Rattle.scmi_core.specs.declared.event.Event.TheVariants as event;
@@ -64,7 +65,7 @@ impl<C: Channel> Controller<C> {
         ensures board { self.new.board ≡ self.old.board }
         ensures steps { IfOk result (λ served. Serves agent self.old served self.new) }
         ensures closed { is_callee_shut (callee_of self.old agent) ≡ true → result ≢ Ok Served.Done }
-        ensures no_agent { (result ≡ Err ServeError.NoAgent) ↔ ((agent ≡ 0) ⊎ (length self.old.board.agents < agent)) }
+        ensures no_agent { (result ≡ Err ServeError.NoAgent) ↔ IsNoAgent (length self.old.board.agents) agent }
         ensures err { OnErr result (self.new ≡ self.old) }
     {
         if agent == 0 || agent > self.core.agents() {
@@ -114,7 +115,7 @@ impl<C: Channel> Controller<C> {
         ensures kept { IsKept self.new }
         ensures board { self.new.board ≡ self.old.board }
         ensures steps { IfOk result (λ flushed. Flushes C.FULL agent self.old flushed self.new) }
-        ensures no_agent { (result ≡ Err ServeError.NoAgent) ↔ ((agent ≡ 0) ⊎ (length self.old.board.agents < agent)) }
+        ensures no_agent { (result ≡ Err ServeError.NoAgent) ↔ IsNoAgent (length self.old.board.agents) agent }
         ensures err { OnErr result (self.new ≡ self.old) }
     {
         if agent == 0 || agent > self.core.agents() {
@@ -145,7 +146,7 @@ impl<C: Channel> Controller<C> {
         ensures kept { IsKept self.new }
         ensures board { self.new.board ≡ self.old.board }
         ensures shuts { result ≢ Err ShutError.NoAgent → Shuts (ShowsClose C.caller_view C.close_shows) agent self.old result self.new }
-        ensures no_agent { (result ≡ Err ShutError.NoAgent) ↔ ((agent ≡ 0) ⊎ (length self.old.board.agents < agent)) }
+        ensures no_agent { (result ≡ Err ShutError.NoAgent) ↔ IsNoAgent (length self.old.board.agents) agent }
         ensures unchanged { result ≡ Err ShutError.NoAgent → self.new ≡ self.old }
     {
         if agent == 0 || agent > self.core.agents() {

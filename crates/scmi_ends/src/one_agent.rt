@@ -2,7 +2,7 @@
 ghost use Rattle.std.specs.Prelude.{◌≡◌, ◌<◌, true, Some};
 ghost use Rattle.std.specs.Option.{option_or};
 ghost use Rattle.scmi_link.specs.View.{Owes};
-ghost use Rattle.scmi_core.specs.Agents.{IsAgent};
+ghost use Rattle.scmi_plan.specs.Agent.{IsAgent};
 ghost use Rattle.scmi_core.specs.Legal.{IsLegal};
 ghost use Rattle.scmi_ends.specs.Serve.{ServesOne};
 ghost use Rattle.scmi_ends.specs.Flush.{CollectsAndFlushes};
@@ -27,7 +27,7 @@ pub(crate) fn serve_one<C: Channel>(
 ) -> Served
     requires name { C.callee_name callee.old ≡ C.name a2p.now }
     requires room { 0 < core.old.room }
-    requires agent { IsAgent agent core.old.board }
+    requires agent { IsAgent (length core.old.board.agents) agent }
     requires legal { IsLegal core.old.board core.old.history }
     ensures name { C.callee_name callee.new ≡ C.callee_name callee.old }
     ensures board { core.new.board ≡ core.old.board }
@@ -56,7 +56,7 @@ pub(crate) fn flush_one<C: Channel>(
 ) -> Flushed
     requires name { C.caller_name caller.old ≡ C.name p2a.now }
     requires room { 0 < core.old.room }
-    requires agent { IsAgent agent core.old.board }
+    requires agent { IsAgent (length core.old.board.agents) agent }
     requires legal { IsLegal core.old.board core.old.history }
     ensures name { C.caller_name caller.new ≡ C.caller_name caller.old }
     ensures board { core.new.board ≡ core.old.board }

@@ -36,7 +36,7 @@ impl<C: Channel> Model for Session<C> {
 
 impl<C: Channel> Session<C> {
     ghost use Rattle.std.specs.Prelude.{◌≡◌, length, IfOk};
-    ghost use Rattle.scmi_board.specs.Agent.{IsAgent};
+    ghost use Rattle.scmi_plan.specs.Agent.{IsAgent};
     ghost use Rattle.scmi_text.specs.Step.{IsStepOf};
     ghost use Rattle.scmi_session.specs.StepLines.{IsAgentLine, IsPlatformLine, IsLineOf};
 

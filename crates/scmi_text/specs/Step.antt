@@ -1,6 +1,6 @@
 -- The agents that scripts name.
 use Rattle.std.specs.Prelude.{ℕ, Option, Some, None, IfSome}
-use Rattle.scmi_board.specs.Agent.{IsAgent}
+use Rattle.scmi_plan.specs.Agent.{IsAgent}
 use Rattle.scmi_text.specs.declared.step.Step.{Step}
 use Rattle.scmi_text.specs.declared.step.Step.TheVariants.{Agent, Platform, Do, Advance}
 

@@ -4,7 +4,7 @@ ghost use Rattle.std.specs.List.{All, list_any, IsDistinct};
 ghost use Rattle.std.specs.Ordering.{nat_cmp};
 ghost use Rattle.std.specs.BTreeSet.{contains};
 ghost use Rattle.std.proofs.Props.{props};
-ghost use Rattle.scmi_board.specs.Agent.{IsAgent};
+ghost use Rattle.scmi_plan.specs.Agent.{IsAgent};
 ghost use Rattle.scmi_text.specs.Scripts.{agents_of, AreOfDistinctAgents};
 
 use scmi_board::{Items, LineError};

@@ -1,7 +1,7 @@
 //! Scripts of agents that run in threads, as they are read.
 ghost use Rattle.std.specs.Prelude.{◌≡◌, IfOk, IfErr};
 ghost use Rattle.std.specs.List.{All};
-ghost use Rattle.scmi_board.specs.Agent.{IsAgent};
+ghost use Rattle.scmi_plan.specs.Agent.{IsAgent};
 ghost use Rattle.scmi_text.specs.Scripts.{agents_of, AreOfDistinctAgents};
 ghost use Rattle.scmi_board.specs.TextError.{IsOfScript};
 
