@@ -1,5 +1,5 @@
 //! The platform's calls at the ends of one agent's channels.
-ghost use Rattle.std.specs.Prelude.{◌≡◌, ◌<◌, true, Some};
+ghost use Rattle.std.specs.Prelude.{◌≡◌, ◌<◌, true, Some, length};
 ghost use Rattle.std.specs.Option.{option_or};
 ghost use Rattle.scmi_link.specs.View.{Owes};
 ghost use Rattle.scmi_plan.specs.Agent.{IsAgent};
