@@ -1,5 +1,5 @@
 -- The history of a platform: a list of events, oldest first. Each event is judged at its prefix, the events before it.
-use Rattle.std.specs.Prelude.{ℕ, List, [], ◌∷◌, ◌++◌, take, slice_get, Option, Some, None}
+use Rattle.std.specs.Prelude.{ℕ, Bool, List, [], ◌∷◌, ◌++◌, take, slice_get, Option, Some, None}
 use Rattle.std.specs.List.{fold}
 use Rattle.std.specs.Option.{option_and_then}
 use Rattle.scmi_codec.specs.Command.{command_of}
@@ -11,11 +11,14 @@ use Rattle.scmi_codec.specs.declared.frame.Answer.TheVariants.{Reply, ChannelErr
 use Rattle.scmi_core.specs.declared.answered.Answered.{Answered}
 use Rattle.scmi_core.specs.declared.answered.Answered.TheVariants as answered
 use Rattle.scmi_plan.specs.Board.{Board}
+use Rattle.scmi_plan.specs.declared.resource.Resource.{Resource}
 use Rattle.scmi_core.specs.declared.event.Event.{Event}
 use Rattle.scmi_core.specs.declared.event.Event.TheVariants.{Command}
 use Rattle.scmi_core.specs.Deed.{Deed}
 use Rattle.scmi_core.specs.Outbox.{made, outbox_after, sent}
+use Rattle.scmi_core.specs.Pending.{is_pending}
 use Rattle.scmi_core.specs.Reply.{reply_after, reply_words}
+use Rattle.scmi_core.specs.Value.{Thing, value}
 
 -- an event with the payload of its reply, after these deeds
 abbrev pub deed_after : Board → List Deed → Event → Deed
@@ -60,3 +63,11 @@ delivered board a h = take (sent a (deeds board h)) (made board a (deeds board h
 -- the outbox of agent a after a history
 unfoldable pub outbox : Board → ℕ → List Event → List Message
 outbox board a h = outbox_after board a (deeds board h)
+
+-- a thing's value after a history
+abbrev pub value_after : Board → Thing → List Event → ℕ
+value_after board x h = value board x (deeds board h)
+
+-- whether a domain or clock has a pending set after a history
+abbrev pub is_pending_after : Board → Resource → List Event → Bool
+is_pending_after board r h = is_pending board r (deeds board h)

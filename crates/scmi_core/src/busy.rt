@@ -7,6 +7,20 @@ ghost use Rattle.scmi_plan.specs.declared.limits.TheConstants.{CLOCKS, DOMAINS};
 ghost use Rattle.scmi_core.specs.Pending.{is_set_by};
 
 use crate::pending_set::{PendingSet, Setting};
+use crate::tables::Tables;
+use scmi_plan::Resource;
+
+impl Tables {
+    /// Whether a domain or clock has a pending set.
+    pub fn is_pending(&self, resource: Resource) -> bool
+        ensures { result ≡ list_any (λ p. is_set_by resource p.setting) self.now.pending.items }
+    {
+        self.pending
+            .as_slice()
+            .iter()
+            .any(|set| set.setting.is_of(resource))
+    }
+}
 
 /// Which domains have a pending set.
 pub fn busy_domains(sets: &[PendingSet]) -> u32

@@ -8,6 +8,7 @@
 mod answered;
 mod busy;
 mod core_error;
+mod core_readers;
 mod event;
 mod events;
 mod load;
@@ -18,6 +19,7 @@ mod p2a_message;
 mod pending_set;
 mod platform;
 mod platform_core;
+mod platform_readers;
 mod tables;
 mod trace;
 

@@ -37,7 +37,16 @@ impl Tables {
         ensures empty { (result ≡ true) ↔ (outbox_at self.now agent ≡ []) }
         ensures some { result ≡ false → 0 < length (outbox_at self.now agent) }
     {
-        self.outboxes[agent as usize - 1].len() == 0
+        self.waiting(agent) == 0
+    }
+
+    /// How many messages wait in an agent's outbox.
+    pub fn waiting(&self, agent: u32) -> usize
+        requires first { 1 ≤ agent }
+        requires last { agent ≤ AGENTS }
+        ensures { result ≡ length (outbox_at self.now agent) }
+    {
+        self.outboxes[agent as usize - 1].len()
     }
 
     /// Takes the first message off an agent's outbox.

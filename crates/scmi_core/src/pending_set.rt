@@ -1,6 +1,9 @@
 //! Sets that are accepted and not yet complete.
+ghost use Rattle.std.specs.Prelude.{◌≡◌};
+ghost use Rattle.scmi_core.specs.Pending.{is_set_by};
 
 use scmi_codec::Header;
+use scmi_plan::Resource;
 
 /// The most sets that are pending in all (own).
 pub const PENDING_SETS: usize = 8;
@@ -10,6 +13,19 @@ pub const PENDING_SETS: usize = 8;
 pub enum Setting {
     State(u32, u32),
     Rate(u32, u64),
+}
+
+impl Setting {
+    /// Whether this is a setting of a domain or clock.
+    pub fn is_of(self, resource: Resource) -> bool
+        ensures { result ≡ is_set_by resource self }
+    {
+        match (resource, self) {
+            (Resource::Domain(domain), Setting::State(number, _)) => domain == number,
+            (Resource::Clock(clock), Setting::Rate(number, _)) => clock == number,
+            _ => false,
+        }
+    }
 }
 
 /// A set that an agent asked for and that was accepted for later.

@@ -22,8 +22,8 @@ use std::marker::Model;
 /// and say of every history after which it may stand there what is answered and which one follows.
 #[derive(Drop, Debug)]
 pub struct Platform {
-    plan: Plan,
-    tables: Tables,
+    pub(crate) plan: Plan,
+    pub(crate) tables: Tables,
 }
 
 impl Model for Platform {

@@ -22,7 +22,7 @@ use std::marker::Model;
 /// trace has memory.
 #[derive(Drop, Debug)]
 pub struct Core {
-    platform: Platform,
+    pub(crate) platform: Platform,
     trace: Trace,
 }
 

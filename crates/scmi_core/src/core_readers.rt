@@ -1,0 +1,72 @@
+//! Where a platform stands after its history.
+ghost use Rattle.std.specs.Prelude.{◌≡◌, ◌≤◌, ◌↔◌, length, None, IfSome};
+ghost use Rattle.scmi_plan.specs.Agent.{IsNoAgent};
+ghost use Rattle.scmi_plan.specs.declared.resource.Resource.TheVariants as resource;
+ghost use Rattle.scmi_core.specs.History.{is_pending_after, outbox, value_after};
+ghost use Rattle.scmi_core.specs.Value.{State, Rate, Enabled, bit_value};
+
+use crate::platform_core::Core;
+use scmi_plan::Plan;
+
+impl Core {
+    /// The board.
+    pub fn board(&self) -> &Plan
+        ensures { result.now ≡ self.now.board }
+    {
+        self.platform.board()
+    }
+
+    /// The state of a power domain, as the word that a reply has: 0 is ON, 0x40000000 is OFF.
+    /// `None` where the board lacks the domain.
+    pub fn power_state(&self, domain: u32) -> Option<u32>
+        ensures value { IfSome result (λ state.
+            state ≡ value_after self.now.board (State domain) self.now.history) }
+        ensures none { (result ≡ None) ↔ (length self.now.board.domains ≤ domain) }
+    {
+        self.platform.power_state(domain)
+    }
+
+    /// The rate of a clock in Hz. `None` where the board lacks the clock.
+    pub fn clock_rate(&self, clock: u32) -> Option<u64>
+        ensures value { IfSome result (λ rate.
+            rate ≡ value_after self.now.board (Rate clock) self.now.history) }
+        ensures none { (result ≡ None) ↔ (length self.now.board.clocks ≤ clock) }
+    {
+        self.platform.clock_rate(clock)
+    }
+
+    /// Whether a clock is enabled. `None` where the board lacks the clock.
+    pub fn is_clock_enabled(&self, clock: u32) -> Option<bool>
+        ensures value { IfSome result (λ enabled.
+            bit_value enabled ≡ value_after self.now.board (Enabled clock) self.now.history) }
+        ensures none { (result ≡ None) ↔ (length self.now.board.clocks ≤ clock) }
+    {
+        self.platform.is_clock_enabled(clock)
+    }
+
+    /// Whether a power domain has a pending set: one that was accepted and is not complete yet.
+    pub fn is_domain_pending(&self, domain: u32) -> bool
+        ensures { result
+            ≡ is_pending_after self.now.board (resource.Domain domain) self.now.history }
+    {
+        self.platform.is_domain_pending(domain)
+    }
+
+    /// Whether a clock has a pending set of its rate.
+    pub fn is_clock_pending(&self, clock: u32) -> bool
+        ensures { result
+            ≡ is_pending_after self.now.board (resource.Clock clock) self.now.history }
+    {
+        self.platform.is_clock_pending(clock)
+    }
+
+    /// How many messages wait in an agent's outbox, at most 16. `None` where the board lacks the
+    /// agent.
+    pub fn waiting(&self, agent: u32) -> Option<usize>
+        ensures count { IfSome result (λ count.
+            count ≡ length (outbox self.now.board agent self.now.history)) }
+        ensures none { (result ≡ None) ↔ IsNoAgent (length self.now.board.agents) agent }
+    {
+        self.platform.waiting(agent)
+    }
+}
