@@ -52,6 +52,14 @@ impl<C: Channel> Controller<C> {
     ghost use Rattle.scmi_ends.specs.Flush.{Flushes};
     ghost use Rattle.scmi_ends.specs.Shut.{Shuts, ShowsClose};
 
+    /// The platform itself: its board, its history, and where it stands.
+    pub fn core(&self) -> &Core
+        ensures board { result.now.board ≡ self.now.board }
+        ensures history { result.now.history ≡ self.now.history }
+    {
+        &self.core
+    }
+
     /// Makes room in the trace, takes one frame off an agent's A2P channel, executes it and answers it.
     ///
     /// `Done` adds the command to the history, and never comes once the channel is closed. `Nothing`
