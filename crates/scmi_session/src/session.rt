@@ -54,6 +54,13 @@ impl<C: Channel> Session<C> {
         }
     }
 
+    /// The platform of the session: its board, its history, and where it stands.
+    pub fn core(&self) -> &Core
+        ensures agents { length result.now.board.agents ≡ self.now }
+    {
+        self.controller.core()
+    }
+
     /// Makes one step, and gives its line of output. After an error nothing was taken, executed or
     /// posted by the call of the step that was refused.
     pub fn step(&mut self, step: &Step) -> Result<StepLine, AllocError>
