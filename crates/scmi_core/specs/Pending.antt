@@ -63,6 +63,10 @@ is_set_by (resource.Domain d) (setting.State e state) = d == e
 is_set_by (resource.Clock c) (setting.Rate e rate) = c == e
 is_set_by _ _ = false
 
+-- whether some of the sets is one of this domain or clock
+abbrev pub has_set_of : Resource → List PendingSet → Bool
+has_set_of r sets = list_any (λ p. is_set_by r p.setting) sets
+
 -- whether a domain or clock has a pending set
 abbrev pub is_pending : Board → Resource → List Deed → Bool
-is_pending board r h = list_any (λ p. is_set_by r p.setting) (pending board h)
+is_pending board r h = has_set_of r (pending board h)

@@ -1,6 +1,5 @@
 -- The tables of a controller, and what replies read in them.
 use Rattle.std.specs.Prelude.{ℕ, ◌+◌, ◌-◌, ◌&&◌, Bool, nat_lt, List, [], ◌∷◌, length, Result, Ok, Err, ◌<◌, ◌≤◌, get_or}
-use Rattle.std.specs.List.{list_any}
 use Rattle.scmi_codec.specs.Command.{command_of}
 use Rattle.scmi_codec.specs.declared.status.Status.{Status}
 use Rattle.scmi_codec.specs.declared.message.Message.{Message}
@@ -22,7 +21,7 @@ use Rattle.scmi_clock.specs.ClockTable.{rate_at, enabled_at}
 use Rattle.scmi_core.specs.declared.pending_set.PendingSet.{PendingSet}
 use Rattle.scmi_core.specs.declared.tables.Tables.{Tables}
 use Rattle.scmi_core.specs.Value.{Enabled, Rate, State, Thing, bit_value, completion}
-use Rattle.scmi_core.specs.Pending.{is_set_by, sets_by}
+use Rattle.scmi_core.specs.Pending.{has_set_of, sets_by}
 use Rattle.scmi_core.specs.declared.pending_set.TheConstants.{PENDING_SETS}
 use Rattle.scmi_core.specs.declared.outbox.TheConstants.{OUTBOX_ROOM}
 
@@ -44,7 +43,7 @@ power_view_at board a t =
     record {
       state = λ d. state_at t.power d;
       may = λ d. may board (λ device. is_allowed t.base a device) (resource.Domain d);
-      busy = λ d. list_any (λ p. is_set_by (resource.Domain d) p.setting) t.pending.items;
+      busy = λ d. has_set_of (resource.Domain d) t.pending.items;
       room = has_room_at t a;
     }
 
@@ -55,7 +54,7 @@ clock_view_at board a t =
       rate = λ c. rate_at t.clocks c;
       enabled = λ c. enabled_at t.clocks c;
       may = λ c. may board (λ device. is_allowed t.base a device) (resource.Clock c);
-      busy = λ c. list_any (λ p. is_set_by (resource.Clock c) p.setting) t.pending.items;
+      busy = λ c. has_set_of (resource.Clock c) t.pending.items;
       room = has_room_at t a;
     }
 

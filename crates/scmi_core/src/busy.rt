@@ -1,10 +1,9 @@
 //! Which domains and clocks have a pending set.
 ghost use Rattle.std.specs.Prelude.{◌≡◌, ◌<◌, ◌==◌, ◌||◌, ℕ};
-ghost use Rattle.std.specs.List.{list_any};
 ghost use Rattle.std.specs.Int.{bit_at};
 ghost use Rattle.scmi_plan.specs.declared.resource.Resource.TheVariants as resource;
 ghost use Rattle.scmi_plan.specs.declared.limits.TheConstants.{CLOCKS, DOMAINS};
-ghost use Rattle.scmi_core.specs.Pending.{is_set_by};
+ghost use Rattle.scmi_core.specs.Pending.{has_set_of};
 
 use crate::pending_set::{PendingSet, Setting};
 use crate::tables::Tables;
@@ -13,7 +12,7 @@ use scmi_plan::Resource;
 impl Tables {
     /// Whether a domain or clock has a pending set.
     pub fn is_pending(&self, resource: Resource) -> bool
-        ensures { result ≡ list_any (λ p. is_set_by resource p.setting) self.now.pending.items }
+        ensures { result ≡ has_set_of resource self.now.pending.items }
     {
         self.pending
             .as_slice()
@@ -24,7 +23,7 @@ impl Tables {
 
 /// Which domains have a pending set.
 pub fn busy_domains(sets: &[PendingSet]) -> u32
-    ensures { (d : ℕ) → d < DOMAINS → (bit_at result d == 1) ≡ list_any (λ p. is_set_by (resource.Domain d) p.setting) sets.now }
+    ensures { (d : ℕ) → d < DOMAINS → (bit_at result d == 1) ≡ has_set_of (resource.Domain d) sets.now }
 {
     let mut busy = 0;
     for set in sets {
@@ -38,7 +37,7 @@ pub fn busy_domains(sets: &[PendingSet]) -> u32
 
 /// Which clocks have a pending set.
 pub fn busy_clocks(sets: &[PendingSet]) -> u32
-    ensures { (c : ℕ) → c < CLOCKS → (bit_at result c == 1) ≡ list_any (λ p. is_set_by (resource.Clock c) p.setting) sets.now }
+    ensures { (c : ℕ) → c < CLOCKS → (bit_at result c == 1) ≡ has_set_of (resource.Clock c) sets.now }
 {
     let mut busy = 0;
     for set in sets {

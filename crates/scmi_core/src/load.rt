@@ -1,10 +1,9 @@
 //! What pending sets and outboxes leave free for another set.
 ghost use Rattle.std.specs.Prelude.{◌≡◌, ◌≤◌, ◌<◌, ◌==◌, ℕ, length};
-ghost use Rattle.std.specs.List.{list_any};
 ghost use Rattle.std.specs.Int.{bit_at};
 ghost use Rattle.scmi_plan.specs.declared.resource.Resource.TheVariants as resource;
 ghost use Rattle.scmi_plan.specs.declared.limits.TheConstants.{AGENTS, CLOCKS, DOMAINS};
-ghost use Rattle.scmi_core.specs.Pending.{sets_by, is_set_by};
+ghost use Rattle.scmi_core.specs.Pending.{has_set_of, sets_by};
 ghost use Rattle.scmi_core.specs.Tables.{load_at, has_room_at};
 
 use crate::busy::{busy_clocks, busy_domains};
@@ -18,7 +17,8 @@ impl Tables {
     pub fn domain_load(&self, agent: u32) -> Load
         requires first { 1 ≤ agent }
         requires last { agent ≤ AGENTS }
-        ensures busy { (d : ℕ) → d < DOMAINS → (bit_at result.busy d == 1) ≡ list_any (λ p. is_set_by (resource.Domain d) p.setting) self.now.pending.items }
+        ensures busy { (d : ℕ) → d < DOMAINS
+            → (bit_at result.busy d == 1) ≡ has_set_of (resource.Domain d) self.now.pending.items }
         ensures room { result.room ≡ has_room_at self.now agent }
     {
         Load {
@@ -31,7 +31,8 @@ impl Tables {
     pub fn clock_load(&self, agent: u32) -> Load
         requires first { 1 ≤ agent }
         requires last { agent ≤ AGENTS }
-        ensures busy { (c : ℕ) → c < CLOCKS → (bit_at result.busy c == 1) ≡ list_any (λ p. is_set_by (resource.Clock c) p.setting) self.now.pending.items }
+        ensures busy { (c : ℕ) → c < CLOCKS
+            → (bit_at result.busy c == 1) ≡ has_set_of (resource.Clock c) self.now.pending.items }
         ensures room { result.room ≡ has_room_at self.now agent }
     {
         Load {

@@ -3,6 +3,7 @@ ghost use Rattle.std.specs.Prelude.{◌≡◌, ◌≢◌, ◌≤◌, ◌<◌, �
 ghost use Rattle.scmi_plan.specs.Plan.{IsLawful};
 ghost use Rattle.std.specs.Option.{option_copied};
 ghost use Rattle.scmi_plan.specs.Agent.{IsAgent, IsNoAgent};
+ghost use Rattle.scmi_plan.specs.declared.limits.TheConstants.{AGENTS};
 ghost use Rattle.scmi_core.specs.Pending.{pending};
 ghost use Rattle.scmi_core.specs.History.{answer_to, answer_with, deeds, outbox};
 ghost use Rattle.scmi_core.specs.Tables.{outbox_at};
@@ -50,7 +51,7 @@ impl Platform {
     pub fn agents(&self) -> u32
         ensures count { result ≡ length self.now.board.agents }
         ensures some { 1 ≤ result }
-        ensures few { result ≤ 8 }
+        ensures few { result ≤ AGENTS }
         ensures lawful { IsLawful self.now.board }
     {
         self.plan.agents()

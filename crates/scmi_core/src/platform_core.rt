@@ -2,6 +2,7 @@
 ghost use Rattle.std.specs.Prelude.{◌≡◌, ◌≢◌, ◌≤◌, ◌<◌, ◌++◌, ◌∷◌, [], ◌↔◌, length, true, false, slice_get, IsOk, IfOk, OnOk, OnErr, IfErr, Ok, Err};
 ghost use Rattle.std.specs.Option.{option_copied};
 ghost use Rattle.scmi_plan.specs.Agent.{IsAgent, IsNoAgent};
+ghost use Rattle.scmi_plan.specs.declared.limits.TheConstants.{AGENTS};
 ghost use Rattle.scmi_core.specs.Bounds.{HasBounds, HasResponses};
 ghost use Rattle.scmi_core.specs.Pending.{pending};
 ghost use Rattle.scmi_core.specs.History.{answer_to, answer_with, deeds, outbox};
@@ -53,7 +54,7 @@ impl Core {
     pub fn agents(&self) -> u32
         ensures count { result ≡ length self.now.board.agents }
         ensures some { 1 ≤ result }
-        ensures few { result ≤ 8 }
+        ensures few { result ≤ AGENTS }
     {
         self.platform.agents()
     }
