@@ -16,6 +16,10 @@ use Rattle.scmi_core.specs.Subscriptions.{subscribed}
 use Rattle.scmi_core.specs.declared.pending_set.Setting.TheVariants as setting
 use Rattle.scmi_core.specs.declared.outbox.TheConstants.{OUTBOX_ROOM}
 
+-- the message of a header and these payload words
+abbrev pub message_with : HeaderFields → List ℕ → Message
+message_with header words = record { header = header; payload = record { items = words } }
+
 -- the payload of a delayed response: status 0, the domain or clock, and the value that was set (own)
 abbrev pub delayed_words : Setting → List ℕ
 delayed_words (setting.State d state) = 0 ∷ d ∷ state ∷ []

@@ -20,7 +20,7 @@ use Rattle.scmi_power.specs.PowerTable.{state_at, is_subscribed}
 use Rattle.scmi_core.specs.declared.pending_set.PendingSet.{PendingSet}
 use Rattle.scmi_core.specs.declared.tables.Tables.{Tables}
 use Rattle.scmi_core.specs.Value.{Change, State, Thing, change_now, completion, value_in}
-use Rattle.scmi_core.specs.Tables.{IsOfBoard, IsThing, load_at, outbox_at, table_words, value_at}
+use Rattle.scmi_core.specs.Tables.{Gets, IsOfBoard, IsThing, load_at, outbox_at, table_words, value_at}
 use Rattle.scmi_core.specs.Deed.{Success, success_with}
 use Rattle.scmi_core.specs.Pending.{acceptance, sets_by}
 use Rattle.scmi_core.specs.Permissions.{permission_in}
@@ -66,11 +66,15 @@ pub record HasStepped (board : Board) (t : Tables) (success : Option Success) (d
   pub known : IfSome (change_of board success done) (λ change. IsThing board change.thing)
   pub pending_sets : new.pending.items ≡ rest_of t done ++ option_to_list (option_and_then (acceptance board) success)
   pub known_sets : All (IsOfBoard board) t.pending.items → All (IsOfBoard board) new.pending.items
-  pub outboxes : (a : ℕ) → 1 ≤ a → a ≤ length board.agents → outbox_at new a ≡ outbox_at t a ++ made_at t new.pending.items done (change_of board success done) a
+  pub outboxes : (a : ℕ) → 1 ≤ a → a ≤ length board.agents → Gets t new a (made_at t new.pending.items done (change_of board success done) a)
+
+-- what a command of agent a that got this reply leaves
+abbrev pub HasExecuted : Board → ℕ → HeaderFields → Result codec.Command Status → List ℕ → Tables → Tables → Type 0
+HasExecuted board a header command reply t new = HasStepped board t (success_of a header command reply) None new
 
 -- what a frame of agent a leaves; one that is malformed changes nothing
 abbrev pub HasAnswered : Board → ℕ → Frame → Tables → Tables → Type 0
-HasAnswered board a (Good m) t new = HasStepped board t (success_of a m.header (command_of m) (table_words board a t (command_of m))) None new
+HasAnswered board a (Good m) t new = HasExecuted board a m.header (command_of m) (table_words board a t (command_of m)) t new
 HasAnswered board a (Malformed len header) t new = new ≡ t
 
 -- nothing but outboxes changed
@@ -86,6 +90,10 @@ pub record SameButPending (t new : Tables) : Type 0 where
   pub power : new.power ≡ t.power
   pub clocks : new.clocks ≡ t.clocks
   pub outboxes : new.outboxes ≡ t.outboxes
+
+-- a set was added behind those that are pending, if there is one, and nothing else changed there
+abbrev pub Accepts : Tables → Tables → Option PendingSet → Type 0
+Accepts t new set = new.pending.items ≡ t.pending.items ++ option_to_list set
 
 -- the domain that a command sets, 0 where it sets none
 abbrev pub set_domain : PowerCommand → ℕ

@@ -1,5 +1,5 @@
 -- The tables of a controller, and what replies read in them.
-use Rattle.std.specs.Prelude.{ℕ, ◌+◌, ◌-◌, ◌&&◌, Bool, nat_lt, List, [], ◌∷◌, length, Result, Ok, Err, ◌<◌, ◌≤◌, get_or}
+use Rattle.std.specs.Prelude.{◌≡◌, ◌++◌, ℕ, ◌+◌, ◌-◌, ◌&&◌, Bool, nat_lt, List, [], ◌∷◌, length, Result, Ok, Err, ◌<◌, ◌≤◌, get_or}
 use Rattle.scmi_codec.specs.Command.{command_of}
 use Rattle.scmi_codec.specs.declared.status.Status.{Status}
 use Rattle.scmi_codec.specs.declared.message.Message.{Message}
@@ -28,6 +28,14 @@ use Rattle.scmi_core.specs.declared.outbox.TheConstants.{OUTBOX_ROOM}
 -- an agent's outbox
 abbrev pub outbox_at : Tables → ℕ → List Message
 outbox_at t a = get_or t.outboxes (a - 1) []
+
+-- an agent's outbox got these messages, and only these
+abbrev pub Gets : Tables → Tables → ℕ → List Message → Type 0
+Gets t new a messages = outbox_at new a ≡ outbox_at t a ++ messages
+
+-- an agent's outbox is what it was
+abbrev pub KeepsOutbox : Tables → Tables → ℕ → Type 0
+KeepsOutbox t new a = outbox_at new a ≡ outbox_at t a
 
 -- the length of an agent's outbox and its pending sets together
 abbrev pub load_at : Tables → ℕ → ℕ

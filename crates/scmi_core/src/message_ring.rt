@@ -2,6 +2,7 @@
 ghost use Rattle.std.specs.Prelude.{◌≡◌, ◌<◌, ◌≤◌, ◌++◌, ◌∷◌, [], length, drop, slice_get};
 ghost use Rattle.std.specs.Option.{option_copied};
 ghost use Rattle.scmi_codec.specs.declared.payload.TheConstants.{PAYLOAD_WORDS};
+ghost use Rattle.scmi_core.specs.Outbox.{message_with};
 ghost use Rattle.scmi_core.specs.declared.outbox.TheConstants.{OUTBOX_ROOM};
 
 use crate::outbox::OUTBOX_ROOM;
@@ -76,7 +77,7 @@ impl MessageRing {
     pub fn push(&mut self, header: Header, words: &[u32])
         requires room { length self.old < OUTBOX_ROOM }
         requires few { length words.now ≤ PAYLOAD_WORDS }
-        ensures { self.new ≡ self.old ++ record { header = header; payload = record { items = words.now } } ∷ [] }
+        ensures { self.new ≡ self.old ++ message_with header words.now ∷ [] }
     {
         let place = (self.oldest + self.count) % OUTBOX_ROOM;
         set_message(&mut self.slots[place], header, words);
@@ -87,7 +88,7 @@ impl MessageRing {
 /// Makes a message one of this header and these payload words, where it stands.
 fn set_message(message: &mut Message, header: Header, words: &[u32])
     requires { length words.now ≤ PAYLOAD_WORDS }
-    ensures { message.new ≡ record { header = header; payload = record { items = words.now } } }
+    ensures { message.new ≡ message_with header words.now }
 {
     message.header = header;
     set_payload(&mut message.payload, words);

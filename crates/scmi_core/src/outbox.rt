@@ -1,10 +1,10 @@
 //! The messages that the platform has for each agent.
-ghost use Rattle.std.specs.Prelude.{◌≡◌, ◌≢◌, ◌↔◌, ◌≤◌, ◌<◌, ◌++◌, ◌∷◌, [], ℕ, length, true, false, drop, slice_get, IfSome};
+ghost use Rattle.std.specs.Prelude.{◌≡◌, ◌≢◌, ◌↔◌, ◌≤◌, ◌<◌, ◌∷◌, [], ℕ, length, true, false, drop, slice_get, IfSome};
 ghost use Rattle.std.specs.Option.{option_copied};
 ghost use Rattle.scmi_codec.specs.declared.payload.TheConstants.{PAYLOAD_WORDS};
 ghost use Rattle.scmi_plan.specs.declared.limits.TheConstants.{AGENTS, DOMAINS};
-ghost use Rattle.scmi_core.specs.Outbox.{response_for};
-ghost use Rattle.scmi_core.specs.Tables.{outbox_at};
+ghost use Rattle.scmi_core.specs.Outbox.{message_with, response_for};
+ghost use Rattle.scmi_core.specs.Tables.{Gets, KeepsOutbox, outbox_at};
 ghost use Rattle.scmi_core.specs.Step.{told_at, announced_at, SameButOutboxes};
 ghost use Rattle.scmi_core.specs.declared.outbox.TheConstants.{OUTBOX_ROOM};
 
@@ -55,7 +55,7 @@ impl Tables {
         requires last { agent ≤ AGENTS }
         requires some { 0 < length (outbox_at self.now agent) }
         ensures taken { outbox_at self.new agent ≡ drop 1 (outbox_at self.old agent) }
-        ensures others { (a : ℕ) → 1 ≤ a → a ≢ agent → outbox_at self.new a ≡ outbox_at self.old a }
+        ensures others { (a : ℕ) → 1 ≤ a → a ≢ agent → KeepsOutbox self.old self.new a }
         ensures kept { SameButOutboxes self.old self.new }
     {
         self.outboxes[agent as usize - 1].pop();
@@ -66,7 +66,8 @@ impl Tables {
         requires first { 1 ≤ agent }
         requires last { agent ≤ AGENTS }
         requires room { length (outbox_at self.now agent) < OUTBOX_ROOM }
-        ensures responded { (a : ℕ) → 1 ≤ a → outbox_at self.new a ≡ outbox_at self.old a ++ response_for a (record { agent = agent; setting = setting; header = header; wanted = wanted }) }
+        ensures responded { (a : ℕ) → 1 ≤ a → Gets self.old self.new a
+            (response_for a (record { agent = agent; setting = setting; header = header; wanted = wanted })) }
         ensures kept { SameButOutboxes self.old self.new }
     {
         if wanted {
@@ -79,7 +80,8 @@ impl Tables {
         requires agents { agents ≤ AGENTS }
         requires domain { IfSome changed (λ set. set.0 < DOMAINS) }
         ensures kept { SameButOutboxes self.old self.new }
-        ensures told { (a : ℕ) → 1 ≤ a → a ≤ agents → outbox_at self.new a ≡ outbox_at self.old a ++ announced_at self.old a causer changed before }
+        ensures told { (a : ℕ) → 1 ≤ a → a ≤ agents
+            → Gets self.old self.new a (announced_at self.old a causer changed before) }
     {
         if let Some((domain, state)) = changed {
             if state != before {
@@ -93,7 +95,8 @@ impl Tables {
         requires agents { agents ≤ AGENTS }
         requires domain { domain < DOMAINS }
         ensures kept { SameButOutboxes self.old self.new }
-        ensures told { (a : ℕ) → 1 ≤ a → a ≤ agents → outbox_at self.new a ≡ outbox_at self.old a ++ told_at self.old a causer domain state }
+        ensures told { (a : ℕ) → 1 ≤ a → a ≤ agents
+            → Gets self.old self.new a (told_at self.old a causer domain state) }
     {
         for agent in 0..agents {
             self.tell(agent + 1, causer, domain, state);
@@ -105,8 +108,8 @@ impl Tables {
         requires first { 1 ≤ agent }
         requires last { agent ≤ AGENTS }
         requires domain { domain < DOMAINS }
-        ensures told { outbox_at self.new agent ≡ outbox_at self.old agent ++ told_at self.old agent causer domain state }
-        ensures others { (a : ℕ) → 1 ≤ a → a ≢ agent → outbox_at self.new a ≡ outbox_at self.old a }
+        ensures told { Gets self.old self.new agent (told_at self.old agent causer domain state) }
+        ensures others { (a : ℕ) → 1 ≤ a → a ≢ agent → KeepsOutbox self.old self.new a }
         ensures kept { SameButOutboxes self.old self.new }
     {
         if self.load(agent) < OUTBOX_ROOM
@@ -122,8 +125,8 @@ impl Tables {
         requires last { agent ≤ AGENTS }
         requires room { length (outbox_at self.now agent) < OUTBOX_ROOM }
         requires few { length words.now ≤ PAYLOAD_WORDS }
-        ensures put { outbox_at self.new agent ≡ outbox_at self.old agent ++ record { header = header; payload = record { items = words.now } } ∷ [] }
-        ensures others { (a : ℕ) → 1 ≤ a → a ≢ agent → outbox_at self.new a ≡ outbox_at self.old a }
+        ensures put { Gets self.old self.new agent (message_with header words.now ∷ []) }
+        ensures others { (a : ℕ) → 1 ≤ a → a ≢ agent → KeepsOutbox self.old self.new a }
         ensures kept { SameButOutboxes self.old self.new }
     {
         self.outboxes[agent as usize - 1].push(header, words);

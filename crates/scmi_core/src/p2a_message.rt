@@ -1,8 +1,8 @@
 //! The messages of the platform to agents.
-ghost use Rattle.std.specs.Prelude.{◌≡◌, ◌≢◌, ◌≤◌, ◌<◌, ◌++◌, ◌∷◌, [], ℕ, length};
+ghost use Rattle.std.specs.Prelude.{◌≢◌, ◌≤◌, ◌<◌, ◌∷◌, [], ℕ, length};
 ghost use Rattle.scmi_plan.specs.declared.limits.TheConstants.{AGENTS};
 ghost use Rattle.scmi_core.specs.Outbox.{state_changed, response_to};
-ghost use Rattle.scmi_core.specs.Tables.{outbox_at};
+ghost use Rattle.scmi_core.specs.Tables.{Gets, KeepsOutbox, outbox_at};
 ghost use Rattle.scmi_core.specs.Step.{SameButOutboxes};
 ghost use Rattle.scmi_core.specs.declared.outbox.TheConstants.{OUTBOX_ROOM};
 
@@ -21,8 +21,8 @@ impl Tables {
         requires first { 1 ≤ agent }
         requires last { agent ≤ AGENTS }
         requires room { length (outbox_at self.now agent) < OUTBOX_ROOM }
-        ensures put { outbox_at self.new agent ≡ outbox_at self.old agent ++ state_changed causer domain state ∷ [] }
-        ensures others { (a : ℕ) → 1 ≤ a → a ≢ agent → outbox_at self.new a ≡ outbox_at self.old a }
+        ensures put { Gets self.old self.new agent (state_changed causer domain state ∷ []) }
+        ensures others { (a : ℕ) → 1 ≤ a → a ≢ agent → KeepsOutbox self.old self.new a }
         ensures kept { SameButOutboxes self.old self.new }
     {
         let header = Header {
@@ -40,8 +40,8 @@ impl Tables {
         requires first { 1 ≤ agent }
         requires last { agent ≤ AGENTS }
         requires room { length (outbox_at self.now agent) < OUTBOX_ROOM }
-        ensures put { outbox_at self.new agent ≡ outbox_at self.old agent ++ response_to header setting ∷ [] }
-        ensures others { (a : ℕ) → 1 ≤ a → a ≢ agent → outbox_at self.new a ≡ outbox_at self.old a }
+        ensures put { Gets self.old self.new agent (response_to header setting ∷ []) }
+        ensures others { (a : ℕ) → 1 ≤ a → a ≢ agent → KeepsOutbox self.old self.new a }
         ensures kept { SameButOutboxes self.old self.new }
     {
         let header = Header {

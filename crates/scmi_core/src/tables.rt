@@ -1,5 +1,5 @@
 //! What a controller keeps besides its history.
-ghost use Rattle.std.specs.Prelude.{◌≡◌, ◌≤◌, ◌<◌, ◌-◌, ◌++◌, [], ℕ, length, true, false, Ok, Err, None, Some, slice_get, IfSome, option_map, unwrap_or};
+ghost use Rattle.std.specs.Prelude.{◌≡◌, ◌≤◌, ◌<◌, ◌-◌, [], ℕ, length, true, false, Ok, Err, None, Some, slice_get, IfSome, option_map, unwrap_or};
 ghost use Rattle.std.specs.List.{All};
 ghost use Rattle.scmi_base.specs.Permission.{is_allowed};
 ghost use Rattle.scmi_base.specs.declared.scope.Scope.{Scope};
@@ -8,13 +8,12 @@ ghost use Rattle.scmi_codec.specs.declared.command.Command.TheVariants.{Base, Po
 ghost use Rattle.scmi_power.specs.PowerTable.{state_at, is_subscribed};
 ghost use Rattle.scmi_plan.specs.Plan.{IsLawful};
 ghost use Rattle.scmi_plan.specs.declared.limits.TheConstants.{AGENTS, DOMAINS};
-ghost use Rattle.std.specs.Option.{option_to_list};
 ghost use Rattle.scmi_core.specs.History.{answer_with};
 ghost use Rattle.scmi_core.specs.Value.{Thing, value_at_start};
 ghost use Rattle.scmi_core.specs.Pending.{state_set, rate_set};
 ghost use Rattle.scmi_core.specs.Subscriptions.{ended};
 ghost use Rattle.scmi_core.specs.Tables.{outbox_at, load_at, value_at, IsThing, table_words, IsOfBoard, frame_answer_at};
-ghost use Rattle.scmi_core.specs.Step.{success_of, HasStepped, HasAnswered, set_domain, SameButPending};
+ghost use Rattle.scmi_core.specs.Step.{Accepts, HasStepped, HasExecuted, HasAnswered, set_domain, SameButPending};
 ghost use Rattle.scmi_core.specs.declared.outbox.TheConstants.{OUTBOX_ROOM};
 ghost use Rattle.scmi_core.specs.declared.pending_set.TheConstants.{PENDING_SETS};
 
@@ -100,7 +99,8 @@ impl Tables {
         requires last { agent ≤ length plan.now.agents }
         requires lawful { IsLawful plan.now }
         ensures reply { reply.new.items ≡ table_words plan.now agent self.old (command_of message.now) }
-        ensures stepped { HasStepped plan.now self.old (success_of agent message.now.header (command_of message.now) reply.new.items) None self.new }
+        ensures stepped { HasExecuted plan.now agent message.now.header
+            (command_of message.now) reply.new.items self.old self.new }
     {
         match Command::read(message) {
             Ok(Command::Base(command)) => self.execute_base(
@@ -141,7 +141,8 @@ impl Tables {
         requires last { agent ≤ length plan.now.agents }
         requires lawful { IsLawful plan.now }
         ensures reply { reply.new.items ≡ table_words plan.now agent self.old (Ok (Base command)) }
-        ensures stepped { HasStepped plan.now self.old (success_of agent header (Ok (Base command)) reply.new.items) None self.new }
+        ensures stepped { HasExecuted plan.now agent header (Ok (Base command))
+            reply.new.items self.old self.new }
     {
         let reset = self.base.execute(plan, agent, command, reply);
         self.end_requests(reset);
@@ -160,7 +161,8 @@ impl Tables {
         requires last { agent ≤ length plan.now.agents }
         requires lawful { IsLawful plan.now }
         ensures reply { reply.new.items ≡ table_words plan.now agent self.old (Ok (Power command)) }
-        ensures stepped { HasStepped plan.now self.old (success_of agent header (Ok (Power command)) reply.new.items) None self.new }
+        ensures stepped { HasExecuted plan.now agent header (Ok (Power command))
+            reply.new.items self.old self.new }
     {
         let agents = plan.agents();
         // A set is reported also where the state stays equal, so the state is read before it.
@@ -186,7 +188,8 @@ impl Tables {
         requires last { agent ≤ length plan.now.agents }
         requires lawful { IsLawful plan.now }
         ensures reply { reply.new.items ≡ table_words plan.now agent self.old (Ok (Clock command)) }
-        ensures stepped { HasStepped plan.now self.old (success_of agent header (Ok (Clock command)) reply.new.items) None self.new }
+        ensures stepped { HasExecuted plan.now agent header (Ok (Clock command))
+            reply.new.items self.old self.new }
     {
         let load = self.clock_load(agent);
         let later = self
@@ -228,7 +231,8 @@ impl Tables {
     /// Ends the requests of an agent that was reset, if one was.
     fn end_requests(&mut self, reset: Option<u32>)
         requires { IfSome reset (λ agent. (1 ≤ agent) × (agent ≤ AGENTS)) }
-        ensures subscriptions { (a d : ℕ) → 1 ≤ a → a ≤ AGENTS → d < DOMAINS → is_subscribed self.new.power a d ≡ unwrap_or (ended a reset) (is_subscribed self.old.power a d) }
+        ensures subscriptions { (a d : ℕ) → 1 ≤ a → a ≤ AGENTS → d < DOMAINS
+            → is_subscribed self.new.power a d ≡ unwrap_or (ended a reset) (is_subscribed self.old.power a d) }
         ensures states { self.new.power.states ≡ self.old.power.states }
         ensures base { self.new.base ≡ self.old.base }
         ensures clocks { self.new.clocks ≡ self.old.clocks }
@@ -244,7 +248,7 @@ impl Tables {
     fn accept_state(&mut self, agent: u32, header: Header, later: Option<(u32, u32)>)
         requires { IfSome later (λ set. length self.now.pending.items < PENDING_SETS) }
         ensures kept { SameButPending self.old self.new }
-        ensures pending { self.new.pending.items ≡ self.old.pending.items ++ option_to_list (option_map (state_set agent header) later) }
+        ensures pending { Accepts self.old self.new (option_map (state_set agent header) later) }
     {
         if let Some((domain, state)) = later {
             self.pending.push(PendingSet {
@@ -260,7 +264,7 @@ impl Tables {
     fn accept_rate(&mut self, agent: u32, header: Header, later: Option<(u32, u64, bool)>)
         requires { IfSome later (λ set. length self.now.pending.items < PENDING_SETS) }
         ensures kept { SameButPending self.old self.new }
-        ensures pending { self.new.pending.items ≡ self.old.pending.items ++ option_to_list (option_map (rate_set agent header) later) }
+        ensures pending { Accepts self.old self.new (option_map (rate_set agent header) later) }
     {
         if let Some((clock, rate, wanted)) = later {
             self.pending.push(PendingSet {
