@@ -1,5 +1,5 @@
 -- The history of a platform: a list of events, oldest first. Each event is judged at its prefix, the events before it.
-use Rattle.std.specs.Prelude.{ℕ, Bool, List, [], ◌∷◌, ◌++◌, take, slice_get, Option, Some, None}
+use Rattle.std.specs.Prelude.{◌≡◌, ℕ, Bool, List, [], ◌∷◌, ◌++◌, length, take, slice_get, Option, Some, None}
 use Rattle.std.specs.List.{fold}
 use Rattle.std.specs.Option.{option_and_then}
 use Rattle.scmi_codec.specs.Command.{command_of}
@@ -10,13 +10,14 @@ use Rattle.scmi_codec.specs.declared.frame.Answer.{Answer}
 use Rattle.scmi_codec.specs.declared.frame.Answer.TheVariants.{Reply, ChannelError}
 use Rattle.scmi_core.specs.declared.answered.Answered.{Answered}
 use Rattle.scmi_core.specs.declared.answered.Answered.TheVariants as answered
+use Rattle.scmi_plan.specs.Agent.{IsAgent}
 use Rattle.scmi_plan.specs.Board.{Board}
 use Rattle.scmi_plan.specs.declared.resource.Resource.{Resource}
 use Rattle.scmi_core.specs.declared.event.Event.{Event}
 use Rattle.scmi_core.specs.declared.event.Event.TheVariants.{Command}
 use Rattle.scmi_core.specs.Deed.{Deed}
 use Rattle.scmi_core.specs.Outbox.{made, outbox_after, sent}
-use Rattle.scmi_core.specs.Pending.{is_pending}
+use Rattle.scmi_core.specs.Pending.{is_pending, pending}
 use Rattle.scmi_core.specs.Reply.{reply_after, reply_words}
 use Rattle.scmi_core.specs.Value.{Thing, value}
 
@@ -63,6 +64,14 @@ delivered board a h = take (sent a (deeds board h)) (made board a (deeds board h
 -- the outbox of agent a after a history
 unfoldable pub outbox : Board → ℕ → List Event → List Message
 outbox board a h = outbox_after board a (deeds board h)
+
+-- no set is pending after a history
+abbrev pub IsIdle : Board → List Event → Type 0
+IsIdle board h = pending board (deeds board h) ≡ []
+
+-- nothing waits for this agent of the board after a history
+abbrev pub HasNothingFor : Board → ℕ → List Event → Type 0
+HasNothingFor board a h = IsAgent (length board.agents) a × (outbox board a h ≡ [])
 
 -- a thing's value after a history
 abbrev pub value_after : Board → Thing → List Event → ℕ

@@ -1,5 +1,5 @@
 -- What contracts see of a platform that keeps no history.
-use Rattle.std.specs.Prelude.{List}
+use Rattle.std.specs.Prelude.{List, [], ◌∷◌, ◌++◌}
 use Rattle.scmi_plan.specs.Board.{Board}
 use Rattle.scmi_core.specs.declared.event.Event.{Event}
 use Rattle.scmi_core.specs.declared.tables.Tables.{Tables}
@@ -13,6 +13,10 @@ pub record Standing : Type 0 where
 -- a platform stands where this history leaves it: what it will answer is what the definitions say after that history
 abbrev pub StandsAfter : Standing → List Event → Type 0
 StandsAfter p h = Agrees p.board p.tables h
+
+-- an event moves a platform on, whatever history it stands after
+abbrev pub MovesOn : Standing → Event → Standing → Type 0
+MovesOn p event new = (h : List Event) → StandsAfter p h → StandsAfter new (h ++ event ∷ [])
 
 -- a platform stands where some history leaves it
 abbrev pub HasHistory : Standing → Type 0

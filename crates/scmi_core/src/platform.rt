@@ -1,13 +1,12 @@
 //! The platform without its history.
-ghost use Rattle.std.specs.Prelude.{◌≡◌, ◌≢◌, ◌≤◌, ◌<◌, ◌++◌, ◌∷◌, [], ◌↔◌, List, length, true, false, slice_get, IfOk, OnOk, OnErr, IfErr, Err};
+ghost use Rattle.std.specs.Prelude.{◌≡◌, ◌≢◌, ◌≤◌, ◌<◌, [], ◌↔◌, List, length, true, false, slice_get, IfOk, OnOk, OnErr, IfErr, Err};
 ghost use Rattle.scmi_plan.specs.Plan.{IsLawful};
 ghost use Rattle.std.specs.Option.{option_copied};
 ghost use Rattle.scmi_plan.specs.Agent.{IsAgent, IsNoAgent};
 ghost use Rattle.scmi_plan.specs.declared.limits.TheConstants.{AGENTS};
-ghost use Rattle.scmi_core.specs.Pending.{pending};
-ghost use Rattle.scmi_core.specs.History.{answer_to, answer_with, deeds, outbox};
+ghost use Rattle.scmi_core.specs.History.{HasNothingFor, IsIdle, answer_to, answer_with, outbox};
 ghost use Rattle.scmi_core.specs.Tables.{outbox_at};
-ghost use Rattle.scmi_core.specs.Standing.{StandsAfter};
+ghost use Rattle.scmi_core.specs.Standing.{MovesOn, StandsAfter};
 ghost use Rattle.scmi_core.specs.declared.event.Event.{Event};
 ghost use Rattle.scmi_core.specs.declared.event.Event.TheVariants.{Command as Called, Advance, Sent};
 
@@ -66,10 +65,13 @@ impl Platform {
         frame: &Frame,
         reply: &mut Message,
     ) -> Result<Answered, CoreError>
-        ensures answer { (h : List Event) → StandsAfter self.old h → IfOk result (λ x. answer_with x reply.new ≡ answer_to self.old.board agent frame.now h) }
-        ensures event { (h : List Event) → StandsAfter self.old h → OnOk result (StandsAfter self.new (h ++ Called agent frame.now ∷ [])) }
+        ensures answer { (h : List Event) → StandsAfter self.old h
+            → IfOk result (λ x.
+            answer_with x reply.new ≡ answer_to self.old.board agent frame.now h) }
+        ensures event { OnOk result (MovesOn self.old (Called agent frame.now) self.new) }
         ensures board { self.new.board ≡ self.old.board }
-        ensures no_agent { (result ≡ Err CoreError.NoAgent) ↔ IsNoAgent (length self.old.board.agents) agent }
+        ensures no_agent { (result ≡ Err CoreError.NoAgent)
+            ↔ IsNoAgent (length self.old.board.agents) agent }
         ensures only { IfErr result (λ e. e ≡ CoreError.NoAgent) }
         ensures err { OnErr result (self.new ≡ self.old) }
         ensures kept { OnErr result (reply.new ≡ reply.old) }
@@ -80,8 +82,9 @@ impl Platform {
 
     /// Completes the first pending set; `false` where nothing is pending, and then nothing changed.
     pub fn advance(&mut self) -> bool
-        ensures waiting { (h : List Event) → StandsAfter self.old h → (result ≡ false) ↔ (pending self.old.board (deeds self.old.board h) ≡ []) }
-        ensures event { (h : List Event) → StandsAfter self.old h → result ≡ true → StandsAfter self.new (h ++ Advance ∷ []) }
+        ensures waiting { (h : List Event) → StandsAfter self.old h
+            → (result ≡ false) ↔ IsIdle self.old.board h }
+        ensures event { result ≡ true → MovesOn self.old Advance self.new }
         ensures same { result ≡ false → self.new ≡ self.old }
         ensures board { self.new.board ≡ self.old.board }
     {
@@ -95,8 +98,10 @@ impl Platform {
     /// The first message of an agent's outbox, which is the next to be posted to it;
     /// `None` where the outbox is empty. `NoAgent` where the board lacks the agent.
     pub fn front(&self, agent: u32) -> Result<Option<Message>, CoreError>
-        ensures first { (h : List Event) → StandsAfter self.now h → IfOk result (λ message. message ≡ slice_get (outbox self.now.board agent h) 0) }
-        ensures no_agent { (result ≡ Err CoreError.NoAgent) ↔ IsNoAgent (length self.now.board.agents) agent }
+        ensures first { (h : List Event) → StandsAfter self.now h
+            → IfOk result (λ message. message ≡ slice_get (outbox self.now.board agent h) 0) }
+        ensures no_agent { (result ≡ Err CoreError.NoAgent)
+            ↔ IsNoAgent (length self.now.board.agents) agent }
         ensures err { IfErr result (λ e. e ≡ CoreError.NoAgent) }
     {
         self.check_agent(agent)?;
@@ -109,7 +114,8 @@ impl Platform {
     /// As `front`, for an agent of the board, and without a copy.
     pub fn first(&self, agent: u32) -> Option<&Message>
         requires { IsAgent (length self.now.board.agents) agent }
-        ensures { (h : List Event) → StandsAfter self.now h → option_copied result ≡ slice_get (outbox self.now.board agent h) 0 }
+        ensures { (h : List Event) → StandsAfter self.now h
+            → option_copied result ≡ slice_get (outbox self.now.board agent h) 0 }
     {
         let _agents = self.plan.agents();
         self.tables.first(agent)
@@ -118,10 +124,12 @@ impl Platform {
     /// Takes the first message off an agent's outbox, as posted. `NoAgent` where the board lacks the
     /// agent, and `Nothing` where its outbox is empty; then nothing changed.
     pub fn sent(&mut self, agent: u32) -> Result<(), CoreError>
-        ensures event { (h : List Event) → StandsAfter self.old h → OnOk result (StandsAfter self.new (h ++ Sent agent ∷ [])) }
+        ensures event { OnOk result (MovesOn self.old (Sent agent) self.new) }
         ensures board { self.new.board ≡ self.old.board }
-        ensures no_agent { (result ≡ Err CoreError.NoAgent) ↔ IsNoAgent (length self.old.board.agents) agent }
-        ensures nothing { (h : List Event) → StandsAfter self.old h → (result ≡ Err CoreError.Nothing) ↔ ((1 ≤ agent) × (agent ≤ length self.old.board.agents) × (outbox self.old.board agent h ≡ [])) }
+        ensures no_agent { (result ≡ Err CoreError.NoAgent)
+            ↔ IsNoAgent (length self.old.board.agents) agent }
+        ensures nothing { (h : List Event) → StandsAfter self.old h
+            → (result ≡ Err CoreError.Nothing) ↔ HasNothingFor self.old.board agent h }
         ensures memory { result ≢ Err CoreError.Memory }
         ensures err { OnErr result (self.new ≡ self.old) }
     {
@@ -150,7 +158,7 @@ impl Platform {
         requires last { agent ≤ length self.now.board.agents }
         requires some { 0 < length (outbox_at self.now.tables agent) }
         ensures lawful { IsLawful self.old.board }
-        ensures event { (h : List Event) → StandsAfter self.old h → StandsAfter self.new (h ++ Sent agent ∷ []) }
+        ensures event { MovesOn self.old (Sent agent) self.new }
         ensures board { self.new.board ≡ self.old.board }
     {
         let _agents = self.plan.agents();
@@ -162,8 +170,9 @@ impl Platform {
         requires first { 1 ≤ agent }
         requires last { agent ≤ length self.now.board.agents }
         ensures lawful { IsLawful self.old.board }
-        ensures answer { (h : List Event) → StandsAfter self.old h → answer_with result reply.new ≡ answer_to self.old.board agent frame.now h }
-        ensures event { (h : List Event) → StandsAfter self.old h → StandsAfter self.new (h ++ Called agent frame.now ∷ []) }
+        ensures answer { (h : List Event) → StandsAfter self.old h
+            → answer_with result reply.new ≡ answer_to self.old.board agent frame.now h }
+        ensures event { MovesOn self.old (Called agent frame.now) self.new }
         ensures board { self.new.board ≡ self.old.board }
     {
         let _agents = self.plan.agents();
@@ -181,7 +190,7 @@ impl Platform {
     /// Completes the first of the sets that are pending.
     pub(crate) fn complete(&mut self)
         requires waiting { 0 < length self.now.tables.pending.items }
-        ensures event { (h : List Event) → StandsAfter self.old h → StandsAfter self.new (h ++ Advance ∷ []) }
+        ensures event { MovesOn self.old Advance self.new }
         ensures board { self.new.board ≡ self.old.board }
     {
         self.tables.complete(&self.plan);

@@ -4,8 +4,7 @@ ghost use Rattle.std.specs.Option.{option_copied};
 ghost use Rattle.scmi_plan.specs.Agent.{IsAgent, IsNoAgent};
 ghost use Rattle.scmi_plan.specs.declared.limits.TheConstants.{AGENTS};
 ghost use Rattle.scmi_core.specs.Bounds.{HasBounds, HasResponses};
-ghost use Rattle.scmi_core.specs.Pending.{pending};
-ghost use Rattle.scmi_core.specs.History.{answer_to, answer_with, deeds, outbox};
+ghost use Rattle.scmi_core.specs.History.{HasNothingFor, IsIdle, answer_to, answer_with, deeds, outbox};
 ghost use Rattle.scmi_core.specs.Legal.{IsLegal};
 ghost use Rattle.scmi_core.specs.declared.event.Event.TheVariants.{Command as Called, Advance, Sent};
 
@@ -33,7 +32,8 @@ impl Model for Core {
 
     ghost Value = { Platform };
 
-    ghost view = { λ c. record { board = c.platform.board; history = c.trace.events; room = c.trace.room } };
+    ghost view = { λ c.
+        record { board = c.platform.board; history = c.trace.events; room = c.trace.room } };
 
     ghost invariant = { λ c. StandsAfter c.platform c.trace.events };
 }
@@ -77,11 +77,14 @@ impl Core {
     /// the protocol for a message, `ChannelError` for a malformed frame. `NoAgent` where the board
     /// lacks the agent, and `Memory` where the trace could not grow; then nothing changed.
     pub fn command(&mut self, agent: u32, frame: &Frame) -> Result<Answer, CoreError>
-        ensures answer { IfOk result (λ x. x ≡ answer_to self.old.board agent frame.now self.old.history) }
-        ensures event { OnOk result (self.new.history ≡ self.old.history ++ Called agent frame.now ∷ []) }
+        ensures answer { IfOk result (λ x.
+            x ≡ answer_to self.old.board agent frame.now self.old.history) }
+        ensures event { OnOk result
+            (self.new.history ≡ self.old.history ++ Called agent frame.now ∷ []) }
         ensures board { self.new.board ≡ self.old.board }
         ensures legal { IsLegal self.new.board self.new.history }
-        ensures no_agent { (result ≡ Err CoreError.NoAgent) ↔ IsNoAgent (length self.old.board.agents) agent }
+        ensures no_agent { (result ≡ Err CoreError.NoAgent)
+            ↔ IsNoAgent (length self.old.board.agents) agent }
         ensures memory { 0 < self.old.room → result ≢ Err CoreError.Memory }
         ensures not_nothing { result ≢ Err CoreError.Nothing }
         ensures err { OnErr result (self.new ≡ self.old) }
@@ -101,11 +104,14 @@ impl Core {
         frame: &Frame,
         reply: &mut Message,
     ) -> Result<Answered, CoreError>
-        ensures answer { IfOk result (λ x. answer_with x reply.new ≡ answer_to self.old.board agent frame.now self.old.history) }
-        ensures event { OnOk result (self.new.history ≡ self.old.history ++ Called agent frame.now ∷ []) }
+        ensures answer { IfOk result (λ x.
+            answer_with x reply.new ≡ answer_to self.old.board agent frame.now self.old.history) }
+        ensures event { OnOk result
+            (self.new.history ≡ self.old.history ++ Called agent frame.now ∷ []) }
         ensures board { self.new.board ≡ self.old.board }
         ensures legal { IsLegal self.new.board self.new.history }
-        ensures no_agent { (result ≡ Err CoreError.NoAgent) ↔ IsNoAgent (length self.old.board.agents) agent }
+        ensures no_agent { (result ≡ Err CoreError.NoAgent)
+            ↔ IsNoAgent (length self.old.board.agents) agent }
         ensures memory { 0 < self.old.room → result ≢ Err CoreError.Memory }
         ensures not_nothing { result ≢ Err CoreError.Nothing }
         ensures err { OnErr result (self.new ≡ self.old) }
@@ -121,7 +127,8 @@ impl Core {
     pub fn execute(&mut self, agent: u32, frame: &Frame, reply: &mut Message) -> Answered
         requires agent { IsAgent (length self.old.board.agents) agent }
         requires room { 0 < self.old.room }
-        ensures answer { answer_with result reply.new ≡ answer_to self.old.board agent frame.now self.old.history }
+        ensures answer { answer_with result reply.new
+            ≡ answer_to self.old.board agent frame.now self.old.history }
         ensures event { self.new.history ≡ self.old.history ++ Called agent frame.now ∷ [] }
         ensures board { self.new.board ≡ self.old.board }
         ensures legal { IsLegal self.new.board self.new.history }
@@ -135,12 +142,16 @@ impl Core {
     /// pending, and then nothing changed. `Memory` where a set is pending and the trace could not grow,
     /// the only refusal; then nothing changed either.
     pub fn advance(&mut self) -> Result<bool, CoreError>
-        ensures waiting { IfOk result (λ did. (did ≡ false) ↔ (pending self.old.board (deeds self.old.board self.old.history) ≡ [])) }
-        ensures event { IfOk result (λ did. did ≡ true → self.new.history ≡ self.old.history ++ Advance ∷ []) }
+        ensures waiting { IfOk result (λ did.
+            (did ≡ false) ↔ IsIdle self.old.board self.old.history) }
+        ensures event { IfOk result (λ did.
+            did ≡ true → self.new.history ≡ self.old.history ++ Advance ∷ []) }
         ensures same { IfOk result (λ did. did ≡ false → self.new ≡ self.old) }
         ensures board { self.new.board ≡ self.old.board }
         ensures legal { IsLegal self.new.board self.new.history }
-        ensures memory { IfErr result (λ e. (e ≡ CoreError.Memory) × (self.old.room ≡ 0) × (pending self.old.board (deeds self.old.board self.old.history) ≢ [])) }
+        ensures memory { IfErr result (λ e.
+            (e ≡ CoreError.Memory) × (self.old.room ≡ 0)
+            × ¬ (IsIdle self.old.board self.old.history)) }
         ensures err { OnErr result (self.new ≡ self.old) }
     {
         if self.platform.is_idle() {
@@ -155,8 +166,10 @@ impl Core {
     /// The first message of an agent's outbox, which is the next to be posted to it; `None` where
     /// the outbox is empty. `NoAgent` where the board lacks the agent.
     pub fn front(&self, agent: u32) -> Result<Option<Message>, CoreError>
-        ensures first { IfOk result (λ message. message ≡ slice_get (outbox self.now.board agent self.now.history) 0) }
-        ensures no_agent { (result ≡ Err CoreError.NoAgent) ↔ IsNoAgent (length self.now.board.agents) agent }
+        ensures first { IfOk result (λ message.
+            message ≡ slice_get (outbox self.now.board agent self.now.history) 0) }
+        ensures no_agent { (result ≡ Err CoreError.NoAgent)
+            ↔ IsNoAgent (length self.now.board.agents) agent }
         ensures err { IfErr result (λ e. e ≡ CoreError.NoAgent) }
     {
         self.platform.front(agent)
@@ -165,7 +178,8 @@ impl Core {
     /// As `front`, for an agent of the board, and without a copy; so it is never refused.
     pub fn first(&self, agent: u32) -> Option<&Message>
         requires { IsAgent (length self.now.board.agents) agent }
-        ensures { option_copied result ≡ slice_get (outbox self.now.board agent self.now.history) 0 }
+        ensures { option_copied result
+            ≡ slice_get (outbox self.now.board agent self.now.history) 0 }
     {
         self.platform.first(agent)
     }
@@ -174,11 +188,14 @@ impl Core {
     /// `NoAgent` where the board lacks the agent, `Nothing` where its outbox is empty, and `Memory`
     /// where the trace could not grow; then nothing changed.
     pub fn sent(&mut self, agent: u32) -> Result<(), CoreError>
-        ensures event { OnOk result (self.new.history ≡ self.old.history ++ Sent agent ∷ []) }
+        ensures event { OnOk result
+            (self.new.history ≡ self.old.history ++ Sent agent ∷ []) }
         ensures board { self.new.board ≡ self.old.board }
         ensures legal { IsLegal self.new.board self.new.history }
-        ensures no_agent { (result ≡ Err CoreError.NoAgent) ↔ IsNoAgent (length self.old.board.agents) agent }
-        ensures nothing { (result ≡ Err CoreError.Nothing) ↔ ((1 ≤ agent) × (agent ≤ length self.old.board.agents) × (outbox self.old.board agent self.old.history ≡ [])) }
+        ensures no_agent { (result ≡ Err CoreError.NoAgent)
+            ↔ IsNoAgent (length self.old.board.agents) agent }
+        ensures nothing { (result ≡ Err CoreError.Nothing)
+            ↔ HasNothingFor self.old.board agent self.old.history }
         ensures memory { 0 < self.old.room → result ≢ Err CoreError.Memory }
         ensures err { OnErr result (self.new ≡ self.old) }
     {
