@@ -16,7 +16,7 @@ use Rattle.scmi_core.specs.Deed.{Deed}
 use Rattle.scmi_core.specs.Value.{Enabled, Rate, State, value}
 use Rattle.scmi_core.specs.Permissions.{allowed}
 use Rattle.scmi_core.specs.Pending.{is_pending, pending, pending_of}
-use Rattle.scmi_core.specs.Outbox.{outbox_after}
+use Rattle.scmi_core.specs.Outbox.{message_with, outbox_after}
 use Rattle.scmi_core.specs.declared.pending_set.TheConstants.{PENDING_SETS}
 use Rattle.scmi_core.specs.declared.outbox.TheConstants.{OUTBOX_ROOM}
 
@@ -56,4 +56,4 @@ reply_words board a h (Ok (Clock c)) = clock_reply board (clock_view board a h) 
 
 -- the reply to a message of agent a: the message's header, and the payload
 abbrev pub reply_after : Board → ℕ → Message → List Deed → Message
-reply_after board a m h = record { header = m.header; payload = record { items = reply_words board a h (command_of m) } }
+reply_after board a m h = message_with m.header (reply_words board a h (command_of m))

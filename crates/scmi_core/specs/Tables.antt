@@ -22,6 +22,7 @@ use Rattle.scmi_core.specs.declared.pending_set.PendingSet.{PendingSet}
 use Rattle.scmi_core.specs.declared.tables.Tables.{Tables}
 use Rattle.scmi_core.specs.Value.{Enabled, Rate, State, Thing, bit_value, completion}
 use Rattle.scmi_core.specs.Pending.{has_set_of, sets_by}
+use Rattle.scmi_core.specs.Outbox.{message_with}
 use Rattle.scmi_core.specs.declared.pending_set.TheConstants.{PENDING_SETS}
 use Rattle.scmi_core.specs.declared.outbox.TheConstants.{OUTBOX_ROOM}
 
@@ -75,7 +76,7 @@ table_words board a t (Ok (Clock c)) = clock_reply board (clock_view_at board a 
 
 -- the answer to a frame of agent a that the tables give
 abbrev pub frame_answer_at : Board → ℕ → Tables → Frame → Answer
-frame_answer_at board a t (Good m) = Reply (record { header = m.header; payload = record { items = table_words board a t (command_of m) } })
+frame_answer_at board a t (Good m) = Reply (message_with m.header (table_words board a t (command_of m)))
 frame_answer_at board a t (Malformed len header) = ChannelError
 
 -- a thing's value in the tables

@@ -8,6 +8,7 @@ use Rattle.scmi_core.specs.declared.event.Event.TheVariants.{Command, Advance, S
 use Rattle.scmi_core.specs.declared.mark.Mark.{Mark}
 use Rattle.scmi_core.specs.declared.mark.Mark.TheVariants as mark
 use Rattle.scmi_core.specs.Mark.{mark_of}
+use Rattle.scmi_core.specs.Outbox.{message_with}
 
 -- what contracts see of it: the events, oldest first, and for how many more there is memory
 pub record Recorded : Type 0 where
@@ -21,7 +22,7 @@ payload_count _ size = 0
 
 -- the event of a mark, a size, a header and the payload words that follow them
 abbrev pub event_of : Mark → ℕ → ℕ → List ℕ → Event
-event_of (mark.Message a) size header payload = Command a (frame.Good (record { header = header_of header; payload = record { items = payload } }))
+event_of (mark.Message a) size header payload = Command a (frame.Good (message_with (header_of header) payload))
 event_of (mark.Malformed a) size header payload = Command a (frame.Malformed size header)
 event_of (mark.Sent a) size header payload = Sent a
 event_of mark.Advance size header payload = Advance

@@ -23,7 +23,8 @@ impl Tables {
 
 /// Which domains have a pending set.
 pub fn busy_domains(sets: &[PendingSet]) -> u32
-    ensures { (d : ℕ) → d < DOMAINS → (bit_at result d == 1) ≡ has_set_of (resource.Domain d) sets.now }
+    ensures { (d : ℕ) → d < DOMAINS
+        → (bit_at result d == 1) ≡ has_set_of (resource.Domain d) sets.now }
 {
     let mut busy = 0;
     for set in sets {
@@ -37,7 +38,8 @@ pub fn busy_domains(sets: &[PendingSet]) -> u32
 
 /// Which clocks have a pending set.
 pub fn busy_clocks(sets: &[PendingSet]) -> u32
-    ensures { (c : ℕ) → c < CLOCKS → (bit_at result c == 1) ≡ has_set_of (resource.Clock c) sets.now }
+    ensures { (c : ℕ) → c < CLOCKS
+        → (bit_at result c == 1) ≡ has_set_of (resource.Clock c) sets.now }
 {
     let mut busy = 0;
     for set in sets {

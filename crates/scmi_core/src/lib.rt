@@ -1,8 +1,8 @@
 //! The platform controller of SCMI (DEN0056B, version 2.0): one history of events for all agents.
 //!
 //! The main type is `Core`. The main theorem is the contracts of its calls: each adds exactly one
-//! event to a legal history or changes nothing, and `command`, `advance` and `front` answer what the
-//! definitions of the history say at that place (specs/History.antt).
+//! event to a legal history or changes nothing, and `command`, `advance` and `front` answer what
+//! the definitions of the history say at that place (specs/History.antt).
 #![tactic(auto)]
 
 mod answered;

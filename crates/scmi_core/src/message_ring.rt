@@ -10,8 +10,8 @@ use scmi_codec::{Header, Message, set_payload};
 use std::array;
 use std::marker::Model;
 
-/// At most `OUTBOX_ROOM` messages, the oldest first. Each is written and read where it stands, and none
-/// moves when the oldest is taken off.
+/// At most `OUTBOX_ROOM` messages, the oldest first. Each is written and read where it stands, and
+/// none moves when the oldest is taken off.
 #[derive(Debug, Drop)]
 pub struct MessageRing {
     slots: [Message; OUTBOX_ROOM],
@@ -30,7 +30,8 @@ impl Model for MessageRing {
 
     ghost view = { λ r. window r.oldest r.count r.slots };
 
-    ghost invariant = { λ r. (r.oldest < OUTBOX_ROOM) × (r.count ≤ OUTBOX_ROOM) × (length r.slots ≡ OUTBOX_ROOM) };
+    ghost invariant = { λ r. (r.oldest < OUTBOX_ROOM) × (r.count ≤ OUTBOX_ROOM)
+        × (length r.slots ≡ OUTBOX_ROOM) };
 }
 
 impl MessageRing {

@@ -67,7 +67,12 @@ impl Tables {
         requires last { agent ≤ AGENTS }
         requires room { length (outbox_at self.now agent) < OUTBOX_ROOM }
         ensures responded { (a : ℕ) → 1 ≤ a → Gets self.old self.new a
-            (response_for a (record { agent = agent; setting = setting; header = header; wanted = wanted })) }
+            (response_for a (record {
+              agent = agent;
+              setting = setting;
+              header = header;
+              wanted = wanted;
+            })) }
         ensures kept { SameButOutboxes self.old self.new }
     {
         if wanted {

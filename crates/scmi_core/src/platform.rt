@@ -17,9 +17,10 @@ use scmi_codec::{Frame, Message};
 use scmi_plan::Plan;
 use std::marker::Model;
 
-/// A platform controller that keeps no history: what SCMI (DEN0056B) and this profile say of a board.
-/// It takes no memory, however long it runs. Contracts see the board and where the platform stands,
-/// and say of every history after which it may stand there what is answered and which one follows.
+/// A platform controller that keeps no history: what SCMI (DEN0056B) and this profile say of a
+/// board. It takes no memory, however long it runs. Contracts see the board and where the platform
+/// stands, and say of every history after which it may stand there what is answered and which one
+/// follows.
 #[derive(Drop, Debug)]
 pub struct Platform {
     pub(crate) plan: Plan,
@@ -56,9 +57,9 @@ impl Platform {
         self.plan.agents()
     }
 
-    /// Executes what an agent posted, and writes the reply where it is to stand; `ChannelError` for a
-    /// malformed frame, and then no reply is written. `NoAgent` where the board lacks the agent, the
-    /// only refusal; then nothing changed.
+    /// Executes what an agent posted, and writes the reply where it is to stand; `ChannelError` for
+    /// a malformed frame, and then no reply is written. `NoAgent` where the board lacks the agent,
+    /// the only refusal; then nothing changed.
     pub fn command(
         &mut self,
         agent: u32,
@@ -121,8 +122,8 @@ impl Platform {
         self.tables.first(agent)
     }
 
-    /// Takes the first message off an agent's outbox, as posted. `NoAgent` where the board lacks the
-    /// agent, and `Nothing` where its outbox is empty; then nothing changed.
+    /// Takes the first message off an agent's outbox, as posted. `NoAgent` where the board lacks
+    /// the agent, and `Nothing` where its outbox is empty; then nothing changed.
     pub fn sent(&mut self, agent: u32) -> Result<(), CoreError>
         ensures event { OnOk result (MovesOn self.old (Sent agent) self.new) }
         ensures board { self.new.board ≡ self.old.board }

@@ -59,8 +59,8 @@ impl Core {
         self.platform.agents()
     }
 
-    /// Makes room in the trace for one event, so that the next `command`, `advance` or `sent` is not
-    /// refused as `Memory`. Where there is none the room doubles; `Memory` is the only refusal.
+    /// Makes room in the trace for one event, so that the next `command`, `advance` or `sent` is
+    /// not refused as `Memory`. Where there is none the room doubles; `Memory` is the only refusal.
     pub fn reserve(&mut self) -> Result<(), CoreError>
         ensures ok { OnOk result (0 < self.new.room) }
         ensures history { self.new.history ≡ self.old.history }
@@ -96,8 +96,8 @@ impl Core {
         }
     }
 
-    /// As `command`, with the reply written where it is to stand. It is written only where a message
-    /// was executed.
+    /// As `command`, with the reply written where it is to stand. It is written only where a
+    /// message was executed.
     pub fn command_into(
         &mut self,
         agent: u32,
@@ -122,8 +122,8 @@ impl Core {
         Ok(self.execute(agent, frame, reply))
     }
 
-    /// As `command_into`, for an agent of the board and with room in the trace, which `reserve` makes;
-    /// so it is never refused.
+    /// As `command_into`, for an agent of the board and with room in the trace, which `reserve`
+    /// makes; so it is never refused.
     pub fn execute(&mut self, agent: u32, frame: &Frame, reply: &mut Message) -> Answered
         requires agent { IsAgent (length self.old.board.agents) agent }
         requires room { 0 < self.old.room }
@@ -139,8 +139,8 @@ impl Core {
     }
 
     /// Completes the first pending set and adds that to the history; `Ok(false)` where nothing is
-    /// pending, and then nothing changed. `Memory` where a set is pending and the trace could not grow,
-    /// the only refusal; then nothing changed either.
+    /// pending, and then nothing changed. `Memory` where a set is pending and the trace could not
+    /// grow, the only refusal; then nothing changed either.
     pub fn advance(&mut self) -> Result<bool, CoreError>
         ensures waiting { IfOk result (λ did.
             (did ≡ false) ↔ IsIdle self.old.board self.old.history) }

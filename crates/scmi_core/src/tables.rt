@@ -46,7 +46,8 @@ impl Tables {
     pub fn new(plan: &Plan) -> Tables
         ensures base { (a d : ℕ) (scope : Scope) → is_allowed result.base a d scope ≡ true }
         ensures subscriptions { (a d : ℕ) → is_subscribed result.power a d ≡ false }
-        ensures values { (x : Thing) → IsThing plan.now x → value_at result x ≡ value_at_start plan.now x }
+        ensures values { (x : Thing) → IsThing plan.now x
+            → value_at result x ≡ value_at_start plan.now x }
         ensures pending { result.pending.items ≡ [] }
         ensures outboxes { (a : ℕ) → outbox_at result a ≡ [] }
     {
@@ -79,7 +80,8 @@ impl Tables {
         requires first { 1 ≤ agent }
         requires last { agent ≤ length plan.now.agents }
         requires lawful { IsLawful plan.now }
-        ensures answer { answer_with result reply.new ≡ frame_answer_at plan.now agent self.old frame.now }
+        ensures answer { answer_with result reply.new
+            ≡ frame_answer_at plan.now agent self.old frame.now }
         ensures stepped { HasAnswered plan.now agent frame.now self.old self.new }
     {
         match frame {
@@ -98,7 +100,8 @@ impl Tables {
         requires first { 1 ≤ agent }
         requires last { agent ≤ length plan.now.agents }
         requires lawful { IsLawful plan.now }
-        ensures reply { reply.new.items ≡ table_words plan.now agent self.old (command_of message.now) }
+        ensures reply { reply.new.items
+            ≡ table_words plan.now agent self.old (command_of message.now) }
         ensures stepped { HasExecuted plan.now agent message.now.header
             (command_of message.now) reply.new.items self.old self.new }
     {
@@ -202,9 +205,11 @@ impl Tables {
     pub fn complete(&mut self, plan: &Plan)
         requires waiting { 0 < length self.now.pending.items }
         requires known { All (IsOfBoard plan.now) self.now.pending.items }
-        requires room { (a : ℕ) → 1 ≤ a → a ≤ length plan.now.agents → load_at self.now a ≤ OUTBOX_ROOM }
+        requires room { (a : ℕ) → 1 ≤ a → a ≤ length plan.now.agents
+            → load_at self.now a ≤ OUTBOX_ROOM }
         ensures lawful { IsLawful plan.now }
-        ensures stepped { HasStepped plan.now self.old None (slice_get self.old.pending.items 0) self.new }
+        ensures stepped { HasStepped plan.now self.old None
+            (slice_get self.old.pending.items 0) self.new }
     {
         let agents = plan.agents();
         let done = self.pending.remove(0);
@@ -232,7 +237,8 @@ impl Tables {
     fn end_requests(&mut self, reset: Option<u32>)
         requires { IfSome reset (λ agent. (1 ≤ agent) × (agent ≤ AGENTS)) }
         ensures subscriptions { (a d : ℕ) → 1 ≤ a → a ≤ AGENTS → d < DOMAINS
-            → is_subscribed self.new.power a d ≡ unwrap_or (ended a reset) (is_subscribed self.old.power a d) }
+            → is_subscribed self.new.power a d
+            ≡ unwrap_or (ended a reset) (is_subscribed self.old.power a d) }
         ensures states { self.new.power.states ≡ self.old.power.states }
         ensures base { self.new.base ≡ self.old.base }
         ensures clocks { self.new.clocks ≡ self.old.clocks }

@@ -32,7 +32,10 @@ impl Model for Trace {
 
     ghost Value = { Recorded };
 
-    ghost view = { λ t. record { events = events_of t.count t.words.items; room = (vec_capacity t.words - vec_len t.words) / EVENT_WORDS } };
+    ghost view = { λ t. record {
+      events = events_of t.count t.words.items;
+      room = (vec_capacity t.words - vec_len t.words) / EVENT_WORDS;
+    } };
 
     ghost invariant = { λ t. AreEvents t.count t.words.items };
 }
@@ -135,7 +138,8 @@ impl Trace {
         requires agent { HasAgent mark AGENTS }
         requires count { length payload.now ≡ payload_count mark size }
         requires few { length payload.now ≤ PAYLOAD_WORDS }
-        ensures events { self.new.events ≡ self.old.events ++ event_of mark size header payload.now ∷ [] }
+        ensures events { self.new.events
+            ≡ self.old.events ++ event_of mark size header payload.now ∷ [] }
         ensures room { self.old.room ≤ self.new.room + 1 }
     {
         append(&mut self.words, mark.pack(), size, header, payload);
