@@ -33,11 +33,12 @@ use Rattle.std.specs.Option.{option_to_list, option_and_then}
 use Rattle.scmi_core.specs.Deed.{Deed, success_with, over}
 use Rattle.scmi_core.specs.Value.{Change, Thing, State, Rate, Enabled, completed, change_by, value}
 use Rattle.scmi_core.specs.Pending.{acceptance, accepted, advances, pending, pending_of, sets_by, is_advance}
-use Rattle.scmi_core.specs.Outbox.{made, made_by, outbox_after, sent, is_sent_by, response_for, response_to, notice_for}
+use Rattle.scmi_core.specs.Outbox.{made, made_by, outbox_after, sent, is_sent_by, response_for, response_to, notice_in, situation_after}
 use Rattle.scmi_core.specs.Subscriptions.{subscribed}
 use Rattle.scmi_core.specs.History.{deeds, deed_after, outbox}
 use Rattle.scmi_core.specs.Legal.{IsLegal}
-use Rattle.scmi_core.specs.Reply.{has_room, reply_words, power_view, clock_view}
+use Rattle.scmi_core.specs.Reply.{reply_words}
+use Rattle.scmi_core.specs.Situation.{has_room, power_view, clock_view}
 use Rattle.scmi_core.specs.Tables.{load_at}
 use Rattle.scmi_core.specs.Bounds.{HasBounds}
 use Rattle.scmi_core.specs.Agreement.{Agrees}
@@ -100,18 +101,18 @@ then_some true o f y e = (refl, e)
 then_some false o f y e = absurd (cc)
 
 accept-room : (board : Board) (b : ℕ) (h : List Deed) (header : HeaderFields) (r : Result codec.Command Status) (p : PendingSet)
-    → option_and_then (acceptance board) (if begins_with_success (reply_words board b h r) then success_with b header r else None) ≡ Some p → (p.agent ≡ b) × (has_room board b h ≡ true)
+    → option_and_then (acceptance board) (if begins_with_success (reply_words board b (situation_after board b h) r) then success_with b header r else None) ≡ Some p → (p.agent ≡ b) × (has_room b (situation_after board b h) ≡ true)
 unfolding reply_words
-accept-room board b h header (Err s) p e = let two = then_some (begins_with_success (reply_words board b h (Err s))) (success_with b header (Err s)) (acceptance board) p e in let no = two.1 in absurd (cc)
-accept-room board b h header (Ok (Base c)) p e = let two = then_some (begins_with_success (reply_words board b h (Ok (Base c)))) (success_with b header (Ok (Base c))) (acceptance board) p e in let no = two.1 in absurd (cc)
+accept-room board b h header (Err s) p e = let two = then_some (begins_with_success (reply_words board b (situation_after board b h) (Err s))) (success_with b header (Err s)) (acceptance board) p e in let no = two.1 in absurd (cc)
+accept-room board b h header (Ok (Base c)) p e = let two = then_some (begins_with_success (reply_words board b (situation_after board b h) (Ok (Base c)))) (success_with b header (Ok (Base c))) (acceptance board) p e in let no = two.1 in absurd (cc)
 accept-room board b h header (Ok (Power c)) p e =
-    let two = then_some (begins_with_success (reply_words board b h (Ok (Power c)))) (success_with b header (Ok (Power c))) (acceptance board) p e in
+    let two = then_some (begins_with_success (reply_words board b (situation_after board b h) (Ok (Power c)))) (success_with b header (Ok (Power c))) (acceptance board) p e in
     let set = mapped _ (set_later c) p two.1 in
-    (sym (ap (λ q. q.agent) set.2), power-room board (power_view board b h) c set.0 two.0 set.1)
+    (sym (ap (λ q. q.agent) set.2), power-room board (power_view board b (situation_after board b h)) c set.0 two.0 set.1)
 accept-room board b h header (Ok (Clock c)) p e =
-    let two = then_some (begins_with_success (reply_words board b h (Ok (Clock c)))) (success_with b header (Ok (Clock c))) (acceptance board) p e in
+    let two = then_some (begins_with_success (reply_words board b (situation_after board b h) (Ok (Clock c)))) (success_with b header (Ok (Clock c))) (acceptance board) p e in
     let set = mapped _ (rate_later board c) p two.1 in
-    (sym (ap (λ q. q.agent) set.2), clock-room board (clock_view board b h) c set.0 two.0 set.1)
+    (sym (ap (λ q. q.agent) set.2), clock-room board (clock_view board b (situation_after board b h)) c set.0 two.0 set.1)
 
 both_true : (a b : Bool) → (a && b) ≡ true → (a ≡ true) × (b ≡ true)
 both_true true true e = (refl, refl)
@@ -119,20 +120,20 @@ both_true true false e = absurd (cc)
 both_true false b e = absurd (cc)
 
 -- what room says
-room_says : (board : Board) (a : ℕ) (h : List Deed) → has_room board a h ≡ true → (length (pending board h) < 8) × (length (outbox_after board a h) + length (pending_of board a h) < 16)
+room_says : (board : Board) (a : ℕ) (h : List Deed) → has_room a (situation_after board a h) ≡ true → (length (pending board h) < 8) × (length (outbox_after board a h) + length (pending_of board a h) < 16)
 room_says board a h e =
     let two = both_true _ _ e in
     (leb-true (suc (length (pending board h))) 8 two.0, leb-true (suc (length (outbox_after board a h) + length (pending_of board a h))) 16 two.1)
 
 -- at most one notification
-one_notice : (board : Board) (a : ℕ) (h : List Deed) (change : Option Change) → length (option_map_or (notice_for board a h) change []) ≤ 1
+one_notice : (board : Board) (a : ℕ) (h : List Deed) (change : Option Change) → length (option_map_or (notice_in (situation_after board a h)) change []) ≤ 1
 one_notice board a h None = omega arith
 one_notice board a h (Some change) = by change.thing where
   at_most : (b : Bool) (m : Message) → length (if b then m ∷ [] else []) ≤ 1
   at_most true m = omega arith
   at_most false m = omega arith
 
-  by : (x : Thing) → length (notice_for board a h (record { thing = x; value = change.value; causer = change.causer })) ≤ 1
+  by : (x : Thing) → length (notice_in (situation_after board a h) (record { thing = x; value = change.value; causer = change.causer })) ≤ 1
   by (State d) = at_most (not (change.value == value board (State d) h) && subscribed a d h) _
   by (Rate k) = omega arith
   by (Enabled k) = omega arith
@@ -152,7 +153,7 @@ made-within : (board : Board) (a : ℕ) (h : List Deed) (deed : Deed)
     → length (outbox_after board a h) + length (made_by board a h (made board a h) deed) + length (pending_of board a (h ++ deed ∷ [])) ≤ 16
 made-within board a h deed base =
     let responses = option_map_or (response_for a) (completed board h deed.event) [] in
-    let notices = option_map_or (notice_for board a h) (change_by board h deed) [] in
+    let notices = option_map_or (notice_in (situation_after board a h)) (change_by board h deed) [] in
     let left = length (pending_of board a (h ++ deed ∷ [])) in
     let load = length (outbox_after board a h) + length responses + left in
     let size : length (made_by board a h (made board a h) deed) ≡ length responses + (if nat_lt load 16 then length notices else 0)
@@ -170,7 +171,7 @@ fits-none board h had = record {
   loads = λ a. rw (append-nil (pending board h)) (had.loads a);
 }
 
-fits-some : (board : Board) (h : List Deed) (b : ℕ) (p : PendingSet) → HasBounds board h → p.agent ≡ b → has_room board b h ≡ true → Fits board h (Some p)
+fits-some : (board : Board) (h : List Deed) (b : ℕ) (p : PendingSet) → HasBounds board h → p.agent ≡ b → has_room b (situation_after board b h) ≡ true → Fits board h (Some p)
 fits-some board h b p had by room =
     let says = room_says board b h room in
     let less = says.0 in
@@ -186,7 +187,7 @@ fits-some board h b p had by room =
       by_agent a (inr other) = let old = had.loads a in rw other.0 (omega arith)
 
 fits : (board : Board) (h : List Deed) (b : ℕ) (header : HeaderFields) (r : Result codec.Command Status) → HasBounds board h → (o : Option PendingSet)
-    → option_and_then (acceptance board) (if begins_with_success (reply_words board b h r) then success_with b header r else None) ≡ o → Fits board h o
+    → option_and_then (acceptance board) (if begins_with_success (reply_words board b (situation_after board b h) r) then success_with b header r else None) ≡ o → Fits board h o
 fits board h b header r had None e = fits-none board h had
 fits board h b header r had (Some p) e = let two = accept-room board b h header r p e in fits-some board h b p had two.0 two.1
 

@@ -20,13 +20,14 @@ use Rattle.scmi_codec.specs.Payload.{if_success}
 use Rattle.scmi_core.specs.declared.pending_set.PendingSet.{PendingSet}
 use Rattle.scmi_core.specs.declared.tables.Tables.{Tables}
 use Rattle.std.specs.Option.{option_or, option_and_then, option_to_list}
-use Rattle.scmi_core.specs.Deed.{Success, success_with}
+use Rattle.scmi_core.specs.Deed.{Success, success_with, success_of}
 use Rattle.scmi_core.specs.Permissions.{permission_in}
 use Rattle.scmi_core.specs.Subscriptions.{subscription, ended}
 use Rattle.scmi_core.specs.Pending.{acceptance, rate_set, sets_by}
-use Rattle.scmi_core.specs.Value.{Change, change_now, Thing, State, Rate, Enabled, bit_value, value_in}
-use Rattle.scmi_core.specs.Tables.{outbox_at, value_at, IsThing, IsOfBoard}
-use Rattle.scmi_core.specs.Step.{made_at, success_of, change_of, HasStepped, SameButPending}
+use Rattle.scmi_core.specs.Value.{Change, change_now, Thing, State, Rate, Enabled, bit_value, value_in, change_of}
+use Rattle.scmi_core.specs.Tables.{outbox_at, value_at, IsThing, IsOfBoard, situation_in}
+use Rattle.scmi_core.specs.Outbox.{made_in}
+use Rattle.scmi_core.specs.Step.{HasStepped, SameButPending}
 use Rattle.scmi_core.proofs.Steps.{nothing_if, same_box, all_none, all_one}
 
 pick : {A : Type 0} (b : Bool) (x old : A) → unwrap_or (if b then Some x else None) old ≡ (if b then x else old)
@@ -95,7 +96,7 @@ enabled-value a k old (Some r) None one = refl
 enabled-value a k old (Some r) (Some e) (inl n) = absurd (cc)
 enabled-value a k old (Some r) (Some e) (inr n) = absurd (cc)
 
-no_notice : (t : Tables) (left : List PendingSet) (x a : ℕ) (rate : Option (ℕ × ℕ)) (enabled : Option (ℕ × Bool)) → [] ≡ made_at t left None (either a rate enabled) x
+no_notice : (t : Tables) (left : List PendingSet) (x a : ℕ) (rate : Option (ℕ × ℕ)) (enabled : Option (ℕ × Bool)) → [] ≡ made_in x (situation_in x t) left None (either a rate enabled)
 no_notice t left x a None None = sym (nothing_if (nat_lt (length (outbox_at t x) + 0 + length (sets_by x left)) 16))
 no_notice t left x a None (Some e) = sym (nothing_if (nat_lt (length (outbox_at t x) + 0 + length (sets_by x left)) 16))
 no_notice t left x a (Some r) e = sym (nothing_if (nat_lt (length (outbox_at t x) + 0 + length (sets_by x left)) 16))
@@ -145,7 +146,7 @@ clock-stepped board t new clocks' a header c reply later few lo hi is_later rate
           ∙ sym (append-nil (outbox_at t x))
           ∙ ap (λ b. outbox_at t x ++ b)
           (no_notice t new.pending.items x a (if_success reply (rate_now board c)) (if_success reply (enabled_now c))
-          ∙ ap (λ o. made_at t new.pending.items None o x) (sym change));
+          ∙ ap (λ o. made_in x (situation_in x t) new.pending.items None o) (sym change));
     } where
       values : (x : Thing) → IsThing board x → value_at new x ≡ unwrap_or (option_and_then (value_in x) (either a (if_success reply (rate_now board c)) (if_success reply (enabled_now c)))) (value_at t x)
       values (State d) within = ap (λ p. state_at p d) kept.power ∙ state-same a d (state_at t.power d) (if_success reply (rate_now board c)) (if_success reply (enabled_now c))
@@ -186,7 +187,7 @@ base-stepped board t new base' a header c reply permits ends states bases clocks
           ∙ sym (append-nil (outbox_at t x))
           ∙ ap (λ b. outbox_at t x ++ b)
           (sym (nothing_if (nat_lt (length (outbox_at t x) + 0 + length (sets_by x new.pending.items)) 16))
-          ∙ ap (λ o. made_at t new.pending.items None o x) (sym change));
+          ∙ ap (λ o. made_in x (situation_in x t) new.pending.items None o) (sym change));
     } where
       permitted : (b : Bool) (x d : ℕ) (scope : Scope) (old : Bool) → (if b then unwrap_or (permission x d scope c) old else old) ≡ unwrap_or (option_and_then (λ s. permission_in x d scope s.command) (if b then success_with a header (Ok (Base c)) else None)) old
       permitted true x d scope old = refl

@@ -22,14 +22,14 @@ use Rattle.scmi_core.specs.declared.pending_set.PendingSet.{PendingSet}
 use Rattle.scmi_core.specs.declared.pending_set.Setting.TheVariants as setting
 use Rattle.scmi_core.specs.declared.tables.Tables.{Tables}
 use Rattle.std.specs.Option.{option_or, option_and_then, option_to_list}
-use Rattle.scmi_core.specs.Deed.{success_with}
+use Rattle.scmi_core.specs.Deed.{success_with, success_of}
 use Rattle.scmi_core.specs.Permissions.{permission_in}
 use Rattle.scmi_core.specs.Subscriptions.{subscription}
 use Rattle.scmi_core.specs.Pending.{acceptance, state_set, sets_by}
-use Rattle.scmi_core.specs.Value.{Change, change_now, Thing, State, Rate, Enabled, bit_value, value_in}
-use Rattle.scmi_core.specs.Outbox.{state_changed, response_for}
-use Rattle.scmi_core.specs.Tables.{outbox_at, load_at, value_at, IsThing, IsOfBoard}
-use Rattle.scmi_core.specs.Step.{notice_at, made_at, success_of, change_of, HasStepped, SameButOutboxes, SameButPending, announced_at, set_domain}
+use Rattle.scmi_core.specs.Value.{Change, change_now, Thing, State, Rate, Enabled, bit_value, value_in, change_of}
+use Rattle.scmi_core.specs.Outbox.{made_in, notice_in, state_changed, response_for}
+use Rattle.scmi_core.specs.Tables.{outbox_at, load_at, situation_in, value_at, IsThing, IsOfBoard}
+use Rattle.scmi_core.specs.Step.{HasStepped, SameButOutboxes, SameButPending, announced_at, set_domain}
 
 pick : {A : Type 0} (b : Bool) (x old : A) → unwrap_or (if b then Some x else None) old ≡ (if b then x else old)
 pick true x old = refl
@@ -154,7 +154,7 @@ nothing_asked reply o old e = rw e (by (begins_with_success reply)) where
 -- what is announced is what is made, where no response is
 pub announced-made : (t n : Tables) (left : List PendingSet) (x a : ℕ) (changed : Option (ℕ × ℕ)) (before : ℕ) → n.outboxes ≡ t.outboxes → n.pending.items ≡ left
     → ((set : ℕ × ℕ) → changed ≡ Some set → (before ≡ state_at t.power set.0) × (is_subscribed n.power x set.0 ≡ is_subscribed t.power x set.0))
-    → announced_at n x a changed before ≡ made_at t left None (option_map (state_change a) changed) x
+    → announced_at n x a changed before ≡ made_in x (situation_in x t) left None (option_map (state_change a) changed)
 announced-made t n left x a None before boxes pend facts = sym (nothing_if (nat_lt (length (outbox_at t x) + 0 + length (sets_by x left)) 16))
 announced-made t n left x a (Some set) before boxes pend facts =
     let fact = facts set refl in
@@ -193,7 +193,7 @@ power-stepped board t n new power' a header c reply changed later before few few
           ∙ ap (λ b. b ++ announced_at n x a changed before) (same_box t n x kept1.outboxes)
           ∙ ap (λ b. outbox_at t x ++ b)
           (announced-made t n new.pending.items x a changed before kept1.outboxes (sym (ap (λ p. p.items) kept2.pending)) (facts x lo' hi')
-          ∙ ap (λ o. made_at t new.pending.items None o x) (sym change));
+          ∙ ap (λ o. made_in x (situation_in x t) new.pending.items None o) (sym change));
     } where
       values : (x : Thing) → IsThing board x → value_at new x ≡ unwrap_or (option_and_then (value_in x) (option_map (state_change a) changed)) (value_at t x)
       values (State d) within = ap (λ p. state_at p d) (kept2.power ∙ kept1.power) ∙ states d (omega arith) ∙ state-value a d (state_at t.power d) changed
@@ -215,7 +215,7 @@ power-stepped board t n new power' a header c reply changed later before few few
 announced-after : (t m : Tables) (left : List PendingSet) (responses : List Message) (x a d s before : ℕ) (subscribers : List ℕ)
     → outbox_at m x ≡ outbox_at t x ++ responses → m.pending.items ≡ left → before ≡ state_at t.power d → is_subscribed m.power x d ≡ is_subscribed t.power x d
     → announced_at m x a (Some (d, s)) before
-    ≡ (if nat_lt (length (outbox_at t x) + length responses + length (sets_by x left)) 16 then notice_at t x (state_change a (d, s)) else [])
+    ≡ (if nat_lt (length (outbox_at t x) + length responses + length (sets_by x left)) 16 then notice_in (situation_in x t) (state_change a (d, s)) else [])
 announced-after t m left responses x a d s before subscribers box pend was subs =
     told-notice (nat_lt (load_at m x) 16) (is_subscribed m.power x d) (s == before) (state_changed a d s)
     ∙ ap (λ b. if b then (if not (s == before) && is_subscribed m.power x d then state_changed a d s ∷ [] else []) else [])

@@ -1,7 +1,6 @@
 -- Tables that agree with a history, and what one more event leaves of that.
-use Rattle.std.proofs.Common.{◌≡◌, ◌≢◌, ◌⊎◌, inl, inr, ℕ, ◌+◌, ◌<◌, ◌≤◌, ◌==◌, ◌&&◌, nat_lt, Bool, true, false, not, List, [], ◌∷◌, ◌++◌, length, drop, slice_get, Option, Some, None, IfSome, Result, Ok, Err, unwrap_or, refl, sym, ap, ◌∙◌, subst, arith, if◌then◌else◌}
-use Rattle.std.specs.List.{All, list_any}
-use Rattle.std.specs.Option.{option_map_or}
+use Rattle.std.proofs.Common.{◌≡◌, ◌≢◌, ◌⊎◌, inl, inr, ℕ, ◌+◌, ◌<◌, ◌≤◌, ◌==◌, nat_lt, Bool, true, false, List, [], ◌∷◌, ◌++◌, length, drop, slice_get, None, Err, unwrap_or, refl, sym, ap, ◌∙◌, subst, arith, if◌then◌else◌}
+use Rattle.std.specs.List.{All}
 use Rattle.std.proofs.lemmas.List.{append-nil, drop-drop}
 use Rattle.std.proofs.lemmas.List.Elements.{All-nil}
 use Rattle.std.proofs.lemmas.Bool.{eq-eqb}
@@ -13,113 +12,63 @@ use Rattle.scmi_codec.specs.declared.status.Status.{Status}
 use Rattle.scmi_codec.specs.declared.message.Message.{Message}
 use Rattle.scmi_codec.specs.declared.frame.Frame.{Frame}
 use Rattle.scmi_codec.specs.declared.frame.Frame.TheVariants.{Good, Malformed}
-use Rattle.scmi_codec.specs.declared.frame.Answer.TheVariants.{Reply}
-use Rattle.scmi_codec.specs.declared.command.Command as codec
-use Rattle.scmi_codec.specs.declared.command.Command.TheVariants.{Base, Power, Clock}
 use Rattle.scmi_plan.specs.Board.{Board}
-use Rattle.scmi_plan.specs.declared.resource.Resource.TheVariants as resource
 use Rattle.scmi_plan.specs.Plan.{IsLawful}
 use Rattle.scmi_base.specs.Permission.{is_allowed}
 use Rattle.scmi_base.specs.declared.scope.Scope.{Scope}
-use Rattle.scmi_base.proofs.MaySame.{may-same}
 use Rattle.scmi_power.specs.PowerTable.{state_at, is_subscribed}
-use Rattle.scmi_power.proofs.ReplySame as power_same
 use Rattle.scmi_clock.specs.ClockTable.{rate_at, enabled_at}
-use Rattle.scmi_clock.proofs.ReplySame as clock_same
 use Rattle.scmi_core.specs.declared.pending_set.PendingSet.{PendingSet}
 use Rattle.scmi_core.specs.declared.event.Event.{Event}
 use Rattle.scmi_core.specs.declared.event.Event.TheVariants.{Command, Advance, Sent}
 use Rattle.scmi_core.specs.declared.tables.Tables.{Tables}
 use Rattle.std.specs.Option.{option_to_list, option_and_then}
-use Rattle.scmi_core.specs.Deed.{Deed, success_with, over}
+use Rattle.scmi_core.specs.Deed.{Deed, success_with, over, success_of}
 use Rattle.scmi_core.specs.Permissions.{permission_in, allowed}
 use Rattle.scmi_core.specs.Subscriptions.{subscription, subscribed}
-use Rattle.scmi_core.specs.Value.{value, Change, change_by, completed, Thing, State, Rate, Enabled, bit_value, value_in, value_at_start}
-use Rattle.scmi_core.specs.Pending.{acceptance, pending, pending_of, sets_by, is_set_by}
-use Rattle.scmi_core.specs.Outbox.{made, made_by, outbox_after, sent, is_sent_by, notice_for, response_for, state_changed}
+use Rattle.scmi_core.specs.Value.{value, change_by, completed, Thing, State, Rate, Enabled, bit_value, value_in, value_at_start, change_of}
+use Rattle.scmi_core.specs.Pending.{acceptance, pending, pending_of, sets_by}
+use Rattle.scmi_core.specs.Outbox.{made, made_by, made_in, outbox_after, sent, is_sent_by, situation_after}
 use Rattle.scmi_core.specs.History.{answer_to, deeds, outbox}
 use Rattle.scmi_core.specs.Legal.{CanFollow}
-use Rattle.scmi_core.specs.Reply.{reply_words, power_view, clock_view, has_room}
-use Rattle.scmi_core.specs.Tables.{outbox_at, has_room_at, value_at, IsThing, IsOfBoard, frame_answer_at, table_words, power_view_at, clock_view_at}
-use Rattle.scmi_core.specs.Step.{notice_at, made_at, success_of, HasAnswered, change_of, rest_of, HasStepped}
+use Rattle.scmi_core.specs.Reply.{answer_in, reply_words}
+use Rattle.scmi_core.specs.Tables.{outbox_at, situation_in, value_at, IsThing, IsOfBoard}
+use Rattle.scmi_core.specs.Step.{HasAnswered, rest_of, HasStepped}
 use Rattle.scmi_core.specs.Agreement.{Agrees}
 use Rattle.scmi_core.proofs.Deeds.{added, allowed-push, subscribed-push, value-push, pending-push, pending-advance, outbox-push, IsLegal-push, made-push, sent-push}
 use Rattle.scmi_core.proofs.Legal.{IsLegal-nil, deeds-push, advances_le-accepted, sent_le-made}
 use Rattle.scmi_core.proofs.Steps.{nothing_if}
+use Rattle.scmi_core.proofs.Situations.{SameSituation, answer-same, made-same, reply-same}
 
--- THE REPLY
-
-module _ (board : Board) (t : Tables) (h : List Event) (agrees : Agrees board t h) (law : IsLawful board) (a : ℕ) (lo : 1 ≤ a) (hi : a ≤ length board.agents) where
-  few : a ≤ 8
-  few = omega (arith, law.few_agents)
-
-  room : has_room_at t a ≡ has_room board a (deeds board h)
-  unfolding outbox
-  room =
-      ap (λ p. nat_lt (length p) 8 && nat_lt (length (outbox_at t a) + length (sets_by a p)) 16) agrees.pending_sets
-      ∙ ap (λ b. nat_lt (length (pending board (deeds board h))) 8 && nat_lt (length b + length (pending_of board a (deeds board h))) 16) (agrees.outboxes a lo hi)
-
-  pub reply-table : (r : Result codec.Command Status) → table_words board a t r ≡ reply_words board a (deeds board h) r
-  unfolding table_words reply_words
-  reply-table (Err s) = refl
-  reply-table (Ok (Base c)) = refl
-  reply-table (Ok (Power c)) =
-      power_same.power_reply-same board (power_view_at board a t) (power_view board a (deeds board h))
-      (record {
-        state = λ d small. agrees.values (State d) small;
-        may = λ d small. may-same board (λ device. is_allowed t.base a device) (λ device scope. allowed a device scope (deeds board h)) (resource.Domain d)
-            (λ device scope within. agrees.permissions a device scope lo few (omega (arith, law.few_devices)));
-        busy = λ d small. ap (λ p. list_any (λ q. is_set_by (resource.Domain d) q.setting) p) agrees.pending_sets;
-        room = room;
-      }) c
-  reply-table (Ok (Clock c)) =
-      clock_same.clock_reply-same board (clock_view_at board a t) (clock_view board a (deeds board h))
-      (record {
-        rate = λ k small. agrees.values (Rate k) small;
-        enabled = λ k small. said (enabled_at t.clocks k) ∙ ap (λ n. n == 1) (agrees.values (Enabled k) small);
-        may = λ k small. may-same board (λ device. is_allowed t.base a device) (λ device scope. allowed a device scope (deeds board h)) (resource.Clock k)
-            (λ device scope within. agrees.permissions a device scope lo few (omega (arith, law.few_devices)));
-        busy = λ k small. ap (λ p. list_any (λ q. is_set_by (resource.Clock k) q.setting) p) agrees.pending_sets;
-        room = room;
-      }) c where
-        said : (b : Bool) → b ≡ (bit_value b == 1)
-        said true = refl
-        said false = refl
+-- the tables say of each agent what the history says
+pub same-situation : (board : Board) (t : Tables) (h : List Event) (a : ℕ) → Agrees board t h → IsLawful board → 1 ≤ a → a ≤ length board.agents
+    → SameSituation board (situation_in a t) (situation_after board a (deeds board h))
+unfolding outbox
+same-situation board t h a agrees law lo hi =
+    let few : a ≤ 8 = omega (arith, law.few_agents) in
+    record {
+      value = agrees.values;
+      allowed = λ device scope within. agrees.permissions a device scope lo few (omega (arith, law.few_devices));
+      subscribed = λ d within. agrees.subscriptions a d lo few (omega (arith, law.few_domains));
+      pending = agrees.pending_sets;
+      outbox = agrees.outboxes a lo hi;
+    }
 
 -- ONE MORE EVENT
-
--- the notification by tables is the history's
-notice-same : (board : Board) (t : Tables) (h : List Event) → Agrees board t h → length board.agents ≤ 8 → length board.domains ≤ 32 → (a : ℕ) → 1 ≤ a → a ≤ length board.agents
-    → (change : Change) → IsThing board change.thing → notice_at t a change ≡ notice_for board a (deeds board h) change
-notice-same board t h agrees few domains a lo hi change known = by change.thing known where
-  by : (x : Thing) → IsThing board x → notice_at t a (record { thing = x; value = change.value; causer = change.causer }) ≡ notice_for board a (deeds board h) (record { thing = x; value = change.value; causer = change.causer })
-  by (State d) within =
-      ap (λ v. if not (change.value == v) && is_subscribed t.power a d then state_changed change.causer d change.value ∷ [] else []) (agrees.values (State d) within)
-      ∙ ap (λ b. if not (change.value == value board (State d) (deeds board h)) && b then state_changed change.causer d change.value ∷ [] else []) (agrees.subscriptions a d lo (omega (arith, few)) (omega (arith, domains)))
-  by (Rate k) within = refl
-  by (Enabled k) within = refl
-
-notices-same : (board : Board) (t : Tables) (h : List Event) → Agrees board t h → length board.agents ≤ 8 → length board.domains ≤ 32 → (a : ℕ) → 1 ≤ a → a ≤ length board.agents
-    → (change : Option Change) → IfSome change (λ ch. IsThing board ch.thing) → option_map_or (notice_at t a) change [] ≡ option_map_or (notice_for board a (deeds board h)) change []
-notices-same board t h agrees few_agents domains a lo hi None known = refl
-notices-same board t h agrees few_agents domains a lo hi (Some change) known = notice-same board t h agrees few_agents domains a lo hi change known
 
 -- a deed, and the tables that it leaves
 module _ (board : Board) (t new : Tables) (h : List Event) (deed : Deed) (agrees : Agrees board t h) (law : IsLawful board)
     (stepped : HasStepped board t (added deed) (completed board (deeds board h) deed.event) new)
     (pend : new.pending.items ≡ pending board (deeds board h ++ deed ∷ [])) where
-  made-same : (a : ℕ) → 1 ≤ a → a ≤ length board.agents
-      → made_at t new.pending.items (completed board (deeds board h) deed.event) (change_of board (added deed) (completed board (deeds board h) deed.event)) a
+  made-tied : (a : ℕ) → 1 ≤ a → a ≤ length board.agents
+      → made_in a (situation_in a t) new.pending.items (completed board (deeds board h) deed.event) (change_of board (added deed) (completed board (deeds board h) deed.event))
       ≡ made_by board a (deeds board h) (made board a (deeds board h)) deed
-  unfolding outbox
-  made-same a lo hi =
+  made-tied a lo hi =
       let done = completed board (deeds board h) deed.event in
       let change = change_of board (added deed) done in
-      let responses = option_map_or (response_for a) done [] in
-      ap (λ b. responses ++ (if nat_lt (length b + length responses + length (sets_by a new.pending.items)) 16 then option_map_or (notice_at t a) change [] else [])) (agrees.outboxes a lo hi)
-      ∙ ap (λ p. responses ++ (if nat_lt (length (outbox board a h) + length responses + length (sets_by a p)) 16 then option_map_or (notice_at t a) change [] else [])) pend
-      ∙ ap (λ n. responses ++ (if nat_lt (length (outbox board a h) + length responses + length (sets_by a (pending board (deeds board h ++ deed ∷ [])))) 16 then n else []))
-      (notices-same board t h agrees law.few_agents law.few_domains a lo hi change stepped.known)
+      ap (λ left. made_in a (situation_in a t) left done change) pend
+      ∙ made-same board a (situation_in a t) (situation_after board a (deeds board h)) (same-situation board t h a agrees law lo hi)
+      (pending board (deeds board h ++ deed ∷ [])) done change stepped.known
 
   Agrees-deed : (e : Event) → deeds board (h ++ e ∷ []) ≡ deeds board h ++ deed ∷ [] → CanFollow board h e → ((a : ℕ) → is_sent_by a deed.event ≡ false) → Agrees board new (h ++ e ∷ [])
   unfolding outbox
@@ -141,19 +90,19 @@ module _ (board : Board) (t new : Tables) (h : List Event) (deed : Deed) (agrees
     known = stepped.known_sets agrees.known;
     outboxes = λ a lo hi.
         stepped.outboxes a lo hi
-        ∙ ap (λ b. b ++ made_at t new.pending.items (completed board (deeds board h) deed.event) (change_of board (added deed) (completed board (deeds board h) deed.event)) a) (agrees.outboxes a lo hi)
-        ∙ ap (λ b. outbox board a h ++ b) (made-same a lo hi)
+        ∙ ap (λ b. b ++ made_in a (situation_in a t) new.pending.items (completed board (deeds board h) deed.event) (change_of board (added deed) (completed board (deeds board h) deed.event))) (agrees.outboxes a lo hi)
+        ∙ ap (λ b. outbox board a h ++ b) (made-tied a lo hi)
         ∙ sym (ap (outbox_after board a) more ∙ outbox-push board a (deeds board h) deed (unsent a) (sent_le-made board h agrees.legal a));
   }
 
 -- a command
 pub Agrees-command : (board : Board) (t new : Tables) (h : List Event) (a : ℕ) (m : Message) (reply : List ℕ) → Agrees board t h → IsLawful board → 1 ≤ a → a ≤ length board.agents
-    → reply ≡ table_words board a t (command_of m) → HasStepped board t (success_of a m.header (command_of m) reply) None new
+    → reply ≡ reply_words board a (situation_in a t) (command_of m) → HasStepped board t (success_of a m.header (command_of m) reply) None new
     → Agrees board new (h ++ Command a (Good m) ∷ [])
 Agrees-command board t new h a m reply agrees law lo hi is stepped =
-    let words : reply ≡ reply_words board a (deeds board h) (command_of m) = is ∙ reply-table board t h agrees law a lo hi (command_of m) in
-    let deed : Deed = record { event = Command a (Good m); reply = reply_words board a (deeds board h) (command_of m) } in
-    let stepped' : HasStepped board t (success_of a m.header (command_of m) (reply_words board a (deeds board h) (command_of m))) None new = subst (λ r. HasStepped board t (success_of a m.header (command_of m) r) None new) words stepped in
+    let words : reply ≡ reply_words board a (situation_after board a (deeds board h)) (command_of m) = is ∙ reply-same board a (situation_in a t) (situation_after board a (deeds board h)) (same-situation board t h a agrees law lo hi) (command_of m) in
+    let deed : Deed = record { event = Command a (Good m); reply = reply_words board a (situation_after board a (deeds board h)) (command_of m) } in
+    let stepped' : HasStepped board t (success_of a m.header (command_of m) (reply_words board a (situation_after board a (deeds board h)) (command_of m))) None new = subst (λ r. HasStepped board t (success_of a m.header (command_of m) r) None new) words stepped in
     Agrees-deed board t new h deed agrees law stepped'
     (stepped'.pending_sets ∙ ap (λ p. p ++ option_to_list (option_and_then (acceptance board) (added deed))) agrees.pending_sets ∙ sym (pending-push board (deeds board h) deed refl (advances_le-accepted board h agrees.legal)))
     (Command a (Good m)) (deeds-push board h (Command a (Good m))) (lo, hi) (λ x. refl)
@@ -190,16 +139,15 @@ Agrees-malformed board t h a len header agrees law lo hi =
 pub Agrees-answered : (board : Board) (t new : Tables) (h : List Event) (a : ℕ) (frame : Frame) → Agrees board t h → IsLawful board → 1 ≤ a → a ≤ length board.agents
     → HasAnswered board a frame t new → Agrees board new (h ++ Command a frame ∷ [])
 Agrees-answered board t new h a (Good m) agrees law lo hi answered =
-    Agrees-command board t new h a m (table_words board a t (command_of m)) agrees law lo hi refl answered
+    Agrees-command board t new h a m (reply_words board a (situation_in a t) (command_of m)) agrees law lo hi refl answered
 Agrees-answered board t new h a (Malformed len header) agrees law lo hi answered =
     subst (λ s. Agrees board s (h ++ Command a (Malformed len header) ∷ [])) (sym answered) (Agrees-malformed board t h a len header agrees law lo hi)
 
 -- the answer of the tables is that of the history
 pub answer-table : (board : Board) (t : Tables) (h : List Event) (a : ℕ) (frame : Frame) → Agrees board t h → IsLawful board → 1 ≤ a → a ≤ length board.agents
-    → frame_answer_at board a t frame ≡ answer_to board a frame h
-answer-table board t h a (Good m) agrees law lo hi =
-    ap (λ words. Reply (record { header = m.header; payload = record { items = words } })) (reply-table board t h agrees law a lo hi (command_of m))
-answer-table board t h a (Malformed len header) agrees law lo hi = refl
+    → answer_in board a frame (situation_in a t) ≡ answer_to board a frame h
+answer-table board t h a frame agrees law lo hi =
+    answer-same board a (situation_in a t) (situation_after board a (deeds board h)) (same-situation board t h a agrees law lo hi) frame
 
 rest-drop : (t : Tables) (p : List PendingSet) → 0 < length p → rest_of t (slice_get p 0) ++ [] ≡ drop 1 t.pending.items
 rest-drop t [] waiting = elim waiting [ ]

@@ -40,9 +40,13 @@ abbrev pub success_with : ℕ → HeaderFields → Result codec.Command Status �
 success_with a header (Ok c) = Some (record { caller = a; header = header; command = c })
 success_with a header (Err e) = None
 
+-- a message that got this reply, as a success
+abbrev pub success_of : ℕ → HeaderFields → Result codec.Command Status → List ℕ → Option Success
+success_of a header r reply = if begins_with_success reply then success_with a header r else None
+
 -- the success that an event with this reply is
 abbrev pub success_at : Event → List ℕ → Option Success
-success_at (Command a (Good m)) reply = if begins_with_success reply then success_with a m.header (command_of m) else None
+success_at (Command a (Good m)) reply = success_of a m.header (command_of m) reply
 success_at _ reply = None
 
 -- the successful commands, in order

@@ -5,7 +5,7 @@ use Rattle.std.specs.Option.{option_and_then}
 use Rattle.scmi_codec.specs.Command.{command_of}
 use Rattle.scmi_codec.specs.declared.message.Message.{Message}
 use Rattle.scmi_codec.specs.declared.frame.Frame.{Frame}
-use Rattle.scmi_codec.specs.declared.frame.Frame.TheVariants.{Good, Malformed}
+use Rattle.scmi_codec.specs.declared.frame.Frame.TheVariants.{Good}
 use Rattle.scmi_codec.specs.declared.frame.Answer.{Answer}
 use Rattle.scmi_codec.specs.declared.frame.Answer.TheVariants.{Reply, ChannelError}
 use Rattle.scmi_core.specs.declared.answered.Answered.{Answered}
@@ -16,14 +16,14 @@ use Rattle.scmi_plan.specs.declared.resource.Resource.{Resource}
 use Rattle.scmi_core.specs.declared.event.Event.{Event}
 use Rattle.scmi_core.specs.declared.event.Event.TheVariants.{Command}
 use Rattle.scmi_core.specs.Deed.{Deed}
-use Rattle.scmi_core.specs.Outbox.{made, outbox_after, sent}
+use Rattle.scmi_core.specs.Outbox.{made, outbox_after, sent, situation_after}
 use Rattle.scmi_core.specs.Pending.{is_pending, pending}
-use Rattle.scmi_core.specs.Reply.{reply_after, reply_words}
+use Rattle.scmi_core.specs.Reply.{answer_in, reply_in, reply_words}
 use Rattle.scmi_core.specs.Value.{Thing, value}
 
 -- an event with the payload of its reply, after these deeds
 abbrev pub deed_after : Board → List Deed → Event → Deed
-deed_after board h (Command a (Good m)) = record { event = Command a (Good m); reply = reply_words board a h (command_of m) }
+deed_after board h (Command a (Good m)) = record { event = Command a (Good m); reply = reply_words board a (situation_after board a h) (command_of m) }
 deed_after board h event = record { event = event; reply = [] }
 
 -- each event with its reply at its prefix
@@ -32,12 +32,11 @@ deeds board h = fold (λ before event. before ++ deed_after board before event �
 
 -- the reply to a message of agent a after a history
 abbrev pub scmi : Board → ℕ → Message → List Event → Message
-scmi board a m h = reply_after board a m (deeds board h)
+scmi board a m h = reply_in board a m (situation_after board a (deeds board h))
 
--- the answer to a frame of agent a after a history: the reply to a message, a channel error to a malformed frame
+-- the answer to a frame of agent a after a history
 abbrev pub answer_to : Board → ℕ → Frame → List Event → Answer
-answer_to board a (Good m) h = Reply (scmi board a m h)
-answer_to board a (Malformed len header) h = ChannelError
+answer_to board a frame h = answer_in board a frame (situation_after board a (deeds board h))
 
 -- the answer that stands as a reply beside what was answered
 abbrev pub answer_with : Answered → Message → Answer

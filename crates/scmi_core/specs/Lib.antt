@@ -3,6 +3,7 @@ pub mod Permissions
 pub mod Subscriptions
 pub mod Pending
 pub mod Value
+pub mod Situation
 pub mod Outbox
 pub mod Reply
 pub mod History

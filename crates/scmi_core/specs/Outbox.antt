@@ -1,5 +1,5 @@
 -- The messages that the platform makes for an agent, and those that are not yet posted.
-use Rattle.std.specs.Prelude.{ℕ, ◌+◌, ◌==◌, ◌&&◌, Bool, false, not, nat_lt, if◌then◌else◌, List, [], ◌∷◌, ◌++◌, length, drop, count_by}
+use Rattle.std.specs.Prelude.{ℕ, ◌+◌, ◌==◌, ◌&&◌, Bool, false, not, nat_lt, if◌then◌else◌, List, [], ◌∷◌, ◌++◌, length, drop, count_by, Option}
 use Rattle.std.specs.Option.{option_map_or}
 use Rattle.scmi_codec.specs.Header.{HeaderFields}
 use Rattle.scmi_codec.specs.declared.message.Message.{Message}
@@ -11,7 +11,9 @@ use Rattle.scmi_core.specs.declared.event.Event.{Event}
 use Rattle.scmi_core.specs.declared.event.Event.TheVariants.{Sent}
 use Rattle.scmi_core.specs.Value.{Change, State, Thing, change_by, completed, value}
 use Rattle.scmi_core.specs.Deed.{Deed, over}
-use Rattle.scmi_core.specs.Pending.{pending_of}
+use Rattle.scmi_core.specs.Pending.{pending, sets_by}
+use Rattle.scmi_core.specs.Permissions.{allowed}
+use Rattle.scmi_core.specs.Situation.{Situation}
 use Rattle.scmi_core.specs.Subscriptions.{subscribed}
 use Rattle.scmi_core.specs.declared.pending_set.Setting.TheVariants as setting
 use Rattle.scmi_core.specs.declared.outbox.TheConstants.{OUTBOX_ROOM}
@@ -45,12 +47,12 @@ state_changed causer d state =
 abbrev pub response_for : ℕ → PendingSet → List Message
 response_for a p = if p.agent == a && p.wanted then response_to p.header p.setting ∷ [] else []
 
--- the notification that a change makes for agent a: of a state that is another than before, where a asked to be told; the causer is told as well (own)
-abbrev pub notice_for : Board → ℕ → List Deed → Change → List Message
-notice_for board a before change = notice change.thing where
+-- the notification that a change makes for an agent: of a state that is another than before, where the agent asked to be told; the causer is told as well (own)
+abbrev pub notice_in : Situation → Change → List Message
+notice_in s change = notice change.thing where
   notice : Thing → List Message
   notice (State d) =
-      if not (change.value == value board (State d) before) && subscribed a d before
+      if not (change.value == s.value (State d)) && s.subscribed d
       then state_changed change.causer d change.value ∷ [] else []
   notice _ = []
 
@@ -63,13 +65,30 @@ is_sent_by a _ = false
 abbrev pub sent : ℕ → List Deed → ℕ
 sent a h = count_by (λ deed. is_sent_by a deed.event) h
 
--- what a deed makes for agent a, given the deeds before it and what they made: the delayed response, and then the notification if outbox and pending sets are below 16 (own)
+-- what an event makes for agent a, by the sets that it leaves pending, the set that it completes and the change that it makes: the delayed response, and then the notification if outbox and pending sets are below 16 (own)
+abbrev pub made_in : ℕ → Situation → List PendingSet → Option PendingSet → Option Change → List Message
+made_in a s left done change =
+    let responses = option_map_or (response_for a) done [] in
+    let notices = option_map_or (notice_in s) change [] in
+    let load = length s.outbox + length responses + length (sets_by a left) in
+    responses ++ (if nat_lt load OUTBOX_ROOM then notices else [])
+
+-- the situation of agent a after some deeds, given what they made for it
+abbrev pub situation_with : Board → ℕ → List Message → List Deed → Situation
+situation_with board a so_far h =
+    record {
+      value = λ x. value board x h;
+      allowed = λ device scope. allowed a device scope h;
+      subscribed = λ d. subscribed a d h;
+      pending = pending board h;
+      outbox = drop (sent a h) so_far;
+    }
+
+-- what a deed makes for agent a, given the deeds before it and what they made
 abbrev pub made_by : Board → ℕ → List Deed → List Message → Deed → List Message
 made_by board a before so_far deed =
-    let responses = option_map_or (response_for a) (completed board before deed.event) [] in
-    let notices = option_map_or (notice_for board a before) (change_by board before deed) [] in
-    let load = length (drop (sent a before) so_far) + length responses + length (pending_of board a (before ++ deed ∷ [])) in
-    responses ++ (if nat_lt load OUTBOX_ROOM then notices else [])
+    made_in a (situation_with board a so_far before)
+    (pending board (before ++ deed ∷ [])) (completed board before deed.event) (change_by board before deed)
 
 -- all messages made for agent a, in order
 abbrev pub made : Board → ℕ → List Deed → List Message
@@ -78,3 +97,7 @@ made board a h = over (λ before so_far deed. so_far ++ made_by board a before s
 -- the messages made for agent a and not yet posted
 abbrev pub outbox_after : Board → ℕ → List Deed → List Message
 outbox_after board a h = drop (sent a h) (made board a h)
+
+-- the situation of agent a after some deeds
+abbrev pub situation_after : Board → ℕ → List Deed → Situation
+situation_after board a h = situation_with board a (made board a h) h

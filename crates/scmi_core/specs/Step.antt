@@ -1,10 +1,9 @@
 -- What an event leaves of the tables.
-use Rattle.std.specs.Prelude.{◌≡◌, ℕ, ◌+◌, ◌==◌, ◌&&◌, not, nat_lt, if◌then◌else◌, List, [], ◌∷◌, ◌++◌, length, drop, Option, Some, None, unwrap_or, option_map, Result, ◌<◌, ◌≤◌, IfSome}
-use Rattle.std.specs.Option.{option_map_or, option_and_then, option_or, option_to_list}
+use Rattle.std.specs.Prelude.{◌≡◌, ℕ, ◌==◌, ◌&&◌, nat_lt, if◌then◌else◌, List, [], ◌∷◌, ◌++◌, length, drop, Option, Some, None, unwrap_or, Result, ◌<◌, ◌≤◌, IfSome}
+use Rattle.std.specs.Option.{option_map_or, option_and_then, option_to_list}
 use Rattle.std.specs.List.{All}
 use Rattle.scmi_codec.specs.Header.{HeaderFields}
 use Rattle.scmi_codec.specs.Command.{command_of}
-use Rattle.scmi_codec.specs.Payload.{begins_with_success}
 use Rattle.scmi_codec.specs.declared.status.Status.{Status}
 use Rattle.scmi_codec.specs.declared.message.Message.{Message}
 use Rattle.scmi_codec.specs.declared.frame.Frame.{Frame}
@@ -16,42 +15,18 @@ use Rattle.scmi_plan.specs.Board.{Board}
 use Rattle.scmi_plan.specs.declared.limits.TheConstants.{AGENTS, DEVICES, DOMAINS}
 use Rattle.scmi_base.specs.Permission.{is_allowed}
 use Rattle.scmi_base.specs.declared.scope.Scope.{Scope}
-use Rattle.scmi_power.specs.PowerTable.{state_at, is_subscribed}
+use Rattle.scmi_power.specs.PowerTable.{is_subscribed}
 use Rattle.scmi_core.specs.declared.pending_set.PendingSet.{PendingSet}
 use Rattle.scmi_core.specs.declared.tables.Tables.{Tables}
-use Rattle.scmi_core.specs.Value.{Change, State, Thing, change_now, completion, value_in}
-use Rattle.scmi_core.specs.Tables.{Gets, IsOfBoard, IsThing, load_at, outbox_at, table_words, value_at}
-use Rattle.scmi_core.specs.Deed.{Success, success_with}
-use Rattle.scmi_core.specs.Pending.{acceptance, sets_by}
+use Rattle.scmi_core.specs.Value.{Thing, change_of, value_in}
+use Rattle.scmi_core.specs.Tables.{Gets, IsOfBoard, IsThing, load_at, situation_in, value_at}
+use Rattle.scmi_core.specs.Deed.{Success, success_of}
+use Rattle.scmi_core.specs.Pending.{acceptance}
 use Rattle.scmi_core.specs.Permissions.{permission_in}
-use Rattle.scmi_core.specs.Outbox.{response_for, state_changed}
+use Rattle.scmi_core.specs.Outbox.{made_in, state_changed}
+use Rattle.scmi_core.specs.Reply.{reply_words}
 use Rattle.scmi_core.specs.Subscriptions.{subscription}
 use Rattle.scmi_core.specs.declared.outbox.TheConstants.{OUTBOX_ROOM}
-
--- the notification that a change makes for agent a
-abbrev pub notice_at : Tables → ℕ → Change → List Message
-notice_at t a change = notice change.thing where
-  notice : Thing → List Message
-  notice (State d) =
-      if not (change.value == state_at t.power d) && is_subscribed t.power a d
-      then state_changed change.causer d change.value ∷ [] else []
-  notice _ = []
-
--- what an event makes for agent a: a delayed response, and then a notification if there is room for it beside the sets still pending
-abbrev pub made_at : Tables → List PendingSet → Option PendingSet → Option Change → ℕ → List Message
-made_at t left done change a =
-    let responses = option_map_or (response_for a) done [] in
-    let notices = option_map_or (notice_at t a) change [] in
-    let load = length (outbox_at t a) + length responses + length (sets_by a left) in
-    responses ++ (if nat_lt load OUTBOX_ROOM then notices else [])
-
--- a message that got this reply, as a success
-abbrev pub success_of : ℕ → HeaderFields → Result codec.Command Status → List ℕ → Option Success
-success_of a header r reply = if begins_with_success reply then success_with a header r else None
-
--- the change that a success or a completed set makes
-abbrev pub change_of : Board → Option Success → Option PendingSet → Option Change
-change_of board success done = option_or (option_map completion done) (option_and_then (change_now board) success)
 
 -- the pending sets that stay after an event that may complete the first
 abbrev pub rest_of : Tables → Option PendingSet → List PendingSet
@@ -66,7 +41,7 @@ pub record HasStepped (board : Board) (t : Tables) (success : Option Success) (d
   pub known : IfSome (change_of board success done) (λ change. IsThing board change.thing)
   pub pending_sets : new.pending.items ≡ rest_of t done ++ option_to_list (option_and_then (acceptance board) success)
   pub known_sets : All (IsOfBoard board) t.pending.items → All (IsOfBoard board) new.pending.items
-  pub outboxes : (a : ℕ) → 1 ≤ a → a ≤ length board.agents → Gets t new a (made_at t new.pending.items done (change_of board success done) a)
+  pub outboxes : (a : ℕ) → 1 ≤ a → a ≤ length board.agents → Gets t new a (made_in a (situation_in a t) new.pending.items done (change_of board success done))
 
 -- what a command of agent a that got this reply leaves
 abbrev pub HasExecuted : Board → ℕ → HeaderFields → Result codec.Command Status → List ℕ → Tables → Tables → Type 0
@@ -74,7 +49,7 @@ HasExecuted board a header command reply t new = HasStepped board t (success_of 
 
 -- what a frame of agent a leaves; one that is malformed changes nothing
 abbrev pub HasAnswered : Board → ℕ → Frame → Tables → Tables → Type 0
-HasAnswered board a (Good m) t new = HasExecuted board a m.header (command_of m) (table_words board a t (command_of m)) t new
+HasAnswered board a (Good m) t new = HasExecuted board a m.header (command_of m) (reply_words board a (situation_in a t) (command_of m)) t new
 HasAnswered board a (Malformed len header) t new = new ≡ t
 
 -- nothing but outboxes changed

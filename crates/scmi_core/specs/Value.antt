@@ -63,11 +63,13 @@ abbrev pub completed : Board → List Deed → Event → Option PendingSet
 completed board before Advance = slice_get (pending board before) 0
 completed board before _ = None
 
+-- the change that a success or a completed set makes
+abbrev pub change_of : Board → Option Success → Option PendingSet → Option Change
+change_of board success done = option_or (option_map completion done) (option_and_then (change_now board) success)
+
 -- the change that a deed makes, given the deeds before it
 abbrev pub change_by : Board → List Deed → Deed → Option Change
-change_by board before deed =
-    option_or (option_map completion (completed board before deed.event))
-    (option_and_then (change_now board) (success_at deed.event deed.reply))
+change_by board before deed = change_of board (success_at deed.event deed.reply) (completed board before deed.event)
 
 -- the changes of a history, in order
 abbrev pub changes : Board → List Deed → List Change

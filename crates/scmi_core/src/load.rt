@@ -4,7 +4,8 @@ ghost use Rattle.std.specs.Int.{bit_at};
 ghost use Rattle.scmi_plan.specs.declared.resource.Resource.TheVariants as resource;
 ghost use Rattle.scmi_plan.specs.declared.limits.TheConstants.{AGENTS, CLOCKS, DOMAINS};
 ghost use Rattle.scmi_core.specs.Pending.{has_set_of, sets_by};
-ghost use Rattle.scmi_core.specs.Tables.{load_at, has_room_at};
+ghost use Rattle.scmi_core.specs.Situation.{has_room};
+ghost use Rattle.scmi_core.specs.Tables.{load_at, situation_in};
 
 use crate::busy::{busy_clocks, busy_domains};
 use crate::outbox::OUTBOX_ROOM;
@@ -19,7 +20,7 @@ impl Tables {
         requires last { agent ≤ AGENTS }
         ensures busy { (d : ℕ) → d < DOMAINS
             → (bit_at result.busy d == 1) ≡ has_set_of (resource.Domain d) self.now.pending.items }
-        ensures room { result.room ≡ has_room_at self.now agent }
+        ensures room { result.room ≡ has_room agent (situation_in agent self.now) }
     {
         Load {
             busy: busy_domains(self.pending.as_slice()),
@@ -33,7 +34,7 @@ impl Tables {
         requires last { agent ≤ AGENTS }
         ensures busy { (c : ℕ) → c < CLOCKS
             → (bit_at result.busy c == 1) ≡ has_set_of (resource.Clock c) self.now.pending.items }
-        ensures room { result.room ≡ has_room_at self.now agent }
+        ensures room { result.room ≡ has_room agent (situation_in agent self.now) }
     {
         Load {
             busy: busy_clocks(self.pending.as_slice()),
@@ -45,7 +46,7 @@ impl Tables {
     fn has_room(&self, agent: u32) -> bool
         requires first { 1 ≤ agent }
         requires last { agent ≤ AGENTS }
-        ensures { result ≡ has_room_at self.now agent }
+        ensures { result ≡ has_room agent (situation_in agent self.now) }
     {
         self.pending.len() < PENDING_SETS && self.load(agent) < OUTBOX_ROOM
     }

@@ -12,7 +12,8 @@ ghost use Rattle.scmi_core.specs.History.{answer_with};
 ghost use Rattle.scmi_core.specs.Value.{Thing, value_at_start};
 ghost use Rattle.scmi_core.specs.Pending.{state_set, rate_set};
 ghost use Rattle.scmi_core.specs.Subscriptions.{ended};
-ghost use Rattle.scmi_core.specs.Tables.{outbox_at, load_at, value_at, IsThing, table_words, IsOfBoard, frame_answer_at};
+ghost use Rattle.scmi_core.specs.Reply.{answer_in, reply_words};
+ghost use Rattle.scmi_core.specs.Tables.{outbox_at, load_at, value_at, situation_in, IsThing, IsOfBoard};
 ghost use Rattle.scmi_core.specs.Step.{Accepts, HasStepped, HasExecuted, HasAnswered, set_domain, SameButPending};
 ghost use Rattle.scmi_core.specs.declared.outbox.TheConstants.{OUTBOX_ROOM};
 ghost use Rattle.scmi_core.specs.declared.pending_set.TheConstants.{PENDING_SETS};
@@ -81,7 +82,7 @@ impl Tables {
         requires last { agent ≤ length plan.now.agents }
         requires lawful { IsLawful plan.now }
         ensures answer { answer_with result reply.new
-            ≡ frame_answer_at plan.now agent self.old frame.now }
+            ≡ answer_in plan.now agent frame.now (situation_in agent self.old) }
         ensures stepped { HasAnswered plan.now agent frame.now self.old self.new }
     {
         match frame {
@@ -95,13 +96,13 @@ impl Tables {
     }
 
     /// Executes a message of an agent, and writes the payload of its reply.
-    #[tactic(auto, unfolding(crate::specs::Tables::table_words))]
+    #[tactic(auto, unfolding(crate::specs::Reply::reply_words))]
     fn execute(&mut self, plan: &Plan, agent: u32, message: &Message, reply: &mut Payload)
         requires first { 1 ≤ agent }
         requires last { agent ≤ length plan.now.agents }
         requires lawful { IsLawful plan.now }
         ensures reply { reply.new.items
-            ≡ table_words plan.now agent self.old (command_of message.now) }
+            ≡ reply_words plan.now agent (situation_in agent self.old) (command_of message.now) }
         ensures stepped { HasExecuted plan.now agent message.now.header
             (command_of message.now) reply.new.items self.old self.new }
     {
@@ -143,7 +144,8 @@ impl Tables {
         requires first { 1 ≤ agent }
         requires last { agent ≤ length plan.now.agents }
         requires lawful { IsLawful plan.now }
-        ensures reply { reply.new.items ≡ table_words plan.now agent self.old (Ok (Base command)) }
+        ensures reply { reply.new.items
+            ≡ reply_words plan.now agent (situation_in agent self.old) (Ok (Base command)) }
         ensures stepped { HasExecuted plan.now agent header (Ok (Base command))
             reply.new.items self.old self.new }
     {
@@ -163,7 +165,8 @@ impl Tables {
         requires first { 1 ≤ agent }
         requires last { agent ≤ length plan.now.agents }
         requires lawful { IsLawful plan.now }
-        ensures reply { reply.new.items ≡ table_words plan.now agent self.old (Ok (Power command)) }
+        ensures reply { reply.new.items
+            ≡ reply_words plan.now agent (situation_in agent self.old) (Ok (Power command)) }
         ensures stepped { HasExecuted plan.now agent header (Ok (Power command))
             reply.new.items self.old self.new }
     {
@@ -190,7 +193,8 @@ impl Tables {
         requires first { 1 ≤ agent }
         requires last { agent ≤ length plan.now.agents }
         requires lawful { IsLawful plan.now }
-        ensures reply { reply.new.items ≡ table_words plan.now agent self.old (Ok (Clock command)) }
+        ensures reply { reply.new.items
+            ≡ reply_words plan.now agent (situation_in agent self.old) (Ok (Clock command)) }
         ensures stepped { HasExecuted plan.now agent header (Ok (Clock command))
             reply.new.items self.old self.new }
     {

@@ -1,6 +1,7 @@
 use Rattle.std.proofs.Common.{◌≡◌, Err, None, sym, subst, ◌∙◌}
 use Rattle.scmi_codec.specs.Command.{command_of}
-use Rattle.scmi_core.specs.Step.{success_of, HasStepped}
+use Rattle.scmi_core.specs.Deed.{success_of}
+use Rattle.scmi_core.specs.Step.{HasStepped}
 use Rattle.scmi_core.proofs.Ties.{unread-stepped}
 use Rattle.scmi_core.proofs.tables.Tables.execute.Goals as goal
 

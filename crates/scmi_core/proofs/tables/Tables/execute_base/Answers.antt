@@ -2,12 +2,12 @@ use Rattle.std.proofs.Common.{◌∙◌, ap, sym, unwrap_or}
 use Rattle.scmi_base.specs.Permission.{is_allowed_after, reset_after}
 use Rattle.scmi_power.specs.PowerTable.{is_subscribed}
 use Rattle.scmi_core.specs.Subscriptions.{ended}
-use Rattle.scmi_core.specs.Tables.{table_words}
+use Rattle.scmi_core.specs.Reply.{reply_words}
 use Rattle.scmi_core.proofs.ClockSteps.{base-stepped}
 use Rattle.scmi_core.proofs.tables.Tables.execute_base.Goals as goal
 
 pub returns-clause-reply : goal.returns-clause-reply
-unfolding table_words
+unfolding reply_words
 returns-clause-reply c = c.execute-reset.ensures.reply
 
 pub returns-clause-stepped : goal.returns-clause-stepped

@@ -1,5 +1,5 @@
 use Rattle.std.proofs.Common.{◌∙◌}
-use Rattle.scmi_core.proofs.Replies.{clock-reply}
+use Rattle.scmi_core.proofs.Situations.{clock-reply}
 use Rattle.scmi_core.proofs.ClockSteps.{clock-stepped}
 use Rattle.scmi_core.proofs.tables.Tables.execute_clock.Goals as goal
 

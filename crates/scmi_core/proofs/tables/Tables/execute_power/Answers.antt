@@ -1,5 +1,5 @@
 use Rattle.std.proofs.Common.{◌∙◌, arith}
-use Rattle.scmi_core.proofs.Replies.{power-reply}
+use Rattle.scmi_core.proofs.Situations.{power-reply}
 use Rattle.scmi_core.proofs.Steps.{power-stepped}
 use Rattle.scmi_core.proofs.tables.Tables.execute_power.Goals as goal
 

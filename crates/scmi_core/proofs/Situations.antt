@@ -1,0 +1,117 @@
+-- Situations that say the same of a board's things: the same replies, and the same messages.
+use Rattle.std.proofs.Common.{◌≡◌, ℕ, ◌+◌, ◌<◌, ◌≤◌, ◌==◌, ◌&&◌, nat_lt, Bool, true, false, not, List, [], ◌∷◌, ◌++◌, length, Option, Some, None, IfSome, Result, Ok, Err, refl, ap, ◌∙◌, arith, if◌then◌else◌}
+use Rattle.std.specs.Option.{option_map_or}
+use Rattle.scmi_codec.specs.declared.status.Status.{Status}
+use Rattle.scmi_codec.specs.declared.frame.Answer.TheVariants.{Reply}
+use Rattle.scmi_codec.specs.declared.frame.Frame.{Frame}
+use Rattle.scmi_codec.specs.declared.frame.Frame.TheVariants.{Good, Malformed}
+use Rattle.scmi_codec.specs.Command.{command_of}
+use Rattle.scmi_codec.specs.declared.command.Command as codec
+use Rattle.scmi_codec.specs.declared.command.Command.TheVariants.{Base, Power, Clock}
+use Rattle.scmi_plan.specs.Board.{Board}
+use Rattle.scmi_plan.specs.declared.resource.Resource.TheVariants as resource
+use Rattle.scmi_base.specs.declared.scope.Scope.{Scope}
+use Rattle.scmi_base.proofs.MaySame.{may-same}
+use Rattle.scmi_power.proofs.ReplySame as power_same
+use Rattle.scmi_clock.proofs.ReplySame as clock_same
+use Rattle.std.specs.Int.{bit_at}
+use Rattle.scmi_codec.specs.declared.power_command.PowerCommand.{PowerCommand}
+use Rattle.scmi_codec.specs.declared.clock_command.ClockCommand.{ClockCommand}
+use Rattle.scmi_plan.specs.declared.load.Load.{Load}
+use Rattle.scmi_power.specs.PowerReply.{power_reply}
+use Rattle.scmi_power.specs.PowerTable as power_table
+use Rattle.scmi_clock.specs.ClockReply.{clock_reply}
+use Rattle.scmi_clock.specs.ClockTable as clock_table
+use Rattle.scmi_core.specs.declared.tables.Tables.{Tables}
+use Rattle.scmi_core.specs.declared.pending_set.PendingSet.{PendingSet}
+use Rattle.scmi_core.specs.Value.{Change, Thing, State, Rate, Enabled, bit_value}
+use Rattle.scmi_core.specs.Pending.{has_set_of, sets_by}
+use Rattle.scmi_core.specs.Situation.{Situation, has_room, power_view, clock_view}
+use Rattle.scmi_core.specs.Outbox.{made_in, notice_in, response_for, state_changed}
+use Rattle.scmi_core.specs.Reply.{answer_in, reply_words}
+use Rattle.scmi_core.specs.Tables.{IsThing, situation_in}
+
+-- two situations say the same of all that is on the board
+pub record SameSituation (board : Board) (s u : Situation) : Type 0 where
+  pub value : (x : Thing) → IsThing board x → s.value x ≡ u.value x
+  pub allowed : (device : ℕ) (scope : Scope) → device < length board.devices → s.allowed device scope ≡ u.allowed device scope
+  pub subscribed : (d : ℕ) → d < length board.domains → s.subscribed d ≡ u.subscribed d
+  pub pending : s.pending ≡ u.pending
+  pub outbox : s.outbox ≡ u.outbox
+
+module _ (board : Board) (a : ℕ) (s u : Situation) (same : SameSituation board s u) where
+  room-same : has_room a s ≡ has_room a u
+  room-same =
+      ap (λ p. nat_lt (length p) 8 && nat_lt (length s.outbox + length (sets_by a p)) 16) same.pending
+      ∙ ap (λ b. nat_lt (length u.pending) 8 && nat_lt (length b + length (sets_by a u.pending)) 16) same.outbox
+
+  -- one reply to each command
+  pub reply-same : (r : Result codec.Command Status) → reply_words board a s r ≡ reply_words board a u r
+  unfolding reply_words
+  reply-same (Err e) = refl
+  reply-same (Ok (Base c)) = refl
+  reply-same (Ok (Power c)) =
+      power_same.power_reply-same board (power_view board a s) (power_view board a u)
+      (record {
+        state = λ d small. same.value (State d) small;
+        may = λ d small. may-same board s.allowed u.allowed (resource.Domain d) same.allowed;
+        busy = λ d small. ap (has_set_of (resource.Domain d)) same.pending;
+        room = room-same;
+      }) c
+  reply-same (Ok (Clock c)) =
+      clock_same.clock_reply-same board (clock_view board a s) (clock_view board a u)
+      (record {
+        rate = λ k small. same.value (Rate k) small;
+        enabled = λ k small. ap (λ n. n == 1) (same.value (Enabled k) small);
+        may = λ k small. may-same board s.allowed u.allowed (resource.Clock k) same.allowed;
+        busy = λ k small. ap (has_set_of (resource.Clock k)) same.pending;
+        room = room-same;
+      }) c
+
+  -- one answer to each frame
+  pub answer-same : (frame : Frame) → answer_in board a frame s ≡ answer_in board a frame u
+  answer-same (Good m) = ap (λ words. Reply (record { header = m.header; payload = record { items = words } })) (reply-same (command_of m))
+  answer-same (Malformed len header) = refl
+
+  notice-same : (change : Change) → IsThing board change.thing → notice_in s change ≡ notice_in u change
+  notice-same change known = by change.thing known where
+    by : (x : Thing) → IsThing board x → notice_in s (record { thing = x; value = change.value; causer = change.causer }) ≡ notice_in u (record { thing = x; value = change.value; causer = change.causer })
+    by (State d) within =
+        ap (λ v. if not (change.value == v) && s.subscribed d then state_changed change.causer d change.value ∷ [] else []) (same.value (State d) within)
+        ∙ ap (λ b. if not (change.value == u.value (State d)) && b then state_changed change.causer d change.value ∷ [] else []) (same.subscribed d within)
+    by (Rate k) within = refl
+    by (Enabled k) within = refl
+
+  notices-same : (change : Option Change) → IfSome change (λ ch. IsThing board ch.thing) → option_map_or (notice_in s) change [] ≡ option_map_or (notice_in u) change []
+  notices-same None known = refl
+  notices-same (Some change) known = notice-same change known
+
+  -- the same messages of each event
+  pub made-same : (left : List PendingSet) (done : Option PendingSet) (change : Option Change) → IfSome change (λ ch. IsThing board ch.thing)
+      → made_in a s left done change ≡ made_in a u left done change
+  made-same left done change known =
+      let responses = option_map_or (response_for a) done [] in
+      ap (λ b. responses ++ (if nat_lt (length b + length responses + length (sets_by a left)) 16 then option_map_or (notice_in s) change [] else [])) same.outbox
+      ∙ ap (λ n. responses ++ (if nat_lt (length u.outbox + length responses + length (sets_by a left)) 16 then n else [])) (notices-same change known)
+
+-- what the protocols of power domains and clocks reply by tables and a load is the reply in the situation of the tables
+pub power-reply : (board : Board) (t : Tables) (a : ℕ) (load : Load) (c : PowerCommand) → length board.domains ≤ 32
+    → ((d : ℕ) → d < 32 → (bit_at load.busy d == 1) ≡ has_set_of (resource.Domain d) t.pending.items)
+    → load.room ≡ has_room a (situation_in a t)
+    → power_reply board (power_table.view_of board t.base t.power load a) c ≡ reply_words board a (situation_in a t) (Ok (Power c))
+unfolding reply_words
+power-reply board t a load c few busy room =
+    power_same.power_reply-same board (power_table.view_of board t.base t.power load a) (power_view board a (situation_in a t))
+    (record { state = λ d small. refl; may = λ d small. refl; busy = λ d small. busy d (omega arith); room = room }) c
+
+pub clock-reply : (board : Board) (t : Tables) (a : ℕ) (load : Load) (c : ClockCommand) → length board.clocks ≤ 32
+    → ((d : ℕ) → d < 32 → (bit_at load.busy d == 1) ≡ has_set_of (resource.Clock d) t.pending.items)
+    → load.room ≡ has_room a (situation_in a t)
+    → clock_reply board (clock_table.view_of board t.base t.clocks load a) c ≡ reply_words board a (situation_in a t) (Ok (Clock c))
+unfolding reply_words
+clock-reply board t a load c few busy room =
+    clock_same.clock_reply-same board (clock_table.view_of board t.base t.clocks load a) (clock_view board a (situation_in a t))
+    (record { rate = λ d small. refl; enabled = λ d small. said (clock_table.enabled_at t.clocks d); may = λ d small. refl; busy = λ d small. busy d (omega arith); room = room }) c where
+      said : (b : Bool) → b ≡ (bit_value b == 1)
+      said true = refl
+      said false = refl
