@@ -5,7 +5,7 @@ use Rattle.std.proofs.lemmas.List.{append-nil, length-append, length-drop}
 use Rattle.std.proofs.lemmas.List.Elements.{filter-append}
 use Rattle.std.proofs.lemmas.Bool.{leb-true}
 use Rattle.std.proofs.lemmas.Bool.Decides.{eqb_tells}
-use Rattle.scmi_core.proofs.Steps.{nothing_if}
+use Rattle.scmi_core.proofs.Situations.{made-sent}
 use Rattle.scmi_plan.specs.Board.{Board}
 use Rattle.scmi_codec.specs.Reply.{reply_unless, bit_0}
 use Rattle.scmi_codec.specs.Header.{HeaderFields}
@@ -31,18 +31,17 @@ use Rattle.scmi_core.specs.declared.event.Event.TheVariants.{Command, Advance, S
 use Rattle.scmi_core.specs.declared.tables.Tables.{Tables}
 use Rattle.std.specs.Option.{option_to_list, option_and_then}
 use Rattle.scmi_core.specs.Deed.{Deed, success_with, over}
-use Rattle.scmi_core.specs.Value.{Change, Thing, State, Rate, Enabled, completed, change_by, value}
+use Rattle.scmi_core.specs.Value.{Change, Thing, State, Rate, Enabled, completed, change_by}
 use Rattle.scmi_core.specs.Pending.{acceptance, accepted, advances, pending, pending_of, sets_by, is_advance}
 use Rattle.scmi_core.specs.Outbox.{made, made_by, outbox_after, sent, is_sent_by, response_for, response_to, notice_in, situation_after}
-use Rattle.scmi_core.specs.Subscriptions.{subscribed}
 use Rattle.scmi_core.specs.History.{deeds, deed_after, outbox}
 use Rattle.scmi_core.specs.Legal.{IsLegal}
 use Rattle.scmi_core.specs.Reply.{reply_words}
-use Rattle.scmi_core.specs.Situation.{has_room, power_view, clock_view}
+use Rattle.scmi_core.specs.Situation.{Situation, has_room, power_view, clock_view}
 use Rattle.scmi_core.specs.Tables.{load_at}
 use Rattle.scmi_core.specs.Bounds.{HasBounds}
 use Rattle.scmi_core.specs.Agreement.{Agrees}
-use Rattle.scmi_core.proofs.Deeds.{added, pending-push, pending-advance, outbox-push, sent-push, made-push}
+use Rattle.scmi_core.proofs.Deeds.{added, pending-push, pending-advance, outbox-push, sent-push}
 use Rattle.scmi_core.proofs.Legal.{Grown, empty, grow, grown, deeds-push, IsLegal-front, advances_le-accepted, sent_le-made}
 
 -- a set that is accepted for later met room
@@ -126,15 +125,15 @@ room_says board a h e =
     (leb-true (suc (length (pending board h))) 8 two.0, leb-true (suc (length (outbox_after board a h) + length (pending_of board a h))) 16 two.1)
 
 -- at most one notification
-one_notice : (board : Board) (a : ℕ) (h : List Deed) (change : Option Change) → length (option_map_or (notice_in (situation_after board a h)) change []) ≤ 1
-one_notice board a h None = omega arith
-one_notice board a h (Some change) = by change.thing where
+one_notice : (s : Situation) (change : Option Change) → length (option_map_or (notice_in s) change []) ≤ 1
+one_notice s None = omega arith
+one_notice s (Some change) = by change.thing where
   at_most : (b : Bool) (m : Message) → length (if b then m ∷ [] else []) ≤ 1
   at_most true m = omega arith
   at_most false m = omega arith
 
-  by : (x : Thing) → length (notice_in (situation_after board a h) (record { thing = x; value = change.value; causer = change.causer })) ≤ 1
-  by (State d) = at_most (not (change.value == value board (State d) h) && subscribed a d h) _
+  by : (x : Thing) → length (notice_in s (record { thing = x; value = change.value; causer = change.causer })) ≤ 1
+  by (State d) = at_most (not (change.value == s.value (State d)) && s.subscribed d) _
   by (Rate k) = omega arith
   by (Enabled k) = omega arith
 
@@ -158,7 +157,7 @@ made-within board a h deed base =
     let load = length (outbox_after board a h) + length responses + left in
     let size : length (made_by board a h (made board a h) deed) ≡ length responses + (if nat_lt load 16 then length notices else 0)
     = length-append responses (if nat_lt load 16 then notices else []) ∙ ap (λ n. length responses + n) (length_if (nat_lt load 16) notices) in
-    rw size (within (length (outbox_after board a h)) (length responses) (length notices) left (one_notice board a h (change_by board h deed)) base (nat_lt load 16) refl)
+    rw size (within (length (outbox_after board a h)) (length responses) (length notices) left (one_notice (situation_after board a h) (change_by board h deed)) base (nat_lt load 16) refl)
 
 -- what is pending after a deed that accepts at most one set
 record Fits (board : Board) (h : List Deed) (more : Option PendingSet) : Type 0 where
@@ -237,12 +236,10 @@ bounds-sent board h b enough had =
       pending_sets = rw pend had.pending_sets;
       loads = λ a.
           let old = had.loads a in
-          let made_none : made board a (h ++ deed ∷ []) ≡ made board a h = made-push board a h deed
-          ∙ ap (λ ys. made board a h ++ ys) (nothing_if (nat_lt (length (outbox_after board a h) + 0 + length (pending_of board a (h ++ deed ∷ []))) 16)) ∙ append-nil (made board a h) in
           let size = length-drop (sent a (h ++ deed ∷ [])) (made board a h) in
           let size' = length-drop (sent a h) (made board a h) in
           let more = sent-push a h deed in
-          rw (pend, made_none) (omega arith);
+          rw (pend, made-sent board a h b) (omega arith);
     }
 
 bounds-more : (board : Board) (h : List Deed) (e : Event) → advances h ≤ length (accepted board h) → ((a : ℕ) → sent a h ≤ length (made board a h)) → HasBounds board h → HasBounds board (h ++ deed_after board h e ∷ [])

@@ -1,5 +1,5 @@
 -- What a clock command or a base command leaves of the tables.
-use Rattle.std.proofs.Common.{◌≡◌, ◌⊎◌, inl, inr, ℕ, ◌+◌, ◌<◌, ◌≤◌, ◌==◌, nat_lt, Bool, true, false, List, [], ◌++◌, length, get_or, Option, Some, None, IfSome, Result, Ok, unwrap_or, option_map, refl, sym, ap, ◌∙◌, subst, arith, if◌then◌else◌}
+use Rattle.std.proofs.Common.{◌≡◌, ◌⊎◌, inl, inr, ℕ, ◌<◌, ◌≤◌, ◌==◌, Bool, true, false, List, [], ◌++◌, length, get_or, Option, Some, None, IfSome, Result, Ok, unwrap_or, option_map, refl, sym, ap, ◌∙◌, subst, arith, if◌then◌else◌}
 use Rattle.std.specs.List.{All}
 use Rattle.std.proofs.lemmas.List.{append-nil}
 use Rattle.std.proofs.lemmas.List.Elements.{All-append}
@@ -23,12 +23,13 @@ use Rattle.std.specs.Option.{option_or, option_and_then, option_to_list}
 use Rattle.scmi_core.specs.Deed.{Success, success_with, success_of}
 use Rattle.scmi_core.specs.Permissions.{permission_in}
 use Rattle.scmi_core.specs.Subscriptions.{subscription, ended}
-use Rattle.scmi_core.specs.Pending.{acceptance, rate_set, sets_by}
+use Rattle.scmi_core.specs.Pending.{acceptance, rate_set}
 use Rattle.scmi_core.specs.Value.{Change, change_now, Thing, State, Rate, Enabled, bit_value, value_in, change_of}
 use Rattle.scmi_core.specs.Tables.{outbox_at, value_at, IsThing, IsOfBoard, situation_in}
 use Rattle.scmi_core.specs.Outbox.{made_in}
 use Rattle.scmi_core.specs.Step.{HasStepped, SameButPending}
-use Rattle.scmi_core.proofs.Steps.{nothing_if, same_box, all_none, all_one}
+use Rattle.scmi_core.proofs.Situations.{nothing-made}
+use Rattle.scmi_core.proofs.Steps.{same_box, all_none, all_one}
 
 pick : {A : Type 0} (b : Bool) (x old : A) → unwrap_or (if b then Some x else None) old ≡ (if b then x else old)
 pick true x old = refl
@@ -97,9 +98,9 @@ enabled-value a k old (Some r) (Some e) (inl n) = absurd (cc)
 enabled-value a k old (Some r) (Some e) (inr n) = absurd (cc)
 
 no_notice : (t : Tables) (left : List PendingSet) (x a : ℕ) (rate : Option (ℕ × ℕ)) (enabled : Option (ℕ × Bool)) → [] ≡ made_in x (situation_in x t) left None (either a rate enabled)
-no_notice t left x a None None = sym (nothing_if (nat_lt (length (outbox_at t x) + 0 + length (sets_by x left)) 16))
-no_notice t left x a None (Some e) = sym (nothing_if (nat_lt (length (outbox_at t x) + 0 + length (sets_by x left)) 16))
-no_notice t left x a (Some r) e = sym (nothing_if (nat_lt (length (outbox_at t x) + 0 + length (sets_by x left)) 16))
+no_notice t left x a None None = sym (nothing-made x (situation_in x t) left)
+no_notice t left x a None (Some e) = sym (nothing-made x (situation_in x t) left)
+no_notice t left x a (Some r) e = sym (nothing-made x (situation_in x t) left)
 
 either-known : (board : Board) (a : ℕ) (rate : Option (ℕ × ℕ)) (enabled : Option (ℕ × Bool))
     → IfSome rate (λ set. set.0 < length board.clocks) → IfSome enabled (λ set. set.0 < length board.clocks) → IfSome (either a rate enabled) (λ ch. IsThing board ch.thing)
@@ -186,7 +187,7 @@ base-stepped board t new base' a header c reply permits ends states bases clocks
           same_box t new x boxes
           ∙ sym (append-nil (outbox_at t x))
           ∙ ap (λ b. outbox_at t x ++ b)
-          (sym (nothing_if (nat_lt (length (outbox_at t x) + 0 + length (sets_by x new.pending.items)) 16))
+          (sym (nothing-made x (situation_in x t) new.pending.items)
           ∙ ap (λ o. made_in x (situation_in x t) new.pending.items None o) (sym change));
     } where
       permitted : (b : Bool) (x d : ℕ) (scope : Scope) (old : Bool) → (if b then unwrap_or (permission x d scope c) old else old) ≡ unwrap_or (option_and_then (λ s. permission_in x d scope s.command) (if b then success_with a header (Ok (Base c)) else None)) old

@@ -12,10 +12,10 @@ use Rattle.scmi_core.specs.declared.event.Event.{Event}
 use Rattle.scmi_core.specs.declared.event.Event.TheVariants.{Command, Advance, Sent}
 use Rattle.std.specs.Option.{option_to_list, option_and_then}
 use Rattle.scmi_core.specs.Deed.{Deed, over}
-use Rattle.scmi_core.specs.Value.{Change, Thing, State, Rate, Enabled, completed, change_by, value}
+use Rattle.scmi_core.specs.Value.{Change, Thing, State, Rate, Enabled, completed, change_by}
 use Rattle.scmi_core.specs.Pending.{accepted, acceptance, advances, is_advance, pending, pending_of}
 use Rattle.scmi_core.specs.Outbox.{outbox_after, made, made_by, response_to, response_for, notice_in, situation_after, state_changed}
-use Rattle.scmi_core.specs.Subscriptions.{subscribed}
+use Rattle.scmi_core.specs.Situation.{Situation}
 use Rattle.scmi_core.specs.History.{deeds, deed_after}
 use Rattle.scmi_core.specs.Legal.{IsLegal}
 use Rattle.scmi_core.specs.Bounds.{HasResponses, completed_sets}
@@ -40,17 +40,17 @@ take-one (suc n) [] = refl
 take-one (suc n) (x ∷ xs) = ap (λ zs. x ∷ zs) (take-one n xs)
 
 -- notifications are no delayed responses
-no_notice : (board : Board) (a : ℕ) (h : List Deed) (b : Bool) (change : Option Change) → delayed (if b then option_map_or (notice_in (situation_after board a h)) change [] else []) ≡ []
+no_notice : (s : Situation) (b : Bool) (change : Option Change) → delayed (if b then option_map_or (notice_in s) change [] else []) ≡ []
 unfolding delayed
-no_notice board a h false change = refl
-no_notice board a h true None = refl
-no_notice board a h true (Some change) = by change.thing where
+no_notice s false change = refl
+no_notice s true None = refl
+no_notice s true (Some change) = by change.thing where
   none : (b : Bool) (c d v : ℕ) → filter (λ m. m.header.kind == 2) (if b then state_changed c d v ∷ [] else []) ≡ []
   none true c d v = refl
   none false c d v = refl
 
-  by : (x : Thing) → filter (λ m. m.header.kind == 2) (notice_in (situation_after board a h) (record { thing = x; value = change.value; causer = change.causer })) ≡ []
-  by (State d) = none (not (change.value == value board (State d) h) && subscribed a d h) change.causer d change.value
+  by : (x : Thing) → filter (λ m. m.header.kind == 2) (notice_in s (record { thing = x; value = change.value; causer = change.causer })) ≡ []
+  by (State d) = none (not (change.value == s.value (State d)) && s.subscribed d) change.causer d change.value
   by (Rate k) = refl
   by (Enabled k) = refl
 
@@ -69,7 +69,7 @@ made_delayed board a h deed =
     let responses = option_map_or (response_for a) (completed board h deed.event) [] in
     let load = length (outbox_after board a h) + length responses + length (pending_of board a (h ++ deed ∷ [])) in
     filter-append (λ m. m.header.kind == 2) responses (if nat_lt load 16 then option_map_or (notice_in (situation_after board a h)) (change_by board h deed) [] else [])
-    ∙ ap (λ ys. delayed responses ++ ys) (no_notice board a h (nat_lt load 16) (change_by board h deed))
+    ∙ ap (λ ys. delayed responses ++ ys) (no_notice (situation_after board a h) (nat_lt load 16) (change_by board h deed))
     ∙ append-nil (delayed responses)
     ∙ responses_of a (completed board h deed.event)
 

@@ -1,6 +1,8 @@
 -- Situations that say the same of a board's things: the same replies, and the same messages.
 use Rattle.std.proofs.Common.{◌≡◌, ℕ, ◌+◌, ◌<◌, ◌≤◌, ◌==◌, ◌&&◌, nat_lt, Bool, true, false, not, List, [], ◌∷◌, ◌++◌, length, Option, Some, None, IfSome, Result, Ok, Err, refl, ap, ◌∙◌, arith, if◌then◌else◌}
+use Rattle.std.specs.Int.{bit_at}
 use Rattle.std.specs.Option.{option_map_or}
+use Rattle.std.proofs.lemmas.List.{append-nil}
 use Rattle.scmi_codec.specs.declared.status.Status.{Status}
 use Rattle.scmi_codec.specs.declared.frame.Answer.TheVariants.{Reply}
 use Rattle.scmi_codec.specs.declared.frame.Frame.{Frame}
@@ -14,7 +16,6 @@ use Rattle.scmi_base.specs.declared.scope.Scope.{Scope}
 use Rattle.scmi_base.proofs.MaySame.{may-same}
 use Rattle.scmi_power.proofs.ReplySame as power_same
 use Rattle.scmi_clock.proofs.ReplySame as clock_same
-use Rattle.std.specs.Int.{bit_at}
 use Rattle.scmi_codec.specs.declared.power_command.PowerCommand.{PowerCommand}
 use Rattle.scmi_codec.specs.declared.clock_command.ClockCommand.{ClockCommand}
 use Rattle.scmi_plan.specs.declared.load.Load.{Load}
@@ -24,12 +25,15 @@ use Rattle.scmi_clock.specs.ClockReply.{clock_reply}
 use Rattle.scmi_clock.specs.ClockTable as clock_table
 use Rattle.scmi_core.specs.declared.tables.Tables.{Tables}
 use Rattle.scmi_core.specs.declared.pending_set.PendingSet.{PendingSet}
+use Rattle.scmi_core.specs.declared.event.Event.TheVariants.{Sent}
+use Rattle.scmi_core.specs.Deed.{Deed}
 use Rattle.scmi_core.specs.Value.{Change, Thing, State, Rate, Enabled, bit_value}
-use Rattle.scmi_core.specs.Pending.{has_set_of, sets_by}
+use Rattle.scmi_core.specs.Pending.{has_set_of, pending, sets_by}
 use Rattle.scmi_core.specs.Situation.{Situation, has_room, power_view, clock_view}
-use Rattle.scmi_core.specs.Outbox.{made_in, notice_in, response_for, state_changed}
+use Rattle.scmi_core.specs.Outbox.{made, made_in, notice_in, response_for, situation_after, state_changed}
 use Rattle.scmi_core.specs.Reply.{answer_in, reply_words}
 use Rattle.scmi_core.specs.Tables.{IsThing, situation_in}
+use Rattle.scmi_core.proofs.Deeds.{made-push}
 
 -- two situations say the same of all that is on the board
 pub record SameSituation (board : Board) (s u : Situation) : Type 0 where
@@ -38,6 +42,22 @@ pub record SameSituation (board : Board) (s u : Situation) : Type 0 where
   pub subscribed : (d : ℕ) → d < length board.domains → s.subscribed d ≡ u.subscribed d
   pub pending : s.pending ≡ u.pending
   pub outbox : s.outbox ≡ u.outbox
+
+pub nothing_if : {X : Type 0} (b : Bool) → ◌≡◌ {A = List X} (if b then [] else []) []
+nothing_if true = refl
+nothing_if false = refl
+
+-- an event that completes and changes nothing makes nothing
+pub nothing-made : (a : ℕ) (s : Situation) (left : List PendingSet) → made_in a s left None None ≡ []
+nothing-made a s left = nothing_if (nat_lt (length s.outbox + 0 + length (sets_by a left)) 16)
+
+-- and so a posting
+pub made-sent : (board : Board) (a : ℕ) (h : List Deed) (b : ℕ) → made board a (h ++ record { event = Sent b; reply = [] } ∷ []) ≡ made board a h
+made-sent board a h b =
+    let deed : Deed = record { event = Sent b; reply = [] } in
+    made-push board a h deed
+    ∙ ap (λ ys. made board a h ++ ys) (nothing-made a (situation_after board a h) (pending board (h ++ deed ∷ [])))
+    ∙ append-nil (made board a h)
 
 module _ (board : Board) (a : ℕ) (s u : Situation) (same : SameSituation board s u) where
   room-same : has_room a s ≡ has_room a u

@@ -26,6 +26,7 @@ use Rattle.scmi_core.specs.Deed.{success_with, success_of}
 use Rattle.scmi_core.specs.Permissions.{permission_in}
 use Rattle.scmi_core.specs.Subscriptions.{subscription}
 use Rattle.scmi_core.specs.Pending.{acceptance, state_set, sets_by}
+use Rattle.scmi_core.proofs.Situations.{nothing_if, nothing-made}
 use Rattle.scmi_core.specs.Value.{Change, change_now, Thing, State, Rate, Enabled, bit_value, value_in, change_of}
 use Rattle.scmi_core.specs.Outbox.{made_in, notice_in, state_changed, response_for}
 use Rattle.scmi_core.specs.Tables.{outbox_at, load_at, situation_in, value_at, IsThing, IsOfBoard}
@@ -34,10 +35,6 @@ use Rattle.scmi_core.specs.Step.{HasStepped, SameButOutboxes, SameButPending, an
 pick : {A : Type 0} (b : Bool) (x old : A) → unwrap_or (if b then Some x else None) old ≡ (if b then x else old)
 pick true x old = refl
 pick false x old = refl
-
-pub nothing_if : {X : Type 0} (b : Bool) → ◌≡◌ {A = List X} (if b then [] else []) []
-nothing_if true = refl
-nothing_if false = refl
 
 abbrev pub state_change : ℕ → ℕ × ℕ → Change
 state_change a set = record { thing = State set.0; value = set.1; causer = a }
@@ -151,20 +148,26 @@ nothing_asked reply o old e = rw e (by (begins_with_success reply)) where
   by true = refl
   by false = refl
 
+-- what is announced after a response
+announced-after : (t m : Tables) (left : List PendingSet) (responses : List Message) (x a d s before : ℕ)
+    → outbox_at m x ≡ outbox_at t x ++ responses → m.pending.items ≡ left → before ≡ state_at t.power d → is_subscribed m.power x d ≡ is_subscribed t.power x d
+    → announced_at m x a (Some (d, s)) before
+    ≡ (if nat_lt (length (outbox_at t x) + length responses + length (sets_by x left)) 16 then notice_in (situation_in x t) (state_change a (d, s)) else [])
+announced-after t m left responses x a d s before box pend was subs =
+    told-notice (nat_lt (load_at m x) 16) (is_subscribed m.power x d) (s == before) (state_changed a d s)
+    ∙ ap (λ b. if b then (if not (s == before) && is_subscribed m.power x d then state_changed a d s ∷ [] else []) else [])
+    (ap (λ l. nat_lt (l + length (sets_by x m.pending.items)) 16) (ap length box ∙ length-append (outbox_at t x) responses) ∙ ap (λ p. nat_lt (length (outbox_at t x) + length responses + length (sets_by x p)) 16) pend)
+    ∙ ap (λ v. if nat_lt (length (outbox_at t x) + length responses + length (sets_by x left)) 16 then (if not (s == v) && is_subscribed m.power x d then state_changed a d s ∷ [] else []) else []) was
+    ∙ ap (λ b. if nat_lt (length (outbox_at t x) + length responses + length (sets_by x left)) 16 then (if not (s == state_at t.power d) && b then state_changed a d s ∷ [] else []) else []) subs
+
 -- what is announced is what is made, where no response is
 pub announced-made : (t n : Tables) (left : List PendingSet) (x a : ℕ) (changed : Option (ℕ × ℕ)) (before : ℕ) → n.outboxes ≡ t.outboxes → n.pending.items ≡ left
     → ((set : ℕ × ℕ) → changed ≡ Some set → (before ≡ state_at t.power set.0) × (is_subscribed n.power x set.0 ≡ is_subscribed t.power x set.0))
     → announced_at n x a changed before ≡ made_in x (situation_in x t) left None (option_map (state_change a) changed)
-announced-made t n left x a None before boxes pend facts = sym (nothing_if (nat_lt (length (outbox_at t x) + 0 + length (sets_by x left)) 16))
+announced-made t n left x a None before boxes pend facts = sym (nothing-made x (situation_in x t) left)
 announced-made t n left x a (Some set) before boxes pend facts =
     let fact = facts set refl in
-    let zero_more : length (outbox_at t x) + 0 ≡ length (outbox_at t x) = omega arith in
-    let box : outbox_at n x ≡ outbox_at t x = same_box t n x boxes in
-    told-notice (nat_lt (load_at n x) 16) (is_subscribed n.power x set.0) (set.1 == before) (state_changed a set.0 set.1)
-    ∙ ap (λ b. if b then (if not (set.1 == before) && is_subscribed n.power x set.0 then state_changed a set.0 set.1 ∷ [] else []) else [])
-    (ap (λ l. nat_lt (l + length (sets_by x n.pending.items)) 16) (ap length box ∙ sym zero_more) ∙ ap (λ p. nat_lt (length (outbox_at t x) + 0 + length (sets_by x p)) 16) pend)
-    ∙ ap (λ v. if nat_lt (length (outbox_at t x) + 0 + length (sets_by x left)) 16 then (if not (set.1 == v) && is_subscribed n.power x set.0 then state_changed a set.0 set.1 ∷ [] else []) else []) fact.0
-    ∙ ap (λ s. if nat_lt (length (outbox_at t x) + 0 + length (sets_by x left)) 16 then (if not (set.1 == state_at t.power set.0) && s then state_changed a set.0 set.1 ∷ [] else []) else []) fact.1
+    announced-after t n left [] x a set.0 set.1 before (same_box t n x boxes ∙ sym (append-nil (outbox_at t x))) pend fact.0 fact.1
 
 pub power-stepped : (board : Board) (t n new : Tables) (power' : PowerTables) (a : ℕ) (header : HeaderFields) (c : PowerCommand) (reply : List ℕ) (changed later : Option (ℕ × ℕ)) (before : ℕ)
     → length board.domains ≤ 32 → length board.agents ≤ 8 → 1 ≤ a → a ≤ length board.agents
@@ -211,18 +214,6 @@ power-stepped board t n new power' a header c reply changed later before few few
 
 -- COMPLETION
 
--- what is announced after a response
-announced-after : (t m : Tables) (left : List PendingSet) (responses : List Message) (x a d s before : ℕ) (subscribers : List ℕ)
-    → outbox_at m x ≡ outbox_at t x ++ responses → m.pending.items ≡ left → before ≡ state_at t.power d → is_subscribed m.power x d ≡ is_subscribed t.power x d
-    → announced_at m x a (Some (d, s)) before
-    ≡ (if nat_lt (length (outbox_at t x) + length responses + length (sets_by x left)) 16 then notice_in (situation_in x t) (state_change a (d, s)) else [])
-announced-after t m left responses x a d s before subscribers box pend was subs =
-    told-notice (nat_lt (load_at m x) 16) (is_subscribed m.power x d) (s == before) (state_changed a d s)
-    ∙ ap (λ b. if b then (if not (s == before) && is_subscribed m.power x d then state_changed a d s ∷ [] else []) else [])
-    (ap (λ l. nat_lt (l + length (sets_by x m.pending.items)) 16) (ap length box ∙ length-append (outbox_at t x) responses) ∙ ap (λ p. nat_lt (length (outbox_at t x) + length responses + length (sets_by x p)) 16) pend)
-    ∙ ap (λ v. if nat_lt (length (outbox_at t x) + length responses + length (sets_by x left)) 16 then (if not (s == v) && is_subscribed m.power x d then state_changed a d s ∷ [] else []) else []) was
-    ∙ ap (λ b. if nat_lt (length (outbox_at t x) + length responses + length (sets_by x left)) 16 then (if not (s == state_at t.power d) && b then state_changed a d s ∷ [] else []) else []) subs
-
 pub state-completed : (board : Board) (t m new : Tables) (power' : PowerTables) (left : List PendingSet) (a : ℕ) (header : HeaderFields) (wanted : Bool) (d s before : ℕ)
     → length board.domains ≤ 32 → 1 ≤ a → a ≤ length board.agents → d < length board.domains
     → slice_get t.pending.items 0 ≡ Some (record { agent = a; setting = setting.State d s; header = header; wanted = wanted })
@@ -250,7 +241,7 @@ state-completed board t m new power' left a header wanted d s before few lo hi w
           ∙ ap (λ b. b ++ announced_at m x a (Some (d, s)) before) (resp x lo')
           ∙ append_assoc (outbox_at t x) (response_for x done) (announced_at m x a (Some (d, s)) before)
           ∙ ap (λ ys. outbox_at t x ++ (response_for x done ++ ys))
-          (announced-after t m new.pending.items (response_for x done) x a d s before t.power.subscribers (resp x lo') (sym (ap (λ p. p.items) kept2.pending)) was (ap (λ p. is_subscribed p x d) kept1.power ∙ same_subs x d));
+          (announced-after t m new.pending.items (response_for x done) x a d s before (resp x lo') (sym (ap (λ p. p.items) kept2.pending)) was (ap (λ p. is_subscribed p x d) kept1.power ∙ same_subs x d));
     }) where
       same_subs : (x e : ℕ) → is_subscribed power' x e ≡ is_subscribed t.power x e
       same_subs x e = ap (λ l. bit_at (get_or l e 0) (x - 1) == 1) subs

@@ -1,5 +1,5 @@
 -- Tables that agree with a history, and what one more event leaves of that.
-use Rattle.std.proofs.Common.{◌≡◌, ◌≢◌, ◌⊎◌, inl, inr, ℕ, ◌+◌, ◌<◌, ◌≤◌, ◌==◌, nat_lt, Bool, true, false, List, [], ◌∷◌, ◌++◌, length, drop, slice_get, None, Err, unwrap_or, refl, sym, ap, ◌∙◌, subst, arith, if◌then◌else◌}
+use Rattle.std.proofs.Common.{◌≡◌, ◌≢◌, ◌⊎◌, inl, inr, ℕ, ◌+◌, ◌<◌, ◌≤◌, ◌==◌, Bool, true, false, List, [], ◌∷◌, ◌++◌, length, drop, slice_get, None, Err, unwrap_or, refl, sym, ap, ◌∙◌, subst, arith, if◌then◌else◌}
 use Rattle.std.specs.List.{All}
 use Rattle.std.proofs.lemmas.List.{append-nil, drop-drop}
 use Rattle.std.proofs.lemmas.List.Elements.{All-nil}
@@ -27,7 +27,7 @@ use Rattle.scmi_core.specs.Deed.{Deed, success_with, over, success_of}
 use Rattle.scmi_core.specs.Permissions.{permission_in, allowed}
 use Rattle.scmi_core.specs.Subscriptions.{subscription, subscribed}
 use Rattle.scmi_core.specs.Value.{value, change_by, completed, Thing, State, Rate, Enabled, bit_value, value_in, value_at_start, change_of}
-use Rattle.scmi_core.specs.Pending.{acceptance, pending, pending_of, sets_by}
+use Rattle.scmi_core.specs.Pending.{acceptance, pending}
 use Rattle.scmi_core.specs.Outbox.{made, made_by, made_in, outbox_after, sent, is_sent_by, situation_after}
 use Rattle.scmi_core.specs.History.{answer_to, deeds, outbox}
 use Rattle.scmi_core.specs.Legal.{CanFollow}
@@ -35,10 +35,9 @@ use Rattle.scmi_core.specs.Reply.{answer_in, reply_words}
 use Rattle.scmi_core.specs.Tables.{outbox_at, situation_in, value_at, IsThing, IsOfBoard}
 use Rattle.scmi_core.specs.Step.{HasAnswered, rest_of, HasStepped}
 use Rattle.scmi_core.specs.Agreement.{Agrees}
-use Rattle.scmi_core.proofs.Deeds.{added, allowed-push, subscribed-push, value-push, pending-push, pending-advance, outbox-push, IsLegal-push, made-push, sent-push}
+use Rattle.scmi_core.proofs.Deeds.{added, allowed-push, subscribed-push, value-push, pending-push, pending-advance, outbox-push, IsLegal-push, sent-push}
 use Rattle.scmi_core.proofs.Legal.{IsLegal-nil, deeds-push, advances_le-accepted, sent_le-made}
-use Rattle.scmi_core.proofs.Steps.{nothing_if}
-use Rattle.scmi_core.proofs.Situations.{SameSituation, answer-same, made-same, reply-same}
+use Rattle.scmi_core.proofs.Situations.{SameSituation, answer-same, made-same, made-sent, nothing-made, reply-same}
 
 -- the tables say of each agent what the history says
 pub same-situation : (board : Board) (t : Tables) (h : List Event) (a : ℕ) → Agrees board t h → IsLawful board → 1 ≤ a → a ≤ length board.agents
@@ -116,7 +115,7 @@ nothing-stepped board t = record {
   known = tt;
   pending_sets = sym (append-nil t.pending.items);
   known_sets = λ all. all;
-  outboxes = λ a lo hi. sym (append-nil (outbox_at t a)) ∙ ap (λ ys. outbox_at t a ++ ys) (sym (nothing_if (nat_lt (length (outbox_at t a) + 0 + length (sets_by a t.pending.items)) 16)));
+  outboxes = λ a lo hi. sym (append-nil (outbox_at t a)) ∙ ap (λ ys. outbox_at t a ++ ys) (sym (nothing-made a (situation_in a t) t.pending.items));
 }
 
 -- a message that is no command
@@ -189,21 +188,18 @@ Agrees-sent board t new h a agrees law lo hi waiting bases powers clocks pends f
       same_value (Rate k) = ap (λ p. rate_at p k) clocks
       same_value (Enabled k) = ap (λ p. bit_value (enabled_at p k)) clocks
 
-      made_more : (x : ℕ) → made board x (deeds board h ++ record { event = Sent a; reply = [] } ∷ []) ≡ made board x (deeds board h)
-      made_more x = made-push board x (deeds board h) (record { event = Sent a; reply = [] }) ∙ ap (λ ys. made board x (deeds board h) ++ ys) (nothing_if (nat_lt (length (outbox_after board x (deeds board h)) + 0 + length (pending_of board x (deeds board h ++ record { event = Sent a; reply = [] } ∷ []))) 16)) ∙ append-nil (made board x (deeds board h))
-
       by_agent : (x : ℕ) → 1 ≤ x → x ≤ length board.agents → (((x == a) ≡ true) × (x ≡ a)) ⊎ (((x == a) ≡ false) × (x ≢ a)) → outbox_at new x ≡ outbox board x (h ++ Sent a ∷ [])
       by_agent x lo' hi' (inl same) =
           let deed : Deed = record { event = Sent a; reply = [] } in
           rw same.1 (front ∙ ap (drop 1) (agrees.outboxes a lo hi)
           ∙ drop-drop 1 (sent a (deeds board h)) (made board a (deeds board h))
-          ∙ sym (ap (outbox_after board a) (deeds-push board h (Sent a)) ∙ ap (drop (sent a (deeds board h ++ deed ∷ []))) (made_more a)
+          ∙ sym (ap (outbox_after board a) (deeds-push board h (Sent a)) ∙ ap (drop (sent a (deeds board h ++ deed ∷ []))) (made-sent board a (deeds board h) a)
           ∙ ap (λ n. drop n (made board a (deeds board h))) (sent-push a (deeds board h) deed ∙ ap (λ b. sent a (deeds board h) + (if b then 1 else 0)) (eq-eqb a a refl))))
       by_agent x lo' hi' (inr other) =
           let deed : Deed = record { event = Sent a; reply = [] } in
           let zero_more : sent x (deeds board h) + 0 ≡ sent x (deeds board h) = omega arith in
           others x lo' other.1 ∙ agrees.outboxes x lo' hi'
-          ∙ sym (ap (outbox_after board x) (deeds-push board h (Sent a)) ∙ ap (drop (sent x (deeds board h ++ deed ∷ []))) (made_more x)
+          ∙ sym (ap (outbox_after board x) (deeds-push board h (Sent a)) ∙ ap (drop (sent x (deeds board h ++ deed ∷ []))) (made-sent board x (deeds board h) a)
           ∙ ap (λ n. drop n (made board x (deeds board h))) (sent-push x (deeds board h) deed ∙ ap (λ b. sent x (deeds board h) + (if b then 1 else 0)) other.0 ∙ zero_more))
 
 -- the tables of a new controller
