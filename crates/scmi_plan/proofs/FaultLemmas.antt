@@ -9,11 +9,13 @@ use Rattle.std.proofs.lemmas.List.FromFn.{length-map-range_with_len, get_or-map-
 use Rattle.std.proofs.lemmas.Nat.{div-add-mod', le-div}
 use Rattle.std.proofs.Math.Nat.{mul-mod_left, zero-mul, le-div_iff_mul-le}
 use Rattle.scmi_codec.specs.Name.{IsName}
+use Rattle.scmi_codec.specs.declared.name.TheConstants.{NAME_BYTES}
 use Rattle.scmi_plan.specs.Board.{Board}
 use Rattle.scmi_plan.specs.Plan.{IsLawful}
 use Rattle.scmi_plan.specs.Rates.{HasLawfulRates, IsSupported}
 use Rattle.scmi_plan.specs.PlanError.{is_name, rises, is_lawful_list, is_lawful, supports, has_lawful_counts, has_lawful_names, has_lawful_clocks, has_lawful_devices, has_trusted_agent, first_fault}
 use Rattle.scmi_plan.specs.RawPlan.{asked_board, asked_domain, asked_clock}
+use Rattle.scmi_plan.specs.declared.limits.TheConstants.{AGENTS, DOMAINS, CLOCKS, DEVICES, RATES}
 use Rattle.scmi_plan.specs.declared.raw_plan.RawPlan.{RawPlan}
 use Rattle.scmi_plan.specs.declared.clock.Clock.{Clock}
 use Rattle.scmi_plan.specs.declared.device.Device.{Device}
@@ -40,7 +42,7 @@ Decides-is_name bytes =
     Decides-like (is_name bytes)
     (λ w. record { some = w.0.0; few = w.0.1; printable = w.1 })
     (λ name. ((name.some, name.few), name.printable))
-    (Decides-and _ _ (Decides-and _ _ (Decides-leb 1 (length bytes)) (Decides-leb (length bytes) 15))
+    (Decides-and _ _ (Decides-and _ _ (Decides-leb 1 (length bytes)) (Decides-leb (length bytes) NAME_BYTES))
     (Decides-list_all (λ byte. nat_le 0x21 byte && nat_le byte 0x7E) (λ byte. (0x21 ≤ byte) × (byte ≤ 0x7E))
     (λ byte. Decides-and _ _ (Decides-leb 0x21 byte) (Decides-leb byte 0x7E)) bytes))
 
@@ -69,7 +71,7 @@ Decides-rises (x ∷ y ∷ xs) =
 Decides-is_lawful : (r : Rates) → Decides (is_lawful r) (HasLawfulRates r)
 Decides-is_lawful (rates.List list) =
     Decides-like (is_lawful_list list) (λ w. (w.0.0, w.0.1, w.1)) (λ w. ((w.0, w.1), w.2))
-    (Decides-and _ _ (Decides-and _ _ (Decides-leb 1 (length list)) (Decides-leb (length list) 64)) (Decides-rises list))
+    (Decides-and _ _ (Decides-and _ _ (Decides-leb 1 (length list)) (Decides-leb (length list) RATES)) (Decides-rises list))
 Decides-is_lawful (rates.Steps low high step) =
     Decides-like (is_lawful (rates.Steps low high step)) (λ w. (w.0.0, w.0.1, w.1)) (λ w. ((w.0, w.1), w.2))
     (Decides-and _ _ (Decides-and _ _ (Decides-leb 1 step) (Decides-leb low high)) (Decides-eqb ((high - low) % step) 0))
@@ -141,10 +143,10 @@ module _ (board : Board) where
   IsWithin device = (device.domains < 2 ^ length board.domains) × (device.clocks < 2 ^ length board.clocks)
 
   Decides-counts : Decides (has_lawful_counts board)
-      (((((1 ≤ length board.agents) × (length board.agents ≤ 8)) × (length board.domains ≤ 32)) × (length board.clocks ≤ 32)) × (length board.devices ≤ 32))
+      (((((1 ≤ length board.agents) × (length board.agents ≤ AGENTS)) × (length board.domains ≤ DOMAINS)) × (length board.clocks ≤ CLOCKS)) × (length board.devices ≤ DEVICES))
   Decides-counts =
-      Decides-and _ _ (Decides-and _ _ (Decides-and _ _ (Decides-and _ _ (Decides-leb 1 (length board.agents)) (Decides-leb (length board.agents) 8))
-      (Decides-leb (length board.domains) 32)) (Decides-leb (length board.clocks) 32)) (Decides-leb (length board.devices) 32)
+      Decides-and _ _ (Decides-and _ _ (Decides-and _ _ (Decides-and _ _ (Decides-leb 1 (length board.agents)) (Decides-leb (length board.agents) AGENTS))
+      (Decides-leb (length board.domains) DOMAINS)) (Decides-leb (length board.clocks) CLOCKS)) (Decides-leb (length board.devices) DEVICES)
 
   Decides-names : Decides (has_lawful_names board)
       ((((IsName board.vendor × IsName board.sub_vendor) × All IsName board.agents) × All (λ domain. IsName domain.name) board.domains) × All (λ clock. IsName clock.name) board.clocks)

@@ -4,6 +4,7 @@ use Rattle.std.specs.List.{All}
 use Rattle.scmi_codec.specs.Name.{IsName}
 use Rattle.scmi_plan.specs.Board.{Board, domain_at, clock_at, device_at}
 use Rattle.scmi_plan.specs.Rates.{HasLawfulRates, IsSupported}
+use Rattle.scmi_plan.specs.declared.limits.TheConstants.{AGENTS, DOMAINS, CLOCKS, DEVICES}
 use Rattle.scmi_plan.specs.declared.plan.Plan.TheInside.{Inside}
 
 -- the board that a plan's fields hold
@@ -23,10 +24,10 @@ board_of p =
 -- a board that keeps the limits and rules of the profile (own)
 pub record IsLawful (board : Board) : Type 0 where
   pub an_agent : 1 ≤ length board.agents
-  pub few_agents : length board.agents ≤ 8
-  pub few_domains : length board.domains ≤ 32
-  pub few_clocks : length board.clocks ≤ 32
-  pub few_devices : length board.devices ≤ 32
+  pub few_agents : length board.agents ≤ AGENTS
+  pub few_domains : length board.domains ≤ DOMAINS
+  pub few_clocks : length board.clocks ≤ CLOCKS
+  pub few_devices : length board.devices ≤ DEVICES
   pub vendor : IsName board.vendor
   pub sub_vendor : IsName board.sub_vendor
   pub agent_names : All IsName board.agents

@@ -3,6 +3,7 @@ use Rattle.std.specs.Prelude.{ℕ, ◌-◌, ◌^◌, ◌%◌, ◌==◌, nat_le, 
 use Rattle.std.specs.List.{list_all, list_any}
 use Rattle.scmi_codec.specs.declared.name.TheConstants.{NAME_BYTES}
 use Rattle.scmi_plan.specs.Board.{Board}
+use Rattle.scmi_plan.specs.declared.limits.TheConstants.{AGENTS, DOMAINS, CLOCKS, DEVICES, RATES}
 use Rattle.scmi_plan.specs.declared.rates.Rates.{Rates}
 use Rattle.scmi_plan.specs.declared.rates.Rates.TheVariants as rates
 use Rattle.scmi_plan.specs.declared.plan_error.PlanError.{PlanError}
@@ -11,8 +12,8 @@ use Rattle.scmi_plan.specs.declared.plan_error.PlanError.TheVariants as error
 -- 1 to 8 agents, and at most 32 domains, clocks and devices (own)
 abbrev pub has_lawful_counts : Board → Bool
 has_lawful_counts board =
-    nat_le 1 (length board.agents) && nat_le (length board.agents) 8
-    && nat_le (length board.domains) 32 && nat_le (length board.clocks) 32 && nat_le (length board.devices) 32
+    nat_le 1 (length board.agents) && nat_le (length board.agents) AGENTS
+    && nat_le (length board.domains) DOMAINS && nat_le (length board.clocks) CLOCKS && nat_le (length board.devices) DEVICES
 
 -- 1 to 15 bytes, each 0x21 to 0x7E (own)
 abbrev pub is_name : List ℕ → Bool
@@ -31,7 +32,7 @@ rises _ = true
 
 -- 1 to 64 rates that rise (own)
 abbrev pub is_lawful_list : List ℕ → Bool
-is_lawful_list list = nat_le 1 (length list) && nat_le (length list) 64 && rises list
+is_lawful_list list = nat_le 1 (length list) && nat_le (length list) RATES && rises list
 
 -- a lawful list, or steps that end at the highest rate (own)
 abbrev pub is_lawful : Rates → Bool

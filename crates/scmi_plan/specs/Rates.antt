@@ -2,6 +2,7 @@
 use Rattle.std.specs.Prelude.{◌≡◌, ℕ, ◌+◌, ◌-◌, ◌*◌, ◌/◌, ◌%◌, ◌≤◌, List, length, map, Contains}
 use Rattle.std.specs.List.{range_with_len}
 use Rattle.std.specs.List.Sorted.{IsStrictlyIncreasing}
+use Rattle.scmi_plan.specs.declared.limits.TheConstants.{RATES}
 use Rattle.scmi_plan.specs.declared.rates.Rates.{Rates}
 use Rattle.scmi_plan.specs.declared.rates.Rates.TheVariants as rates
 
@@ -12,7 +13,7 @@ members (rates.Steps low high step) = map (λ k. low + k * step) (range_with_len
 
 -- a list of 1 to 64 rates that rises, or steps that end at the highest rate (own)
 abbrev pub HasLawfulRates : Rates → Type 0
-HasLawfulRates (rates.List list) = (1 ≤ length list) × (length list ≤ 64) × IsStrictlyIncreasing list
+HasLawfulRates (rates.List list) = (1 ≤ length list) × (length list ≤ RATES) × IsStrictlyIncreasing list
 HasLawfulRates (rates.Steps low high step) = (1 ≤ step) × (low ≤ high) × ((high - low) % step ≡ 0)
 
 -- a rate is supported
