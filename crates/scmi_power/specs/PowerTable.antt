@@ -8,6 +8,7 @@ use Rattle.scmi_plan.specs.Board.{Board, domain_at}
 use Rattle.scmi_plan.specs.declared.domain.Domain.{Domain}
 use Rattle.scmi_power.specs.PowerReply.{PowerView, state_on, state_off}
 use Rattle.scmi_codec.specs.Reply.{bit_0}
+use Rattle.scmi_plan.specs.declared.limits.TheConstants.{DOMAINS}
 use Rattle.scmi_plan.specs.declared.load.Load.{Load}
 use Rattle.scmi_plan.specs.declared.resource.Resource.TheVariants as resource
 use Rattle.scmi_base.specs.Permission.{Permissions, may, is_allowed}
@@ -19,8 +20,8 @@ pub record PowerTables : Type 0 where
 
 -- the table has a place for each domain that a board may have (own)
 pub record IsTable (table : PowerTables) : Type 0 where
-  pub states : length table.states ≡ 32
-  pub subscribers : length table.subscribers ≡ 32
+  pub states : length table.states ≡ DOMAINS
+  pub subscribers : length table.subscribers ≡ DOMAINS
 
 -- the state of a domain
 abbrev pub state_at : PowerTables → ℕ → ℕ

@@ -4,6 +4,7 @@ ghost use Rattle.scmi_codec.specs.Reply.{bit_0};
 ghost use Rattle.scmi_codec.specs.Status.{status_word};
 ghost use Rattle.scmi_codec.specs.declared.status.Status.TheVariants.{Success, NotFound, NotSupported, Denied, Busy};
 ghost use Rattle.scmi_plan.specs.Plan.{IsLawful};
+ghost use Rattle.scmi_plan.specs.declared.limits.TheConstants.{AGENTS, DOMAINS};
 ghost use Rattle.scmi_power.specs.PowerReply.{set_reply, notify_reply, no_domain, supports};
 ghost use Rattle.scmi_power.specs.PowerTable.{may_change, is_busy};
 
@@ -28,7 +29,7 @@ pub(crate) fn check_set(
     ensures ok { IfOk result (λ asynchronous. set_reply plan.now (may_change plan.now base.now caller domain) (is_busy load domain) load.room flags domain state ≡ 0 ∷ []) }
     ensures asynchronous { IfOk result (λ asynchronous. asynchronous ≡ bit_0 flags) }
     ensures known { IfOk result (λ asynchronous. domain < length plan.now.domains) }
-    ensures domain { IfOk result (λ asynchronous. domain < 32) }
+    ensures domain { IfOk result (λ asynchronous. domain < DOMAINS) }
     ensures room { IfOk result (λ asynchronous. asynchronous ≡ true → load.room ≡ true) }
     ensures err { IfErr result (λ status. set_reply plan.now (may_change plan.now base.now caller domain) (is_busy load domain) load.room flags domain state ≡ status_word status ∷ []) }
     ensures refused { IfErr result (λ status. status ≢ Success) }
@@ -55,8 +56,8 @@ pub(crate) fn check_notify(
     requires last { caller ≤ length plan.now.agents }
     ensures ok { IfOk result (λ enabled. notify_reply plan.now (may_change plan.now base.now caller domain) domain enable ≡ 0 ∷ []) }
     ensures enabled { IfOk result (λ enabled. enabled ≡ bit_0 enable) }
-    ensures domain { IfOk result (λ enabled. domain < 32) }
-    ensures agent { IfOk result (λ enabled. caller ≤ 8) }
+    ensures domain { IfOk result (λ enabled. domain < DOMAINS) }
+    ensures agent { IfOk result (λ enabled. caller ≤ AGENTS) }
     ensures err { IfErr result (λ status. notify_reply plan.now (may_change plan.now base.now caller domain) domain enable ≡ status_word status ∷ []) }
     ensures refused { IfErr result (λ status. status ≢ Success) }
 {
@@ -71,7 +72,7 @@ pub(crate) fn check_notify(
 pub(crate) fn check_domain(plan: &Plan, domain: u32) -> Result<(), Status>
     ensures first { result ≡ (if no_domain plan.now domain then Err NotFound else Ok tt) }
     ensures known { IfOk result (λ u. domain < length plan.now.domains) }
-    ensures domain { IfOk result (λ u. domain < 32) }
+    ensures domain { IfOk result (λ u. domain < DOMAINS) }
     ensures lawful { IsLawful plan.now }
 {
     if domain >= plan.domains() {
@@ -120,7 +121,7 @@ fn check_permission(plan: &Plan, base: &BaseState, caller: u32, domain: u32) -> 
 
 /// BUSY where a domain has a pending set, or where an asynchronous set has no room.
 fn check_free(domain: u32, asynchronous: bool, load: Load) -> Result<(), Status>
-    requires { domain < 32 }
+    requires { domain < DOMAINS }
     ensures { result ≡ (if is_busy load domain || (asynchronous && not load.room) then Err Busy else Ok tt) }
 {
     let is_busy = (load.busy >> domain) & 1 == 1;

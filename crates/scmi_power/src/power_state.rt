@@ -3,6 +3,7 @@ ghost use Rattle.std.specs.Prelude.{◌≡◌, ◌≤◌, ◌<◌, ◌-◌, ◌=
 ghost use Rattle.std.specs.Int.{bit_at};
 ghost use Rattle.scmi_codec.specs.Payload.{begins_with_success};
 ghost use Rattle.scmi_codec.specs.declared.power_command.PowerCommand.TheVariants.{Set, Notify};
+ghost use Rattle.scmi_plan.specs.declared.limits.TheConstants.{AGENTS, DOMAINS};
 ghost use Rattle.scmi_power.specs.PowerReply.{power_reply, set_reply, get_reply, notify_reply};
 ghost use Rattle.scmi_power.specs.PowerTable.{view_of, may_change, is_busy, state_at, state_at_start, set_now, set_later, set_to, is_subscribed, notification, only_reads};
 ghost use Rattle.scmi_codec.specs.Payload.{if_success};
@@ -73,8 +74,8 @@ impl PowerState {
         ensures reply { reply.new.items ≡ power_reply plan.now (view_of plan.now base.now self.old load caller) command }
         ensures changed { result.changed ≡ if_success reply.new.items (set_now command) }
         ensures later { result.later ≡ if_success reply.new.items (set_later command) }
-        ensures states { (d : ℕ) → d < 32 → state_at self.new d ≡ set_to result.changed d (state_at self.old d) }
-        ensures subscribed { (a d : ℕ) → 1 ≤ a → a ≤ 8 → d < 32 → is_subscribed self.new a d
+        ensures states { (d : ℕ) → d < DOMAINS → state_at self.new d ≡ set_to result.changed d (state_at self.old d) }
+        ensures subscribed { (a d : ℕ) → 1 ≤ a → a ≤ AGENTS → d < DOMAINS → is_subscribed self.new a d
             ≡ unwrap_or (if_success reply.new.items (notification a d caller command)) (is_subscribed self.old a d) }
         ensures known_now { IfSome result.changed (λ set. set.0 < length plan.now.domains) }
         ensures room { IfSome result.later (λ set. load.room ≡ true) }
@@ -103,9 +104,9 @@ impl PowerState {
     /// Gives a domain the state of a set that takes effect now, and answers whether it was another
     /// before.
     pub fn complete(&mut self, domain: u32, state: u32) -> bool
-        requires { domain < 32 }
+        requires { domain < DOMAINS }
         ensures changed { result ≡ not (state == state_at self.old domain) }
-        ensures states { (d : ℕ) → d < 32 → state_at self.new d ≡ (if domain == d then state else state_at self.old d) }
+        ensures states { (d : ℕ) → d < DOMAINS → state_at self.new d ≡ (if domain == d then state else state_at self.old d) }
         ensures subscribed { self.new.subscribers ≡ self.old.subscribers }
     {
         let place = domain as usize;
@@ -116,7 +117,7 @@ impl PowerState {
 
     /// Who is told of a domain's changes: bit a - 1 stands for agent a.
     pub fn subscribers(&self, domain: u32) -> u8
-        requires { domain < 32 }
+        requires { domain < DOMAINS }
         ensures { (a : ℕ) → (bit_at result (a - 1) == 1) ≡ is_subscribed self.now a domain }
     {
         self.subscribers[domain as usize]
@@ -125,8 +126,8 @@ impl PowerState {
     /// Ends an agent's requests for notifications, of every domain.
     pub fn reset(&mut self, agent: u32)
         requires first { 1 ≤ agent }
-        requires last { agent ≤ 8 }
-        ensures subscribed { (a d : ℕ) → 1 ≤ a → a ≤ 8 → d < 32 → is_subscribed self.new a d ≡ (if agent == a then false else is_subscribed self.old a d) }
+        requires last { agent ≤ AGENTS }
+        ensures subscribed { (a d : ℕ) → 1 ≤ a → a ≤ AGENTS → d < DOMAINS → is_subscribed self.new a d ≡ (if agent == a then false else is_subscribed self.old a d) }
         ensures states { self.new.states ≡ self.old.states }
     {
         let mut subscribers = self.subscribers;
@@ -138,7 +139,7 @@ impl PowerState {
 
     /// The state of a domain: 0 is ON, 0x40000000 is OFF.
     pub fn state(&self, domain: u32) -> u32
-        requires { domain < 32 }
+        requires { domain < DOMAINS }
         ensures { result ≡ state_at self.now domain }
     {
         self.states[domain as usize]
@@ -161,7 +162,7 @@ impl PowerState {
         ensures reply { reply.new.items ≡ set_reply plan.now (may_change plan.now base.now caller domain) (is_busy load domain) load.room flags domain state }
         ensures changed { result.changed ≡ if_success reply.new.items (set_now (Set flags domain state)) }
         ensures later { result.later ≡ if_success reply.new.items (set_later (Set flags domain state)) }
-        ensures states { (d : ℕ) → d < 32 → state_at self.new d ≡ set_to result.changed d (state_at self.old d) }
+        ensures states { (d : ℕ) → d < DOMAINS → state_at self.new d ≡ set_to result.changed d (state_at self.old d) }
         ensures subscribed { self.new.subscribers ≡ self.old.subscribers }
         ensures known_now { IfSome result.changed (λ set. set.0 < length plan.now.domains) }
         ensures room { IfSome result.later (λ set. load.room ≡ true) }
@@ -215,7 +216,7 @@ impl PowerState {
         requires last { caller ≤ length plan.now.agents }
         ensures reply { reply.new.items ≡ notify_reply plan.now (may_change plan.now base.now caller domain) domain enable }
         ensures states { self.new.states ≡ self.old.states }
-        ensures subscribed { (a d : ℕ) → 1 ≤ a → a ≤ 8 → d < 32 → is_subscribed self.new a d
+        ensures subscribed { (a d : ℕ) → 1 ≤ a → a ≤ AGENTS → d < DOMAINS → is_subscribed self.new a d
             ≡ unwrap_or (if_success reply.new.items (notification a d caller (Notify domain enable))) (is_subscribed self.old a d) }
         ensures refused { begins_with_success reply.new.items ≡ false → self.new ≡ self.old }
     {

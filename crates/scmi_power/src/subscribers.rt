@@ -1,12 +1,13 @@
 //! Who is told of a domain's changes: bit a - 1 of a mask stands for agent a.
 ghost use Rattle.std.specs.Prelude.{◌≡◌, ◌≤◌, ◌-◌, ◌==◌, ℕ, if◌then◌else◌};
 ghost use Rattle.std.specs.Int.{bit_at};
+ghost use Rattle.scmi_plan.specs.declared.limits.TheConstants.{AGENTS};
 
 /// The mask with one agent told, or told no more, and every other agent as it was.
 pub(crate) fn with_subscriber(mask: u8, agent: u32, is_told: bool) -> u8
     requires first { 1 ≤ agent }
-    requires last { agent ≤ 8 }
-    ensures { (a : ℕ) → 1 ≤ a → a ≤ 8 → (bit_at result (a - 1) == 1)
+    requires last { agent ≤ AGENTS }
+    ensures { (a : ℕ) → 1 ≤ a → a ≤ AGENTS → (bit_at result (a - 1) == 1)
         ≡ (if agent == a then is_told else (bit_at mask (a - 1) == 1)) }
 {
     let bit = 1u8 << (agent - 1);

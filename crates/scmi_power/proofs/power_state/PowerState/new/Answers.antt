@@ -2,6 +2,7 @@ use Rattle.std.proofs.Common.{◌≡◌, ◌≢◌, ℕ, ◌<◌, length, arith,
 use Rattle.std.proofs.Common.{replicate, false, ◌==◌, ◌-◌, zero, suc, refl, get_or}
 use Rattle.std.specs.Int.{bit_at}
 use Rattle.std.proofs.lemmas.Nat.Bits.{bit_at-zero}
+use Rattle.scmi_plan.specs.declared.limits.TheConstants.{DOMAINS}
 use Rattle.scmi_power.specs.PowerTable.{starting_state}
 use Rattle.scmi_power.proofs.power_state.PowerState.new.Goals as goal
 
@@ -25,5 +26,5 @@ all_zero (suc n) (suc d) = all_zero n d
 
 pub returns-clause-subscribed : goal.returns-clause-subscribed
 returns-clause-subscribed c = λ a d. none a d where
-  none : (a d : ℕ) → (bit_at (get_or (replicate 32 0) d 0) (a - 1) == 1) ≡ false
-  none a d = ap (λ n. bit_at n (a - 1) == 1) (all_zero 32 d) ∙ ap (λ n. n == 1) (bit_at-zero (a - 1))
+  none : (a d : ℕ) → (bit_at (get_or (replicate DOMAINS 0) d 0) (a - 1) == 1) ≡ false
+  none a d = ap (λ n. bit_at n (a - 1) == 1) (all_zero DOMAINS d) ∙ ap (λ n. n == 1) (bit_at-zero (a - 1))
