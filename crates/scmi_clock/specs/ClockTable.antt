@@ -6,6 +6,7 @@ use Rattle.scmi_codec.specs.declared.clock_command.ClockCommand.{ClockCommand}
 use Rattle.scmi_codec.specs.declared.clock_command.ClockCommand.TheVariants as clock
 use Rattle.scmi_plan.specs.Board.{Board, clock_at}
 use Rattle.scmi_codec.specs.Reply.{bit_0}
+use Rattle.scmi_plan.specs.declared.limits.TheConstants.{CLOCKS}
 use Rattle.scmi_plan.specs.declared.load.Load.{Load}
 use Rattle.scmi_plan.specs.declared.resource.Resource.TheVariants as resource
 use Rattle.scmi_base.specs.Permission.{Permissions, may, is_allowed}
@@ -19,8 +20,8 @@ pub record ClockTables : Type 0 where
 
 -- a place for each of the most clocks of a board
 pub record IsTable (table : ClockTables) : Type 0 where
-  pub rates : length table.rates ≡ 32
-  pub enabled : length table.enabled ≡ 32
+  pub rates : length table.rates ≡ CLOCKS
+  pub enabled : length table.enabled ≡ CLOCKS
 
 -- the rate of a clock in Hz
 abbrev pub rate_at : ClockTables → ℕ → ℕ

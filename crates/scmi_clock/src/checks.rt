@@ -3,6 +3,7 @@ ghost use Rattle.std.specs.Prelude.{◌≡◌, ◌≤◌, ◌<◌, ◌≢◌, �
 ghost use Rattle.scmi_codec.specs.Reply.{bit_0, reply_unless};
 ghost use Rattle.scmi_codec.specs.Status.{status_word};
 ghost use Rattle.scmi_codec.specs.declared.status.Status.TheVariants.{Success, NotFound, Denied, Busy, OutOfRange};
+ghost use Rattle.scmi_plan.specs.declared.limits.TheConstants.{CLOCKS};
 ghost use Rattle.scmi_clock.specs.ClockReply.{no_clock, past_end, set_checks, config_checks};
 ghost use Rattle.scmi_clock.specs.ClockTable.{set_rate, may_change, is_pending};
 ghost use Rattle.scmi_clock.specs.SetFlags.{is_asynchronous, is_response_wanted};
@@ -38,7 +39,7 @@ pub(crate) fn check_set(
     ensures rate { IfOk result (λ set. set.rate ≡ set_rate plan.now flags clock rate) }
     ensures asynchronous { IfOk result (λ set. set.asynchronous ≡ is_asynchronous flags) }
     ensures response_wanted { IfOk result (λ set. set.response_wanted ≡ is_response_wanted flags) }
-    ensures clock { IfOk result (λ set. (clock < length plan.now.clocks) × (clock < 32)) }
+    ensures clock { IfOk result (λ set. (clock < length plan.now.clocks) × (clock < CLOCKS)) }
     ensures room { IfOk result (λ set. is_asynchronous flags ≡ true → load.room ≡ true) }
     ensures err { IfErr result (λ status. reply_unless (set_checks plan.now (may_change plan.now base.now caller clock) (is_pending load clock) load.room flags clock rate) (0 ∷ []) ≡ status_word status ∷ []) }
     ensures refused { IfErr result (λ status. status ≢ Success) }
@@ -70,7 +71,7 @@ pub(crate) fn check_config(
     requires last { caller ≤ length plan.now.agents }
     ensures ok { IfOk result (λ enable. reply_unless (config_checks plan.now (may_change plan.now base.now caller clock) clock attributes) (0 ∷ []) ≡ 0 ∷ []) }
     ensures enable { IfOk result (λ enable. enable ≡ bit_0 attributes) }
-    ensures clock { IfOk result (λ enable. (clock < length plan.now.clocks) × (clock < 32)) }
+    ensures clock { IfOk result (λ enable. (clock < length plan.now.clocks) × (clock < CLOCKS)) }
     ensures err { IfErr result (λ status. reply_unless (config_checks plan.now (may_change plan.now base.now caller clock) clock attributes) (0 ∷ []) ≡ status_word status ∷ []) }
     ensures refused { IfErr result (λ status. status ≢ Success) }
 {
@@ -83,7 +84,7 @@ pub(crate) fn check_config(
 /// NOT_FOUND where the board has no such clock.
 pub(crate) fn check_clock(plan: &Plan, clock: u32) -> Result<(), Status>
     ensures first { result ≡ (if no_clock plan.now clock then Err NotFound else Ok tt) }
-    ensures clock { IfOk result (λ u. (clock < length plan.now.clocks) × (clock < 32)) }
+    ensures clock { IfOk result (λ u. (clock < length plan.now.clocks) × (clock < CLOCKS)) }
 {
     if clock >= plan.clocks() {
         return Err(Status::NotFound);
@@ -116,7 +117,7 @@ fn check_permitted(plan: &Plan, base: &BaseState, caller: u32, clock: u32) -> Re
 
 /// BUSY where the clock has a pending set, or where an asynchronous set has no room.
 fn check_pending(load: Load, clock: u32, asynchronous: bool) -> Result<(), Status>
-    requires { clock < 32 }
+    requires { clock < CLOCKS }
     ensures { result ≡ (if is_pending load clock || (asynchronous && not load.room) then Err Busy else Ok tt) }
 {
     if (load.busy >> clock) & 1 == 1 || (asynchronous && !load.room) {

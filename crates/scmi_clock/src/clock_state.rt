@@ -3,6 +3,7 @@ ghost use Rattle.std.specs.Prelude.{◌≡◌, ◌≤◌, ◌<◌, ◌==◌, ◌
 ghost use Rattle.scmi_codec.specs.Reply.{reply_unless};
 ghost use Rattle.scmi_codec.specs.declared.clock_command.ClockCommand.TheVariants.{SetRate, Config};
 ghost use Rattle.scmi_plan.specs.Board.{clock_at};
+ghost use Rattle.scmi_plan.specs.declared.limits.TheConstants.{CLOCKS};
 ghost use Rattle.scmi_clock.specs.ClockReply.{clock_reply, config_checks};
 ghost use Rattle.scmi_clock.specs.ClockTable.{view_of, may_change, rate_at, enabled_at, rate_now, rate_later, enabled_now, set_to, enabled_to};
 ghost use Rattle.scmi_codec.specs.Payload.{if_success};
@@ -51,7 +52,7 @@ impl ClockState {
 
     /// The rate of a clock in Hz.
     pub fn rate(&self, clock: u32) -> u64
-        requires { clock < 32 }
+        requires { clock < CLOCKS }
         ensures { result ≡ rate_at self.now clock }
     {
         self.rates[clock as usize]
@@ -59,7 +60,7 @@ impl ClockState {
 
     /// Whether a clock is enabled.
     pub fn enabled(&self, clock: u32) -> bool
-        requires { clock < 32 }
+        requires { clock < CLOCKS }
         ensures { result ≡ enabled_at self.now clock }
     {
         self.enabled[clock as usize]
@@ -67,8 +68,8 @@ impl ClockState {
 
     /// Completes a pending set: sets a clock's rate, in Hz.
     pub fn complete(&mut self, clock: u32, rate: u64)
-        requires { clock < 32 }
-        ensures rates { (c : ℕ) → c < 32 → rate_at self.new c ≡ (if clock == c then rate else rate_at self.old c) }
+        requires { clock < CLOCKS }
+        ensures rates { (c : ℕ) → c < CLOCKS → rate_at self.new c ≡ (if clock == c then rate else rate_at self.old c) }
         ensures enabled { self.new.enabled ≡ self.old.enabled }
     {
         self.rates[clock as usize] = rate;
@@ -95,8 +96,8 @@ impl ClockState {
         requires last { caller ≤ length plan.now.agents }
         ensures reply { reply.new.items ≡ clock_reply plan.now (view_of plan.now base.now self.old load caller) command }
         ensures later { result ≡ if_success reply.new.items (rate_later plan.now command) }
-        ensures rates { (c : ℕ) → c < 32 → rate_at self.new c ≡ set_to (if_success reply.new.items (rate_now plan.now command)) c (rate_at self.old c) }
-        ensures enabled { (c : ℕ) → c < 32 → enabled_at self.new c ≡ enabled_to (if_success reply.new.items (enabled_now command)) c (enabled_at self.old c) }
+        ensures rates { (c : ℕ) → c < CLOCKS → rate_at self.new c ≡ set_to (if_success reply.new.items (rate_now plan.now command)) c (rate_at self.old c) }
+        ensures enabled { (c : ℕ) → c < CLOCKS → enabled_at self.new c ≡ enabled_to (if_success reply.new.items (enabled_now command)) c (enabled_at self.old c) }
         ensures room { IfSome result (λ set. load.room ≡ true) }
         ensures known_later { IfSome result (λ set. set.0 < length plan.now.clocks) }
         ensures known_now { IfSome (if_success reply.new.items (rate_now plan.now command)) (λ set. set.0 < length plan.now.clocks) }
@@ -136,7 +137,7 @@ impl ClockState {
         requires last { caller ≤ length plan.now.agents }
         ensures reply { reply.new.items ≡ clock_reply plan.now (view_of plan.now base.now self.old load caller) (SetRate flags clock rate) }
         ensures later { result ≡ if_success reply.new.items (rate_later plan.now (SetRate flags clock rate)) }
-        ensures rates { (c : ℕ) → c < 32 → rate_at self.new c ≡ set_to (if_success reply.new.items (rate_now plan.now (SetRate flags clock rate))) c (rate_at self.old c) }
+        ensures rates { (c : ℕ) → c < CLOCKS → rate_at self.new c ≡ set_to (if_success reply.new.items (rate_now plan.now (SetRate flags clock rate))) c (rate_at self.old c) }
         ensures enabled { self.new.enabled ≡ self.old.enabled }
         ensures room { IfSome result (λ set. load.room ≡ true) }
         ensures known_later { IfSome result (λ set. set.0 < length plan.now.clocks) }
@@ -156,9 +157,9 @@ impl ClockState {
 
     /// Sets a rate at once, or leaves an asynchronous set for later.
     fn accept(&mut self, clock: u32, set: RateSet) -> Option<(u32, u64, bool)>
-        requires { clock < 32 }
+        requires { clock < CLOCKS }
         ensures later { result ≡ (if set.asynchronous then Some (clock, set.rate, set.response_wanted) else None) }
-        ensures rates { (c : ℕ) → c < 32 → rate_at self.new c ≡ set_to (if set.asynchronous then None else Some (clock, set.rate)) c (rate_at self.old c) }
+        ensures rates { (c : ℕ) → c < CLOCKS → rate_at self.new c ≡ set_to (if set.asynchronous then None else Some (clock, set.rate)) c (rate_at self.old c) }
         ensures enabled { self.new.enabled ≡ self.old.enabled }
     {
         if set.asynchronous {
@@ -182,7 +183,7 @@ impl ClockState {
         requires last { caller ≤ length plan.now.agents }
         ensures reply { reply.new.items ≡ reply_unless (config_checks plan.now (may_change plan.now base.now caller clock) clock attributes) (0 ∷ []) }
         ensures rates { self.new.rates ≡ self.old.rates }
-        ensures enabled { (c : ℕ) → c < 32 → enabled_at self.new c ≡ enabled_to (if_success reply.new.items (enabled_now (Config clock attributes))) c (enabled_at self.old c) }
+        ensures enabled { (c : ℕ) → c < CLOCKS → enabled_at self.new c ≡ enabled_to (if_success reply.new.items (enabled_now (Config clock attributes))) c (enabled_at self.old c) }
         ensures known { IfSome (if_success reply.new.items (enabled_now (Config clock attributes))) (λ set. set.0 < length plan.now.clocks) }
     {
         match check_config(plan, base, caller, clock, attributes) {

@@ -1,6 +1,7 @@
 //! The replies to the commands that change nothing.
 ghost use Rattle.std.specs.Prelude.{◌≡◌, ◌<◌, ◌≤◌, ◌^◌, ◌∷◌, [], length, false};
 ghost use Rattle.scmi_plan.specs.Rates.{HasLawfulRates};
+ghost use Rattle.scmi_plan.specs.declared.limits.TheConstants.{RATES};
 ghost use Rattle.scmi_plan.specs.declared.rates.Rates.TheVariants.{List, Steps};
 ghost use Rattle.scmi_clock.specs.ClockReply.{attributes_reply, message_reply, clock_attributes_reply, describe_reply, rate_reply, past_end, described, rates_word};
 ghost use Rattle.scmi_clock.specs.ClockTable.{rate_at, enabled_at};
@@ -105,7 +106,7 @@ fn described(rates: &Rates, index: u32, reply: &mut Payload)
 
 /// As many rates from an index on as a reply holds, and how many remain.
 fn listed(list: &[u64], index: usize, reply: &mut Payload)
-    requires few { length list.now ≤ 64 }
+    requires few { length list.now ≤ RATES }
     requires index { index < length list.now }
     ensures { reply.new.items ≡ 0 ∷ described (List list.now) index }
 {
