@@ -1,16 +1,16 @@
 -- The tables of clocks, and what a command leaves of them.
-use Rattle.std.specs.Prelude.{◌≡◌, ℕ, ◌==◌, Bool, true, false, if◌then◌else◌, List, length, get_or, Option, Some, None, unwrap_or}
+use Rattle.std.specs.Prelude.{◌≡◌, ℕ, ◌<◌, ◌==◌, Bool, true, false, if◌then◌else◌, List, [], ◌∷◌, length, get_or, Option, Some, None, unwrap_or}
 use Rattle.std.specs.Int.{bit_at}
 use Rattle.scmi_codec.specs.Payload.{begins_with_success}
 use Rattle.scmi_codec.specs.declared.clock_command.ClockCommand.{ClockCommand}
 use Rattle.scmi_codec.specs.declared.clock_command.ClockCommand.TheVariants as clock
 use Rattle.scmi_plan.specs.Board.{Board, clock_at}
-use Rattle.scmi_codec.specs.Reply.{bit_0}
+use Rattle.scmi_codec.specs.Reply.{bit_0, reply_unless}
 use Rattle.scmi_plan.specs.declared.limits.TheConstants.{CLOCKS}
 use Rattle.scmi_plan.specs.declared.load.Load.{Load}
 use Rattle.scmi_plan.specs.declared.resource.Resource.TheVariants as resource
 use Rattle.scmi_base.specs.Permission.{Permissions, may, is_allowed}
-use Rattle.scmi_clock.specs.ClockReply.{ClockView, rounded}
+use Rattle.scmi_clock.specs.ClockReply.{ClockView, rounded, set_checks, config_checks}
 use Rattle.scmi_clock.specs.SetFlags.{is_asynchronous, is_response_wanted}
 
 -- the rate of each clock in Hz, and whether it is enabled
@@ -85,3 +85,21 @@ abbrev pub only_reads : ClockCommand → Bool
 only_reads (clock.SetRate flags c rate) = false
 only_reads (clock.Config c attributes) = false
 only_reads _ = true
+
+-- the reply to a caller's set, by the permissions and by what pending sets leave free
+abbrev pub set_words : Board → Permissions → ℕ → Load → (flags c rate : ℕ) → List ℕ
+set_words board permissions caller load flags c rate =
+    reply_unless (set_checks board (may_change board permissions caller c) (is_pending load c) load.room flags c rate) (0 ∷ [])
+
+-- the reply to a caller's configuration, by the permissions
+abbrev pub config_words : Board → Permissions → ℕ → (c attributes : ℕ) → List ℕ
+config_words board permissions caller c attributes =
+    reply_unless (config_checks board (may_change board permissions caller c) c attributes) (0 ∷ [])
+
+-- the rates of a table after one was set, if one was
+abbrev pub HasSet : Option (ℕ × ℕ) → ClockTables → ClockTables → Type 0
+HasSet set table after = (c : ℕ) → c < CLOCKS → rate_at after c ≡ set_to set c (rate_at table c)
+
+-- which clocks of a table are enabled after one was configured, if one was
+abbrev pub HasConfigured : Option (ℕ × Bool) → ClockTables → ClockTables → Type 0
+HasConfigured set table after = (c : ℕ) → c < CLOCKS → enabled_at after c ≡ enabled_to set c (enabled_at table c)

@@ -1,11 +1,11 @@
 //! The checks of commands, in the order of the profile (own).
-ghost use Rattle.std.specs.Prelude.{◌≡◌, ◌≤◌, ◌<◌, ◌≢◌, ◌∷◌, ◌&&◌, ◌||◌, not, true, [], if◌then◌else◌, length, Ok, Err, IfOk, IfErr};
-ghost use Rattle.scmi_codec.specs.Reply.{bit_0, reply_unless};
+ghost use Rattle.std.specs.Prelude.{◌≡◌, ◌≤◌, ◌<◌, ◌≢◌, ◌∷◌, ◌&&◌, ◌||◌, not, true, [], if◌then◌else◌, length, Ok, Err, IfOk, IfErr, OnOk};
+ghost use Rattle.scmi_codec.specs.Reply.{bit_0};
 ghost use Rattle.scmi_codec.specs.Status.{status_word};
 ghost use Rattle.scmi_codec.specs.declared.status.Status.TheVariants.{Success, NotFound, Denied, Busy, OutOfRange};
 ghost use Rattle.scmi_plan.specs.declared.limits.TheConstants.{CLOCKS};
-ghost use Rattle.scmi_clock.specs.ClockReply.{no_clock, past_end, set_checks, config_checks};
-ghost use Rattle.scmi_clock.specs.ClockTable.{set_rate, may_change, is_pending};
+ghost use Rattle.scmi_clock.specs.ClockReply.{no_clock, past_end};
+ghost use Rattle.scmi_clock.specs.ClockTable.{set_rate, may_change, is_pending, set_words, config_words};
 ghost use Rattle.scmi_clock.specs.SetFlags.{is_asynchronous, is_response_wanted};
 
 use crate::rounding::round;
@@ -23,7 +23,8 @@ pub(crate) struct RateSet {
     pub response_wanted: bool,
 }
 
-/// The checks of 0x5 (DEN0056B, clock management protocol): clock, flags and rate, permission, pending sets.
+/// The checks of 0x5 (DEN0056B, clock management protocol): clock, flags and rate, permission,
+/// pending sets.
 pub(crate) fn check_set(
     plan: &Plan,
     base: &BaseState,
@@ -35,13 +36,14 @@ pub(crate) fn check_set(
 ) -> Result<RateSet, Status>
     requires first { 1 ≤ caller }
     requires last { caller ≤ length plan.now.agents }
-    ensures ok { IfOk result (λ set. reply_unless (set_checks plan.now (may_change plan.now base.now caller clock) (is_pending load clock) load.room flags clock rate) (0 ∷ []) ≡ 0 ∷ []) }
+    ensures ok { OnOk result (set_words plan.now base.now caller load flags clock rate ≡ 0 ∷ []) }
     ensures rate { IfOk result (λ set. set.rate ≡ set_rate plan.now flags clock rate) }
     ensures asynchronous { IfOk result (λ set. set.asynchronous ≡ is_asynchronous flags) }
     ensures response_wanted { IfOk result (λ set. set.response_wanted ≡ is_response_wanted flags) }
     ensures clock { IfOk result (λ set. (clock < length plan.now.clocks) × (clock < CLOCKS)) }
     ensures room { IfOk result (λ set. is_asynchronous flags ≡ true → load.room ≡ true) }
-    ensures err { IfErr result (λ status. reply_unless (set_checks plan.now (may_change plan.now base.now caller clock) (is_pending load clock) load.room flags clock rate) (0 ∷ []) ≡ status_word status ∷ []) }
+    ensures err { IfErr result (λ status.
+        set_words plan.now base.now caller load flags clock rate ≡ status_word status ∷ []) }
     ensures refused { IfErr result (λ status. status ≢ Success) }
 {
     check_clock(plan, clock)?;
@@ -58,8 +60,8 @@ pub(crate) fn check_set(
     })
 }
 
-/// The checks of 0x7 (DEN0056B, clock management protocol): clock, attributes, permission. Answers whether the
-/// clock is to be enabled.
+/// The checks of 0x7 (DEN0056B, clock management protocol): clock, attributes, permission. Answers
+/// whether the clock is to be enabled.
 pub(crate) fn check_config(
     plan: &Plan,
     base: &BaseState,
@@ -69,10 +71,11 @@ pub(crate) fn check_config(
 ) -> Result<bool, Status>
     requires first { 1 ≤ caller }
     requires last { caller ≤ length plan.now.agents }
-    ensures ok { IfOk result (λ enable. reply_unless (config_checks plan.now (may_change plan.now base.now caller clock) clock attributes) (0 ∷ []) ≡ 0 ∷ []) }
+    ensures ok { OnOk result (config_words plan.now base.now caller clock attributes ≡ 0 ∷ []) }
     ensures enable { IfOk result (λ enable. enable ≡ bit_0 attributes) }
     ensures clock { IfOk result (λ enable. (clock < length plan.now.clocks) × (clock < CLOCKS)) }
-    ensures err { IfErr result (λ status. reply_unless (config_checks plan.now (may_change plan.now base.now caller clock) clock attributes) (0 ∷ []) ≡ status_word status ∷ []) }
+    ensures err { IfErr result (λ status.
+        config_words plan.now base.now caller clock attributes ≡ status_word status ∷ []) }
     ensures refused { IfErr result (λ status. status ≢ Success) }
 {
     check_clock(plan, clock)?;
@@ -118,7 +121,8 @@ fn check_permitted(plan: &Plan, base: &BaseState, caller: u32, clock: u32) -> Re
 /// BUSY where the clock has a pending set, or where an asynchronous set has no room.
 fn check_pending(load: Load, clock: u32, asynchronous: bool) -> Result<(), Status>
     requires { clock < CLOCKS }
-    ensures { result ≡ (if is_pending load clock || (asynchronous && not load.room) then Err Busy else Ok tt) }
+    ensures { result
+        ≡ (if is_pending load clock || (asynchronous && not load.room) then Err Busy else Ok tt) }
 {
     if (load.busy >> clock) & 1 == 1 || (asynchronous && !load.room) {
         return Err(Status::Busy);

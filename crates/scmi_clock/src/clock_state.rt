@@ -1,11 +1,10 @@
 //! The rate of each clock, and whether it is enabled.
 ghost use Rattle.std.specs.Prelude.{◌≡◌, ◌≤◌, ◌<◌, ◌==◌, ◌∷◌, [], ℕ, length, true, if◌then◌else◌, IfSome};
-ghost use Rattle.scmi_codec.specs.Reply.{reply_unless};
 ghost use Rattle.scmi_codec.specs.declared.clock_command.ClockCommand.TheVariants.{SetRate, Config};
 ghost use Rattle.scmi_plan.specs.Board.{clock_at};
 ghost use Rattle.scmi_plan.specs.declared.limits.TheConstants.{CLOCKS};
-ghost use Rattle.scmi_clock.specs.ClockReply.{clock_reply, config_checks};
-ghost use Rattle.scmi_clock.specs.ClockTable.{view_of, may_change, rate_at, enabled_at, rate_now, rate_later, enabled_now, set_to, enabled_to};
+ghost use Rattle.scmi_clock.specs.ClockReply.{clock_reply};
+ghost use Rattle.scmi_clock.specs.ClockTable.{view_of, rate_at, enabled_at, rate_now, rate_later, enabled_now, set_words, config_words, HasSet, HasConfigured};
 ghost use Rattle.scmi_codec.specs.Payload.{if_success};
 
 use crate::checks::{RateSet, check_config, check_set};
@@ -37,8 +36,10 @@ impl Model for ClockState {
 impl ClockState {
     /// The state of a board at the start: each clock has the rate and the enabled bit of the plan.
     pub fn new(plan: &Plan) -> ClockState
-        ensures rates { (c : ℕ) → c < length plan.now.clocks → rate_at result c ≡ (clock_at plan.now c).rate }
-        ensures enabled { (c : ℕ) → c < length plan.now.clocks → enabled_at result c ≡ (clock_at plan.now c).enabled }
+        ensures rates { (c : ℕ) → c < length plan.now.clocks
+            → rate_at result c ≡ (clock_at plan.now c).rate }
+        ensures enabled { (c : ℕ) → c < length plan.now.clocks
+            → enabled_at result c ≡ (clock_at plan.now c).enabled }
     {
         let mut rates = [0; CLOCKS];
         let mut enabled = [false; CLOCKS];
@@ -69,19 +70,20 @@ impl ClockState {
     /// Completes a pending set: sets a clock's rate, in Hz.
     pub fn complete(&mut self, clock: u32, rate: u64)
         requires { clock < CLOCKS }
-        ensures rates { (c : ℕ) → c < CLOCKS → rate_at self.new c ≡ (if clock == c then rate else rate_at self.old c) }
+        ensures rates { HasSet (Some (clock, rate)) self.old self.new }
         ensures enabled { self.new.enabled ≡ self.old.enabled }
     {
         self.rates[clock as usize] = rate;
     }
 
-    /// Executes a command of a caller, writes the reply, and names the set that it accepted for later:
-    /// clock, rate in Hz, and whether a delayed response is wanted. The reply begins with a status: NOT_FOUND for an unknown clock
-    /// or message id; then OUT_OF_RANGE for an index past a list of rates, INVALID_PARAMETERS for
-    /// unknown flags or attributes or where no rate lies in the asked direction; then DENIED where
-    /// the caller may not change the clock; then BUSY for a set while the clock has a pending one, or
-    /// for an asynchronous set that has no room. A set rounds its rate to a supported one. A
-    /// synchronous set and a configuration take effect at once; an asynchronous set changes nothing. A command that is refused changes nothing.
+    /// Executes a command of a caller, writes the reply, and names the set that it accepted for
+    /// later: clock, rate in Hz, and whether a delayed response is wanted. The reply begins with a
+    /// status: NOT_FOUND for an unknown clock or message id; then OUT_OF_RANGE for an index past a
+    /// list of rates, INVALID_PARAMETERS for unknown flags or attributes or where no rate lies in
+    /// the asked direction; then DENIED where the caller may not change the clock; then BUSY for a
+    /// set while the clock has a pending one, or for an asynchronous set that has no room. A set
+    /// rounds its rate to a supported one. A synchronous set and a configuration take effect at
+    /// once; an asynchronous set changes nothing. A command that is refused changes nothing.
     #[tactic(auto, unfolding(crate::specs::ClockReply::clock_reply))]
     pub fn execute(
         &mut self,
@@ -94,14 +96,19 @@ impl ClockState {
     ) -> Option<(u32, u64, bool)>
         requires first { 1 ≤ caller }
         requires last { caller ≤ length plan.now.agents }
-        ensures reply { reply.new.items ≡ clock_reply plan.now (view_of plan.now base.now self.old load caller) command }
+        ensures reply { reply.new.items
+            ≡ clock_reply plan.now (view_of plan.now base.now self.old load caller) command }
         ensures later { result ≡ if_success reply.new.items (rate_later plan.now command) }
-        ensures rates { (c : ℕ) → c < CLOCKS → rate_at self.new c ≡ set_to (if_success reply.new.items (rate_now plan.now command)) c (rate_at self.old c) }
-        ensures enabled { (c : ℕ) → c < CLOCKS → enabled_at self.new c ≡ enabled_to (if_success reply.new.items (enabled_now command)) c (enabled_at self.old c) }
+        ensures rates { HasSet (if_success reply.new.items (rate_now plan.now command))
+            self.old self.new }
+        ensures enabled { HasConfigured (if_success reply.new.items (enabled_now command))
+            self.old self.new }
         ensures room { IfSome result (λ set. load.room ≡ true) }
         ensures known_later { IfSome result (λ set. set.0 < length plan.now.clocks) }
-        ensures known_now { IfSome (if_success reply.new.items (rate_now plan.now command)) (λ set. set.0 < length plan.now.clocks) }
-        ensures known_enabled { IfSome (if_success reply.new.items (enabled_now command)) (λ set. set.0 < length plan.now.clocks) }
+        ensures known_now { IfSome (if_success reply.new.items (rate_now plan.now command))
+            (λ set. set.0 < length plan.now.clocks) }
+        ensures known_enabled { IfSome (if_success reply.new.items (enabled_now command))
+            (λ set. set.0 < length plan.now.clocks) }
     {
         match command {
             ClockCommand::Version => version(reply),
@@ -135,13 +142,18 @@ impl ClockState {
     ) -> Option<(u32, u64, bool)>
         requires first { 1 ≤ caller }
         requires last { caller ≤ length plan.now.agents }
-        ensures reply { reply.new.items ≡ clock_reply plan.now (view_of plan.now base.now self.old load caller) (SetRate flags clock rate) }
-        ensures later { result ≡ if_success reply.new.items (rate_later plan.now (SetRate flags clock rate)) }
-        ensures rates { (c : ℕ) → c < CLOCKS → rate_at self.new c ≡ set_to (if_success reply.new.items (rate_now plan.now (SetRate flags clock rate))) c (rate_at self.old c) }
+        ensures reply { reply.new.items ≡ set_words plan.now base.now caller load flags clock rate }
+        ensures later { result
+            ≡ if_success reply.new.items (rate_later plan.now (SetRate flags clock rate)) }
+        ensures rates { HasSet
+            (if_success reply.new.items (rate_now plan.now (SetRate flags clock rate)))
+            self.old self.new }
         ensures enabled { self.new.enabled ≡ self.old.enabled }
         ensures room { IfSome result (λ set. load.room ≡ true) }
         ensures known_later { IfSome result (λ set. set.0 < length plan.now.clocks) }
-        ensures known_now { IfSome (if_success reply.new.items (rate_now plan.now (SetRate flags clock rate))) (λ set. set.0 < length plan.now.clocks) }
+        ensures known_now { IfSome
+            (if_success reply.new.items (rate_now plan.now (SetRate flags clock rate)))
+            (λ set. set.0 < length plan.now.clocks) }
     {
         match check_set(plan, base, caller, flags, clock, rate, load) {
             Ok(set) => {
@@ -158,8 +170,10 @@ impl ClockState {
     /// Sets a rate at once, or leaves an asynchronous set for later.
     fn accept(&mut self, clock: u32, set: RateSet) -> Option<(u32, u64, bool)>
         requires { clock < CLOCKS }
-        ensures later { result ≡ (if set.asynchronous then Some (clock, set.rate, set.response_wanted) else None) }
-        ensures rates { (c : ℕ) → c < CLOCKS → rate_at self.new c ≡ set_to (if set.asynchronous then None else Some (clock, set.rate)) c (rate_at self.old c) }
+        ensures later { result
+            ≡ (if set.asynchronous then Some (clock, set.rate, set.response_wanted) else None) }
+        ensures rates { HasSet (if set.asynchronous then None else Some (clock, set.rate))
+            self.old self.new }
         ensures enabled { self.new.enabled ≡ self.old.enabled }
     {
         if set.asynchronous {
@@ -181,10 +195,13 @@ impl ClockState {
     )
         requires first { 1 ≤ caller }
         requires last { caller ≤ length plan.now.agents }
-        ensures reply { reply.new.items ≡ reply_unless (config_checks plan.now (may_change plan.now base.now caller clock) clock attributes) (0 ∷ []) }
+        ensures reply { reply.new.items ≡ config_words plan.now base.now caller clock attributes }
         ensures rates { self.new.rates ≡ self.old.rates }
-        ensures enabled { (c : ℕ) → c < CLOCKS → enabled_at self.new c ≡ enabled_to (if_success reply.new.items (enabled_now (Config clock attributes))) c (enabled_at self.old c) }
-        ensures known { IfSome (if_success reply.new.items (enabled_now (Config clock attributes))) (λ set. set.0 < length plan.now.clocks) }
+        ensures enabled { HasConfigured
+            (if_success reply.new.items (enabled_now (Config clock attributes)))
+            self.old self.new }
+        ensures known { IfSome (if_success reply.new.items (enabled_now (Config clock attributes)))
+            (λ set. set.0 < length plan.now.clocks) }
     {
         match check_config(plan, base, caller, clock, attributes) {
             Ok(enable) => {

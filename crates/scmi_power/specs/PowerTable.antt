@@ -1,14 +1,14 @@
 -- The table of power states and of requests for notifications, and what a command leaves of it.
-use Rattle.std.specs.Prelude.{◌≡◌, ℕ, ◌-◌, ◌==◌, ◌&&◌, Bool, true, false, if◌then◌else◌, List, length, get_or, Option, Some, None}
+use Rattle.std.specs.Prelude.{◌≡◌, ℕ, ◌-◌, ◌<◌, ◌≤◌, ◌==◌, ◌&&◌, Bool, true, false, if◌then◌else◌, List, length, get_or, Option, Some, None, unwrap_or}
 use Rattle.std.specs.Int.{bit_at}
-use Rattle.scmi_codec.specs.Payload.{begins_with_success}
+use Rattle.scmi_codec.specs.Payload.{begins_with_success, if_success}
 use Rattle.scmi_codec.specs.declared.power_command.PowerCommand.{PowerCommand}
 use Rattle.scmi_codec.specs.declared.power_command.PowerCommand.TheVariants as power
 use Rattle.scmi_plan.specs.Board.{Board, domain_at}
 use Rattle.scmi_plan.specs.declared.domain.Domain.{Domain}
-use Rattle.scmi_power.specs.PowerReply.{PowerView, state_on, state_off}
+use Rattle.scmi_power.specs.PowerReply.{PowerView, state_on, state_off, set_reply, notify_reply}
 use Rattle.scmi_codec.specs.Reply.{bit_0}
-use Rattle.scmi_plan.specs.declared.limits.TheConstants.{DOMAINS}
+use Rattle.scmi_plan.specs.declared.limits.TheConstants.{AGENTS, DOMAINS}
 use Rattle.scmi_plan.specs.declared.load.Load.{Load}
 use Rattle.scmi_plan.specs.declared.resource.Resource.TheVariants as resource
 use Rattle.scmi_base.specs.Permission.{Permissions, may, is_allowed}
@@ -82,3 +82,22 @@ abbrev pub only_reads : PowerCommand → Bool
 only_reads (power.Set flags d state) = false
 only_reads (power.Notify d enable) = false
 only_reads _ = true
+
+-- the reply to a caller's set, by the permissions and by what pending sets leave free
+abbrev pub set_words : Board → Permissions → ℕ → Load → (flags d state : ℕ) → List ℕ
+set_words board permissions caller load flags d state =
+    set_reply board (may_change board permissions caller d) (is_busy load d) load.room flags d state
+
+-- the reply to a caller's request for notifications, by the permissions
+abbrev pub notify_words : Board → Permissions → ℕ → (d enable : ℕ) → List ℕ
+notify_words board permissions caller d enable = notify_reply board (may_change board permissions caller d) d enable
+
+-- the states of a table after a set, if there is one
+abbrev pub HasSet : Option (ℕ × ℕ) → PowerTables → PowerTables → Type 0
+HasSet set table after = (d : ℕ) → d < DOMAINS → state_at after d ≡ set_to set d (state_at table d)
+
+-- who is told of changes after this reply to a caller's command
+abbrev pub HasNotified : List ℕ → ℕ → PowerCommand → PowerTables → PowerTables → Type 0
+HasNotified words caller command table after =
+    (a d : ℕ) → 1 ≤ a → a ≤ AGENTS → d < DOMAINS
+    → is_subscribed after a d ≡ unwrap_or (if_success words (notification a d caller command)) (is_subscribed table a d)

@@ -1,20 +1,20 @@
 //! The checks of the commands on a domain, in the order of the profile (own).
-ghost use Rattle.std.specs.Prelude.{◌≡◌, ◌≢◌, ◌≤◌, ◌<◌, ◌&&◌, ◌||◌, ◌∷◌, [], not, true, length, if◌then◌else◌, Ok, Err, IfOk, IfErr};
+ghost use Rattle.std.specs.Prelude.{◌≡◌, ◌≢◌, ◌≤◌, ◌<◌, ◌&&◌, ◌||◌, ◌∷◌, [], not, true, length, if◌then◌else◌, Ok, Err, IfOk, IfErr, OnOk};
 ghost use Rattle.scmi_codec.specs.Reply.{bit_0};
 ghost use Rattle.scmi_codec.specs.Status.{status_word};
 ghost use Rattle.scmi_codec.specs.declared.status.Status.TheVariants.{Success, NotFound, NotSupported, Denied, Busy};
 ghost use Rattle.scmi_plan.specs.Plan.{IsLawful};
 ghost use Rattle.scmi_plan.specs.declared.limits.TheConstants.{AGENTS, DOMAINS};
-ghost use Rattle.scmi_power.specs.PowerReply.{set_reply, notify_reply, no_domain, supports};
-ghost use Rattle.scmi_power.specs.PowerTable.{may_change, is_busy};
+ghost use Rattle.scmi_power.specs.PowerReply.{no_domain, supports};
+ghost use Rattle.scmi_power.specs.PowerTable.{may_change, is_busy, set_words, notify_words};
 
 use crate::domain_state::check_state;
 use scmi_base::BaseState;
 use scmi_codec::{Status, single_flag};
 use scmi_plan::{Domain, Load, Plan, Resource};
 
-/// The checks of 0x4 (DEN0056B, power domain management protocol): domain, flags, state, kind of set, permission,
-/// pending sets. Answers whether the set is asynchronous.
+/// The checks of 0x4 (DEN0056B, power domain management protocol): domain, flags, state, kind of
+/// set, permission, pending sets. Answers whether the set is asynchronous.
 pub(crate) fn check_set(
     plan: &Plan,
     base: &BaseState,
@@ -26,12 +26,13 @@ pub(crate) fn check_set(
 ) -> Result<bool, Status>
     requires first { 1 ≤ caller }
     requires last { caller ≤ length plan.now.agents }
-    ensures ok { IfOk result (λ asynchronous. set_reply plan.now (may_change plan.now base.now caller domain) (is_busy load domain) load.room flags domain state ≡ 0 ∷ []) }
+    ensures ok { OnOk result (set_words plan.now base.now caller load flags domain state ≡ 0 ∷ []) }
     ensures asynchronous { IfOk result (λ asynchronous. asynchronous ≡ bit_0 flags) }
     ensures known { IfOk result (λ asynchronous. domain < length plan.now.domains) }
     ensures domain { IfOk result (λ asynchronous. domain < DOMAINS) }
     ensures room { IfOk result (λ asynchronous. asynchronous ≡ true → load.room ≡ true) }
-    ensures err { IfErr result (λ status. set_reply plan.now (may_change plan.now base.now caller domain) (is_busy load domain) load.room flags domain state ≡ status_word status ∷ []) }
+    ensures err { IfErr result (λ status.
+        set_words plan.now base.now caller load flags domain state ≡ status_word status ∷ []) }
     ensures refused { IfErr result (λ status. status ≢ Success) }
 {
     check_domain(plan, domain)?;
@@ -43,8 +44,8 @@ pub(crate) fn check_set(
     Ok(asynchronous)
 }
 
-/// The checks of 0x6 (DEN0056B, power domain management protocol): domain, flags, support, permission. Answers
-/// whether notifications are to be enabled.
+/// The checks of 0x6 (DEN0056B, power domain management protocol): domain, flags, support,
+/// permission. Answers whether notifications are to be enabled.
 pub(crate) fn check_notify(
     plan: &Plan,
     base: &BaseState,
@@ -54,11 +55,12 @@ pub(crate) fn check_notify(
 ) -> Result<bool, Status>
     requires first { 1 ≤ caller }
     requires last { caller ≤ length plan.now.agents }
-    ensures ok { IfOk result (λ enabled. notify_reply plan.now (may_change plan.now base.now caller domain) domain enable ≡ 0 ∷ []) }
+    ensures ok { OnOk result (notify_words plan.now base.now caller domain enable ≡ 0 ∷ []) }
     ensures enabled { IfOk result (λ enabled. enabled ≡ bit_0 enable) }
     ensures domain { IfOk result (λ enabled. domain < DOMAINS) }
     ensures agent { IfOk result (λ enabled. caller ≤ AGENTS) }
-    ensures err { IfErr result (λ status. notify_reply plan.now (may_change plan.now base.now caller domain) domain enable ≡ status_word status ∷ []) }
+    ensures err { IfErr result (λ status.
+        notify_words plan.now base.now caller domain enable ≡ status_word status ∷ []) }
     ensures refused { IfErr result (λ status. status ≢ Success) }
 {
     check_domain(plan, domain)?;
@@ -122,7 +124,8 @@ fn check_permission(plan: &Plan, base: &BaseState, caller: u32, domain: u32) -> 
 /// BUSY where a domain has a pending set, or where an asynchronous set has no room.
 fn check_free(domain: u32, asynchronous: bool, load: Load) -> Result<(), Status>
     requires { domain < DOMAINS }
-    ensures { result ≡ (if is_busy load domain || (asynchronous && not load.room) then Err Busy else Ok tt) }
+    ensures { result
+        ≡ (if is_busy load domain || (asynchronous && not load.room) then Err Busy else Ok tt) }
 {
     let is_busy = (load.busy >> domain) & 1 == 1;
     if is_busy || (asynchronous && !load.room) {

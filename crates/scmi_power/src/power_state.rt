@@ -1,11 +1,11 @@
 //! The state of each power domain, and who is told of its changes.
-ghost use Rattle.std.specs.Prelude.{◌≡◌, ◌≤◌, ◌<◌, ◌-◌, ◌==◌, ℕ, length, true, false, not, if◌then◌else◌, unwrap_or, IfSome};
+ghost use Rattle.std.specs.Prelude.{◌≡◌, ◌≤◌, ◌<◌, ◌-◌, ◌==◌, ℕ, length, true, false, not, if◌then◌else◌, Some, IfSome};
 ghost use Rattle.std.specs.Int.{bit_at};
 ghost use Rattle.scmi_codec.specs.Payload.{begins_with_success};
 ghost use Rattle.scmi_codec.specs.declared.power_command.PowerCommand.TheVariants.{Set, Notify};
 ghost use Rattle.scmi_plan.specs.declared.limits.TheConstants.{AGENTS, DOMAINS};
-ghost use Rattle.scmi_power.specs.PowerReply.{power_reply, set_reply, get_reply, notify_reply};
-ghost use Rattle.scmi_power.specs.PowerTable.{view_of, may_change, is_busy, state_at, state_at_start, set_now, set_later, set_to, is_subscribed, notification, only_reads};
+ghost use Rattle.scmi_power.specs.PowerReply.{power_reply, get_reply};
+ghost use Rattle.scmi_power.specs.PowerTable.{view_of, state_at, state_at_start, set_now, set_later, is_subscribed, only_reads, set_words, notify_words, HasSet, HasNotified};
 ghost use Rattle.scmi_codec.specs.Payload.{if_success};
 
 use crate::checks::{check_domain, check_notify, check_set};
@@ -37,9 +37,11 @@ impl Model for PowerState {
 }
 
 impl PowerState {
-    /// The state of a board at the start: each domain as the plan says, and no agent told of changes.
+    /// The state of a board at the start: each domain as the plan says, and no agent told of
+    /// changes.
     pub fn new(plan: &Plan) -> PowerState
-        ensures states { (d : ℕ) → d < length plan.now.domains → state_at result d ≡ state_at_start plan.now d }
+        ensures states { (d : ℕ) → d < length plan.now.domains
+            → state_at result d ≡ state_at_start plan.now d }
         ensures subscribed { (a d : ℕ) → is_subscribed result a d ≡ false }
     {
         let mut states = [0; DOMAINS];
@@ -53,12 +55,13 @@ impl PowerState {
         }
     }
 
-    /// Executes a command of a caller and writes the reply, which begins with a status: NOT_FOUND for an unknown domain
-    /// or message id; then INVALID_PARAMETERS for flag bits besides bit 0 or for a word that is no
-    /// state; then NOT_SUPPORTED for a kind of set, or notifications, that the domain lacks; then
-    /// DENIED for a domain that the caller may not change; then BUSY for a set of a domain that has a
-    /// pending set, or for an asynchronous set without room. A command that is refused changes
-    /// nothing. A synchronous set takes effect here; an asynchronous one is only named, for `complete`.
+    /// Executes a command of a caller and writes the reply, which begins with a status: NOT_FOUND
+    /// for an unknown domain or message id; then INVALID_PARAMETERS for flag bits besides bit 0 or
+    /// for a word that is no state; then NOT_SUPPORTED for a kind of set, or notifications, that
+    /// the domain lacks; then DENIED for a domain that the caller may not change; then BUSY for a
+    /// set of a domain that has a pending set, or for an asynchronous set without room. A command
+    /// that is refused changes nothing. A synchronous set takes effect here; an asynchronous one is
+    /// only named, for `complete`.
     #[tactic(auto, unfolding(crate::specs::PowerReply::power_reply))]
     pub fn execute(
         &mut self,
@@ -71,12 +74,12 @@ impl PowerState {
     ) -> PowerDone
         requires first { 1 ≤ caller }
         requires last { caller ≤ length plan.now.agents }
-        ensures reply { reply.new.items ≡ power_reply plan.now (view_of plan.now base.now self.old load caller) command }
+        ensures reply { reply.new.items
+            ≡ power_reply plan.now (view_of plan.now base.now self.old load caller) command }
         ensures changed { result.changed ≡ if_success reply.new.items (set_now command) }
         ensures later { result.later ≡ if_success reply.new.items (set_later command) }
-        ensures states { (d : ℕ) → d < DOMAINS → state_at self.new d ≡ set_to result.changed d (state_at self.old d) }
-        ensures subscribed { (a d : ℕ) → 1 ≤ a → a ≤ AGENTS → d < DOMAINS → is_subscribed self.new a d
-            ≡ unwrap_or (if_success reply.new.items (notification a d caller command)) (is_subscribed self.old a d) }
+        ensures states { HasSet result.changed self.old self.new }
+        ensures subscribed { HasNotified reply.new.items caller command self.old self.new }
         ensures known_now { IfSome result.changed (λ set. set.0 < length plan.now.domains) }
         ensures room { IfSome result.later (λ set. load.room ≡ true) }
         ensures known_later { IfSome result.later (λ set. set.0 < length plan.now.domains) }
@@ -106,7 +109,7 @@ impl PowerState {
     pub fn complete(&mut self, domain: u32, state: u32) -> bool
         requires { domain < DOMAINS }
         ensures changed { result ≡ not (state == state_at self.old domain) }
-        ensures states { (d : ℕ) → d < DOMAINS → state_at self.new d ≡ (if domain == d then state else state_at self.old d) }
+        ensures states { HasSet (Some (domain, state)) self.old self.new }
         ensures subscribed { self.new.subscribers ≡ self.old.subscribers }
     {
         let place = domain as usize;
@@ -127,7 +130,9 @@ impl PowerState {
     pub fn reset(&mut self, agent: u32)
         requires first { 1 ≤ agent }
         requires last { agent ≤ AGENTS }
-        ensures subscribed { (a d : ℕ) → 1 ≤ a → a ≤ AGENTS → d < DOMAINS → is_subscribed self.new a d ≡ (if agent == a then false else is_subscribed self.old a d) }
+        ensures subscribed { (a d : ℕ) → 1 ≤ a → a ≤ AGENTS → d < DOMAINS
+            → is_subscribed self.new a d
+            ≡ (if agent == a then false else is_subscribed self.old a d) }
         ensures states { self.new.states ≡ self.old.states }
     {
         let mut subscribers = self.subscribers;
@@ -159,10 +164,13 @@ impl PowerState {
     ) -> PowerDone
         requires first { 1 ≤ caller }
         requires last { caller ≤ length plan.now.agents }
-        ensures reply { reply.new.items ≡ set_reply plan.now (may_change plan.now base.now caller domain) (is_busy load domain) load.room flags domain state }
-        ensures changed { result.changed ≡ if_success reply.new.items (set_now (Set flags domain state)) }
-        ensures later { result.later ≡ if_success reply.new.items (set_later (Set flags domain state)) }
-        ensures states { (d : ℕ) → d < DOMAINS → state_at self.new d ≡ set_to result.changed d (state_at self.old d) }
+        ensures reply { reply.new.items
+            ≡ set_words plan.now base.now caller load flags domain state }
+        ensures changed { result.changed
+            ≡ if_success reply.new.items (set_now (Set flags domain state)) }
+        ensures later { result.later
+            ≡ if_success reply.new.items (set_later (Set flags domain state)) }
+        ensures states { HasSet result.changed self.old self.new }
         ensures subscribed { self.new.subscribers ≡ self.old.subscribers }
         ensures known_now { IfSome result.changed (λ set. set.0 < length plan.now.domains) }
         ensures room { IfSome result.later (λ set. load.room ≡ true) }
@@ -214,10 +222,10 @@ impl PowerState {
     )
         requires first { 1 ≤ caller }
         requires last { caller ≤ length plan.now.agents }
-        ensures reply { reply.new.items ≡ notify_reply plan.now (may_change plan.now base.now caller domain) domain enable }
+        ensures reply { reply.new.items ≡ notify_words plan.now base.now caller domain enable }
         ensures states { self.new.states ≡ self.old.states }
-        ensures subscribed { (a d : ℕ) → 1 ≤ a → a ≤ AGENTS → d < DOMAINS → is_subscribed self.new a d
-            ≡ unwrap_or (if_success reply.new.items (notification a d caller (Notify domain enable))) (is_subscribed self.old a d) }
+        ensures subscribed { HasNotified reply.new.items caller (Notify domain enable)
+            self.old self.new }
         ensures refused { begins_with_success reply.new.items ≡ false → self.new ≡ self.old }
     {
         match check_notify(plan, base, caller, domain, enable) {
