@@ -1,11 +1,12 @@
 -- Who may change what.
-use Rattle.std.specs.Prelude.{false, unwrap_or, ℕ, ◌==◌, ◌&&◌, ◌||◌, ◌%◌, Bool, true, not, if◌then◌else◌, List, length, Option, Some, None}
+use Rattle.std.specs.Prelude.{◌≡◌, ◌<◌, ◌≤◌, false, unwrap_or, ℕ, ◌==◌, ◌&&◌, ◌||◌, ◌%◌, Bool, true, not, if◌then◌else◌, List, length, Option, Some, None}
 use Rattle.std.specs.List.{list_any, range_with_len}
 use Rattle.scmi_codec.specs.Payload.{begins_with_success}
 use Rattle.scmi_codec.specs.declared.base_command.BaseCommand.{BaseCommand}
 use Rattle.scmi_codec.specs.declared.base_command.BaseCommand.TheVariants as base
 use Rattle.scmi_plan.specs.Board.{Board, holds, device_at}
 use Rattle.scmi_codec.specs.Reply.{bit_0}
+use Rattle.scmi_plan.specs.declared.limits.TheConstants.{DEVICES}
 use Rattle.scmi_plan.specs.declared.resource.Resource.{Resource}
 use Rattle.scmi_plan.specs.declared.resource.Resource.TheVariants as resource
 use Rattle.scmi_base.specs.PermissionTable.{entry}
@@ -82,6 +83,11 @@ changes_nothing _ = true
 abbrev pub is_allowed_after : List ℕ → ℕ → ℕ → Scope → BaseCommand → Permissions → Bool
 is_allowed_after reply a d s command tables =
     if begins_with_success reply then unwrap_or (permission a d s command) (is_allowed tables a d s) else is_allowed tables a d s
+
+-- the tables after a command that got this reply
+abbrev pub HasPermitted : List ℕ → BaseCommand → Permissions → Permissions → Type 0
+HasPermitted reply command tables after =
+    (a d : ℕ) (s : Scope) → 1 ≤ a → d < DEVICES → is_allowed after a d s ≡ is_allowed_after reply a d s command tables
 
 -- the agent whose notification requests end with a command that got this reply
 abbrev pub reset_after : List ℕ → BaseCommand → Option ℕ

@@ -2,7 +2,7 @@
 ghost use Rattle.std.specs.Prelude.{◌≡◌, ◌≤◌, ◌<◌, ◌==◌, ◌&&◌, ℕ, true, if◌then◌else◌, length, IfSome};
 ghost use Rattle.scmi_plan.specs.Board.{IsOnBoard};
 ghost use Rattle.scmi_base.specs.BaseReply.{base_reply};
-ghost use Rattle.scmi_base.specs.Permission.{may, allows, protocol_of, is_scope, is_allowed, is_allowed_after, reset_after};
+ghost use Rattle.scmi_base.specs.Permission.{may, allows, protocol_of, is_scope, is_allowed, reset_after, HasPermitted};
 ghost use Rattle.scmi_base.specs.declared.scope.Scope.{Scope};
 ghost use Rattle.scmi_codec.specs.declared.base_command.BaseCommand.TheVariants.{Permit, PermitProtocol, ResetAgent};
 ghost use Rattle.scmi_plan.specs.declared.limits.TheConstants.{AGENTS, DEVICES};
@@ -44,11 +44,12 @@ impl BaseState {
         }
     }
 
-    /// Executes a command of a caller (DEN0056B, base protocol), writes the reply, and names the agent
-    /// that it reset, whose notification requests end. The reply begins with a status:
-    /// NOT_FOUND for an unknown message, agent, device or protocol, then INVALID_PARAMETERS for a skip
-    /// past the protocols, for a protocol's word with more than its id, or for flag bits besides bit 0, then DENIED where a caller that is not trusted would
-    /// change permissions or reset an agent (own). A command that is refused changes nothing.
+    /// Executes a command of a caller (DEN0056B, base protocol), writes the reply, and names the
+    /// agent that it reset, whose notification requests end. The reply begins with a status:
+    /// NOT_FOUND for an unknown message, agent, device or protocol, then INVALID_PARAMETERS for a
+    /// skip past the protocols, for a protocol's word with more than its id, or for flag bits
+    /// besides bit 0, then DENIED where a caller that is not trusted would change permissions or
+    /// reset an agent (own). A command that is refused changes nothing.
     pub fn execute(
         &mut self,
         plan: &Plan,
@@ -57,8 +58,8 @@ impl BaseState {
         reply: &mut Payload,
     ) -> Option<u32>
         ensures reply { reply.new.items ≡ base_reply plan.now caller command }
-        ensures allowed { (a d : ℕ) (s : Scope) → 1 ≤ a → d < DEVICES → is_allowed self.new a d s
-            ≡ is_allowed_after (base_reply plan.now caller command) a d s command self.old }
+        ensures allowed { HasPermitted (base_reply plan.now caller command) command
+            self.old self.new }
         ensures reset { result ≡ reset_after (base_reply plan.now caller command) command }
         ensures known { IfSome result (λ agent. (1 ≤ agent) × (agent ≤ AGENTS)) }
     {
@@ -133,8 +134,8 @@ impl BaseState {
         reply: &mut Payload,
     )
         ensures reply { reply.new.items ≡ base_reply plan.now caller (Permit agent device flags) }
-        ensures allowed { (a d : ℕ) (s : Scope) → 1 ≤ a → d < DEVICES → is_allowed self.new a d s
-            ≡ is_allowed_after (base_reply plan.now caller (Permit agent device flags)) a d s (Permit agent device flags) self.old }
+        ensures allowed { HasPermitted (base_reply plan.now caller (Permit agent device flags))
+            (Permit agent device flags) self.old self.new }
     {
         match check_permit(plan, caller, agent, device, flags) {
             Ok(allow) => {
@@ -156,9 +157,11 @@ impl BaseState {
         flags: u32,
         reply: &mut Payload,
     )
-        ensures reply { reply.new.items ≡ base_reply plan.now caller (PermitProtocol agent device protocol flags) }
-        ensures allowed { (a d : ℕ) (s : Scope) → 1 ≤ a → d < DEVICES → is_allowed self.new a d s
-            ≡ is_allowed_after (base_reply plan.now caller (PermitProtocol agent device protocol flags)) a d s (PermitProtocol agent device protocol flags) self.old }
+        ensures reply { reply.new.items
+            ≡ base_reply plan.now caller (PermitProtocol agent device protocol flags) }
+        ensures allowed { HasPermitted
+            (base_reply plan.now caller (PermitProtocol agent device protocol flags))
+            (PermitProtocol agent device protocol flags) self.old self.new }
     {
         match check_permit_protocol(plan, caller, agent, device, protocol, flags) {
             Ok((scope, allow)) => {
@@ -179,9 +182,10 @@ impl BaseState {
         reply: &mut Payload,
     ) -> Option<u32>
         ensures reply { reply.new.items ≡ base_reply plan.now caller (ResetAgent agent flags) }
-        ensures allowed { (a d : ℕ) (s : Scope) → 1 ≤ a → d < DEVICES → is_allowed self.new a d s
-            ≡ is_allowed_after (base_reply plan.now caller (ResetAgent agent flags)) a d s (ResetAgent agent flags) self.old }
-        ensures reset { result ≡ reset_after (base_reply plan.now caller (ResetAgent agent flags)) (ResetAgent agent flags) }
+        ensures allowed { HasPermitted (base_reply plan.now caller (ResetAgent agent flags))
+            (ResetAgent agent flags) self.old self.new }
+        ensures reset { result ≡ reset_after (base_reply plan.now caller (ResetAgent agent flags))
+            (ResetAgent agent flags) }
         ensures known { IfSome result (λ agent. (1 ≤ agent) × (agent ≤ AGENTS)) }
     {
         match check_reset(plan, caller, agent, flags) {
@@ -218,7 +222,8 @@ impl BaseState {
         requires last { agent ≤ AGENTS }
         requires device { device < DEVICES }
         ensures { (a d : ℕ) (s : Scope) → 1 ≤ a → d < DEVICES → is_allowed self.new a d s
-            ≡ (if agent == a && device == d && is_scope scope s then allow else is_allowed self.old a d s) }
+            ≡ (if agent == a && device == d && is_scope scope s then allow
+            else is_allowed self.old a d s) }
     {
         match scope {
             Scope::Device => self.devices.set(agent, device, allow),

@@ -1,5 +1,5 @@
 //! The checks of the commands that change permissions, in the order of the profile (own).
-ghost use Rattle.std.specs.Prelude.{◌≡◌, ◌≤◌, ◌<◌, ◌==◌, ◌≢◌, ◌∷◌, [], if◌then◌else◌, nat_lt, Ok, Err, IfOk, IfErr};
+ghost use Rattle.std.specs.Prelude.{◌≡◌, ◌≤◌, ◌<◌, ◌==◌, ◌≢◌, ◌∷◌, [], if◌then◌else◌, nat_lt, Ok, Err, IfOk, IfErr, OnOk};
 ghost use Rattle.scmi_codec.specs.Reply.{bit_0};
 ghost use Rattle.scmi_codec.specs.declared.status.Status.TheVariants.{Success, Denied, NotFound, InvalidParameters};
 ghost use Rattle.scmi_base.specs.BaseReply.{base_reply, no_agent, no_device, no_protocol};
@@ -22,11 +22,12 @@ pub(crate) fn check_permit(
     device: u32,
     flags: u32,
 ) -> Result<bool, Status>
-    ensures ok { IfOk result (λ allow. base_reply plan.now caller (Permit agent device flags) ≡ 0 ∷ []) }
+    ensures ok { OnOk result (base_reply plan.now caller (Permit agent device flags) ≡ 0 ∷ []) }
     ensures allow { IfOk result (λ allow. allow ≡ bit_0 flags) }
     ensures agent { IfOk result (λ allow. (1 ≤ agent) × (agent ≤ AGENTS)) }
     ensures device { IfOk result (λ allow. device < DEVICES) }
-    ensures err { IfErr result (λ status. base_reply plan.now caller (Permit agent device flags) ≡ status_word status ∷ []) }
+    ensures err { IfErr result (λ status. base_reply plan.now caller (Permit agent device flags)
+        ≡ status_word status ∷ []) }
     ensures refused { IfErr result (λ status. status ≢ Success) }
 {
     check_agent(plan, agent)?;
@@ -47,12 +48,15 @@ pub(crate) fn check_permit_protocol(
     protocol: u32,
     flags: u32,
 ) -> Result<(Scope, bool), Status>
-    ensures ok { IfOk result (λ r. base_reply plan.now caller (PermitProtocol agent device protocol flags) ≡ 0 ∷ []) }
+    ensures ok { OnOk result
+        (base_reply plan.now caller (PermitProtocol agent device protocol flags) ≡ 0 ∷ []) }
     ensures scope { IfOk result (λ r. r.0 ≡ protocol_named protocol) }
     ensures allow { IfOk result (λ r. r.1 ≡ bit_0 flags) }
     ensures agent { IfOk result (λ r. (1 ≤ agent) × (agent ≤ AGENTS)) }
     ensures device { IfOk result (λ r. device < DEVICES) }
-    ensures err { IfErr result (λ status. base_reply plan.now caller (PermitProtocol agent device protocol flags) ≡ status_word status ∷ []) }
+    ensures err { IfErr result (λ status.
+        base_reply plan.now caller (PermitProtocol agent device protocol flags)
+        ≡ status_word status ∷ []) }
     ensures refused { IfErr result (λ status. status ≢ Success) }
 {
     check_agent(plan, agent)?;
@@ -68,10 +72,11 @@ pub(crate) fn check_permit_protocol(
 /// whether permissions are to be reset too.
 #[tactic(auto, unfolding(crate::specs::BaseReply::base_reply))]
 pub(crate) fn check_reset(plan: &Plan, caller: u32, agent: u32, flags: u32) -> Result<bool, Status>
-    ensures ok { IfOk result (λ permissions. base_reply plan.now caller (ResetAgent agent flags) ≡ 0 ∷ []) }
+    ensures ok { OnOk result (base_reply plan.now caller (ResetAgent agent flags) ≡ 0 ∷ []) }
     ensures permissions { IfOk result (λ permissions. permissions ≡ bit_0 flags) }
     ensures agent { IfOk result (λ permissions. (1 ≤ agent) × (agent ≤ AGENTS)) }
-    ensures err { IfErr result (λ status. base_reply plan.now caller (ResetAgent agent flags) ≡ status_word status ∷ []) }
+    ensures err { IfErr result (λ status. base_reply plan.now caller (ResetAgent agent flags)
+        ≡ status_word status ∷ []) }
     ensures refused { IfErr result (λ status. status ≢ Success) }
 {
     check_agent(plan, agent)?;

@@ -52,11 +52,13 @@ impl Plan {
     pub fn check(alloc: Global, raw: &RawPlan) -> Result<Plan, PlanError>
         ensures ok { IfOk result (λ plan. plan ≡ asked_board raw.now) }
         ensures no_fault { OnOk result (first_fault (asked_board raw.now) ≡ None) }
-        ensures fault { IfErr result (λ e. e ≢ Memory → first_fault (asked_board raw.now) ≡ Some e) }
+        ensures fault { IfErr result (λ e. e ≢ Memory
+            → first_fault (asked_board raw.now) ≡ Some e) }
         ensures memory { IsErrOf result Memory → first_fault (asked_board raw.now) ≡ None }
         ensures accepted { IsLawful (asked_board raw.now) → IsOkUnless result Memory }
         // The rules and a lawful board are one thing.
-        ensures rules { (first_fault (asked_board raw.now) ≡ None) ↔ IsLawful (asked_board raw.now) }
+        ensures rules { (first_fault (asked_board raw.now) ≡ None)
+            ↔ IsLawful (asked_board raw.now) }
     {
         match first_fault(raw) {
             Some(fault) => Err(fault),
