@@ -1,5 +1,5 @@
 -- Worked examples of rounding: steps of 500 Hz from 1,000 to 4,000, and the widest step there is.
-use Rattle.std.proofs.Common.{◌≡◌, ℕ, Option, Some, None, refl}
+use Rattle.std.proofs.Common.{◌≡◌, Some, None, refl}
 use Rattle.scmi_plan.specs.declared.rates.Rates.{Rates}
 use Rattle.scmi_plan.specs.declared.rates.Rates.TheVariants as rates
 use Rattle.scmi_clock.specs.Rounding.{round_to}

@@ -1,7 +1,7 @@
 -- The table of power states and of requests for notifications, and what a command leaves of it.
 use Rattle.std.specs.Prelude.{◌≡◌, ℕ, ◌-◌, ◌<◌, ◌≤◌, ◌==◌, ◌&&◌, Bool, true, false, if◌then◌else◌, List, length, get_or, Option, Some, None, unwrap_or}
 use Rattle.std.specs.Int.{bit_at}
-use Rattle.scmi_codec.specs.Payload.{begins_with_success, if_success}
+use Rattle.scmi_codec.specs.Payload.{if_success}
 use Rattle.scmi_codec.specs.declared.power_command.PowerCommand.{PowerCommand}
 use Rattle.scmi_codec.specs.declared.power_command.PowerCommand.TheVariants as power
 use Rattle.scmi_plan.specs.Board.{Board, domain_at}
