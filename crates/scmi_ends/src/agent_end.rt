@@ -2,7 +2,8 @@
 ghost use Rattle.std.specs.Prelude.{◌≡◌, ◌≢◌, ◌+◌, ◌%◌, ◌<◌, ◌++◌, ◌∷◌, ◌⊎◌, ◌↔◌, [], true, false, IfOk, OnErr, OnOk};
 ghost use Rattle.scmi_codec.specs.Area.{is_well_formed};
 ghost use Rattle.scmi_codec.specs.declared.frame.Frame.TheVariants.{Good, Malformed};
-ghost use Rattle.scmi_link.specs.View.{IsOutstanding, is_shut, new_caller, new_callee};
+ghost use Rattle.scmi_codec.specs.declared.frame.Answer.TheVariants.{Released};
+ghost use Rattle.scmi_link.specs.View.{IsOutstanding, Owes, is_shut, new_caller, new_callee};
 ghost use Rattle.scmi_link.specs.Calls.{IsRefused, Collects, collected_by, frame_if};
 ghost use Rattle.scmi_ends.specs.Shut.{ShowsClose};
 
@@ -192,7 +193,7 @@ impl<C: Channel> AgentEnd<C> {
         if !link.p2a.take_into(&mut self.callee, frame) {
             return false;
         }
-        link.p2a.answer(&mut self.callee, &Answer::Released);
+        release(&link.p2a, &mut self.callee);
         true
     }
 
@@ -212,4 +213,16 @@ impl<C: Channel> AgentEnd<C> {
         link.p2a.close_callee(&mut self.callee)?;
         Ok(closing)
     }
+}
+
+// Releases the message that was taken. A function clears its locals at its entry, so the answer is none of
+// those of `next_p2a_into`, which mostly finds nothing.
+#[inline(never)]
+fn release<C: Channel>(p2a: &C, callee: &mut C::Callee)
+    requires name { C.callee_name callee.old ≡ C.name p2a.now }
+    requires owes { Owes (C.callee_view callee.old) }
+    ensures name { C.callee_name callee.new ≡ C.callee_name callee.old }
+    ensures answered { C.callee_view callee.new ≡ record (C.callee_view callee.old) { answered = (C.callee_view callee.old).answered ++ Released ∷ [] } }
+{
+    p2a.answer(callee, &Answer::Released);
 }

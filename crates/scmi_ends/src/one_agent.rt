@@ -1,6 +1,7 @@
 //! The platform's calls at the ends of one agent's channels.
-ghost use Rattle.std.specs.Prelude.{◌≡◌, ◌<◌, true, Some, length};
+ghost use Rattle.std.specs.Prelude.{◌≡◌, ◌<◌, ◌++◌, ◌∷◌, [], true, Some, length};
 ghost use Rattle.std.specs.Option.{option_or};
+ghost use Rattle.scmi_codec.specs.declared.frame.Answer.TheVariants.{ChannelError};
 ghost use Rattle.scmi_link.specs.View.{Owes};
 ghost use Rattle.scmi_plan.specs.Agent.{IsAgent};
 ghost use Rattle.scmi_core.specs.Legal.{IsLegal};
@@ -39,9 +40,21 @@ pub(crate) fn serve_one<C: Channel>(
     }
     match core.execute(agent, &room.frame, &mut room.reply) {
         Answered::Reply => a2p.reply(callee, &room.reply),
-        Answered::ChannelError => a2p.answer(callee, &Answer::ChannelError),
+        Answered::ChannelError => answer_malformed(a2p, callee),
     }
     Served::Done
+}
+
+// Answers a frame that was malformed. A function clears its locals at its entry, so the answer is none of
+// those of `serve_one`.
+#[inline(never)]
+fn answer_malformed<C: Channel>(a2p: &C, callee: &mut C::Callee)
+    requires name { C.callee_name callee.old ≡ C.name a2p.now }
+    requires owes { Owes (C.callee_view callee.old) }
+    ensures name { C.callee_name callee.new ≡ C.callee_name callee.old }
+    ensures answered { C.callee_view callee.new ≡ record (C.callee_view callee.old) { answered = (C.callee_view callee.old).answered ++ ChannelError ∷ [] } }
+{
+    a2p.answer(callee, &Answer::ChannelError);
 }
 
 // Collects on P2A into `room`, and then posts the first message of the agent's outbox. The trace has room

@@ -2,9 +2,9 @@
 ghost use Rattle.std.specs.Prelude.{◌≡◌, ℕ, ◌+◌, ◌≤◌, [], length, false, None, Some};
 ghost use Rattle.std.specs.List.{last_or};
 ghost use Rattle.scmi_codec.specs.declared.frame.Frame.{Frame};
-ghost use Rattle.scmi_codec.specs.declared.frame.Frame.TheVariants.{Good};
+ghost use Rattle.scmi_codec.specs.declared.frame.Frame.TheVariants.{Good, Malformed};
 ghost use Rattle.scmi_codec.specs.declared.frame.Answer.{Answer};
-ghost use Rattle.scmi_codec.specs.declared.frame.Answer.TheVariants.{Reply};
+ghost use Rattle.scmi_codec.specs.declared.frame.Answer.TheVariants.{Reply, Released, ChannelError};
 ghost use Rattle.scmi_codec.specs.declared.message.Message.{Message};
 ghost use Rattle.scmi_codec.specs.Header.{header_word};
 ghost use Rattle.scmi_words.specs.declared.phase.Phase.TheVariants.{Idle};
@@ -71,9 +71,25 @@ pub fn read_answer(table: &SharedTable, seat: &mut TableSeat, free: u64, answer:
 {
     match free {
         FREE => read_reply(table, seat, answer),
-        CHANNEL_ERROR => *answer = Answer::ChannelError,
-        _ => *answer = Answer::Released,
+        CHANNEL_ERROR => set_channel_error(answer),
+        _ => set_released(answer),
     }
+}
+
+/// Makes an answer that of a frame that was malformed. Its message is none of the locals of `read_answer`.
+#[inline(never)]
+fn set_channel_error(answer: &mut Answer)
+    ensures { answer.new ≡ ChannelError }
+{
+    *answer = Answer::ChannelError;
+}
+
+/// Makes an answer that of an area marked free, as `set_channel_error`.
+#[inline(never)]
+fn set_released(answer: &mut Answer)
+    ensures { answer.new ≡ Released }
+{
+    *answer = Answer::Released;
 }
 
 /// Loads the response that the caller collected, into `answer`.
@@ -122,7 +138,7 @@ pub fn read_frame(table: &SharedTable, seat: &mut TableSeat, frame: &mut Frame)
     let length = load_frame_word(table, seat, LENGTH);
     let header = load_frame_word(table, seat, HEADER);
     if !is_well_formed(length) {
-        *frame = Frame::Malformed { length, header };
+        set_malformed(frame, length, header);
         return;
     }
     let count = (length / 4 - 1) as usize;
@@ -130,6 +146,14 @@ pub fn read_frame(table: &SharedTable, seat: &mut TableSeat, frame: &mut Frame)
         Frame::Good(message) => read_message(table, seat, header, count, message),
         Frame::Malformed { .. } => read_new_message(table, seat, header, count, frame),
     }
+}
+
+/// Makes a frame one that is malformed, which is not a local of `read_frame`.
+#[inline(never)]
+fn set_malformed(frame: &mut Frame, length: u32, header: u32)
+    ensures { frame.new ≡ Malformed length header }
+{
+    *frame = Frame::Malformed { length, header };
 }
 
 /// Loads the payload of the frame that the callee took, into a new message of this header word, which is
