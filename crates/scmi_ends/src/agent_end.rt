@@ -1,10 +1,12 @@
 //! The agent's side of its two channels.
-ghost use Rattle.std.specs.Prelude.{◌≡◌, ◌≢◌, ◌+◌, ◌%◌, ◌<◌, ◌++◌, ◌∷◌, ◌⊎◌, ◌↔◌, [], true, false, IfOk, OnErr, OnOk};
+ghost use Rattle.std.specs.Prelude.{◌≡◌, ◌+◌, ◌%◌, ◌<◌, ◌++◌, ◌∷◌, ◌↔◌, [], true, false, IfOk, OnErr, OnOk};
 ghost use Rattle.scmi_codec.specs.Area.{is_well_formed};
 ghost use Rattle.scmi_codec.specs.declared.frame.Frame.TheVariants.{Good, Malformed};
 ghost use Rattle.scmi_codec.specs.declared.frame.Answer.TheVariants.{Released};
+ghost use Rattle.scmi_codec.specs.declared.message.Message.{Message};
+ghost use Rattle.scmi_codec.specs.Command.{protocol_header};
 ghost use Rattle.scmi_link.specs.View.{IsOutstanding, Owes, is_shut, new_caller, new_callee};
-ghost use Rattle.scmi_link.specs.Calls.{IsRefused, Collects, collected_by, frame_if};
+ghost use Rattle.scmi_link.specs.Calls.{Posts, Collects, ClosesCaller, collected_by, frame_if};
 ghost use Rattle.scmi_ends.specs.Shut.{ShowsClose};
 
 use crate::link::Link;
@@ -87,13 +89,12 @@ impl<C: Channel> AgentEnd<C> {
     ) -> Result<u16, PostError>
         requires { IsOfLink (C.name link.now.a2p) (C.name link.now.p2a) self.old }
         ensures token { IfOk result (λ token. token ≡ self.old.token) }
-        ensures ok { OnOk result (self.new ≡ record self.old { token = (self.old.token + 1) % 1024; caller = record (self.old.caller) { posted = self.old.caller.posted ++ Good (record { header = record { reserved = 0; token = self.old.token; protocol = protocol; kind = 0; id = id }; payload = payload.now }) ∷ [] } }) }
-        ensures unshut { OnOk result (is_shut self.old.caller ≡ false) }
-        ensures outstanding { (result ≡ Err PostError.Outstanding) ↔ IsOutstanding self.old.caller }
-        ensures unchanged { result ≡ Err PostError.Outstanding → self.new ≡ self.old }
-        ensures closed { result ≡ Err PostError.Closed → IsRefused self.old.caller self.new.caller × (self.new ≡ record self.old { caller = self.new.caller }) }
-        ensures full { result ≡ Err PostError.Full → (C.FULL ≡ true) × (is_shut self.old.caller ≡ false) × (self.new ≡ self.old) }
-        ensures well_formed { result ≢ Err PostError.WellFormed }
+        ensures ok { let token = (self.old.token + 1) % 1024 in
+            OnOk result (self.new ≡ record self.old { token = token; caller = self.new.caller }) }
+        ensures err { OnErr result (self.new ≡ record self.old { caller = self.new.caller }) }
+        ensures posts { let header = protocol_header protocol self.old.token id in
+            let message : Message = record { header = header; payload = payload.now } in
+            Posts C.FULL self.old.caller (Good message) result self.new.caller }
     {
         let token = self.token;
         let header = Header {
@@ -111,13 +112,8 @@ impl<C: Channel> AgentEnd<C> {
     /// Posts a message on A2P as it stands, with its own token. It is refused as `call` is.
     pub fn post(&mut self, link: &Link<C>, message: &Message) -> Result<(), PostError>
         requires { IsOfLink (C.name link.now.a2p) (C.name link.now.p2a) self.old }
-        ensures ok { OnOk result (self.new ≡ record self.old { caller = record (self.old.caller) { posted = self.old.caller.posted ++ Good message.now ∷ [] } }) }
-        ensures unshut { OnOk result (is_shut self.old.caller ≡ false) }
-        ensures outstanding { (result ≡ Err PostError.Outstanding) ↔ IsOutstanding self.old.caller }
-        ensures unchanged { result ≡ Err PostError.Outstanding → self.new ≡ self.old }
-        ensures closed { result ≡ Err PostError.Closed → IsRefused self.old.caller self.new.caller × (self.new ≡ record self.old { caller = self.new.caller }) }
-        ensures full { result ≡ Err PostError.Full → (C.FULL ≡ true) × (is_shut self.old.caller ≡ false) × (self.new ≡ self.old) }
-        ensures well_formed { result ≢ Err PostError.WellFormed }
+        ensures same { self.new ≡ record self.old { caller = self.new.caller } }
+        ensures posts { Posts C.FULL self.old.caller (Good message.now) result self.new.caller }
     {
         link.a2p.post(&mut self.caller, message)
     }
@@ -133,13 +129,11 @@ impl<C: Channel> AgentEnd<C> {
         header: u32,
     ) -> Result<(), PostError>
         requires { IsOfLink (C.name link.now.a2p) (C.name link.now.p2a) self.old }
-        ensures ok { OnOk result (self.new ≡ record self.old { caller = record (self.old.caller) { posted = self.old.caller.posted ++ Malformed length header ∷ [] } }) }
-        ensures unshut { OnOk result (is_shut self.old.caller ≡ false) }
+        ensures same { self.new ≡ record self.old { caller = self.new.caller } }
         ensures well_formed { (result ≡ Err PostError.WellFormed) ↔ (is_well_formed length ≡ true) }
-        ensures outstanding { is_well_formed length ≡ false → (result ≡ Err PostError.Outstanding) ↔ IsOutstanding self.old.caller }
-        ensures unchanged { (result ≡ Err PostError.Outstanding) ⊎ (result ≡ Err PostError.WellFormed) → self.new ≡ self.old }
-        ensures closed { result ≡ Err PostError.Closed → IsRefused self.old.caller self.new.caller × (self.new ≡ record self.old { caller = self.new.caller }) }
-        ensures full { result ≡ Err PostError.Full → (C.FULL ≡ true) × (is_shut self.old.caller ≡ false) × (self.new ≡ self.old) }
+        ensures unchanged { is_well_formed length ≡ true → self.new ≡ self.old }
+        ensures posts { is_well_formed length ≡ false
+            → Posts C.FULL self.old.caller (Malformed length header) result self.new.caller }
     {
         link.a2p.post_malformed(&mut self.caller, length, header)
     }
@@ -204,9 +198,10 @@ impl<C: Channel> AgentEnd<C> {
     /// taken or cannot be taken back, or its answer stands. After an error neither is closed.
     pub fn close(&mut self, link: &Link<C>) -> Result<Closing, CloseError>
         requires { IsOfLink (C.name link.now.a2p) (C.name link.now.p2a) self.old }
-        ensures idle { result ≡ Ok Closing.Idle → ¬ (IsOutstanding self.old.caller) × (self.new ≡ record self.old { caller = record (self.old.caller) { closed = true }; callee = record (self.old.callee) { closed = true } }) }
-        ensures withdrawn { result ≡ Ok Closing.Withdrawn → IsOutstanding self.old.caller × (self.new ≡ record self.old { caller = record (self.old.caller) { closed = true; left = true }; callee = record (self.old.callee) { closed = true } }) }
-        ensures err { OnErr result (IsOutstanding self.old.caller × (self.new ≡ self.old)) }
+        ensures closes { ClosesCaller self.old.caller result self.new.caller }
+        ensures ok { let callee = record (self.old.callee) { closed = true } in
+            OnOk result (self.new ≡ record self.old { caller = self.new.caller; callee = callee }) }
+        ensures err { OnErr result (self.new ≡ self.old) }
         ensures shows { ShowsClose C.caller_view C.close_shows self.new.caller result }
     {
         let closing = link.a2p.close_caller(&mut self.caller)?;

@@ -1,12 +1,18 @@
 -- What each call leaves, by what it answers.
-use Rattle.std.specs.Prelude.{◌≡◌, Bool, true, false, not, ◌||◌, [], ◌∷◌, ◌++◌, length, Option, Some, None}
+use Rattle.std.specs.Prelude.{◌≡◌, Bool, true, false, not, ◌||◌, [], ◌∷◌, ◌++◌, length, Option, Some, None, Result, Ok, Err}
 use Rattle.scmi_codec.specs.declared.frame.Frame.{Frame}
 use Rattle.scmi_codec.specs.declared.frame.Answer.{Answer}
 use Rattle.scmi_link.specs.declared.collected.Collected.{Collected}
 use Rattle.scmi_link.specs.declared.collected.Collected.TheVariants.{Nothing, Got, Closed}
 use Rattle.scmi_link.specs.declared.looked.Looked.{Looked}
 use Rattle.scmi_link.specs.declared.looked.Looked.TheVariants as looked
-use Rattle.scmi_link.specs.View.{CallerView, CalleeView, IsOutstanding, is_shut, is_callee_shut, one_more}
+use Rattle.scmi_link.specs.declared.post_error.PostError.{PostError}
+use Rattle.scmi_link.specs.declared.post_error.PostError.TheVariants as refused
+use Rattle.scmi_link.specs.declared.closing.Closing.{Closing}
+use Rattle.scmi_link.specs.declared.closing.Closing.TheVariants as closing
+use Rattle.scmi_link.specs.declared.close_error.CloseError.{CloseError}
+use Rattle.scmi_link.specs.declared.close_error.CloseError.TheVariants.{InService, ReplyWaiting}
+use Rattle.scmi_link.specs.View.{CallerView, CalleeView, IsOutstanding, Owes, is_shut, is_callee_shut, one_more}
 
 -- a caller that was answered `Closed`: where it had not closed, it was told that the callee has
 abbrev pub with_word : CallerView → CallerView
@@ -16,6 +22,31 @@ with_word v = record v { told = v.told || not v.closed }
 pub record IsRefused (old new : CallerView) : Type 0 where
   pub told : new ≡ with_word old
   pub shut : is_shut new ≡ true
+
+-- an open caller with nothing outstanding posts a frame
+pub record PostsFrame (old : CallerView) (frame : Frame) (new : CallerView) : Type 0 where
+  pub unshut : is_shut old ≡ false
+  pub none_outstanding : ¬ (IsOutstanding old)
+  pub posted : new ≡ record old { posted = old.posted ++ frame ∷ [] }
+
+-- a post finds no place, which only a channel that may be full answers
+pub record FindsNoPlace (may_be_full : Bool) (old new : CallerView) : Type 0 where
+  pub may : may_be_full ≡ true
+  pub unshut : is_shut old ≡ false
+  pub none_outstanding : ¬ (IsOutstanding old)
+  pub same : new ≡ old
+
+-- what a refused post leaves, by its reason: the first that applies
+abbrev pub RefusesPost : Bool → CallerView → PostError → CallerView → Type 0
+RefusesPost may_be_full old refused.Outstanding new = IsOutstanding old × (new ≡ old)
+RefusesPost may_be_full old refused.Closed new = (¬ (IsOutstanding old)) × IsRefused old new
+RefusesPost may_be_full old refused.Full new = FindsNoPlace may_be_full old new
+RefusesPost may_be_full old refused.WellFormed new = ⊥
+
+-- what a post of this frame leaves; where the frame is malformed, its length was looked at before
+abbrev pub Posts : {T : Type 0} → Bool → CallerView → Frame → Result T PostError → CallerView → Type 0
+Posts may_be_full old frame (Ok done) new = PostsFrame old frame new
+Posts may_be_full old frame (Err reason) new = RefusesPost may_be_full old reason new
 
 -- an end has closed and no answer stands: a post that was outstanding is given up
 pub record GivesUp (old new : CallerView) : Type 0 where
@@ -36,6 +67,22 @@ Collects old Nothing new = new ≡ record old { collects = one_more old.collects
 Collects old (Got answer) new = Reads old answer new
 Collects old Closed new = GivesUp old new
 
+-- a caller with nothing outstanding closes
+pub record ClosesIdle (old new : CallerView) : Type 0 where
+  pub none_outstanding : ¬ (IsOutstanding old)
+  pub closed : new ≡ record old { closed = true }
+
+-- a caller closes and withdraws its outstanding post
+pub record ClosesAndWithdraws (old new : CallerView) : Type 0 where
+  pub was_outstanding : IsOutstanding old
+  pub closed : new ≡ record old { closed = true; left = true }
+
+-- what a caller's close leaves: it is refused only where a post is outstanding, and then nothing changed
+abbrev pub ClosesCaller : CallerView → Result Closing CloseError → CallerView → Type 0
+ClosesCaller old (Ok closing.Idle) new = ClosesIdle old new
+ClosesCaller old (Ok closing.Withdrawn) new = ClosesAndWithdraws old new
+ClosesCaller old (Err error) new = IsOutstanding old × (new ≡ old)
+
 -- an open callee that owed nothing takes a frame
 pub record TakesFrame (old : CalleeView) (frame : Frame) (new : CalleeView) : Type 0 where
   pub open_before : is_callee_shut old ≡ false
@@ -51,6 +98,12 @@ pub record TakesNone (old new : CalleeView) : Type 0 where
 abbrev pub Takes : CalleeView → Option Frame → CalleeView → Type 0
 Takes old None new = TakesNone old new
 Takes old (Some frame) new = TakesFrame old frame new
+
+-- what a callee's close leaves: it is refused exactly where an answer is owed, and then nothing changed
+abbrev pub ClosesCallee : CalleeView → Result (Unit {0}) CloseError → CalleeView → Type 0
+ClosesCallee old (Ok done) new = (¬ (Owes old)) × (new ≡ record old { closed = true })
+ClosesCallee old (Err InService) new = Owes old × (new ≡ old)
+ClosesCallee old (Err ReplyWaiting) new = ⊥
 
 -- what a `take_into` gave, by its answer and the frame that it left
 abbrev pub frame_if : Bool → Frame → Option Frame

@@ -28,10 +28,10 @@ pub struct CalleeSeat {
 }
 
 impl CalleeSeat {
-    ghost use Rattle.std.specs.Prelude.{◌≡◌, ◌++◌, ◌∷◌, [], ◌↔◌, true, OnOk, OnErr};
+    ghost use Rattle.std.specs.Prelude.{◌≡◌, ◌++◌, ◌∷◌, [], true};
     ghost use Rattle.scmi_codec.specs.declared.frame.Answer.TheVariants.{Reply};
     ghost use Rattle.scmi_link.specs.View.{Owes};
-    ghost use Rattle.scmi_link.specs.Calls.{Takes, frame_if};
+    ghost use Rattle.scmi_link.specs.Calls.{Takes, ClosesCallee, frame_if};
     ghost use Rattle.scmi_link.specs.CalleeSeat.{callee_seat_view, SameCalleeRings};
 
     // A frame is taken only where a place for its answer is known to be free. It is copied where it
@@ -76,10 +76,7 @@ impl CalleeSeat {
     // The close holds also where the ring takes no note.
     pub(crate) fn close(&mut self) -> Result<(), CloseError>
         ensures rings { SameCalleeRings self.old self.new }
-        ensures ok { OnOk result (callee_seat_view self.new ≡ record (callee_seat_view self.old) { closed = true }) }
-        ensures in_service { (result ≡ Err CloseError.InService) ↔ Owes (callee_seat_view self.old) }
-        ensures reply_waiting { ¬ (result ≡ Err CloseError.ReplyWaiting) }
-        ensures err { OnErr result (callee_seat_view self.new ≡ callee_seat_view self.old) }
+        ensures closes { ClosesCallee (callee_seat_view self.old) result (callee_seat_view self.new) }
     {
         if self.owing {
             return Err(CloseError::InService);

@@ -36,22 +36,18 @@ pub struct CallerSeat {
 }
 
 impl CallerSeat {
-    ghost use Rattle.std.specs.Prelude.{◌≡◌, ◌<◌, ◌++◌, ◌∷◌, [], ◌↔◌, true, false, OnOk, OnErr};
+    ghost use Rattle.std.specs.Prelude.{◌≡◌, ◌<◌, true, false, OnOk, IfErr};
     ghost use Rattle.scmi_codec.specs.declared.frame.Frame.TheVariants.{Good, Malformed};
+    ghost use Rattle.scmi_codec.specs.declared.message.Message.{Message};
     ghost use Rattle.scmi_link.specs.View.{IsOutstanding, is_shut};
-    ghost use Rattle.scmi_link.specs.Calls.{IsRefused, Collects, collected_by};
+    ghost use Rattle.scmi_link.specs.Calls.{Posts, RefusesPost, Collects, ClosesCaller, collected_by};
     ghost use Rattle.scmi_link.specs.CallerSeat.{caller_seat_view, SameCallerRings, IsIdleOrInService};
 
     // Posts a message of this header and payload.
     pub(crate) fn post_parts(&mut self, header: Header, payload: &Payload) -> Result<(), PostError>
         ensures rings { SameCallerRings self.old self.new }
-        ensures ok { OnOk result (caller_seat_view self.new ≡ record (caller_seat_view self.old) { posted = (caller_seat_view self.old).posted ++ Good (record { header = header; payload = payload.now }) ∷ [] }) }
-        ensures unshut { OnOk result (is_shut (caller_seat_view self.old) ≡ false) }
-        ensures outstanding { (result ≡ Err PostError.Outstanding) ↔ IsOutstanding (caller_seat_view self.old) }
-        ensures unchanged { result ≡ Err PostError.Outstanding → caller_seat_view self.new ≡ caller_seat_view self.old }
-        ensures closed { result ≡ Err PostError.Closed → IsRefused (caller_seat_view self.old) (caller_seat_view self.new) }
-        ensures full { result ≡ Err PostError.Full → (is_shut (caller_seat_view self.old) ≡ false) × (caller_seat_view self.new ≡ caller_seat_view self.old) }
-        ensures well_formed { ¬ (result ≡ Err PostError.WellFormed) }
+        ensures posts { let message : Message = record { header = header; payload = payload.now } in
+            Posts true (caller_seat_view self.old) (Good message) result (caller_seat_view self.new) }
     {
         self.may_post()?;
         push_message(&mut self.frames, header, payload);
@@ -62,13 +58,8 @@ impl CallerSeat {
     // Posts a frame whose length in bytes is not well formed.
     pub(crate) fn post_malformed(&mut self, length: u32, header: u32) -> Result<(), PostError>
         ensures rings { SameCallerRings self.old self.new }
-        ensures ok { OnOk result (caller_seat_view self.new ≡ record (caller_seat_view self.old) { posted = (caller_seat_view self.old).posted ++ Malformed length header ∷ [] }) }
-        ensures unshut { OnOk result (is_shut (caller_seat_view self.old) ≡ false) }
-        ensures outstanding { (result ≡ Err PostError.Outstanding) ↔ IsOutstanding (caller_seat_view self.old) }
-        ensures unchanged { result ≡ Err PostError.Outstanding → caller_seat_view self.new ≡ caller_seat_view self.old }
-        ensures closed { result ≡ Err PostError.Closed → IsRefused (caller_seat_view self.old) (caller_seat_view self.new) }
-        ensures full { result ≡ Err PostError.Full → (is_shut (caller_seat_view self.old) ≡ false) × (caller_seat_view self.new ≡ caller_seat_view self.old) }
-        ensures well_formed { ¬ (result ≡ Err PostError.WellFormed) }
+        ensures posts { let frame = Malformed length header in
+            Posts true (caller_seat_view self.old) frame result (caller_seat_view self.new) }
     {
         self.may_post()?;
         self.frames
@@ -84,11 +75,8 @@ impl CallerSeat {
         ensures room { OnOk result (0 < known_free self.new.frames) }
         ensures idle { OnOk result (self.new.waiting ≡ false) }
         ensures unshut { OnOk result (is_shut (caller_seat_view self.new) ≡ false) }
-        ensures outstanding { (result ≡ Err PostError.Outstanding) ↔ IsOutstanding (caller_seat_view self.old) }
-        ensures unchanged { result ≡ Err PostError.Outstanding → caller_seat_view self.new ≡ caller_seat_view self.old }
-        ensures closed { result ≡ Err PostError.Closed → IsRefused (caller_seat_view self.old) (caller_seat_view self.new) }
-        ensures full { result ≡ Err PostError.Full → (is_shut (caller_seat_view self.old) ≡ false) × (caller_seat_view self.new ≡ caller_seat_view self.old) }
-        ensures well_formed { ¬ (result ≡ Err PostError.WellFormed) }
+        ensures none_outstanding { OnOk result (¬ (IsOutstanding (caller_seat_view self.old))) }
+        ensures refused { IfErr result (λ reason. RefusesPost true (caller_seat_view self.old) reason (caller_seat_view self.new)) }
     {
         if self.waiting {
             return Err(PostError::Outstanding);
@@ -162,9 +150,7 @@ impl CallerSeat {
     // A frame in the ring cannot be taken back, so a close waits for its answer.
     pub(crate) fn close(&mut self) -> Result<Closing, CloseError>
         ensures rings { SameCallerRings self.old self.new }
-        ensures idle { result ≡ Ok Closing.Idle → ¬ IsOutstanding (caller_seat_view self.old) × (caller_seat_view self.new ≡ record (caller_seat_view self.old) { closed = true }) }
-        ensures withdrawn { ¬ (result ≡ Ok Closing.Withdrawn) }
-        ensures err { OnErr result (IsOutstanding (caller_seat_view self.old) × (caller_seat_view self.new ≡ caller_seat_view self.old)) }
+        ensures closes { ClosesCaller (caller_seat_view self.old) result (caller_seat_view self.new) }
         ensures shows { IsIdleOrInService result }
     {
         if self.waiting {

@@ -1,10 +1,11 @@
 //! What a channel promises, whatever it is made of.
-ghost use Rattle.std.specs.Prelude.{◌≡◌, ◌↔◌, ◌⊎◌, ℕ, Bool, true, false, List, [], ◌∷◌, ◌++◌, IsTrue, Result, OnOk, OnErr, IfOk};
+ghost use Rattle.std.specs.Prelude.{◌≡◌, ◌↔◌, ℕ, Bool, true, false, List, [], ◌∷◌, ◌++◌, IsTrue, Result, IfOk};
 ghost use Rattle.scmi_codec.specs.Area.{is_well_formed};
 ghost use Rattle.scmi_codec.specs.declared.frame.Frame.TheVariants.{Good, Malformed};
 ghost use Rattle.scmi_codec.specs.declared.frame.Answer.TheVariants.{Reply};
+ghost use Rattle.scmi_codec.specs.declared.message.Message.{Message};
 ghost use Rattle.scmi_link.specs.View.{CallerView, CalleeView, IsOutstanding, Owes, new_caller, new_callee, is_shut};
-ghost use Rattle.scmi_link.specs.Calls.{IsRefused, Collects, Takes, frame_if, collected_by};
+ghost use Rattle.scmi_link.specs.Calls.{Posts, Collects, Takes, ClosesCaller, ClosesCallee, frame_if, collected_by};
 ghost use Rattle.scmi_link.specs.Gathered.{Agree, Closed};
 
 use crate::close_error::CloseError;
@@ -70,13 +71,7 @@ pub trait Channel: Sync + Drop {
     fn post(&self, caller: &mut Self::Caller, message: &Message) -> Result<(), PostError>
         requires { caller_name caller.old ≡ name self.now }
         ensures name { caller_name caller.new ≡ caller_name caller.old }
-        ensures ok { OnOk result (caller_view caller.new ≡ record (caller_view caller.old) { posted = (caller_view caller.old).posted ++ Good message.now ∷ [] }) }
-        ensures unshut { OnOk result (is_shut (caller_view caller.old) ≡ false) }
-        ensures outstanding { (result ≡ Err PostError.Outstanding) ↔ IsOutstanding (caller_view caller.old) }
-        ensures unchanged { result ≡ Err PostError.Outstanding → caller_view caller.new ≡ caller_view caller.old }
-        ensures closed { result ≡ Err PostError.Closed → IsRefused (caller_view caller.old) (caller_view caller.new) }
-        ensures full { result ≡ Err PostError.Full → (FULL ≡ true) × (is_shut (caller_view caller.old) ≡ false) × (caller_view caller.new ≡ caller_view caller.old) }
-        ensures well_formed { ¬ (result ≡ Err PostError.WellFormed) }
+        ensures posts { Posts FULL (caller_view caller.old) (Good message.now) result (caller_view caller.new) }
     {
         self.post_parts(caller, message.header, &message.payload)
     }
@@ -90,13 +85,8 @@ pub trait Channel: Sync + Drop {
     ) -> Result<(), PostError>
         requires { caller_name caller.old ≡ name self.now }
         ensures name { caller_name caller.new ≡ caller_name caller.old }
-        ensures ok { OnOk result (caller_view caller.new ≡ record (caller_view caller.old) { posted = (caller_view caller.old).posted ++ Good (record { header = header; payload = payload.now }) ∷ [] }) }
-        ensures unshut { OnOk result (is_shut (caller_view caller.old) ≡ false) }
-        ensures outstanding { (result ≡ Err PostError.Outstanding) ↔ IsOutstanding (caller_view caller.old) }
-        ensures unchanged { result ≡ Err PostError.Outstanding → caller_view caller.new ≡ caller_view caller.old }
-        ensures closed { result ≡ Err PostError.Closed → IsRefused (caller_view caller.old) (caller_view caller.new) }
-        ensures full { result ≡ Err PostError.Full → (FULL ≡ true) × (is_shut (caller_view caller.old) ≡ false) × (caller_view caller.new ≡ caller_view caller.old) }
-        ensures well_formed { ¬ (result ≡ Err PostError.WellFormed) };
+        ensures posts { let message : Message = record { header = header; payload = payload.now } in
+            Posts FULL (caller_view caller.old) (Good message) result (caller_view caller.new) };
 
     /// Posts a frame whose length in bytes is not well formed.
     ///
@@ -109,13 +99,10 @@ pub trait Channel: Sync + Drop {
     ) -> Result<(), PostError>
         requires { caller_name caller.old ≡ name self.now }
         ensures name { caller_name caller.new ≡ caller_name caller.old }
-        ensures ok { OnOk result (caller_view caller.new ≡ record (caller_view caller.old) { posted = (caller_view caller.old).posted ++ Malformed length header ∷ [] }) }
-        ensures unshut { OnOk result (is_shut (caller_view caller.old) ≡ false) }
         ensures well_formed { (result ≡ Err PostError.WellFormed) ↔ (is_well_formed length ≡ true) }
-        ensures outstanding { is_well_formed length ≡ false → (result ≡ Err PostError.Outstanding) ↔ IsOutstanding (caller_view caller.old) }
-        ensures unchanged { (result ≡ Err PostError.Outstanding) ⊎ (result ≡ Err PostError.WellFormed) → caller_view caller.new ≡ caller_view caller.old }
-        ensures closed { result ≡ Err PostError.Closed → IsRefused (caller_view caller.old) (caller_view caller.new) }
-        ensures full { result ≡ Err PostError.Full → (FULL ≡ true) × (is_shut (caller_view caller.old) ≡ false) × (caller_view caller.new ≡ caller_view caller.old) };
+        ensures unchanged { is_well_formed length ≡ true → caller_view caller.new ≡ caller_view caller.old }
+        ensures posts { is_well_formed length ≡ false
+            → Posts FULL (caller_view caller.old) (Malformed length header) result (caller_view caller.new) };
 
     /// Whether the answer to the last post was not collected, and the post was neither withdrawn nor
     /// given up.
@@ -207,9 +194,7 @@ pub trait Channel: Sync + Drop {
     fn close_caller(&self, caller: &mut Self::Caller) -> Result<Closing, CloseError>
         requires { caller_name caller.old ≡ name self.now }
         ensures name { caller_name caller.new ≡ caller_name caller.old }
-        ensures idle { result ≡ Ok Closing.Idle → ¬ IsOutstanding (caller_view caller.old) × (caller_view caller.new ≡ record (caller_view caller.old) { closed = true }) }
-        ensures withdrawn { result ≡ Ok Closing.Withdrawn → IsOutstanding (caller_view caller.old) × (caller_view caller.new ≡ record (caller_view caller.old) { closed = true; left = true }) }
-        ensures err { OnErr result (IsOutstanding (caller_view caller.old) × (caller_view caller.new ≡ caller_view caller.old)) }
+        ensures closes { ClosesCaller (caller_view caller.old) result (caller_view caller.new) }
         ensures shows { close_shows caller.new result };
 
     /// Closes the callee's end. `InService` where the callee owes an answer, and then the end is not
@@ -217,10 +202,7 @@ pub trait Channel: Sync + Drop {
     fn close_callee(&self, callee: &mut Self::Callee) -> Result<(), CloseError>
         requires { callee_name callee.old ≡ name self.now }
         ensures name { callee_name callee.new ≡ callee_name callee.old }
-        ensures ok { OnOk result (callee_view callee.new ≡ record (callee_view callee.old) { closed = true }) }
-        ensures in_service { (result ≡ Err CloseError.InService) ↔ Owes (callee_view callee.old) }
-        ensures reply_waiting { ¬ (result ≡ Err CloseError.ReplyWaiting) }
-        ensures err { OnErr result (callee_view callee.new ≡ callee_view callee.old) };
+        ensures closes { ClosesCallee (callee_view callee.old) result (callee_view callee.new) };
 
     /// Ends the channel, with both of its ends at hand: what each has done is then known to agree.
     fn gather(self, caller: Self::Caller, callee: Self::Callee) -> Self::Rest

@@ -24,10 +24,10 @@ pub struct WordCallee {
 }
 
 impl WordCallee {
-    ghost use Rattle.std.specs.Prelude.{◌≡◌, ◌≢◌, ◌+◌, ◌≤◌, ◌↔◌, ◌∷◌, [], ◌++◌, true, false, length, OnOk, OnErr, IsTrue};
+    ghost use Rattle.std.specs.Prelude.{◌≡◌, ◌+◌, ◌≤◌, ◌↔◌, ◌∷◌, [], ◌++◌, true, false, length, IsTrue};
     ghost use Rattle.scmi_codec.specs.declared.frame.Answer.TheVariants.{Reply};
     ghost use Rattle.scmi_link.specs.View.{Owes};
-    ghost use Rattle.scmi_link.specs.Calls.{Takes, frame_if};
+    ghost use Rattle.scmi_link.specs.Calls.{Takes, ClosesCallee, frame_if};
     ghost use Rattle.scmi_words.specs.Area.{answer_size};
     ghost use Rattle.scmi_words.specs.SharedTable.{IsSeatAt};
     ghost use Rattle.scmi_words.specs.WordCallee.{word_callee_view, callee_half, take_steps, WhyNone, IsSameCallee};
@@ -96,10 +96,7 @@ impl WordCallee {
     pub(crate) fn close(&mut self, table: &SharedTable) -> Result<(), CloseError>
         requires table { IsSeatAt table.now self.old.seat }
         ensures seat { IsSameCallee self.old self.new }
-        ensures ok { OnOk result (word_callee_view self.new ≡ record (word_callee_view self.old) { closed = true }) }
-        ensures in_service { (result ≡ Err CloseError.InService) ↔ Owes (word_callee_view self.old) }
-        ensures reply_waiting { result ≢ Err CloseError.ReplyWaiting }
-        ensures err { OnErr result (word_callee_view self.new ≡ word_callee_view self.old) }
+        ensures closes { ClosesCallee (word_callee_view self.old) result (word_callee_view self.new) }
         ensures steps { (callee_half self.new).steps ≤ (callee_half self.old).steps + 1 }
     {
         if self.owes {

@@ -26,11 +26,12 @@ pub struct WordCaller {
 }
 
 impl WordCaller {
-    ghost use Rattle.std.specs.Prelude.{◌≡◌, ◌≢◌, ◌+◌, ◌≤◌, cond, ◌⊎◌, ◌↔◌, ◌∷◌, [], ◌++◌, true, false, length, OnOk, OnErr, IsTrue};
+    ghost use Rattle.std.specs.Prelude.{◌≡◌, ◌≢◌, ◌+◌, ◌≤◌, cond, ◌↔◌, true, false, length, OnOk, IsTrue};
     ghost use Rattle.scmi_codec.specs.Area.{is_well_formed};
     ghost use Rattle.scmi_codec.specs.declared.frame.Frame.TheVariants.{Good, Malformed};
+    ghost use Rattle.scmi_codec.specs.declared.message.Message.{Message};
     ghost use Rattle.scmi_link.specs.View.{IsOutstanding, is_shut};
-    ghost use Rattle.scmi_link.specs.Calls.{IsRefused, Collects, collected_by};
+    ghost use Rattle.scmi_link.specs.Calls.{Posts, Collects, ClosesCaller, collected_by};
     ghost use Rattle.scmi_words.specs.declared.phase.Phase.TheVariants.{Idle, Waiting};
     ghost use Rattle.scmi_words.specs.SharedTable.{IsSeatAt};
     ghost use Rattle.scmi_words.specs.WordCaller.{word_caller_view, caller_half, collect_steps, WhyNothing, CloseShows, HasNoDraft, IsWithdrawn, IsSameCaller};
@@ -44,13 +45,9 @@ impl WordCaller {
     ) -> Result<(), PostError>
         requires table { IsSeatAt table.now self.old.seat }
         ensures seat { IsSameCaller self.old self.new }
-        ensures ok { OnOk result (word_caller_view self.new ≡ record (word_caller_view self.old) { posted = (word_caller_view self.old).posted ++ Good (record { header = header; payload = payload.now }) ∷ [] }) }
-        ensures unshut { OnOk result (is_shut (word_caller_view self.old) ≡ false) }
-        ensures outstanding { (result ≡ Err PostError.Outstanding) ↔ IsOutstanding (word_caller_view self.old) }
-        ensures unchanged { result ≡ Err PostError.Outstanding → word_caller_view self.new ≡ word_caller_view self.old }
-        ensures closed { result ≡ Err PostError.Closed → IsRefused (word_caller_view self.old) (word_caller_view self.new) }
+        ensures posts { let message : Message = record { header = header; payload = payload.now } in
+            Posts false (word_caller_view self.old) (Good message) result (word_caller_view self.new) }
         ensures never_full { result ≢ Err PostError.Full }
-        ensures well_formed { result ≢ Err PostError.WellFormed }
         ensures withdrawn_stays { IsWithdrawn self.old → IsWithdrawn self.new }
         ensures draft { HasNoDraft self.old → (result ≡ Err PostError.Closed → is_shut (word_caller_view self.old) ≡ true) → HasNoDraft self.new }
         ensures steps { (caller_half self.new).steps ≤ (caller_half self.old).steps + (length payload.now.items + 4) }
@@ -75,12 +72,10 @@ impl WordCaller {
     ) -> Result<(), PostError>
         requires table { IsSeatAt table.now self.old.seat }
         ensures seat { IsSameCaller self.old self.new }
-        ensures ok { OnOk result (word_caller_view self.new ≡ record (word_caller_view self.old) { posted = (word_caller_view self.old).posted ++ Malformed length header ∷ [] }) }
-        ensures unshut { OnOk result (is_shut (word_caller_view self.old) ≡ false) }
         ensures well_formed { (result ≡ Err PostError.WellFormed) ↔ (is_well_formed length ≡ true) }
-        ensures outstanding { is_well_formed length ≡ false → (result ≡ Err PostError.Outstanding) ↔ IsOutstanding (word_caller_view self.old) }
-        ensures unchanged { (result ≡ Err PostError.Outstanding) ⊎ (result ≡ Err PostError.WellFormed) → word_caller_view self.new ≡ word_caller_view self.old }
-        ensures closed { result ≡ Err PostError.Closed → IsRefused (word_caller_view self.old) (word_caller_view self.new) }
+        ensures unchanged { is_well_formed length ≡ true → word_caller_view self.new ≡ word_caller_view self.old }
+        ensures posts { is_well_formed length ≡ false
+            → Posts false (word_caller_view self.old) (Malformed length header) result (word_caller_view self.new) }
         ensures never_full { result ≢ Err PostError.Full }
         ensures withdrawn_stays { IsWithdrawn self.old → IsWithdrawn self.new }
         ensures draft { HasNoDraft self.old → (result ≡ Err PostError.Closed → is_shut (word_caller_view self.old) ≡ true) → HasNoDraft self.new }
@@ -187,9 +182,7 @@ impl WordCaller {
     pub(crate) fn close(&mut self, table: &SharedTable) -> Result<Closing, CloseError>
         requires table { IsSeatAt table.now self.old.seat }
         ensures seat { IsSameCaller self.old self.new }
-        ensures idle { result ≡ Ok Closing.Idle → ¬ IsOutstanding (word_caller_view self.old) × (word_caller_view self.new ≡ record (word_caller_view self.old) { closed = true }) }
-        ensures withdrawn { result ≡ Ok Closing.Withdrawn → IsOutstanding (word_caller_view self.old) × (word_caller_view self.new ≡ record (word_caller_view self.old) { closed = true; left = true }) }
-        ensures err { OnErr result (IsOutstanding (word_caller_view self.old) × (word_caller_view self.new ≡ word_caller_view self.old)) }
+        ensures closes { ClosesCaller (word_caller_view self.old) result (word_caller_view self.new) }
         ensures shows { CloseShows self.new result }
         ensures withdrawn_stays { IsWithdrawn self.old → IsWithdrawn self.new }
         ensures draft { HasNoDraft self.old → HasNoDraft self.new }

@@ -61,12 +61,13 @@ impl Channel for WordChannel {
 
     type Rest = WordImage;
 
-    ghost use Rattle.std.specs.Prelude.{◌≡◌, ◌≢◌, ◌+◌, ◌≤◌, ◌⊎◌, ◌↔◌, ◌∷◌, [], ◌++◌, true, false, length, OnOk, OnErr, IfOk};
+    ghost use Rattle.std.specs.Prelude.{◌≡◌, ◌≢◌, ◌+◌, ◌≤◌, ◌↔◌, ◌∷◌, [], ◌++◌, true, false, length, IfOk};
     ghost use Rattle.scmi_codec.specs.Area.{is_well_formed};
     ghost use Rattle.scmi_codec.specs.declared.frame.Frame.TheVariants.{Good, Malformed};
     ghost use Rattle.scmi_codec.specs.declared.frame.Answer.TheVariants.{Reply};
+    ghost use Rattle.scmi_codec.specs.declared.message.Message.{Message};
     ghost use Rattle.scmi_link.specs.View.{IsOutstanding, Owes, is_shut, new_caller, new_callee};
-    ghost use Rattle.scmi_link.specs.Calls.{IsRefused, Collects, Takes, frame_if, collected_by};
+    ghost use Rattle.scmi_link.specs.Calls.{Posts, Collects, Takes, ClosesCaller, ClosesCallee, frame_if, collected_by};
     ghost use Rattle.scmi_link.specs.Gathered.{Agree, Closed};
     ghost use Rattle.scmi_words.specs.Area.{answer_size};
     ghost use Rattle.scmi_words.specs.Mailbox.{Rule};
@@ -128,13 +129,9 @@ impl Channel for WordChannel {
     ) -> Result<(), PostError>
         requires name { word_caller_name caller.old ≡ word_channel_name self.now }
         ensures name { word_caller_name caller.new ≡ word_caller_name caller.old }
-        ensures ok { OnOk result (word_caller_view caller.new ≡ record (word_caller_view caller.old) { posted = (word_caller_view caller.old).posted ++ Good (record { header = header; payload = payload.now }) ∷ [] }) }
-        ensures unshut { OnOk result (is_shut (word_caller_view caller.old) ≡ false) }
-        ensures outstanding { (result ≡ Err PostError.Outstanding) ↔ IsOutstanding (word_caller_view caller.old) }
-        ensures unchanged { result ≡ Err PostError.Outstanding → word_caller_view caller.new ≡ word_caller_view caller.old }
-        ensures closed { result ≡ Err PostError.Closed → IsRefused (word_caller_view caller.old) (word_caller_view caller.new) }
+        ensures posts { let message : Message = record { header = header; payload = payload.now } in
+            Posts false (word_caller_view caller.old) (Good message) result (word_caller_view caller.new) }
         ensures never_full { result ≢ Err PostError.Full }
-        ensures well_formed { result ≢ Err PostError.WellFormed }
         ensures withdrawn_stays { IsWithdrawn caller.old → IsWithdrawn caller.new }
         ensures draft { HasNoDraft caller.old → (result ≡ Err PostError.Closed → is_shut (word_caller_view caller.old) ≡ true) → HasNoDraft caller.new }
         ensures steps { (caller_half caller.new).steps ≤ (caller_half caller.old).steps + (length payload.now.items + 4) }
@@ -150,12 +147,10 @@ impl Channel for WordChannel {
     ) -> Result<(), PostError>
         requires name { word_caller_name caller.old ≡ word_channel_name self.now }
         ensures name { word_caller_name caller.new ≡ word_caller_name caller.old }
-        ensures ok { OnOk result (word_caller_view caller.new ≡ record (word_caller_view caller.old) { posted = (word_caller_view caller.old).posted ++ Malformed length header ∷ [] }) }
-        ensures unshut { OnOk result (is_shut (word_caller_view caller.old) ≡ false) }
         ensures well_formed { (result ≡ Err PostError.WellFormed) ↔ (is_well_formed length ≡ true) }
-        ensures outstanding { is_well_formed length ≡ false → (result ≡ Err PostError.Outstanding) ↔ IsOutstanding (word_caller_view caller.old) }
-        ensures unchanged { (result ≡ Err PostError.Outstanding) ⊎ (result ≡ Err PostError.WellFormed) → word_caller_view caller.new ≡ word_caller_view caller.old }
-        ensures closed { result ≡ Err PostError.Closed → IsRefused (word_caller_view caller.old) (word_caller_view caller.new) }
+        ensures unchanged { is_well_formed length ≡ true → word_caller_view caller.new ≡ word_caller_view caller.old }
+        ensures posts { is_well_formed length ≡ false
+            → Posts false (word_caller_view caller.old) (Malformed length header) result (word_caller_view caller.new) }
         ensures never_full { result ≢ Err PostError.Full }
         ensures withdrawn_stays { IsWithdrawn caller.old → IsWithdrawn caller.new }
         ensures draft { HasNoDraft caller.old → (result ≡ Err PostError.Closed → is_shut (word_caller_view caller.old) ≡ true) → HasNoDraft caller.new }
@@ -220,9 +215,7 @@ impl Channel for WordChannel {
     fn close_caller(&self, caller: &mut WordCaller) -> Result<Closing, CloseError>
         requires name { word_caller_name caller.old ≡ word_channel_name self.now }
         ensures name { word_caller_name caller.new ≡ word_caller_name caller.old }
-        ensures idle { result ≡ Ok Closing.Idle → ¬ IsOutstanding (word_caller_view caller.old) × (word_caller_view caller.new ≡ record (word_caller_view caller.old) { closed = true }) }
-        ensures withdrawn { result ≡ Ok Closing.Withdrawn → IsOutstanding (word_caller_view caller.old) × (word_caller_view caller.new ≡ record (word_caller_view caller.old) { closed = true; left = true }) }
-        ensures err { OnErr result (IsOutstanding (word_caller_view caller.old) × (word_caller_view caller.new ≡ word_caller_view caller.old)) }
+        ensures closes { ClosesCaller (word_caller_view caller.old) result (word_caller_view caller.new) }
         ensures shows { CloseShows caller.new result }
         ensures withdrawn_stays { IsWithdrawn caller.old → IsWithdrawn caller.new }
         ensures draft { HasNoDraft caller.old → HasNoDraft caller.new }
@@ -234,10 +227,7 @@ impl Channel for WordChannel {
     fn close_callee(&self, callee: &mut WordCallee) -> Result<(), CloseError>
         requires name { word_callee_name callee.old ≡ word_channel_name self.now }
         ensures name { word_callee_name callee.new ≡ word_callee_name callee.old }
-        ensures ok { OnOk result (word_callee_view callee.new ≡ record (word_callee_view callee.old) { closed = true }) }
-        ensures in_service { (result ≡ Err CloseError.InService) ↔ Owes (word_callee_view callee.old) }
-        ensures reply_waiting { result ≢ Err CloseError.ReplyWaiting }
-        ensures err { OnErr result (word_callee_view callee.new ≡ word_callee_view callee.old) }
+        ensures closes { ClosesCallee (word_callee_view callee.old) result (word_callee_view callee.new) }
         ensures steps { (callee_half callee.new).steps ≤ (callee_half callee.old).steps + 1 }
     {
         callee.close(&self.table)

@@ -1,4 +1,4 @@
-use Rattle.std.proofs.Common.{◌≡◌, ◌⊎◌, ◌++◌, ◌∷◌, [], true, ◌∙◌, sym}
+use Rattle.std.proofs.Common.{rules, ◌≡◌, ◌⊎◌, ◌++◌, ◌∷◌, [], true, ◌∙◌, sym}
 use Rattle.std.proofs.lemmas.Bool.{false≢true}
 use Rattle.rtrb.specs.Ring.{sent}
 use Rattle.scmi_link.specs.declared.note.Note.TheVariants.{Closing}
@@ -21,8 +21,8 @@ invariant_of-self-clause-last c =
     let no_note_before = not_true _ (λ h. false≢true (sym c.if-not-self.true ∙ d.noted h)) in
     closing_last (sent d.answers) (sent c.push.new.self) no_note_before d.last (noted c)
 
-pub returns-then-not-self-clause-ok : goal.returns-then-not-self-clause-ok
-returns-then-not-self-clause-ok c =
+pub returns-then-not-self-clause-closes : goal.returns-then-not-self-clause-closes
+returns-then-not-self-clause-closes c =
     let d = c.args.self.now in
-    let answered = closing_said (sent d.answers) (sent c.push.new.self) (noted (goal.at.returns-then-not-self-clause-ok c).After-push) in
-    λ i. record (callee_seat_view d) { answered = answered i; closed = true }
+    let answered = closing_said (sent d.answers) (sent c.push.new.self) (noted (goal.at.returns-then-not-self-clause-closes c).After-push) in
+    (search rules, λ i. record (callee_seat_view d) { answered = answered i; closed = true })

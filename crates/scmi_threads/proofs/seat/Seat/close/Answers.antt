@@ -1,4 +1,7 @@
-use Rattle.std.proofs.Common.{◌∙◌, length, sym, ap, rules, Ok}
+use Rattle.std.proofs.Common.{◌≡◌, ◌∙◌, length, sym, ap, rules, Ok, subst}
+use Rattle.scmi_link.specs.declared.closing.Closing.{Closing}
+use Rattle.scmi_link.specs.declared.closing.Closing.TheVariants as closing
+use Rattle.scmi_link.specs.Calls.{ClosesCaller}
 use Rattle.scmi_threads.specs.declared.line.Line.TheVariants as line
 use Rattle.scmi_threads.specs.Parts.{close_had_no_room}
 use Rattle.scmi_threads.specs.declared.order.Order.TheVariants as order
@@ -12,6 +15,7 @@ pub returns-in-Ok-clause-done : goal.returns-in-Ok-clause-done
 returns-in-Ok-clause-done g c = λ rest.
     let old = c.args.self.now in
     let same = c.reserve_line.ensures.same in
+    let closes : (k : Closing) → c.in-Ok.closing ≡ k → ClosesCaller old.end.caller (Ok k) c.close.new.self.caller = λ k e. subst (λ k. ClosesCaller old.end.caller (Ok k) c.close.new.self.caller) e c.in-Ok.ensures.closes in
     close_noted g.C.Channel.FULL c.in-Ok.closing old.end.caller c.close.new.self.caller old.log c.note_closing.new.self
     (noted_since (line.Close c.in-Ok.closing) old.log c.reserve_line.new.self c.note_closing.new.self same (record {
       posted = ap (λ v. v.items) c.note_closing.ensures.same.0;
@@ -20,6 +24,6 @@ returns-in-Ok-clause-done g c = λ rest.
       lines = c.note_closing.ensures.lines;
       stopped = c.note_closing.ensures.same.3;
     }))
-    (λ e. ap (λ v. v.caller.closed) (c.in-Ok.ensures.idle (ap Ok e)).1)
-    (λ e. (c.in-Ok.ensures.withdrawn (ap Ok e)).0)
+    (λ e. ap (λ v. v.closed) (closes closing.Idle e).closed)
+    (λ e. (closes closing.Withdrawn e).was_outstanding)
     (sym (ap length old.posted_is) ∙ rest ∙ ap length old.read_is)
