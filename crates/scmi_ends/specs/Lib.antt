@@ -1,6 +1,7 @@
 pub mod Each
 pub mod AgentView
 pub mod ControllerView
+pub mod Links
 pub mod Kept
 pub mod Poll
 pub mod Serve

@@ -46,7 +46,8 @@ impl<C: Channel> Model for Controller<C> {
 
 impl<C: Channel> Controller<C> {
     ghost use Rattle.scmi_link.specs.View.{is_callee_shut};
-    ghost use Rattle.scmi_ends.specs.ControllerView.{IsOfLinks, callee_of};
+    ghost use Rattle.scmi_ends.specs.ControllerView.{callee_of};
+    ghost use Rattle.scmi_ends.specs.Links.{HasLinks};
     ghost use Rattle.scmi_ends.specs.Kept.{IsKept};
     ghost use Rattle.scmi_ends.specs.Serve.{Serves};
     ghost use Rattle.scmi_ends.specs.Flush.{Flushes};
@@ -67,8 +68,8 @@ impl<C: Channel> Controller<C> {
     /// lacks the agent; `Memory` where the trace could not grow. After either nothing was taken, and
     /// nothing changed.
     pub fn serve(&mut self, links: &[Link<C>], agent: u32) -> Result<Served, ServeError>
-        requires { IsOfLinks (map (λ link. C.name link.a2p) links.now) (map (λ link. C.name link.p2a) links.now) self.old }
-        ensures links { IsOfLinks (map (λ link. C.name link.a2p) links.now) (map (λ link. C.name link.p2a) links.now) self.new }
+        requires { HasLinks C.name links.now self.old }
+        ensures links { HasLinks C.name links.now self.new }
         ensures kept { IsKept self.new }
         ensures board { self.new.board ≡ self.old.board }
         ensures steps { IfOk result (λ served. Serves agent self.old served self.new) }
@@ -118,8 +119,8 @@ impl<C: Channel> Controller<C> {
     /// looked at first, where the board lacks the agent; `Memory` where the trace could not grow. After
     /// either nothing was collected or posted, and nothing changed.
     pub fn flush(&mut self, links: &[Link<C>], agent: u32) -> Result<Flushed, ServeError>
-        requires { IsOfLinks (map (λ link. C.name link.a2p) links.now) (map (λ link. C.name link.p2a) links.now) self.old }
-        ensures links { IsOfLinks (map (λ link. C.name link.a2p) links.now) (map (λ link. C.name link.p2a) links.now) self.new }
+        requires { HasLinks C.name links.now self.old }
+        ensures links { HasLinks C.name links.now self.new }
         ensures kept { IsKept self.new }
         ensures board { self.new.board ≡ self.old.board }
         ensures steps { IfOk result (λ flushed. Flushes C.FULL agent self.old flushed self.new) }
@@ -149,8 +150,8 @@ impl<C: Channel> Controller<C> {
     /// and `ReplyWaiting` come only where a message is outstanding on P2A: A2P is closed then, P2A is
     /// not, and the call may be repeated.
     pub fn close(&mut self, links: &[Link<C>], agent: u32) -> Result<(), ShutError>
-        requires { IsOfLinks (map (λ link. C.name link.a2p) links.now) (map (λ link. C.name link.p2a) links.now) self.old }
-        ensures links { IsOfLinks (map (λ link. C.name link.a2p) links.now) (map (λ link. C.name link.p2a) links.now) self.new }
+        requires { HasLinks C.name links.now self.old }
+        ensures links { HasLinks C.name links.now self.new }
         ensures kept { IsKept self.new }
         ensures board { self.new.board ≡ self.old.board }
         ensures shuts { result ≢ Err ShutError.NoAgent → Shuts (ShowsClose C.caller_view C.close_shows) agent self.old result self.new }

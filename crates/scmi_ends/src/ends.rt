@@ -1,9 +1,9 @@
 //! How the two sides of a platform are made.
-ghost use Rattle.std.specs.Prelude.{◌≡◌, [], None, length, map, replicate, vec_len, IfOk, IfErr};
+ghost use Rattle.std.specs.Prelude.{◌≡◌, [], None, length, replicate, vec_len, IfOk, IfErr};
 ghost use Rattle.scmi_link.specs.View.{new_caller, new_callee};
 ghost use Rattle.scmi_ends.specs.Each.{AllFrom};
 ghost use Rattle.scmi_ends.specs.AgentView.{IsOfLink, IsNewAgent};
-ghost use Rattle.scmi_ends.specs.ControllerView.{IsOfLinks};
+ghost use Rattle.scmi_ends.specs.Links.{HasLinks, AreEndsOf};
 ghost use Rattle.scmi_ends.specs.Kept.{IsKept};
 
 use crate::agent_end::AgentEnd;
@@ -27,8 +27,8 @@ pub fn connect<C: Channel>(
     ensures controller { IfOk result (λ r. (r.0.board ≡ core.board) × (r.0.history ≡ []) × (r.0.callees ≡ replicate (length core.board.agents) new_callee) × (r.0.callers ≡ replicate (length core.board.agents) new_caller)) }
     ensures closed_at { IfOk result (λ r. r.0.closed_at ≡ replicate (length core.board.agents) None) }
     ensures kept { IfOk result (λ r. IsKept r.0) }
-    ensures links { IfOk result (λ r. IsOfLinks (map (λ link. C.name link.a2p) r.1.items) (map (λ link. C.name link.p2a) r.1.items) r.0) }
-    ensures ends { IfOk result (λ r. (map (λ agent. agent.a2p_name) r.2.items ≡ map (λ link. C.name link.a2p) r.1.items) × (map (λ agent. agent.p2a_name) r.2.items ≡ map (λ link. C.name link.p2a) r.1.items)) }
+    ensures links { IfOk result (λ r. HasLinks C.name r.1.items r.0) }
+    ensures ends { IfOk result (λ r. AreEndsOf C.name r.1.items r.2.items) }
     ensures agents { IfOk result (λ r. AllFrom IsNewAgent 1 r.2.items) }
     ensures memory { IfErr result (λ c. c ≡ core) }
 {

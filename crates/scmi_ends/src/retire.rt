@@ -5,7 +5,7 @@ ghost use Rattle.scmi_core.specs.Bounds.{HasBounds, HasResponses};
 ghost use Rattle.scmi_core.specs.History.{deeds};
 ghost use Rattle.scmi_core.specs.Legal.{IsLegal};
 ghost use Rattle.scmi_ends.specs.AgentView.{IsOfLink};
-ghost use Rattle.scmi_ends.specs.ControllerView.{IsOfLinks};
+ghost use Rattle.scmi_ends.specs.Links.{HasLinks, names_of_a2p, names_of_p2a};
 ghost use Rattle.scmi_ends.specs.Headline.{Headlines, AllGathered};
 ghost use Rattle.scmi_ends.specs.Kept.{StayShut};
 
@@ -26,9 +26,9 @@ impl<C: Channel> Controller<C> {
     /// took are those delivered to it, at most the last left out. With its outbox they are all that was
     /// made for it, where no delayed response is lost.
     pub fn retire(self, links: Vec<Link<C>>, agents: Vec<AgentEnd<C>>) -> Trace
-        requires links { IsOfLinks (map (λ link. C.name link.a2p) links.items) (map (λ link. C.name link.p2a) links.items) self }
-        requires a2p { map (λ agent. agent.a2p_name) agents.items ≡ map (λ link. C.name link.a2p) links.items }
-        requires p2a { map (λ agent. agent.p2a_name) agents.items ≡ map (λ link. C.name link.p2a) links.items }
+        requires links { HasLinks C.name links.items self }
+        requires a2p { map (λ agent. agent.a2p_name) agents.items ≡ names_of_a2p C.name links.items }
+        requires p2a { map (λ agent. agent.p2a_name) agents.items ≡ names_of_p2a C.name links.items }
         ensures history { result.events ≡ self.history }
         ensures legal { IsLegal self.board result.events }
         ensures bounds { HasBounds self.board (deeds self.board result.events) }
@@ -41,9 +41,9 @@ impl<C: Channel> Controller<C> {
 
     // Gathers all channels, which leaves the core.
     fn gather_ends(self, links: Vec<Link<C>>, agents: Vec<AgentEnd<C>>) -> Core
-        requires links { IsOfLinks (map (λ link. C.name link.a2p) links.items) (map (λ link. C.name link.p2a) links.items) self }
-        requires a2p { map (λ agent. agent.a2p_name) agents.items ≡ map (λ link. C.name link.a2p) links.items }
-        requires p2a { map (λ agent. agent.p2a_name) agents.items ≡ map (λ link. C.name link.p2a) links.items }
+        requires links { HasLinks C.name links.items self }
+        requires a2p { map (λ agent. agent.a2p_name) agents.items ≡ names_of_a2p C.name links.items }
+        requires p2a { map (λ agent. agent.p2a_name) agents.items ≡ names_of_p2a C.name links.items }
         ensures board { result.board ≡ self.board }
         ensures history { result.history ≡ self.history }
         ensures headline { Headlines self.board self.history 1 agents.items self.callees self.callers }

@@ -34,6 +34,9 @@ rise-ends-requires-clause-ends g c κs within = omega (arith, AllZip-long (HasPl
 pub rise-ends-requires-clause-logs : goal.rise-ends-requires-clause-logs
 rise-ends-requires-clause-logs g c κs within = omega (arith, AllZip-long (HasPlayed g.C.Channel.FULL) c.in_ok-seats.seats.items c.run_beside-controller.result.1.items c.run_beside-controller.ensures.ran, c.in_ok-seats.seats.ok.0, c.run_beside-controller.result.1.ok.0, c.in_ok-logs.ensures.exact, c.len-2.ensures)
 
+pub conclude-requires-clause-links : goal.conclude-requires-clause-links
+conclude-requires-clause-links g c κs within = rw (← c.deref-2.ensures.value) c.run_beside-controller.ensures.goes_on.links
+
 pub conclude-requires-clause-a2p : goal.conclude-requires-clause-a2p
 conclude-requires-clause-a2p g c κs within = a2p_names g (goal.at.conclude-requires-clause-a2p g c).After-rise-ends
 

@@ -1,0 +1,23 @@
+-- Which ends are those of which links, whatever the channels are made of.
+use Rattle.std.specs.Prelude.{◌≡◌, ℕ, List, map}
+use Rattle.scmi_ends.specs.declared.link.Link.{Link}
+use Rattle.scmi_ends.specs.AgentView.{AgentView}
+use Rattle.scmi_ends.specs.ControllerView.{ControllerView, IsOfLinks}
+
+-- the links are of one kind of channel, and this is the name of a channel
+module _ {C Caller Callee Rest : Type 0} (name : C → List ℕ) (links : List (Link C Caller Callee Rest)) where
+  -- the names of their A2P channels, in order
+  abbrev pub names_of_a2p : List (List ℕ)
+  names_of_a2p = map (λ link. name link.a2p) links
+
+  -- the names of their P2A channels, in order
+  abbrev pub names_of_p2a : List (List ℕ)
+  names_of_p2a = map (λ link. name link.p2a) links
+
+  -- the platform's ends are those of the links, in order
+  abbrev pub HasLinks : ControllerView → Type 0
+  HasLinks platform = IsOfLinks names_of_a2p names_of_p2a platform
+
+  -- the agents' ends are those of the links, in order
+  abbrev pub AreEndsOf : List AgentView → Type 0
+  AreEndsOf agents = (map (λ agent. agent.a2p_name) agents ≡ names_of_a2p) × (map (λ agent. agent.p2a_name) agents ≡ names_of_p2a)
