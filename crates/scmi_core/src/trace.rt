@@ -158,5 +158,8 @@ fn append(words: &mut Vec<u32>, first: u32, size: u32, header: u32, payload: &[u
     words.push_reserved(first);
     words.push_reserved(size);
     words.push_reserved(header);
-    let _ = words.extend_from_slice(payload);
+    // Most commands have few words or none, and then no copy is called.
+    if !payload.is_empty() {
+        let _ = words.extend_from_slice(payload);
+    }
 }

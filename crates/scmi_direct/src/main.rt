@@ -2,11 +2,12 @@
 //! given up, and a line says what each answered. `faults/run` refuses each request in turn.
 //!
 //! With the arguments `exchange words|rings COUNT WORDS` it makes one exchange again and again, in place of
-//! the calls.
+//! the calls; with `command platform|core COUNT PROTOCOL MESSAGE WORD ..` a platform executes one command.
 #![tactic(auto)]
 
 mod board;
 mod channels;
+mod commands;
 mod core_calls;
 mod exchanges;
 mod lines;
@@ -14,6 +15,7 @@ mod plans;
 mod session;
 
 use crate::channels::{make_channel, serve_again, withdraw};
+use crate::commands::Commands;
 use crate::core_calls::call_core;
 use crate::exchanges::Exchanges;
 use crate::lines::Lines;
@@ -27,9 +29,12 @@ fn main(rt: HostRuntime) -> ExitCode {
     let alloc = rt.alloc();
     let mut writer = io::writer(&rt);
     let mut lines = Lines::new(&mut writer);
-    match Exchanges::asked_for(&rt) {
-        Some(exchanges) => exchanges.make(alloc, &mut lines),
-        None => call_each(alloc, &mut lines),
+    if let Some(exchanges) = Exchanges::asked_for(&rt) {
+        exchanges.make(alloc, &mut lines);
+    } else if let Some(commands) = Commands::asked_for(&rt) {
+        commands.make(alloc, &mut lines);
+    } else {
+        call_each(alloc, &mut lines);
     }
     ExitCode::from(u8::from(lines.has_failed()))
 }
