@@ -3,7 +3,7 @@ ghost use Rattle.std.specs.Prelude.{◌≡◌};
 
 use crate::agent_end::AgentEnd;
 use crate::link::Link;
-use crossbeam_utils::Backoff;
+use crate::pause::Pause;
 use scmi_link::{Channel, Collected};
 use std::sync::Wait;
 
@@ -14,17 +14,17 @@ impl<C: Channel> AgentEnd<C> {
     /// Collects until there is an answer or the channel is closed, at most `turns` times.
     ///
     /// `Nothing` where each of them gave `Nothing`; with 0 turns nothing changes. Between two of them
-    /// the thread backs off.
+    /// the thread pauses.
     #[tactic(auto, unfolding(crate::specs::Poll::more_collects))]
-    pub fn wait_reply<R: Wait>(&mut self, _rt: &R, link: &Link<C>, turns: u32) -> Collected
+    pub fn wait_reply<R: Wait>(&mut self, rt: &R, link: &Link<C>, turns: u32) -> Collected
         requires { IsOfLink (C.name link.now.a2p) (C.name link.now.p2a) self.old }
         ensures same { self.new ≡ record self.old { caller = self.new.caller } }
         ensures waits { Waits turns self.old.caller result self.new.caller }
     {
-        let backoff = Backoff::new();
+        let mut pause = Pause::new();
         'turns: for _ in 0..turns {
             match self.collect(link) {
-                Collected::Nothing => backoff.snooze(),
+                Collected::Nothing => pause.wait(rt),
                 other => return other,
             }
         }

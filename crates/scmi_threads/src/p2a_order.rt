@@ -4,8 +4,9 @@ use crate::limits::TURNS;
 use crate::line::Line;
 use crate::seat::Seat;
 use crate::stop::Stop;
+use scmi_ends::Pause;
 use scmi_link::Channel;
-use std::thread::yield_now;
+use std::sync::Wait;
 
 impl<'a, C: Channel> Seat<'a, C> {
     ghost use Rattle.std.specs.Prelude.{◌≡◌, ◌<◌, vec_len, vec_capacity, IsTrue};
@@ -15,28 +16,29 @@ impl<'a, C: Channel> Seat<'a, C> {
     ghost use Rattle.scmi_threads.specs.declared.order.Order.TheVariants as order;
 
     /// Takes so many P2A messages, and notes each.
-    pub(crate) fn take_messages(&mut self, count: u32) -> Result<(), Stop>
+    pub(crate) fn take_messages<R: Wait>(&mut self, rt: &R, count: u32) -> Result<(), Stop>
         ensures ran { HasRun self.old self.new }
         ensures done { HasDone C.FULL (order.P2a count) (stop_of result) self.old.end.caller self.new.end.caller self.old.log self.new.log }
     {
         'messages: for _taken in 0..count {
-            self.take_message()?;
+            self.take_message(rt)?;
         }
         Ok(())
     }
 
     // Looks for a message, at most `TURNS` times, and notes it.
-    fn take_message(&mut self) -> Result<(), Stop>
+    fn take_message<R: Wait>(&mut self, rt: &R) -> Result<(), Stop>
         ensures ran { HasRun self.old self.new }
         ensures unmoved { IsUnmoved self.old.end.caller self.new.end.caller self.old.log self.new.log }
         ensures taken { HasTaken result self.old.log self.new.log }
     {
         self.log.reserve_message()?;
+        let mut pause = Pause::new();
         'turns: for _ in 0..TURNS {
             if self.look() {
                 return Ok(());
             }
-            yield_now();
+            pause.wait(rt);
         }
         self.log.note(Line::Limit);
         Err(Stop::Limit)

@@ -78,7 +78,7 @@ impl<'a, C: Channel> Seat<'a, C> {
         match order {
             Order::Call(protocol, id, payload) => self.call(rt, *protocol, *id, payload),
             Order::Until(domain, state) => self.wait_for_state(rt, *domain, *state),
-            Order::P2a(count) => self.take_messages(*count),
+            Order::P2a(count) => self.take_messages(rt, *count),
             Order::Close => self.close(),
         }
     }

@@ -1,0 +1,50 @@
+//! How a thread waits for another.
+
+use crossbeam_utils::Backoff;
+use std::sync::Wait;
+use std::thread::{Parker, yield_now};
+use std::time::Duration;
+
+/// Waits that only spin, at first. Together they are many times what an exchange takes where each
+/// thread has a processor (own).
+const SPINS: u32 = 100;
+
+/// Waits that sleep, after those: what is waited for has lost its processor to others. A thread that
+/// sleeps runs soon once it wakes, where one that yields waits for its turn among all (own).
+const SLEEPS: u32 = 1_000;
+
+/// How long each of these is, at least, in microseconds (own).
+const SLEEP_MICROSECONDS: u64 = 50;
+
+/// A row of waits for something that another thread does. After `SPINS` and `SLEEPS` the thread only
+/// yields, so that a wait for what never comes is not drawn out.
+#[derive(Drop)]
+pub struct Pause {
+    backoff: Backoff,
+    parker: Parker,
+    waits: u32,
+}
+
+impl Pause {
+    /// No wait so far.
+    pub fn new() -> Pause {
+        Pause {
+            backoff: Backoff::new(),
+            parker: Parker::new(),
+            waits: 0,
+        }
+    }
+
+    /// Waits a little. It may return early.
+    pub fn wait<R: Wait>(&mut self, rt: &R) {
+        self.waits = self.waits.saturating_add(1);
+        if self.waits <= SPINS {
+            self.backoff.spin();
+        } else if self.waits <= SPINS + SLEEPS {
+            self.parker
+                .park_timeout(rt, Duration::from_micros(SLEEP_MICROSECONDS));
+        } else {
+            yield_now();
+        }
+    }
+}
