@@ -5,7 +5,6 @@ use Rattle.std.proofs.lemmas.List.{append-nil, length-append, length-drop}
 use Rattle.std.proofs.lemmas.List.Elements.{filter-append}
 use Rattle.std.proofs.lemmas.Bool.{leb-true}
 use Rattle.std.proofs.lemmas.Bool.Decides.{eqb_tells}
-use Rattle.scmi_core.proofs.Situations.{made-sent}
 use Rattle.scmi_plan.specs.Board.{Board}
 use Rattle.scmi_codec.specs.Reply.{reply_unless, bit_0}
 use Rattle.scmi_codec.specs.Header.{HeaderFields}
@@ -43,6 +42,7 @@ use Rattle.scmi_core.specs.Bounds.{HasBounds}
 use Rattle.scmi_core.specs.Agreement.{Agrees}
 use Rattle.scmi_core.proofs.Deeds.{added, pending-push, pending-advance, outbox-push, sent-push}
 use Rattle.scmi_core.proofs.Legal.{Grown, empty, grow, grown, deeds-push, IsLegal-front, advances_le-accepted, sent_le-made}
+use Rattle.scmi_core.proofs.Situations.{made-sent}
 
 -- a set that is accepted for later met room
 room_of : (c1 c2 c3 c4 busy later room : Bool)

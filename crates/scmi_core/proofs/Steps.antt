@@ -26,11 +26,11 @@ use Rattle.scmi_core.specs.Deed.{success_with, success_of}
 use Rattle.scmi_core.specs.Permissions.{permission_in}
 use Rattle.scmi_core.specs.Subscriptions.{subscription}
 use Rattle.scmi_core.specs.Pending.{acceptance, state_set, sets_by}
-use Rattle.scmi_core.proofs.Situations.{nothing_if, nothing-made}
 use Rattle.scmi_core.specs.Value.{Change, change_now, Thing, State, Rate, Enabled, bit_value, value_in, change_of}
 use Rattle.scmi_core.specs.Outbox.{made_in, notice_in, state_changed, response_for}
 use Rattle.scmi_core.specs.Tables.{outbox_at, load_at, situation_in, value_at, IsThing, IsOfBoard}
 use Rattle.scmi_core.specs.Step.{HasStepped, SameButOutboxes, SameButPending, announced_at, set_domain}
+use Rattle.scmi_core.proofs.Situations.{nothing_if, nothing-made}
 
 pick : {A : Type 0} (b : Bool) (x old : A) → unwrap_or (if b then Some x else None) old ≡ (if b then x else old)
 pick true x old = refl
