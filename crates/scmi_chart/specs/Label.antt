@@ -16,7 +16,7 @@ letters l = shown l.name.items + shown l.object.items + shown l.value.items + sh
 
 -- the size of words of so many letters: 12 pixels, or as many as there is room for, but no less than 9
 abbrev pub font_size : ℕ → ℕ
-font_size count = max (min (473 / max count 1) 12) 9
+font_size count = max (min (430 / max count 1) 12) 9
 
 -- a part of a label, if it has any letters
 unfoldable pub if_any_text : List ℕ → List ℕ → List ℕ

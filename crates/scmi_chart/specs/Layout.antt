@@ -73,4 +73,4 @@ state_y time = slot_y time - 11
 
 -- where the lifelines end
 unfoldable pub bottom : Layout → ℕ
-bottom l = slot_y l.slots + 14
+bottom l = slot_y l.slots + 21

@@ -74,4 +74,4 @@ post_text l slot = ring_text (codes "post") (record { x = platform_x l; y = line
 
 -- a message from the platform of its own accord
 unfoldable pub posted_text : Layout → Message → Option ℕ → List ℕ
-posted_text l m token = answer_text l m ++ post_text l m.slot ++ token_text l m.agent m.taken token
+posted_text l m token = answer_text l m ++ token_text l m.agent m.taken token

@@ -74,7 +74,7 @@ pub struct Span {
 }
 
 /// A state of a domain, of a clock or of an outbox.
-#[derive(Clone, Copy)]
+#[derive(Clone, Copy, PartialEq, Eq)]
 pub enum State {
     On,
     Off,

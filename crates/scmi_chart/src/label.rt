@@ -72,7 +72,7 @@ fn shown(text: &[u8]) -> u8
 fn font_size(letters: u16) -> u32
     ensures { result ≡ font_size letters }
 {
-    (473 / u32::from(letters).max(1)).min(12).max(9)
+    (430 / u32::from(letters).max(1)).min(12).max(9)
 }
 
 /// Writes a part of a label, if it has any letters.

@@ -162,7 +162,7 @@ impl Layout {
         ensures value { result ≡ bottom self.now }
         ensures bound { result < 2 ^ 22 }
     {
-        slot_y(self.slots) + 14
+        slot_y(self.slots) + 21
     }
 }
 

@@ -44,7 +44,8 @@ pub enum Mark {
         message: Message,
         token: Option<u16>,
     },
-    /// A command that was withdrawn, or that waited as the channel was closed.
+    /// A command that was not executed: it was withdrawn, or waited until the channel was closed or the
+    /// run ended.
     Withdrawn {
         message: Message,
         token: Option<u16>,
@@ -70,7 +71,7 @@ pub enum Mark {
     Notification {
         message: Message,
     },
-    /// A message that was posted to an agent and not taken.
+    /// A message is posted to an agent.
     Posted {
         slot: u16,
     },

@@ -111,7 +111,7 @@ pub(crate) fn write_answer<W: Write>(
     write_way(writer, &route, message)
 }
 
-/// Writes a message from the platform of its own accord, with a ring where it is posted.
+/// Writes a message from the platform of its own accord.
 #[tactic(auto, unfolding(crate::specs::Message::posted_text))]
 pub(crate) fn write_posted<W: Write>(
     writer: &mut W,
@@ -122,7 +122,6 @@ pub(crate) fn write_posted<W: Write>(
     ensures { OnOk result (Appends (W.contents writer.old) (W.contents writer.new) (posted_text layout.now message.now token)) }
 {
     write_answer(writer, layout, message)?;
-    write_post(writer, layout, message.slot)?;
     write_token(writer, layout, message.agent, message.taken, token)
 }
 

@@ -15,15 +15,15 @@ const PICTURE: &[u8] = b"\
 <rect class=\"band\" x=\"14\" rx=\"4\" y=\"150\" width=\"740\" height=\"64\"/>\n\
 <text class=\"mono line\" x=\"46\" dy=\"20\" y=\"150\">3</text>\n\
 <text class=\"mono\" x=\"56\" y=\"150\" dx=\"0\" dy=\"20\">do 1</text>\n\
-<line class=\"a1 life\" x1=\"228\" y1=\"128\" x2=\"228\" y2=\"228\"/>\n\
+<line class=\"a1 life\" x1=\"228\" y1=\"128\" x2=\"228\" y2=\"235\"/>\n\
 <rect class=\"a1 box\" y=\"84\" width=\"132\" height=\"44\" rx=\"8\" x=\"162\"/>\n\
 <text class=\"who\" x=\"228\" y=\"103\" dx=\"0\" dy=\"0\">a&lt;b</text>\n\
 <text class=\"what\" y=\"119\" x=\"228\">agent 1</text>\n\
-<rect class=\"platform\" x=\"542\" y=\"128\" width=\"8\" height=\"100\"/>\n\
+<rect class=\"platform\" x=\"542\" y=\"128\" width=\"8\" height=\"107\"/>\n\
 <rect class=\"box\" y=\"84\" width=\"132\" height=\"44\" rx=\"8\" x=\"480\"/>\n\
 <text class=\"who\" x=\"546\" y=\"103\" dx=\"0\" dy=\"0\">platform</text>\n\
 <text class=\"what\" x=\"546\" y=\"119\" dx=\"0\" dy=\"0\">SCMI controller</text>\n\
-<line class=\"border\" y1=\"84\" x1=\"634\" x2=\"634\" y2=\"228\"/>\n\
+<line class=\"border\" y1=\"84\" x1=\"634\" x2=\"634\" y2=\"235\"/>\n\
 <text class=\"track\" x=\"662\" y=\"103\" dx=\"0\" dy=\"0\">cpu</text>\n\
 <text class=\"kind\" x=\"662\" y=\"119\" dx=\"0\" dy=\"0\">domain</text>\n\
 <rect class=\"on\" x=\"663\" y=\"139\" width=\"10\" height=\"64\"/>\n\
@@ -116,14 +116,14 @@ fn a_command_and_its_reply_are_drawn_between_two_lifelines(rt: HostRuntime) -> R
     let mut text = Vec::new(rt.alloc());
     write_chart(&mut text, &chart(rt.alloc())?)?;
     assert!(rt;
-        text.starts_with(b"<svg xmlns=\"http://www.w3.org/2000/svg\" width=\"768\" height=\"290\"")
+        text.starts_with(b"<svg xmlns=\"http://www.w3.org/2000/svg\" width=\"768\" height=\"297\"")
     );
     assert!(rt; has_behind(&text, b"</defs>\n", PICTURE));
     assert!(rt;
         has_behind(
             &text,
             PICTURE,
-            b"<svg class=\"legend\" x=\"24\" y=\"254\">\n"
+            b"<svg class=\"legend\" x=\"24\" y=\"261\">\n"
         )
     );
     assert!(rt; text.ends_with(b"</svg>\n</svg>\n"));

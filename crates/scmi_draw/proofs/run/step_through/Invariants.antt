@@ -1,0 +1,9 @@
+use Rattle.std.proofs.Common.{◌≡◌, length, take}
+use Rattle.scmi_draw.proofs.SoFar.{SoFar}
+use Rattle.scmi_draw.proofs.run.step_through.Given as goal
+
+abbrev pub invariant-loop-step : goal.invariant-loop-step
+invariant-loop-step g l = record {
+  agents : l.session ≡ length l.fn.plan.agents;
+  so_far : SoFar (take l.step-index l.fn.steps) l.recorder;
+}

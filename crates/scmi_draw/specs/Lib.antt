@@ -1,0 +1,4 @@
+pub mod DrawError
+pub mod Kind
+pub mod Reads
+pub mod Run

@@ -1,0 +1,47 @@
+//! The names of a board's agents, domains and clocks.
+use crate::words::numbered;
+use scmi_plan::RawPlan;
+use std::alloc::{AllocError, Global};
+
+/// The name of an agent; its number where the board lacks it, `platform` for 0,
+/// and `itself` for the number that names the caller.
+pub(crate) fn agent_name(
+    alloc: Global,
+    board: &RawPlan,
+    agent: u32,
+) -> Result<Vec<u8>, AllocError> {
+    if agent == 0 {
+        return Vec::from_slice(alloc, b"platform");
+    }
+    if agent == u32::MAX {
+        return Vec::from_slice(alloc, b"itself");
+    }
+    match board.agents.get(agent as usize - 1) {
+        Some(name) => Vec::from_slice(alloc, name.as_bytes()),
+        None => numbered(alloc, "agent", agent),
+    }
+}
+
+/// The name of a power domain; its number where the board lacks it.
+pub(crate) fn domain_name(
+    alloc: Global,
+    board: &RawPlan,
+    domain: u32,
+) -> Result<Vec<u8>, AllocError> {
+    match board.domains.get(domain as usize) {
+        Some(domain) => Vec::from_slice(alloc, domain.name.as_bytes()),
+        None => numbered(alloc, "domain", domain),
+    }
+}
+
+/// The name of a clock; its number where the board lacks it.
+pub(crate) fn clock_name(
+    alloc: Global,
+    board: &RawPlan,
+    clock: u32,
+) -> Result<Vec<u8>, AllocError> {
+    match board.clocks.get(clock as usize) {
+        Some(clock) => Vec::from_slice(alloc, clock.name.as_bytes()),
+        None => numbered(alloc, "clock", clock),
+    }
+}

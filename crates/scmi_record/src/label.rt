@@ -1,0 +1,120 @@
+//! What messages are about, in words.
+use crate::board_names::{agent_name, clock_name, domain_name};
+use crate::words::{hex_words, name_words, numbered, rate_words, state_words, switched};
+use scmi_chart::Label;
+use scmi_plan::RawPlan;
+use scmi_say::{Field, message_name, protocol_name};
+use std::alloc::{AllocError, Global};
+
+/// A label of a name alone.
+pub(crate) fn named(alloc: Global, name: Vec<u8>) -> Label {
+    Label {
+        name,
+        object: Vec::new(alloc),
+        value: Vec::new(alloc),
+        tag: Vec::new(alloc),
+    }
+}
+
+/// The name of a message; where the profile has none, its protocol and id.
+pub(crate) fn name_of(alloc: Global, protocol: u8, id: u8) -> Result<Vec<u8>, AllocError> {
+    if let Some(name) = message_name(protocol, id) {
+        return Vec::from_slice(alloc, name.as_bytes());
+    }
+    let name = match protocol_name(protocol) {
+        Some(name) => format!(in alloc; "{name} 0x{id:x}")?,
+        None => format!(in alloc; "protocol 0x{protocol:x} 0x{id:x}")?,
+    };
+    Ok(name.into_bytes())
+}
+
+/// Adds a field of a message to its label.
+pub(crate) fn add_field(
+    alloc: Global,
+    board: &RawPlan,
+    label: &mut Label,
+    field: &Field,
+) -> Result<(), AllocError> {
+    match field {
+        Field::Domain(domain) => label.object = domain_name(alloc, board, *domain)?,
+        Field::Clock(clock) => label.object = clock_name(alloc, board, *clock)?,
+        Field::Agent(agent) => label.object = agent_name(alloc, board, *agent)?,
+        Field::State(_) | Field::Rate(_) => add_value(alloc, label, field)?,
+        Field::Enable(bits) | Field::ClockAttributes(bits) => {
+            label.value = Vec::from_slice(alloc, switched(bits % 2 == 1))?;
+        }
+        Field::Device(device) => label.value = numbered(alloc, "device", *device)?,
+        Field::Name(words) => label.object = name_words(alloc, words)?,
+        Field::By(agent) => {
+            label.tag = Vec::from_slice(alloc, b"by ")?;
+            label
+                .tag
+                .extend_from_slice(&agent_name(alloc, board, *agent)?)?;
+        }
+        Field::Message(id) => label.object = hex_words(alloc, *id)?,
+        Field::Version(_) | Field::Counts(_) => add_counts(alloc, label, field)?,
+        Field::Index(index) => label.tag = numbered(alloc, "from", *index)?,
+        _ => add_flags(alloc, label, field)?,
+    }
+    Ok(())
+}
+
+/// Adds a state or a rate: what an object gets, or what there is where the message names none.
+fn add_value(alloc: Global, label: &mut Label, field: &Field) -> Result<(), AllocError> {
+    let words = match field {
+        Field::State(state) => state_words(alloc, *state)?,
+        Field::Rate(hertz) => rate_words(alloc, *hertz)?,
+        _ => return Ok(()),
+    };
+    if label.object.is_empty() {
+        label.object = words;
+    } else {
+        label.value = words;
+    }
+    Ok(())
+}
+
+/// Adds a version, or how many agents and protocols there are.
+fn add_counts(alloc: Global, label: &mut Label, field: &Field) -> Result<(), AllocError> {
+    let words = match field {
+        Field::Version(word) => format!(in alloc; "version {}.{}", word >> 16, word & 0xffff)?,
+        Field::Counts(word) => format!(in alloc;
+            "{} agents, {} protocols",
+            word >> 8 & 0xff,
+            word & 0xff
+        )?,
+        _ => return Ok(()),
+    };
+    label.object = words.into_bytes();
+    Ok(())
+}
+
+/// Adds flags, as a remark.
+fn add_flags(alloc: Global, label: &mut Label, field: &Field) -> Result<(), AllocError> {
+    let words: &[u8] = match field {
+        Field::PowerFlags(1) => b"async",
+        Field::RateFlags(bits) => rate_flags(*bits),
+        Field::PermitFlags(bits) if bits % 2 == 1 => b"allow",
+        Field::PermitFlags(_) => b"deny",
+        Field::ResetFlags(bits) if bits % 2 == 1 => b"and permissions",
+        _ => return Ok(()),
+    };
+    label.tag = Vec::from_slice(alloc, words)?;
+    Ok(())
+}
+
+/// The flags of a rate set: when it takes effect, then how the rate is rounded.
+fn rate_flags(bits: u32) -> &'static [u8] {
+    match bits {
+        0x0 => b"",
+        0x1 => b"async",
+        0x3 => b"async, no response",
+        0x4 => b"up",
+        0x5 => b"async, up",
+        0x7 => b"async, no response, up",
+        0x8 | 0xc => b"nearest",
+        0x9 | 0xd => b"async, nearest",
+        0xb | 0xf => b"async, no response, nearest",
+        _ => b"other flags",
+    }
+}

@@ -1,0 +1,22 @@
+//! What a chart shows of a run, from the run's steps and their lines.
+//!
+//! The main type is `Recorder`, which is told of one step after the other and looks at the platform
+//! after each. The main theorem is the contract of `Recorder::record`: the marks that a step adds are
+//! those of its line, in order, each of the agent that the line names, and no others.
+#![tactic(auto)]
+
+mod asked;
+mod board_names;
+mod label;
+mod level;
+mod levels;
+mod marks;
+mod parties;
+mod recorder;
+mod reply_label;
+mod subject;
+mod words;
+
+pub use levels::Levels;
+pub use recorder::Recorder;
+pub use subject::Subject;
