@@ -46,7 +46,8 @@ fn has_hexadecimal_mark(text: &[u8]) -> bool
 fn digits_value(digits: &[u8], radix: u32) -> Option<u64>
     requires low { 2 ≤ radix }
     requires high { radix ≤ 16 }
-    ensures { SomeIff result (IsNumeral radix digits.now × (digits_value radix digits.now < 2 ^ 64)) (digits_value radix digits.now) }
+    ensures { SomeIff result (IsNumeral radix digits.now × (digits_value radix digits.now < 2 ^ 64))
+        (digits_value radix digits.now) }
 {
     if digits.is_empty() {
         return None;

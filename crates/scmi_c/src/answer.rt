@@ -25,13 +25,17 @@ pub extern "C" fn scmi_answer(
     agent: u32,
     area: &mut [u8; AREA_BYTES],
 ) -> u32
-    ensures done { result ≡ DONE → IsSomeAnd platform.old.value (λ p. IsSomeAnd platform.new.value (λ k. IsSomeAnd (arrived area.old) (λ frame. HasAnswered p k agent frame area.old area.new))) }
+    ensures done { result ≡ DONE →
+        IsSomeAnd platform.old.value (λ p.
+        IsSomeAnd platform.new.value (λ k.
+        IsSomeAnd (arrived area.old) (λ frame. HasAnswered p k agent frame area.old area.new))) }
     ensures no_platform { (result ≡ NO_PLATFORM) ↔ (platform.old.value ≡ None) }
     ensures free { result ≡ NOTHING → arrived area.old ≡ None }
     ensures no_agent { result ≡ NO_AGENT → IsSomeAnd platform.old.value (LacksAgent agent) }
     ensures only { (result ≤ NO_AGENT) ⊎ (result ≡ NO_PLATFORM) }
     ensures memory { result ≡ MEMORY → IsSomeAnd platform.old.value IsRecorded }
-    ensures kept { result ≢ DONE → (platform.new.value ≡ platform.old.value) × (area.new ≡ area.old) }
+    ensures kept { result ≢ DONE →
+        (platform.new.value ≡ platform.old.value) × (area.new ≡ area.old) }
 {
     let Some(mut desk) = platform.take(alloc) else {
         return NO_PLATFORM;
@@ -45,8 +49,12 @@ pub extern "C" fn scmi_answer(
 /// a platform that keeps its history alone. After another number than `DONE` nothing changed.
 #[unsafe(no_mangle)]
 pub extern "C" fn scmi_advance(alloc: Global, platform: &mut Handle) -> u32
-    ensures done { result ≡ DONE → IsSomeAnd platform.old.value (λ p. IsSomeAnd platform.new.value (λ k. HasHappened p k Advance)) }
-    ensures nothing { result ≡ NOTHING → IsSomeAnd platform.old.value (λ p. (h : List Event) → StandsAt p h → pending (board_of p) (deeds (board_of p) h) ≡ []) }
+    ensures done { result ≡ DONE →
+        IsSomeAnd platform.old.value (λ p.
+        IsSomeAnd platform.new.value (λ k. HasHappened p k Advance)) }
+    ensures nothing { result ≡ NOTHING →
+        IsSomeAnd platform.old.value (λ p.
+        (h : List Event) → StandsAt p h → pending (board_of p) (deeds (board_of p) h) ≡ []) }
     ensures only { (result ≤ MEMORY) ⊎ (result ≡ NO_PLATFORM) }
     ensures no_platform { (result ≡ NO_PLATFORM) ↔ (platform.old.value ≡ None) }
     ensures memory { result ≡ MEMORY → IsSomeAnd platform.old.value IsRecorded }

@@ -19,9 +19,12 @@ use scmi_core::Answered;
 /// channel is free; else `NoAgent` where the board lacks the agent, and `Memory` where the history could
 /// not grow. Then nothing changed.
 pub fn answer(desk: &mut Desk, agent: u32, area: &mut [u8; AREA_BYTES]) -> Result<(), Refusal>
-    ensures ok { OnOk result (IsSomeAnd (arrived area.old) (λ frame. HasAnswered desk.old desk.new agent frame area.old area.new)) }
+    ensures ok { OnOk result
+        (IsSomeAnd
+        (arrived area.old) (λ frame. HasAnswered desk.old desk.new agent frame area.old area.new)) }
     ensures free { (result ≡ Err Refusal.Nothing) ↔ (arrived area.old ≡ None) }
-    ensures no_agent { (result ≡ Err Refusal.NoAgent) ↔ ((arrived area.old ≢ None) × (IsNoAgent (length (board_of desk.old).agents) agent)) }
+    ensures no_agent { (result ≡ Err Refusal.NoAgent) ↔
+        ((arrived area.old ≢ None) × (IsNoAgent (length (board_of desk.old).agents) agent)) }
     ensures memory { result ≡ Err Refusal.Memory → IsRecorded desk.old }
     ensures never { result ≢ Err Refusal.NotFree }
     ensures err { OnErr result (desk.new ≡ desk.old) }
@@ -42,8 +45,10 @@ pub fn answer(desk: &mut Desk, agent: u32, area: &mut [u8; AREA_BYTES]) -> Resul
 /// holds a message. Then nothing changed.
 pub fn post_next(held: &Held, agent: u32, area: &mut [u8; AREA_BYTES]) -> Result<(), Refusal>
     ensures ok { OnOk result (HasPosted held.now agent area.old area.new) }
-    ensures no_agent { (result ≡ Err Refusal.NoAgent) ↔ IsNoAgent (length (board_of held.now).agents) agent }
-    ensures nothing { result ≡ Err Refusal.Nothing → (h : List Event) → StandsAt held.now h → slice_get (outbox (board_of held.now) agent h) 0 ≡ None }
+    ensures no_agent { (result ≡ Err Refusal.NoAgent) ↔
+        IsNoAgent (length (board_of held.now).agents) agent }
+    ensures nothing { result ≡ Err Refusal.Nothing → (h : List Event) → StandsAt held.now h →
+        slice_get (outbox (board_of held.now) agent h) 0 ≡ None }
     ensures not_free { result ≡ Err Refusal.NotFree → arrived area.old ≢ None }
     ensures free { OnOk result (arrived area.old ≡ None) }
     ensures never { result ≢ Err Refusal.Memory }

@@ -60,7 +60,8 @@ impl Handle {
 
     /// Takes the platform out, and leaves nothing.
     pub fn take(&mut self, alloc: Global) -> Option<Box<Desk>>
-        ensures taken { MatchOption result (self.old.value ≡ None) (λ desk. self.old.value ≡ Some desk.value) }
+        ensures taken { MatchOption result
+            (self.old.value ≡ None) (λ desk. self.old.value ≡ Some desk.value) }
         ensures left { self.new.value ≡ None }
     {
         match mem::replace(self, Handle::empty()).into_loose(alloc) {

@@ -30,9 +30,12 @@ impl Held {
         frame: &Frame,
         reply: &mut Message,
     ) -> Result<Answered, CoreError>
-        ensures answer { (h : List Event) → StandsAt self.old h → IfOk result (λ x. answer_with x reply.new ≡ answer_to (board_of self.old) agent frame.now h) }
+        ensures answer { (h : List Event) → StandsAt self.old h →
+            IfOk result (λ x.
+            answer_with x reply.new ≡ answer_to (board_of self.old) agent frame.now h) }
         ensures event { OnOk result (HasHappened self.old self.new (Called agent frame.now)) }
-        ensures no_agent { (result ≡ Err CoreError.NoAgent) ↔ IsNoAgent (length (board_of self.old).agents) agent }
+        ensures no_agent { (result ≡ Err CoreError.NoAgent) ↔
+            IsNoAgent (length (board_of self.old).agents) agent }
         ensures not_nothing { result ≢ Err CoreError.Nothing }
         ensures memory { result ≡ Err CoreError.Memory → IsRecorded self.old }
         ensures err { OnErr result (self.new ≡ self.old) }
@@ -46,7 +49,9 @@ impl Held {
     /// Completes the first pending set; `false` where none is pending. `Memory` where the history could
     /// not grow; then nothing changed.
     pub fn advance(&mut self) -> Result<bool, CoreError>
-        ensures waiting { (h : List Event) → StandsAt self.old h → IfOk result (λ did. (did ≡ false) ↔ (pending (board_of self.old) (deeds (board_of self.old) h) ≡ [])) }
+        ensures waiting { (h : List Event) → StandsAt self.old h →
+            IfOk result (λ did.
+            (did ≡ false) ↔ (pending (board_of self.old) (deeds (board_of self.old) h) ≡ [])) }
         ensures event { IfOk result (λ did. did ≡ true → HasHappened self.old self.new Advance) }
         ensures same { IfOk result (λ did. did ≡ false → self.new ≡ self.old) }
         ensures memory { IfErr result (λ e. (e ≡ CoreError.Memory) × IsRecorded self.old) }
@@ -61,8 +66,11 @@ impl Held {
     /// The first message of an agent's outbox, if there is one. `NoAgent` where the board lacks the
     /// agent.
     pub fn first(&self, agent: u32) -> Result<Option<&Message>, CoreError>
-        ensures first { (h : List Event) → StandsAt self.now h → IfOk result (λ message. option_copied message ≡ slice_get (outbox (board_of self.now) agent h) 0) }
-        ensures no_agent { (result ≡ Err CoreError.NoAgent) ↔ IsNoAgent (length (board_of self.now).agents) agent }
+        ensures first { (h : List Event) → StandsAt self.now h →
+            IfOk result (λ message.
+            option_copied message ≡ slice_get (outbox (board_of self.now) agent h) 0) }
+        ensures no_agent { (result ≡ Err CoreError.NoAgent) ↔
+            IsNoAgent (length (board_of self.now).agents) agent }
         ensures err { IfErr result (λ e. e ≡ CoreError.NoAgent) }
     {
         if agent == 0 || agent > self.agents() {
@@ -89,8 +97,12 @@ impl Held {
     /// nothing changed.
     pub fn sent(&mut self, agent: u32) -> Result<(), CoreError>
         ensures event { OnOk result (HasHappened self.old self.new (Sent agent)) }
-        ensures no_agent { (result ≡ Err CoreError.NoAgent) ↔ IsNoAgent (length (board_of self.old).agents) agent }
-        ensures nothing { (h : List Event) → StandsAt self.old h → (result ≡ Err CoreError.Nothing) ↔ ((1 ≤ agent) × (agent ≤ length (board_of self.old).agents) × (outbox (board_of self.old) agent h ≡ [])) }
+        ensures no_agent { (result ≡ Err CoreError.NoAgent) ↔
+            IsNoAgent (length (board_of self.old).agents) agent }
+        ensures nothing { (h : List Event) → StandsAt self.old h →
+            (result ≡ Err CoreError.Nothing) ↔
+            ((1 ≤ agent) × (agent ≤ length (board_of self.old).agents) ×
+            (outbox (board_of self.old) agent h ≡ [])) }
         ensures memory { result ≡ Err CoreError.Memory → IsRecorded self.old }
         ensures err { OnErr result (self.new ≡ self.old) }
     {

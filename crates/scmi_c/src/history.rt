@@ -13,10 +13,13 @@ use std::alloc::Global;
 /// keeps none. After another number than `DONE` nothing changed.
 #[unsafe(no_mangle)]
 pub extern "C" fn scmi_history_length(alloc: Global, platform: &mut Handle, events: &mut u64) -> u32
-    ensures done { result ≡ DONE → IsSomeAnd platform.old.value (λ p. (h : List Event) → StandsAt p h → events.new ≡ length h) }
+    ensures done { result ≡ DONE →
+        IsSomeAnd platform.old.value (λ p.
+        (h : List Event) → StandsAt p h → events.new ≡ length h) }
     ensures platform { platform.new.value ≡ platform.old.value }
     ensures no_platform { (result ≡ NO_PLATFORM) ↔ (platform.old.value ≡ None) }
-    ensures no_history { result ≡ NO_HISTORY → IsSomeAnd platform.old.value (λ p. ¬ (IsRecorded p)) }
+    ensures no_history { result ≡ NO_HISTORY →
+        IsSomeAnd platform.old.value (λ p. ¬ (IsRecorded p)) }
     ensures only { (result ≡ DONE) ⊎ (result ≡ NO_PLATFORM) ⊎ (result ≡ NO_HISTORY) }
     ensures kept { result ≢ DONE → events.new ≡ events.old }
 {
@@ -36,7 +39,9 @@ pub extern "C" fn scmi_history_length(alloc: Global, platform: &mut Handle, even
 
 /// The number of events of the history, where it is kept.
 fn length_of(held: &Held) -> Option<usize>
-    ensures { MatchOption result (¬ (IsRecorded held.now)) (λ count. (h : List Event) → StandsAt held.now h → count ≡ length h) }
+    ensures { MatchOption result
+        (¬ (IsRecorded held.now)) (λ count.
+        (h : List Event) → StandsAt held.now h → count ≡ length h) }
 {
     match held {
         Held::Endless(_) => None,

@@ -18,7 +18,9 @@ use std::alloc::Global;
 /// another number than `DONE` the handle is as it was.
 #[unsafe(no_mangle)]
 pub extern "C" fn scmi_platform_new(alloc: Global, platform: &mut Handle, board: &[u8]) -> u32
-    ensures done { result ≡ DONE → IsSomeAnd platform.new.value (λ p. StandsAt p [] × IsLawful (board_of p) × (¬ (IsRecorded p))) }
+    ensures done { result ≡ DONE →
+        IsSomeAnd platform.new.value (λ p.
+        StandsAt p [] × IsLawful (board_of p) × (¬ (IsRecorded p))) }
     ensures in_use { (result ≡ IN_USE) ↔ (platform.old.value ≢ None) }
     ensures faults { (result ≡ DONE) ⊎ (result ≡ IN_USE) ⊎ IsFault result }
     ensures kept { result ≢ DONE → platform.new.value ≡ platform.old.value }
@@ -40,7 +42,8 @@ pub extern "C" fn scmi_platform_new_recorded(
     platform: &mut Handle,
     board: &[u8],
 ) -> u32
-    ensures done { result ≡ DONE → IsSomeAnd platform.new.value (λ p. StandsAt p [] × IsLawful (board_of p) × IsRecorded p) }
+    ensures done { result ≡ DONE →
+        IsSomeAnd platform.new.value (λ p. StandsAt p [] × IsLawful (board_of p) × IsRecorded p) }
     ensures in_use { (result ≡ IN_USE) ↔ (platform.old.value ≢ None) }
     ensures faults { (result ≡ DONE) ⊎ (result ≡ IN_USE) ⊎ IsFault result }
     ensures kept { result ≢ DONE → platform.new.value ≡ platform.old.value }

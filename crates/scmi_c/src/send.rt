@@ -25,10 +25,13 @@ pub extern "C" fn scmi_next(
     agent: u32,
     area: &mut [u8; AREA_BYTES],
 ) -> u32
-    ensures done { result ≡ DONE → IsSomeAnd platform.old.value (λ p. HasPosted p agent area.old area.new) }
+    ensures done { result ≡ DONE →
+        IsSomeAnd platform.old.value (λ p. HasPosted p agent area.old area.new) }
     ensures platform { platform.new.value ≡ platform.old.value }
     ensures no_platform { (result ≡ NO_PLATFORM) ↔ (platform.old.value ≡ None) }
-    ensures nothing { result ≡ NOTHING → IsSomeAnd platform.old.value (λ p. (h : List Event) → StandsAt p h → slice_get (outbox (board_of p) agent h) 0 ≡ None) }
+    ensures nothing { result ≡ NOTHING →
+        IsSomeAnd platform.old.value (λ p.
+        (h : List Event) → StandsAt p h → slice_get (outbox (board_of p) agent h) 0 ≡ None) }
     ensures no_agent { result ≡ NO_AGENT → IsSomeAnd platform.old.value (LacksAgent agent) }
     ensures not_free { result ≡ NOT_FREE → arrived area.old ≢ None }
     ensures only { (result ≤ NO_PLATFORM) × (result ≢ MEMORY) }
@@ -47,8 +50,12 @@ pub extern "C" fn scmi_next(
 /// another number than `DONE` nothing changed.
 #[unsafe(no_mangle)]
 pub extern "C" fn scmi_sent(alloc: Global, platform: &mut Handle, agent: u32) -> u32
-    ensures done { result ≡ DONE → IsSomeAnd platform.old.value (λ p. IsSomeAnd platform.new.value (λ k. HasHappened p k (Sent agent))) }
-    ensures nothing { result ≡ NOTHING → IsSomeAnd platform.old.value (λ p. (h : List Event) → StandsAt p h → outbox (board_of p) agent h ≡ []) }
+    ensures done { result ≡ DONE →
+        IsSomeAnd platform.old.value (λ p.
+        IsSomeAnd platform.new.value (λ k. HasHappened p k (Sent agent))) }
+    ensures nothing { result ≡ NOTHING →
+        IsSomeAnd platform.old.value (λ p.
+        (h : List Event) → StandsAt p h → outbox (board_of p) agent h ≡ []) }
     ensures no_agent { result ≡ NO_AGENT → IsSomeAnd platform.old.value (LacksAgent agent) }
     ensures only { (result ≤ NO_AGENT) ⊎ (result ≡ NO_PLATFORM) }
     ensures no_platform { (result ≡ NO_PLATFORM) ↔ (platform.old.value ≡ None) }

@@ -58,10 +58,14 @@ fn run_beside<C: Channel, R: Threads + Wait + Sync>(
     controller: Controller<C>,
     agents: Vec<AgentEnd<C>>,
 ) -> (Controller<C>, (Vec<AgentEnd<C>>, Ended))
-    requires links { IsOfLinks (map (λ link. C.name link.a2p) links.now) (map (λ link. C.name link.p2a) links.now) controller }
-    requires agents { AreOfLinks (map (λ link. C.name link.a2p) links.now) (map (λ link. C.name link.p2a) links.now) agents.items }
-    ensures links { IsOfLinks (map (λ link. C.name link.a2p) links.now) (map (λ link. C.name link.p2a) links.now) result.0 }
-    ensures agents { AreOfLinks (map (λ link. C.name link.a2p) links.now) (map (λ link. C.name link.p2a) links.now) result.1.0.items }
+    requires links { IsOfLinks (map (λ link. C.name link.a2p) links.now)
+        (map (λ link. C.name link.p2a) links.now) controller }
+    requires agents { AreOfLinks (map (λ link. C.name link.a2p) links.now)
+        (map (λ link. C.name link.p2a) links.now) agents.items }
+    ensures links { IsOfLinks (map (λ link. C.name link.a2p) links.now)
+        (map (λ link. C.name link.p2a) links.now) result.0 }
+    ensures agents { AreOfLinks (map (λ link. C.name link.a2p) links.now)
+        (map (λ link. C.name link.p2a) links.now) result.1.0.items }
 {
     let flags = Flags {
         serving: AtomicBool::new(false),
@@ -70,12 +74,16 @@ fn run_beside<C: Channel, R: Threads + Wait + Sync>(
     join(
         rt,
         || -> Controller<C>
-            requires { IsOfLinks (map (λ link. C.name link.a2p) links.now) (map (λ link. C.name link.p2a) links.now) controller }
-            ensures { IsOfLinks (map (λ link. C.name link.a2p) links.entry.now) (map (λ link. C.name link.p2a) links.entry.now) result }
+            requires { IsOfLinks (map (λ link. C.name link.a2p) links.now)
+                (map (λ link. C.name link.p2a) links.now) controller }
+            ensures { IsOfLinks (map (λ link. C.name link.a2p) links.entry.now)
+                (map (λ link. C.name link.p2a) links.entry.now) result }
         { serve_until_done(links, &flags, controller) },
         || -> (Vec<AgentEnd<C>>, Ended)
-            requires { AreOfLinks (map (λ link. C.name link.a2p) links.now) (map (λ link. C.name link.p2a) links.now) agents.items }
-            ensures { AreOfLinks (map (λ link. C.name link.a2p) links.entry.now) (map (λ link. C.name link.p2a) links.entry.now) result.0.items }
+            requires { AreOfLinks (map (λ link. C.name link.a2p) links.now)
+                (map (λ link. C.name link.p2a) links.now) agents.items }
+            ensures { AreOfLinks (map (λ link. C.name link.a2p) links.entry.now)
+                (map (λ link. C.name link.p2a) links.entry.now) result.0.items }
         { have_round(rt, links, &flags, agents) },
     )
 }
@@ -86,8 +94,10 @@ fn serve_until_done<C: Channel>(
     flags: &Flags,
     mut controller: Controller<C>,
 ) -> Controller<C>
-    requires { IsOfLinks (map (λ link. C.name link.a2p) links.now) (map (λ link. C.name link.p2a) links.now) controller }
-    ensures { IsOfLinks (map (λ link. C.name link.a2p) links.now) (map (λ link. C.name link.p2a) links.now) result }
+    requires { IsOfLinks (map (λ link. C.name link.a2p) links.now)
+        (map (λ link. C.name link.p2a) links.now) controller }
+    ensures { IsOfLinks (map (λ link. C.name link.a2p) links.now)
+        (map (λ link. C.name link.p2a) links.now) result }
 {
     flags.serving.store(true, Ordering::SeqCst);
     'turns: for _ in 0..TURNS {
@@ -108,8 +118,10 @@ fn have_round<C: Channel, R: Wait>(
     flags: &Flags,
     mut agents: Vec<AgentEnd<C>>,
 ) -> (Vec<AgentEnd<C>>, Ended)
-    requires { AreOfLinks (map (λ link. C.name link.a2p) links.now) (map (λ link. C.name link.p2a) links.now) agents.items }
-    ensures { AreOfLinks (map (λ link. C.name link.a2p) links.now) (map (λ link. C.name link.p2a) links.now) result.0.items }
+    requires { AreOfLinks (map (λ link. C.name link.a2p) links.now)
+        (map (λ link. C.name link.p2a) links.now) agents.items }
+    ensures { AreOfLinks (map (λ link. C.name link.a2p) links.now)
+        (map (λ link. C.name link.p2a) links.now) result.0.items }
 {
     if agents.is_empty() {
         return (agents, Ended::Otherwise);

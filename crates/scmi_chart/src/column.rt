@@ -16,7 +16,8 @@ pub(crate) fn write_columns<W: Write>(
     layout: &Layout,
     columns: &[Column],
 ) -> io::Result<()>
-    ensures { OnOk result (Appends (W.contents writer.old) (W.contents writer.new) (columns_text layout.now columns.now)) }
+    ensures { OnOk result (Appends (W.contents writer.old) (W.contents writer.new)
+        (columns_text layout.now columns.now)) }
 {
     'columns: for column in columns {
         write_column(writer, layout, column)?;
@@ -26,7 +27,8 @@ pub(crate) fn write_columns<W: Write>(
 
 #[tactic(auto, unfolding(crate::specs::Column::column_text))]
 fn write_column<W: Write>(writer: &mut W, layout: &Layout, column: &Column) -> io::Result<()>
-    ensures { OnOk result (Appends (W.contents writer.old) (W.contents writer.new) (column_text layout.now column.now)) }
+    ensures { OnOk result (Appends (W.contents writer.old) (W.contents writer.new)
+        (column_text layout.now column.now)) }
 {
     let x = layout.column_x(column.place);
     write_heading(writer, x, column)?;
@@ -36,7 +38,8 @@ fn write_column<W: Write>(writer: &mut W, layout: &Layout, column: &Column) -> i
 /// Writes what a column shows.
 #[tactic(auto, unfolding(crate::specs::Column::heading_text))]
 fn write_heading<W: Write>(writer: &mut W, x: u32, column: &Column) -> io::Result<()>
-    ensures { OnOk result (Appends (W.contents writer.old) (W.contents writer.new) (heading_text x column.now)) }
+    ensures { OnOk result (Appends (W.contents writer.old) (W.contents writer.new)
+        (heading_text x column.now)) }
 {
     let x = x.saturating_sub(6);
     write_words(writer, "track", Point { x, y: 103 }, 0, 0, &column.name)?;
@@ -62,7 +65,8 @@ fn kind_name(kind: Kind) -> &'static [u8]
 
 /// Writes the states of a column, in order.
 fn write_spans<W: Write>(writer: &mut W, x: u32, kind: Kind, spans: &[Span]) -> io::Result<()>
-    ensures { OnOk result (Appends (W.contents writer.old) (W.contents writer.new) (spans_text x kind spans.now)) }
+    ensures { OnOk result (Appends (W.contents writer.old) (W.contents writer.new)
+        (spans_text x kind spans.now)) }
 {
     'spans: for span in spans {
         write_span(writer, x, kind, span)?;
@@ -73,7 +77,8 @@ fn write_spans<W: Write>(writer: &mut W, x: u32, kind: Kind, spans: &[Span]) -> 
 /// Writes a state along the time that it lasted.
 #[tactic(auto, unfolding(crate::specs::Column::span_text))]
 fn write_span<W: Write>(writer: &mut W, x: u32, kind: Kind, span: &Span) -> io::Result<()>
-    ensures { OnOk result (Appends (W.contents writer.old) (W.contents writer.new) (span_text x kind span.now)) }
+    ensures { OnOk result (Appends (W.contents writer.old) (W.contents writer.new)
+        (span_text x kind span.now)) }
 {
     let y = state_y(span.since);
     let height = state_y(span.until).saturating_sub(y);
@@ -88,7 +93,8 @@ fn write_state<W: Write>(
     at: Point,
     height: u32,
 ) -> io::Result<()>
-    ensures { OnOk result (Appends (W.contents writer.old) (W.contents writer.new) (state_text kind state at height)) }
+    ensures { OnOk result (Appends (W.contents writer.old) (W.contents writer.new)
+        (state_text kind state at height)) }
 {
     match state {
         State::On => write_on(writer, at, height),
@@ -101,7 +107,8 @@ fn write_state<W: Write>(
 
 #[tactic(auto, unfolding(crate::specs::Column::on_text))]
 fn write_on<W: Write>(writer: &mut W, at: Point, height: u32) -> io::Result<()>
-    ensures { OnOk result (Appends (W.contents writer.old) (W.contents writer.new) (on_text at height)) }
+    ensures { OnOk result (Appends (W.contents writer.old) (W.contents writer.new)
+        (on_text at height)) }
 {
     let corner = Point {
         x: at.x.saturating_sub(5),
@@ -113,7 +120,8 @@ fn write_on<W: Write>(writer: &mut W, at: Point, height: u32) -> io::Result<()>
 
 #[tactic(auto, unfolding(crate::specs::Column::off_text))]
 fn write_off<W: Write>(writer: &mut W, at: Point, height: u32) -> io::Result<()>
-    ensures { OnOk result (Appends (W.contents writer.old) (W.contents writer.new) (off_text at height)) }
+    ensures { OnOk result (Appends (W.contents writer.old) (W.contents writer.new)
+        (off_text at height)) }
 {
     let corner = Point {
         x: at.x.saturating_sub(1),
@@ -126,7 +134,8 @@ fn write_off<W: Write>(writer: &mut W, at: Point, height: u32) -> io::Result<()>
 /// Writes a set that is pending, beside the state.
 #[tactic(auto, unfolding(crate::specs::Column::pending_text))]
 fn write_pending<W: Write>(writer: &mut W, at: Point, height: u32) -> io::Result<()>
-    ensures { OnOk result (Appends (W.contents writer.old) (W.contents writer.new) (pending_text at height)) }
+    ensures { OnOk result (Appends (W.contents writer.old) (W.contents writer.new)
+        (pending_text at height)) }
 {
     let corner = Point {
         x: at.x.saturating_sub(13),
@@ -144,7 +153,8 @@ fn write_rate<W: Write>(
     hertz: u64,
     is_enabled: bool,
 ) -> io::Result<()>
-    ensures { OnOk result (Appends (W.contents writer.old) (W.contents writer.new) (rate_text at height hertz is_enabled)) }
+    ensures { OnOk result (Appends (W.contents writer.old) (W.contents writer.new)
+        (rate_text at height hertz is_enabled)) }
 {
     let corner = Point {
         x: at.x.saturating_sub(4),
@@ -162,7 +172,8 @@ fn rate_class(is_enabled: bool) -> &'static str
 
 /// Writes a rate in the largest unit that gives a whole number.
 fn write_hertz<W: Write>(writer: &mut W, at: Point, hertz: u64) -> io::Result<()>
-    ensures { OnOk result (Appends (W.contents writer.old) (W.contents writer.new) (hertz_text at hertz)) }
+    ensures { OnOk result (Appends (W.contents writer.old) (W.contents writer.new)
+        (hertz_text at hertz)) }
 {
     if hertz % 1_000 != 0 || hertz == 0 {
         write_in_units(writer, at, hertz, " Hz")
@@ -177,7 +188,8 @@ fn write_hertz<W: Write>(writer: &mut W, at: Point, hertz: u64) -> io::Result<()
 
 #[tactic(auto, unfolding(crate::specs::Column::in_units))]
 fn write_in_units<W: Write>(writer: &mut W, at: Point, count: u64, unit: &str) -> io::Result<()>
-    ensures { OnOk result (Appends (W.contents writer.old) (W.contents writer.new) (in_units at count unit.now)) }
+    ensures { OnOk result (Appends (W.contents writer.old) (W.contents writer.new)
+        (in_units at count unit.now)) }
 {
     write_pieces(
         writer,
@@ -212,7 +224,8 @@ fn write_waiting<W: Write>(
     agent: u8,
     count: u8,
 ) -> io::Result<()>
-    ensures { OnOk result (Appends (W.contents writer.old) (W.contents writer.new) (waiting_text at height agent count)) }
+    ensures { OnOk result (Appends (W.contents writer.old) (W.contents writer.new)
+        (waiting_text at height agent count)) }
 {
     let corner = Point {
         x: at.x.saturating_sub(1),
@@ -233,7 +246,8 @@ fn write_queue<W: Write>(
     agent: u8,
     count: u8,
 ) -> io::Result<()>
-    ensures { OnOk result (Appends (W.contents writer.old) (W.contents writer.new) (queue_text corner height agent count)) }
+    ensures { OnOk result (Appends (W.contents writer.old) (W.contents writer.new)
+        (queue_text corner height agent count)) }
 {
     let width = 2 + 3 * u32::from(count);
     write_bar(writer, corner, width, height, agent)?;
@@ -248,7 +262,8 @@ fn write_bar<W: Write>(
     height: u32,
     agent: u8,
 ) -> io::Result<()>
-    ensures { OnOk result (Appends (W.contents writer.old) (W.contents writer.new) (bar_text corner width height agent)) }
+    ensures { OnOk result (Appends (W.contents writer.old) (W.contents writer.new)
+        (bar_text corner width height agent)) }
 {
     write_pieces(
         writer,
@@ -276,7 +291,8 @@ fn write_count<W: Write>(
     agent: u8,
     count: u8,
 ) -> io::Result<()>
-    ensures { OnOk result (Appends (W.contents writer.old) (W.contents writer.new) (count_text corner right agent count)) }
+    ensures { OnOk result (Appends (W.contents writer.old) (W.contents writer.new)
+        (count_text corner right agent count)) }
 {
     write_pieces(
         writer,

@@ -18,7 +18,8 @@ pub(crate) fn write_execution<W: Write>(
     slot: u16,
     until: u16,
 ) -> io::Result<()>
-    ensures { OnOk result (Appends (W.contents writer.old) (W.contents writer.new) (execution_text layout.now slot until)) }
+    ensures { OnOk result (Appends (W.contents writer.old) (W.contents writer.new)
+        (execution_text layout.now slot until)) }
 {
     let corner = Point {
         x: layout.platform_x().saturating_sub(4),
@@ -36,7 +37,8 @@ pub(crate) fn write_advance<W: Write>(
     slot: u16,
     text: &[u8],
 ) -> io::Result<()>
-    ensures { OnOk result (Appends (W.contents writer.old) (W.contents writer.new) (advance_text layout.now slot text.now)) }
+    ensures { OnOk result (Appends (W.contents writer.old) (W.contents writer.new)
+        (advance_text layout.now slot text.now)) }
 {
     let center = Point {
         x: layout.platform_x(),
@@ -48,7 +50,8 @@ pub(crate) fn write_advance<W: Write>(
 
 #[tactic(auto, unfolding(crate::specs::Event::pill_text))]
 fn write_pill<W: Write>(writer: &mut W, center: Point, width: u32) -> io::Result<()>
-    ensures { OnOk result (Appends (W.contents writer.old) (W.contents writer.new) (pill_text center width)) }
+    ensures { OnOk result (Appends (W.contents writer.old) (W.contents writer.new)
+        (pill_text center width)) }
 {
     let corner = Point {
         x: center.x.saturating_sub(width / 2),
@@ -59,7 +62,8 @@ fn write_pill<W: Write>(writer: &mut W, center: Point, width: u32) -> io::Result
 
 #[tactic(auto, unfolding(crate::specs::Event::sign_text))]
 fn write_sign<W: Write>(writer: &mut W, center: Point, text: &[u8]) -> io::Result<()>
-    ensures { OnOk result (Appends (W.contents writer.old) (W.contents writer.new) (sign_text center text.now)) }
+    ensures { OnOk result (Appends (W.contents writer.old) (W.contents writer.new)
+        (sign_text center text.now)) }
 {
     write_pieces(
         writer,
@@ -94,7 +98,8 @@ pub(crate) fn write_closed<W: Write>(
     by: Side,
     text: &[u8],
 ) -> io::Result<()>
-    ensures { OnOk result (Appends (W.contents writer.old) (W.contents writer.new) (closed_text layout.now agent slot by text.now)) }
+    ensures { OnOk result (Appends (W.contents writer.old) (W.contents writer.new)
+        (closed_text layout.now agent slot by text.now)) }
 {
     let center = Point {
         x: closed_x(layout, agent, by),
@@ -124,7 +129,8 @@ pub(crate) fn write_remark<W: Write>(
     beside: Side,
     text: &[u8],
 ) -> io::Result<()>
-    ensures { OnOk result (Appends (W.contents writer.old) (W.contents writer.new) (remark_text layout.now agent slot beside text.now)) }
+    ensures { OnOk result (Appends (W.contents writer.old) (W.contents writer.new)
+        (remark_text layout.now agent slot beside text.now)) }
 {
     let at = Point {
         x: remark_x(layout, agent, beside),

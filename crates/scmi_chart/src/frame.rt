@@ -14,7 +14,8 @@ use std::io::Write;
 /// Writes the head of the file.
 #[tactic(auto, unfolding(crate::specs::Frame::head_text))]
 pub(crate) fn write_head<W: Write>(writer: &mut W, layout: &Layout) -> io::Result<()>
-    ensures { OnOk result (Appends (W.contents writer.old) (W.contents writer.new) (head_text layout.now)) }
+    ensures { OnOk result (Appends (W.contents writer.old) (W.contents writer.new)
+        (head_text layout.now)) }
 {
     let width = layout.width();
     let height = layout.bottom() + 62;
@@ -23,7 +24,8 @@ pub(crate) fn write_head<W: Write>(writer: &mut W, layout: &Layout) -> io::Resul
 
 #[tactic(auto, unfolding(crate::specs::Frame::sized_text))]
 fn write_sized<W: Write>(writer: &mut W, width: u32, height: u32) -> io::Result<()>
-    ensures { OnOk result (Appends (W.contents writer.old) (W.contents writer.new) (sized_text width height)) }
+    ensures { OnOk result (Appends (W.contents writer.old) (W.contents writer.new)
+        (sized_text width height)) }
 {
     write_pieces(
         writer,
@@ -47,7 +49,8 @@ fn write_sized<W: Write>(writer: &mut W, width: u32, height: u32) -> io::Result<
 /// Writes the paper and the title.
 #[tactic(auto, unfolding(crate::specs::Frame::title_text))]
 pub(crate) fn write_title<W: Write>(writer: &mut W, chart: &Chart) -> io::Result<()>
-    ensures { OnOk result (Appends (W.contents writer.old) (W.contents writer.new) (title_text chart.now)) }
+    ensures { OnOk result (Appends (W.contents writer.old) (W.contents writer.new)
+        (title_text chart.now)) }
 {
     write_paper(writer)?;
     write_words(writer, "title", Point { x: 24, y: 34 }, 0, 0, &chart.title)?;
@@ -77,7 +80,8 @@ pub(crate) fn write_steps<W: Write>(
     layout: &Layout,
     steps: &[Step],
 ) -> io::Result<()>
-    ensures { OnOk result (Appends (W.contents writer.old) (W.contents writer.new) (steps_text layout.now steps.now)) }
+    ensures { OnOk result (Appends (W.contents writer.old) (W.contents writer.new)
+        (steps_text layout.now steps.now)) }
 {
     'steps: for step in steps {
         write_step(writer, layout, step)?;
@@ -87,7 +91,8 @@ pub(crate) fn write_steps<W: Write>(
 
 #[tactic(auto, unfolding(crate::specs::Frame::step_text))]
 fn write_step<W: Write>(writer: &mut W, layout: &Layout, step: &Step) -> io::Result<()>
-    ensures { OnOk result (Appends (W.contents writer.old) (W.contents writer.new) (step_text layout.now step.now)) }
+    ensures { OnOk result (Appends (W.contents writer.old) (W.contents writer.new)
+        (step_text layout.now step.now)) }
 {
     write_band(writer, layout, step)?;
     write_script(writer, step)
@@ -95,7 +100,8 @@ fn write_step<W: Write>(writer: &mut W, layout: &Layout, step: &Step) -> io::Res
 
 /// Shades each second step.
 fn write_band<W: Write>(writer: &mut W, layout: &Layout, step: &Step) -> io::Result<()>
-    ensures { OnOk result (Appends (W.contents writer.old) (W.contents writer.new) (band_text layout.now step.now)) }
+    ensures { OnOk result (Appends (W.contents writer.old) (W.contents writer.new)
+        (band_text layout.now step.now)) }
 {
     if step.number % 2 == 1 {
         Ok(())
@@ -106,7 +112,8 @@ fn write_band<W: Write>(writer: &mut W, layout: &Layout, step: &Step) -> io::Res
 
 #[tactic(auto, unfolding(crate::specs::Frame::shade_text))]
 fn write_shade<W: Write>(writer: &mut W, layout: &Layout, step: &Step) -> io::Result<()>
-    ensures { OnOk result (Appends (W.contents writer.old) (W.contents writer.new) (shade_text layout.now step.now)) }
+    ensures { OnOk result (Appends (W.contents writer.old) (W.contents writer.new)
+        (shade_text layout.now step.now)) }
 {
     write_pieces(
         writer,
@@ -125,7 +132,8 @@ fn write_shade<W: Write>(writer: &mut W, layout: &Layout, step: &Step) -> io::Re
 /// Writes the line of the script, up to its sixtieth character, behind its number.
 #[tactic(auto, unfolding(crate::specs::Frame::script_text))]
 fn write_script<W: Write>(writer: &mut W, step: &Step) -> io::Result<()>
-    ensures { OnOk result (Appends (W.contents writer.old) (W.contents writer.new) (script_text step.now)) }
+    ensures { OnOk result (Appends (W.contents writer.old) (W.contents writer.new)
+        (script_text step.now)) }
 {
     let at = Point {
         x: 56,
@@ -138,7 +146,8 @@ fn write_script<W: Write>(writer: &mut W, step: &Step) -> io::Result<()>
 
 #[tactic(auto, unfolding(crate::specs::Frame::number_text))]
 fn write_line_number<W: Write>(writer: &mut W, y: u32, line: u32) -> io::Result<()>
-    ensures { OnOk result (Appends (W.contents writer.old) (W.contents writer.new) (number_text y line)) }
+    ensures { OnOk result (Appends (W.contents writer.old) (W.contents writer.new)
+        (number_text y line)) }
 {
     write_pieces(
         writer,
@@ -155,7 +164,8 @@ fn write_line_number<W: Write>(writer: &mut W, y: u32, line: u32) -> io::Result<
 /// Writes the line between the lifelines and the columns.
 #[tactic(auto, unfolding(crate::specs::Frame::border_text))]
 pub(crate) fn write_border<W: Write>(writer: &mut W, layout: &Layout) -> io::Result<()>
-    ensures { OnOk result (Appends (W.contents writer.old) (W.contents writer.new) (border_text layout.now)) }
+    ensures { OnOk result (Appends (W.contents writer.old) (W.contents writer.new)
+        (border_text layout.now)) }
 {
     let x = layout.border_x();
     write_pieces(
@@ -175,7 +185,8 @@ pub(crate) fn write_border<W: Write>(writer: &mut W, layout: &Layout) -> io::Res
 /// Writes the legend and the end of the file.
 #[tactic(auto, unfolding(crate::specs::Frame::legend_text))]
 pub(crate) fn write_legend<W: Write>(writer: &mut W, layout: &Layout) -> io::Result<()>
-    ensures { OnOk result (Appends (W.contents writer.old) (W.contents writer.new) (legend_text layout.now)) }
+    ensures { OnOk result (Appends (W.contents writer.old) (W.contents writer.new)
+        (legend_text layout.now)) }
 {
     write_legend_at(writer, layout.bottom() + 26)
 }

@@ -12,7 +12,8 @@ use std::io::Write;
 /// Writes what a message says.
 #[tactic(auto, unfolding(crate::specs::Label::label_text))]
 pub(crate) fn write_label<W: Write>(writer: &mut W, seat: &Seat, label: &Label) -> io::Result<()>
-    ensures { OnOk result (Appends (W.contents writer.old) (W.contents writer.new) (label_text seat.now label.now)) }
+    ensures { OnOk result (Appends (W.contents writer.old) (W.contents writer.new)
+        (label_text seat.now label.now)) }
 {
     write_start(writer, seat, font_size(letters(label)))?;
     write_front(writer, label)?;
@@ -23,7 +24,8 @@ pub(crate) fn write_label<W: Write>(writer: &mut W, seat: &Seat, label: &Label) 
 /// Writes the name of a message, and what it is about.
 #[tactic(auto, unfolding(crate::specs::Label::front_text))]
 fn write_front<W: Write>(writer: &mut W, label: &Label) -> io::Result<()>
-    ensures { OnOk result (Appends (W.contents writer.old) (W.contents writer.new) (front_text label.now)) }
+    ensures { OnOk result (Appends (W.contents writer.old) (W.contents writer.new)
+        (front_text label.now)) }
 {
     write_part(writer, "<tspan class=\"name\">", &label.name)?;
     write_part(writer, "<tspan class=\"object\" dx=\"6\">", &label.object)
@@ -32,7 +34,8 @@ fn write_front<W: Write>(writer: &mut W, label: &Label) -> io::Result<()>
 /// Writes the value of a message behind an arrow, and the remark.
 #[tactic(auto, unfolding(crate::specs::Label::back_text))]
 fn write_back<W: Write>(writer: &mut W, label: &Label) -> io::Result<()>
-    ensures { OnOk result (Appends (W.contents writer.old) (W.contents writer.new) (back_text label.now)) }
+    ensures { OnOk result (Appends (W.contents writer.old) (W.contents writer.new)
+        (back_text label.now)) }
 {
     write_value(writer, &label.value)?;
     write_tag(writer, &label.tag)
@@ -40,14 +43,16 @@ fn write_back<W: Write>(writer: &mut W, label: &Label) -> io::Result<()>
 
 #[tactic(auto, unfolding(crate::specs::Label::value_text))]
 fn write_value<W: Write>(writer: &mut W, value: &[u8]) -> io::Result<()>
-    ensures { OnOk result (Appends (W.contents writer.old) (W.contents writer.new) (value_text value.now)) }
+    ensures { OnOk result (Appends (W.contents writer.old) (W.contents writer.new)
+        (value_text value.now)) }
 {
     write_part(writer, "<tspan class=\"object\" dx=\"4\">&#8594; ", value)
 }
 
 #[tactic(auto, unfolding(crate::specs::Label::tag_text))]
 fn write_tag<W: Write>(writer: &mut W, tag: &[u8]) -> io::Result<()>
-    ensures { OnOk result (Appends (W.contents writer.old) (W.contents writer.new) (tag_text tag.now)) }
+    ensures { OnOk result (Appends (W.contents writer.old) (W.contents writer.new)
+        (tag_text tag.now)) }
 {
     write_part(writer, "<tspan class=\"tag\" dx=\"6\">", tag)
 }
@@ -78,7 +83,8 @@ fn font_size(letters: u16) -> u32
 /// Writes a part of a label, if it has any letters.
 #[tactic(auto, unfolding(crate::specs::Label::if_any_text))]
 fn write_part<'a, W: Write>(writer: &mut W, start: &'a str, text: &'a [u8]) -> io::Result<()>
-    ensures { OnOk result (Appends (W.contents writer.old) (W.contents writer.new) (if_any_text start.now text.now)) }
+    ensures { OnOk result (Appends (W.contents writer.old) (W.contents writer.new)
+        (if_any_text start.now text.now)) }
 {
     match text {
         [] => Ok(()),
@@ -95,7 +101,8 @@ fn write_part<'a, W: Write>(writer: &mut W, start: &'a str, text: &'a [u8]) -> i
 
 #[tactic(auto, unfolding(crate::specs::Label::start_text))]
 fn write_start<W: Write>(writer: &mut W, seat: &Seat, size: u32) -> io::Result<()>
-    ensures { OnOk result (Appends (W.contents writer.old) (W.contents writer.new) (start_text seat.now size)) }
+    ensures { OnOk result (Appends (W.contents writer.old) (W.contents writer.new)
+        (start_text seat.now size)) }
 {
     write_place(writer, seat, size)?;
     write_turn(writer, seat)
@@ -103,7 +110,8 @@ fn write_start<W: Write>(writer: &mut W, seat: &Seat, size: u32) -> io::Result<(
 
 #[tactic(auto, unfolding(crate::specs::Label::place_text))]
 fn write_place<W: Write>(writer: &mut W, seat: &Seat, size: u32) -> io::Result<()>
-    ensures { OnOk result (Appends (W.contents writer.old) (W.contents writer.new) (place_text seat.now size)) }
+    ensures { OnOk result (Appends (W.contents writer.old) (W.contents writer.new)
+        (place_text seat.now size)) }
 {
     write_pieces(
         writer,
@@ -121,7 +129,8 @@ fn write_place<W: Write>(writer: &mut W, seat: &Seat, size: u32) -> io::Result<(
 
 /// Writes how words are turned.
 fn write_turn<W: Write>(writer: &mut W, seat: &Seat) -> io::Result<()>
-    ensures { OnOk result (Appends (W.contents writer.old) (W.contents writer.new) (turn_text seat.now)) }
+    ensures { OnOk result (Appends (W.contents writer.old) (W.contents writer.new)
+        (turn_text seat.now)) }
 {
     match seat.turn {
         Turn::Level => write_pieces(writer, &[Piece::Fixed(">")]),
@@ -137,7 +146,8 @@ fn write_turned<W: Write>(
     hundredths: u32,
     seat: &Seat,
 ) -> io::Result<()>
-    ensures { OnOk result (Appends (W.contents writer.old) (W.contents writer.new) (turned_text start.now hundredths seat.now)) }
+    ensures { OnOk result (Appends (W.contents writer.old) (W.contents writer.new)
+        (turned_text start.now hundredths seat.now)) }
 {
     write_pieces(
         writer,

@@ -16,7 +16,8 @@ pub(crate) fn write_lifelines<W: Write>(
     layout: &Layout,
     lifelines: &[Lifeline],
 ) -> io::Result<()>
-    ensures { OnOk result (Appends (W.contents writer.old) (W.contents writer.new) (lifelines_text layout.now lifelines.now)) }
+    ensures { OnOk result (Appends (W.contents writer.old) (W.contents writer.new)
+        (lifelines_text layout.now lifelines.now)) }
 {
     'lifelines: for lifeline in lifelines {
         write_lifeline(writer, layout, lifeline)?;
@@ -26,7 +27,8 @@ pub(crate) fn write_lifelines<W: Write>(
 
 #[tactic(auto, unfolding(crate::specs::Lifeline::lifeline_text))]
 fn write_lifeline<W: Write>(writer: &mut W, layout: &Layout, lifeline: &Lifeline) -> io::Result<()>
-    ensures { OnOk result (Appends (W.contents writer.old) (W.contents writer.new) (lifeline_text layout.now lifeline.now)) }
+    ensures { OnOk result (Appends (W.contents writer.old) (W.contents writer.new)
+        (lifeline_text layout.now lifeline.now)) }
 {
     let x = layout.agent_x(lifeline.agent);
     write_life(writer, layout, lifeline, x)?;
@@ -40,7 +42,8 @@ fn write_life<W: Write>(
     lifeline: &Lifeline,
     x: u32,
 ) -> io::Result<()>
-    ensures { OnOk result (Appends (W.contents writer.old) (W.contents writer.new) (life_text layout.now lifeline.now x)) }
+    ensures { OnOk result (Appends (W.contents writer.old) (W.contents writer.new)
+        (life_text layout.now lifeline.now x)) }
 {
     let top = Point { x, y: 128 };
     let bottom = layout.bottom();
@@ -56,7 +59,8 @@ fn write_life<W: Write>(
 /// Writes a lifeline that ends at a point, and goes on dotted.
 #[tactic(auto, unfolding(crate::specs::Lifeline::ended_text))]
 fn write_ended<W: Write>(writer: &mut W, agent: u8, end: Point, bottom: u32) -> io::Result<()>
-    ensures { OnOk result (Appends (W.contents writer.old) (W.contents writer.new) (ended_text agent end bottom)) }
+    ensures { OnOk result (Appends (W.contents writer.old) (W.contents writer.new)
+        (ended_text agent end bottom)) }
 {
     let top = Point { x: end.x, y: 128 };
     write_stroke(writer, " life", agent, top, end.y)?;
@@ -72,7 +76,8 @@ fn write_stroke<W: Write>(
     from: Point,
     to: u32,
 ) -> io::Result<()>
-    ensures { OnOk result (Appends (W.contents writer.old) (W.contents writer.new) (stroke_text class.now agent from to)) }
+    ensures { OnOk result (Appends (W.contents writer.old) (W.contents writer.new)
+        (stroke_text class.now agent from to)) }
 {
     write_pieces(
         writer,
@@ -96,7 +101,8 @@ fn write_stroke<W: Write>(
 /// Writes the head of an agent's lifeline.
 #[tactic(auto, unfolding(crate::specs::Lifeline::head_text))]
 fn write_head<W: Write>(writer: &mut W, lifeline: &Lifeline, x: u32) -> io::Result<()>
-    ensures { OnOk result (Appends (W.contents writer.old) (W.contents writer.new) (head_text lifeline.now x)) }
+    ensures { OnOk result (Appends (W.contents writer.old) (W.contents writer.new)
+        (head_text lifeline.now x)) }
 {
     write_head_box(writer, x.saturating_sub(66), lifeline.agent)?;
     write_words(writer, "who", Point { x, y: 103 }, 0, 0, &lifeline.name)?;
@@ -105,7 +111,8 @@ fn write_head<W: Write>(writer: &mut W, lifeline: &Lifeline, x: u32) -> io::Resu
 
 #[tactic(auto, unfolding(crate::specs::Lifeline::head_box))]
 fn write_head_box<W: Write>(writer: &mut W, x: u32, agent: u8) -> io::Result<()>
-    ensures { OnOk result (Appends (W.contents writer.old) (W.contents writer.new) (head_box x agent)) }
+    ensures { OnOk result (Appends (W.contents writer.old) (W.contents writer.new)
+        (head_box x agent)) }
 {
     write_pieces(
         writer,
@@ -121,7 +128,8 @@ fn write_head_box<W: Write>(writer: &mut W, x: u32, agent: u8) -> io::Result<()>
 
 #[tactic(auto, unfolding(crate::specs::Lifeline::agent_number))]
 fn write_agent_number<W: Write>(writer: &mut W, x: u32, agent: u8) -> io::Result<()>
-    ensures { OnOk result (Appends (W.contents writer.old) (W.contents writer.new) (agent_number x agent)) }
+    ensures { OnOk result (Appends (W.contents writer.old) (W.contents writer.new)
+        (agent_number x agent)) }
 {
     write_pieces(
         writer,
@@ -138,7 +146,8 @@ fn write_agent_number<W: Write>(writer: &mut W, x: u32, agent: u8) -> io::Result
 /// Writes the platform's lifeline, and its head.
 #[tactic(auto, unfolding(crate::specs::Lifeline::platform_text))]
 pub(crate) fn write_platform<W: Write>(writer: &mut W, layout: &Layout) -> io::Result<()>
-    ensures { OnOk result (Appends (W.contents writer.old) (W.contents writer.new) (platform_text layout.now)) }
+    ensures { OnOk result (Appends (W.contents writer.old) (W.contents writer.new)
+        (platform_text layout.now)) }
 {
     let x = layout.platform_x();
     write_rail(writer, x, layout.bottom())?;
@@ -148,7 +157,8 @@ pub(crate) fn write_platform<W: Write>(writer: &mut W, layout: &Layout) -> io::R
 
 #[tactic(auto, unfolding(crate::specs::Lifeline::rail_text))]
 fn write_rail<W: Write>(writer: &mut W, x: u32, bottom: u32) -> io::Result<()>
-    ensures { OnOk result (Appends (W.contents writer.old) (W.contents writer.new) (rail_text x bottom)) }
+    ensures { OnOk result (Appends (W.contents writer.old) (W.contents writer.new)
+        (rail_text x bottom)) }
 {
     let corner = Point {
         x: x.saturating_sub(4),
@@ -159,7 +169,8 @@ fn write_rail<W: Write>(writer: &mut W, x: u32, bottom: u32) -> io::Result<()>
 
 #[tactic(auto, unfolding(crate::specs::Lifeline::platform_box))]
 fn write_platform_box<W: Write>(writer: &mut W, x: u32) -> io::Result<()>
-    ensures { OnOk result (Appends (W.contents writer.old) (W.contents writer.new) (platform_box x)) }
+    ensures { OnOk result (Appends (W.contents writer.old) (W.contents writer.new)
+        (platform_box x)) }
 {
     write_pieces(
         writer,
@@ -173,7 +184,8 @@ fn write_platform_box<W: Write>(writer: &mut W, x: u32) -> io::Result<()>
 
 #[tactic(auto, unfolding(crate::specs::Lifeline::platform_name))]
 fn write_platform_name<W: Write>(writer: &mut W, x: u32) -> io::Result<()>
-    ensures { OnOk result (Appends (W.contents writer.old) (W.contents writer.new) (platform_name x)) }
+    ensures { OnOk result (Appends (W.contents writer.old) (W.contents writer.new)
+        (platform_name x)) }
 {
     write_words(writer, "who", Point { x, y: 103 }, 0, 0, b"platform")?;
     write_words(

@@ -19,7 +19,8 @@ pub(crate) fn write_marks<W: Write>(
     layout: &Layout,
     marks: &[Mark],
 ) -> io::Result<()>
-    ensures { OnOk result (Appends (W.contents writer.old) (W.contents writer.new) (marks_text layout.now marks.now)) }
+    ensures { OnOk result (Appends (W.contents writer.old) (W.contents writer.new)
+        (marks_text layout.now marks.now)) }
 {
     'marks: for mark in marks {
         write_mark(writer, layout, mark)?;
@@ -30,7 +31,8 @@ pub(crate) fn write_marks<W: Write>(
 /// Writes a mark, as one group.
 #[tactic(auto, unfolding(crate::specs::Mark::mark_text))]
 fn write_mark<W: Write>(writer: &mut W, layout: &Layout, mark: &Mark) -> io::Result<()>
-    ensures { OnOk result (Appends (W.contents writer.old) (W.contents writer.new) (mark_text layout.now mark.now)) }
+    ensures { OnOk result (Appends (W.contents writer.old) (W.contents writer.new)
+        (mark_text layout.now mark.now)) }
 {
     write_opening(writer, mark_kind(mark))?;
     write_shapes(writer, layout, mark)?;
@@ -39,7 +41,8 @@ fn write_mark<W: Write>(writer: &mut W, layout: &Layout, mark: &Mark) -> io::Res
 
 #[tactic(auto, unfolding(crate::specs::Mark::opening_text))]
 fn write_opening<W: Write>(writer: &mut W, kind: &str) -> io::Result<()>
-    ensures { OnOk result (Appends (W.contents writer.old) (W.contents writer.new) (opening_text kind.now)) }
+    ensures { OnOk result (Appends (W.contents writer.old) (W.contents writer.new)
+        (opening_text kind.now)) }
 {
     write_pieces(
         writer,
@@ -86,7 +89,8 @@ fn reply_kind(outcome: Outcome) -> &'static str
 
 /// Writes the shapes of a mark.
 fn write_shapes<W: Write>(writer: &mut W, layout: &Layout, mark: &Mark) -> io::Result<()>
-    ensures { OnOk result (Appends (W.contents writer.old) (W.contents writer.new) (shapes_text layout.now mark.now)) }
+    ensures { OnOk result (Appends (W.contents writer.old) (W.contents writer.new)
+        (shapes_text layout.now mark.now)) }
 {
     match mark {
         Mark::Command { message, token } => write_command(writer, layout, message, *token),

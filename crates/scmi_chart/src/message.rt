@@ -20,7 +20,8 @@ pub(crate) fn write_command<W: Write>(
     message: &Message,
     token: Option<u16>,
 ) -> io::Result<()>
-    ensures { OnOk result (Appends (W.contents writer.old) (W.contents writer.new) (command_text layout.now message.now token)) }
+    ensures { OnOk result (Appends (W.contents writer.old) (W.contents writer.new)
+        (command_text layout.now message.now token)) }
 {
     let route = to_platform(layout, message.agent, message.slot, message.taken);
     write_way(writer, &route, message)?;
@@ -30,7 +31,8 @@ pub(crate) fn write_command<W: Write>(
 /// Writes the way of a message, and what it says.
 #[tactic(auto, unfolding(crate::specs::Message::way_text))]
 fn write_way<W: Write>(writer: &mut W, route: &Route, message: &Message) -> io::Result<()>
-    ensures { OnOk result (Appends (W.contents writer.old) (W.contents writer.new) (way_text route.now message.now)) }
+    ensures { OnOk result (Appends (W.contents writer.old) (W.contents writer.new)
+        (way_text route.now message.now)) }
 {
     write_route(writer, route)?;
     write_label(writer, &seat_of(route), &message.label)
@@ -44,7 +46,8 @@ pub(crate) fn write_withdrawn<W: Write>(
     message: &Message,
     token: Option<u16>,
 ) -> io::Result<()>
-    ensures { OnOk result (Appends (W.contents writer.old) (W.contents writer.new) (withdrawn_text layout.now message.now token)) }
+    ensures { OnOk result (Appends (W.contents writer.old) (W.contents writer.new)
+        (withdrawn_text layout.now message.now token)) }
 {
     write_cut(writer, layout, message, 175)?;
     write_token(writer, layout, message.agent, message.slot, token)
@@ -56,7 +59,8 @@ pub(crate) fn write_refused<W: Write>(
     layout: &Layout,
     message: &Message,
 ) -> io::Result<()>
-    ensures { OnOk result (Appends (W.contents writer.old) (W.contents writer.new) (refused_text layout.now message.now)) }
+    ensures { OnOk result (Appends (W.contents writer.old) (W.contents writer.new)
+        (refused_text layout.now message.now)) }
 {
     write_cut(writer, layout, message, 24)
 }
@@ -69,7 +73,8 @@ fn write_cut<W: Write>(
     message: &Message,
     way: u8,
 ) -> io::Result<()>
-    ensures { OnOk result (Appends (W.contents writer.old) (W.contents writer.new) (cut_text layout.now message.now way)) }
+    ensures { OnOk result (Appends (W.contents writer.old) (W.contents writer.new)
+        (cut_text layout.now message.now way)) }
 {
     write_cut_way(writer, layout, message.agent, message.slot, way)?;
     let route = to_platform(layout, message.agent, message.slot, message.slot);
@@ -84,7 +89,8 @@ fn write_cut_way<W: Write>(
     slot: u16,
     way: u8,
 ) -> io::Result<()>
-    ensures { OnOk result (Appends (W.contents writer.old) (W.contents writer.new) (cut_way layout.now agent slot way)) }
+    ensures { OnOk result (Appends (W.contents writer.old) (W.contents writer.new)
+        (cut_way layout.now agent slot way)) }
 {
     let from = Point {
         x: layout.agent_x(agent),
@@ -105,7 +111,8 @@ pub(crate) fn write_answer<W: Write>(
     layout: &Layout,
     message: &Message,
 ) -> io::Result<()>
-    ensures { OnOk result (Appends (W.contents writer.old) (W.contents writer.new) (answer_text layout.now message.now)) }
+    ensures { OnOk result (Appends (W.contents writer.old) (W.contents writer.new)
+        (answer_text layout.now message.now)) }
 {
     let route = to_agent(layout, message.agent, message.slot, message.taken);
     write_way(writer, &route, message)
@@ -119,7 +126,8 @@ pub(crate) fn write_posted<W: Write>(
     message: &Message,
     token: Option<u16>,
 ) -> io::Result<()>
-    ensures { OnOk result (Appends (W.contents writer.old) (W.contents writer.new) (posted_text layout.now message.now token)) }
+    ensures { OnOk result (Appends (W.contents writer.old) (W.contents writer.new)
+        (posted_text layout.now message.now token)) }
 {
     write_answer(writer, layout, message)?;
     write_token(writer, layout, message.agent, message.taken, token)
@@ -128,7 +136,8 @@ pub(crate) fn write_posted<W: Write>(
 /// Writes a ring where the platform posts a message.
 #[tactic(auto, unfolding(crate::specs::Message::post_text))]
 pub(crate) fn write_post<W: Write>(writer: &mut W, layout: &Layout, slot: u16) -> io::Result<()>
-    ensures { OnOk result (Appends (W.contents writer.old) (W.contents writer.new) (post_text layout.now slot)) }
+    ensures { OnOk result (Appends (W.contents writer.old) (W.contents writer.new)
+        (post_text layout.now slot)) }
 {
     let center = Point {
         x: layout.platform_x(),
@@ -145,7 +154,8 @@ fn write_token<W: Write>(
     slot: u16,
     token: Option<u16>,
 ) -> io::Result<()>
-    ensures { OnOk result (Appends (W.contents writer.old) (W.contents writer.new) (token_text layout.now agent slot token)) }
+    ensures { OnOk result (Appends (W.contents writer.old) (W.contents writer.new)
+        (token_text layout.now agent slot token)) }
 {
     match token {
         None => Ok(()),
@@ -168,7 +178,8 @@ fn ring_size(token: u16) -> u32
 
 #[tactic(auto, unfolding(crate::specs::Message::given_token_text))]
 fn write_given_token<W: Write>(writer: &mut W, at: Point, agent: u8, token: u16) -> io::Result<()>
-    ensures { OnOk result (Appends (W.contents writer.old) (W.contents writer.new) (given_token_text at agent token)) }
+    ensures { OnOk result (Appends (W.contents writer.old) (W.contents writer.new)
+        (given_token_text at agent token)) }
 {
     write_token_ring(writer, at, u32::from(agent), ring_size(token))?;
     write_token_number(writer, at, agent, token)
@@ -176,7 +187,8 @@ fn write_given_token<W: Write>(writer: &mut W, at: Point, agent: u8, token: u16)
 
 #[tactic(auto, unfolding(crate::specs::Message::token_ring))]
 fn write_token_ring<W: Write>(writer: &mut W, at: Point, agent: u32, radius: u32) -> io::Result<()>
-    ensures { OnOk result (Appends (W.contents writer.old) (W.contents writer.new) (token_ring at agent radius)) }
+    ensures { OnOk result (Appends (W.contents writer.old) (W.contents writer.new)
+        (token_ring at agent radius)) }
 {
     write_pieces(
         writer,
@@ -196,7 +208,8 @@ fn write_token_ring<W: Write>(writer: &mut W, at: Point, agent: u32, radius: u32
 
 #[tactic(auto, unfolding(crate::specs::Message::token_number))]
 fn write_token_number<W: Write>(writer: &mut W, at: Point, agent: u8, token: u16) -> io::Result<()>
-    ensures { OnOk result (Appends (W.contents writer.old) (W.contents writer.new) (token_number at agent token)) }
+    ensures { OnOk result (Appends (W.contents writer.old) (W.contents writer.new)
+        (token_number at agent token)) }
 {
     write_pieces(
         writer,

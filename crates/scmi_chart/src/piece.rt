@@ -21,7 +21,8 @@ pub(crate) enum Piece<'a> {
 
 /// Writes pieces, one behind the other.
 pub(crate) fn write_pieces<W: Write>(writer: &mut W, pieces: &[Piece]) -> io::Result<()>
-    ensures { OnOk result (Appends (W.contents writer.old) (W.contents writer.new) (pieces_text pieces.now)) }
+    ensures { OnOk result (Appends (W.contents writer.old) (W.contents writer.new)
+        (pieces_text pieces.now)) }
 {
     'pieces: for piece in pieces {
         write_piece(writer, piece)?;
@@ -30,7 +31,8 @@ pub(crate) fn write_pieces<W: Write>(writer: &mut W, pieces: &[Piece]) -> io::Re
 }
 
 fn write_piece<W: Write>(writer: &mut W, piece: &Piece) -> io::Result<()>
-    ensures { OnOk result (Appends (W.contents writer.old) (W.contents writer.new) (piece_text piece.now)) }
+    ensures { OnOk result (Appends (W.contents writer.old) (W.contents writer.new)
+        (piece_text piece.now)) }
 {
     match piece {
         Piece::Fixed(text) => writer.write_all(text.as_bytes()),
@@ -45,7 +47,8 @@ fn write_piece<W: Write>(writer: &mut W, piece: &Piece) -> io::Result<()>
 /// then be written.
 #[tactic(auto, using(crate::proofs::EscapeLemmas::plain, crate::proofs::EscapeLemmas::read_escaped))]
 pub fn write_escaped<W: Write>(writer: &mut W, bytes: &[u8]) -> io::Result<()>
-    ensures text { OnOk result (Appends (W.contents writer.old) (W.contents writer.new) (escaped bytes.now)) }
+    ensures text { OnOk result (Appends (W.contents writer.old) (W.contents writer.new)
+        (escaped bytes.now)) }
     // None of its bytes ends what it stands in, be it between tags or in quotes.
     ensures plain { IsTrue (list_all is_plain (escaped bytes.now)) }
     ensures read { read_text false (escaped bytes.now) ≡ map shown_byte bytes.now }
@@ -58,7 +61,8 @@ pub fn write_escaped<W: Write>(writer: &mut W, bytes: &[u8]) -> io::Result<()>
 
 #[tactic(auto, unfolding(crate::specs::Piece::escaped_byte))]
 fn write_byte<W: Write>(writer: &mut W, byte: u8) -> io::Result<()>
-    ensures { OnOk result (Appends (W.contents writer.old) (W.contents writer.new) (escaped_byte byte)) }
+    ensures { OnOk result (Appends (W.contents writer.old) (W.contents writer.new)
+        (escaped_byte byte)) }
 {
     match byte {
         b'<' => writer.write_all(b"&lt;"),

@@ -55,7 +55,8 @@ pub(crate) fn to_agent(layout: &Layout, agent: u8, slot: u16, taken: u16) -> Rou
 /// where it waits, down, and on.
 #[tactic(auto, unfolding(crate::specs::Route::route_text))]
 pub(crate) fn write_route<W: Write>(writer: &mut W, route: &Route) -> io::Result<()>
-    ensures { OnOk result (Appends (W.contents writer.old) (W.contents writer.new) (route_text route.now)) }
+    ensures { OnOk result (Appends (W.contents writer.old) (W.contents writer.new)
+        (route_text route.now)) }
 {
     let from = Point {
         x: route.from,
@@ -74,7 +75,8 @@ pub(crate) fn write_route<W: Write>(writer: &mut W, route: &Route) -> io::Result
 
 #[tactic(auto, unfolding(crate::specs::Route::bent_text))]
 fn write_bent<W: Write>(writer: &mut W, from: Point, to: Point, bend: u32) -> io::Result<()>
-    ensures { OnOk result (Appends (W.contents writer.old) (W.contents writer.new) (bent_text from to bend)) }
+    ensures { OnOk result (Appends (W.contents writer.old) (W.contents writer.new)
+        (bent_text from to bend)) }
 {
     let above = Point { x: bend, y: from.y };
     let below = Point { x: bend, y: to.y };

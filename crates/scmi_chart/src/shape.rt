@@ -22,7 +22,8 @@ pub(crate) fn write_line<W: Write>(
     from: Point,
     to: Point,
 ) -> io::Result<()>
-    ensures { OnOk result (Appends (W.contents writer.old) (W.contents writer.new) (line_text class.now from to)) }
+    ensures { OnOk result (Appends (W.contents writer.old) (W.contents writer.new)
+        (line_text class.now from to)) }
 {
     write_pieces(
         writer,
@@ -51,7 +52,8 @@ pub(crate) fn write_box<W: Write>(
     width: u32,
     height: u32,
 ) -> io::Result<()>
-    ensures { OnOk result (Appends (W.contents writer.old) (W.contents writer.new) (box_text class.now corner width height)) }
+    ensures { OnOk result (Appends (W.contents writer.old) (W.contents writer.new)
+        (box_text class.now corner width height)) }
 {
     write_pieces(
         writer,
@@ -79,7 +81,8 @@ pub(crate) fn write_ring<W: Write>(
     center: Point,
     radius: u32,
 ) -> io::Result<()>
-    ensures { OnOk result (Appends (W.contents writer.old) (W.contents writer.new) (ring_text class.now center radius)) }
+    ensures { OnOk result (Appends (W.contents writer.old) (W.contents writer.new)
+        (ring_text class.now center radius)) }
 {
     write_pieces(
         writer,
@@ -100,7 +103,8 @@ pub(crate) fn write_ring<W: Write>(
 /// Writes a cross of this class over a point.
 #[tactic(auto, unfolding(crate::specs::Shape::cross_text))]
 pub(crate) fn write_cross<W: Write>(writer: &mut W, class: &str, center: Point) -> io::Result<()>
-    ensures { OnOk result (Appends (W.contents writer.old) (W.contents writer.new) (cross_text class.now center)) }
+    ensures { OnOk result (Appends (W.contents writer.old) (W.contents writer.new)
+        (cross_text class.now center)) }
 {
     write_pieces(
         writer,
@@ -126,7 +130,8 @@ pub(crate) fn write_words<'a, W: Write>(
     below: u8,
     text: &'a [u8],
 ) -> io::Result<()>
-    ensures { OnOk result (Appends (W.contents writer.old) (W.contents writer.new) (words_text class.now at right below text.now)) }
+    ensures { OnOk result (Appends (W.contents writer.old) (W.contents writer.new)
+        (words_text class.now at right below text.now)) }
 {
     write_pieces(
         writer,

@@ -14,14 +14,16 @@ use std::io::Write;
 
 /// Writes the chart as an SVG. The error is the writer's; some parts may then be written.
 pub fn write_chart<W: Write>(writer: &mut W, chart: &Chart) -> io::Result<()>
-    ensures { OnOk result (Appends (W.contents writer.old) (W.contents writer.new) (svg_text chart.now)) }
+    ensures { OnOk result (Appends (W.contents writer.old) (W.contents writer.new)
+        (svg_text chart.now)) }
 {
     write_picture(writer, &layout_of(chart), chart)
 }
 
 #[tactic(auto, unfolding(crate::specs::Chart::picture_text))]
 fn write_picture<W: Write>(writer: &mut W, layout: &Layout, chart: &Chart) -> io::Result<()>
-    ensures { OnOk result (Appends (W.contents writer.old) (W.contents writer.new) (picture_text layout.now chart.now)) }
+    ensures { OnOk result (Appends (W.contents writer.old) (W.contents writer.new)
+        (picture_text layout.now chart.now)) }
 {
     write_back(writer, layout, chart)?;
     write_lines(writer, layout, chart)?;
@@ -32,7 +34,8 @@ fn write_picture<W: Write>(writer: &mut W, layout: &Layout, chart: &Chart) -> io
 /// Writes what stands behind the lifelines.
 #[tactic(auto, unfolding(crate::specs::Chart::back_text))]
 fn write_back<W: Write>(writer: &mut W, layout: &Layout, chart: &Chart) -> io::Result<()>
-    ensures { OnOk result (Appends (W.contents writer.old) (W.contents writer.new) (back_text layout.now chart.now)) }
+    ensures { OnOk result (Appends (W.contents writer.old) (W.contents writer.new)
+        (back_text layout.now chart.now)) }
 {
     write_head(writer, layout)?;
     write_title(writer, chart)?;
@@ -42,7 +45,8 @@ fn write_back<W: Write>(writer: &mut W, layout: &Layout, chart: &Chart) -> io::R
 /// Writes the lifelines and the columns.
 #[tactic(auto, unfolding(crate::specs::Chart::lines_text))]
 fn write_lines<W: Write>(writer: &mut W, layout: &Layout, chart: &Chart) -> io::Result<()>
-    ensures { OnOk result (Appends (W.contents writer.old) (W.contents writer.new) (lines_text layout.now chart.now)) }
+    ensures { OnOk result (Appends (W.contents writer.old) (W.contents writer.new)
+        (lines_text layout.now chart.now)) }
 {
     write_lifelines(writer, layout, &chart.lifelines)?;
     write_platform(writer, layout)?;

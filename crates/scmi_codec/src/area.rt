@@ -150,7 +150,8 @@ pub fn write_answer(area: &mut [u8], answer: &Answer) -> Result<(), AreaError>
     ensures size { IsOk result ↔ (length area.old ≡ AREA_BYTES) }
     ensures written { OnOk result (area.new ≡ answered answer.now area.old) }
     ensures stands { OnOk result (StandsForAnswer area.new (frame_of area.old) answer.now) }
-    ensures kept { OnOk result ((i : ℕ) → IsKept answer.now i → slice_index area.new i ≡ slice_index area.old i) }
+    ensures kept { OnOk result
+        ((i : ℕ) → IsKept answer.now i → slice_index area.new i ≡ slice_index area.old i) }
     ensures err { OnErr result (area.new ≡ area.old) }
     ensures wrong_size { IfErr result (λ e. e ≡ AreaError.WrongSize) }
 {
@@ -170,8 +171,10 @@ pub fn write_answer(area: &mut [u8], answer: &Answer) -> Result<(), AreaError>
 pub fn write_reply(area: &mut [u8], message: &Message) -> Result<(), AreaError>
     ensures size { IsOk result ↔ (length area.old ≡ AREA_BYTES) }
     ensures written { OnOk result (area.new ≡ answered (Reply message.now) area.old) }
-    ensures stands { OnOk result (StandsForAnswer area.new (frame_of area.old) (Reply message.now)) }
-    ensures kept { OnOk result ((i : ℕ) → IsKept (Reply message.now) i → slice_index area.new i ≡ slice_index area.old i) }
+    ensures stands { OnOk result
+        (StandsForAnswer area.new (frame_of area.old) (Reply message.now)) }
+    ensures kept { OnOk result
+        ((i : ℕ) → IsKept (Reply message.now) i → slice_index area.new i ≡ slice_index area.old i) }
     ensures err { OnErr result (area.new ≡ area.old) }
     ensures wrong_size { IfErr result (λ e. e ≡ AreaError.WrongSize) }
 {
@@ -187,7 +190,8 @@ pub fn write_message(area: &mut [u8], message: &Message) -> Result<(), AreaError
     ensures size { IsOk result ↔ (length area.old ≡ AREA_BYTES) }
     ensures written { OnOk result (area.new ≡ posted message.now area.old) }
     ensures arrived { OnOk result (arrived area.new ≡ Some (Good message.now)) }
-    ensures kept { OnOk result ((i : ℕ) → IsOutside message.now i → slice_index area.new i ≡ slice_index area.old i) }
+    ensures kept { OnOk result
+        ((i : ℕ) → IsOutside message.now i → slice_index area.new i ≡ slice_index area.old i) }
     ensures err { OnErr result (area.new ≡ area.old) }
     ensures wrong_size { IfErr result (λ e. e ≡ AreaError.WrongSize) }
 {
@@ -201,7 +205,8 @@ fn write_with_status(area: &mut [u8], message: &Message, status: u32)
     requires { length area.old ≡ AREA_BYTES }
     ensures written { area.new ≡ written status message.now area.old }
     ensures stands { StandsFor area.new status (Good message.now) }
-    ensures kept { (i : ℕ) → IsOutside message.now i → slice_index area.new i ≡ slice_index area.old i }
+    ensures kept { (i : ℕ) → IsOutside message.now i →
+        slice_index area.new i ≡ slice_index area.old i }
 {
     let payload = &message.payload;
     write_word(area, LENGTH_AT, 4 + 4 * payload.len() as u32);

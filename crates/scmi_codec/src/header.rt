@@ -22,9 +22,21 @@ impl Model for Header {
 
     ghost Value = { HeaderFields };
 
-    ghost view = { λ h. record { reserved = h.reserved; token = h.token; protocol = h.protocol; kind = h.kind; id = h.id } };
+    ghost view = { λ h. record {
+      reserved = h.reserved;
+      token = h.token;
+      protocol = h.protocol;
+      kind = h.kind;
+      id = h.id;
+    } };
 
-    ghost invariant = { λ h. FitsWidths (record { reserved = h.reserved; token = h.token; protocol = h.protocol; kind = h.kind; id = h.id }) };
+    ghost invariant = { λ h. FitsWidths (record {
+      reserved = h.reserved;
+      token = h.token;
+      protocol = h.protocol;
+      kind = h.kind;
+      id = h.id;
+    }) };
 
     ghost inverse = { λ h. record { reserved = h.reserved; token = h.token; protocol = h.protocol; kind = h.kind; id = h.id } };
 }

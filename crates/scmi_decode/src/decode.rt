@@ -55,7 +55,8 @@ pub fn decode<R: CountedRead, W: Write>(
     ensures kept { IfErr result (λ e.
         (e ≡ DecodeError.Size) ⊎ (e ≡ DecodeError.Read) → writer.new ≡ writer.old) }
     ensures reads { R.reads reader.new ≤ R.reads reader.old + (INPUT_BYTES + 1) }
-    ensures stops { StopsWith DecodeError.Read result (R.since_failure reader.old) (R.since_failure reader.new) }
+    ensures stops { StopsWith DecodeError.Read result (R.since_failure reader.old)
+        (R.since_failure reader.new) }
 {
     let input = read_rest(alloc, reader)?;
     let Ok(lines) = lines_of(alloc, input.as_slice()) else {

@@ -54,7 +54,8 @@ fn has_mark(item: &[u8]) -> bool
 
 /// The bytes of a number, the lowest first.
 fn number_bytes(alloc: Global, digits: &[u8]) -> Result<Option<Vec<u8>>, AllocError>
-    ensures { IfOk result (λ found. option_map (λ bytes. bytes.items) found ≡ number_bytes digits.now) }
+    ensures { IfOk result (λ found.
+        option_map (λ bytes. bytes.items) found ≡ number_bytes digits.now) }
 {
     let mut found = bytes_of(alloc, digits)?;
     if let Some(bytes) = &mut found {

@@ -72,7 +72,8 @@ fn write_no_digits<W: Write>(writer: &mut W) -> io::Result<()>
 
 /// Writes what bytes are.
 fn write_bytes<W: Write>(writer: &mut W, bytes: &[u8]) -> io::Result<()>
-    ensures { OnOk result (Appends (W.contents writer.old) (W.contents writer.new) (bytes_text bytes.now)) }
+    ensures { OnOk result (Appends (W.contents writer.old) (W.contents writer.new)
+        (bytes_text bytes.now)) }
 {
     if bytes.len() != AREA_BYTES {
         return write_other_size(writer, bytes.len());
@@ -85,7 +86,8 @@ fn write_bytes<W: Write>(writer: &mut W, bytes: &[u8]) -> io::Result<()>
 /// Writes that bytes are too few or too many.
 #[tactic(auto, unfolding(crate::specs::Decoded::other_size_text))]
 fn write_other_size<W: Write>(writer: &mut W, count: usize) -> io::Result<()>
-    ensures { OnOk result (Appends (W.contents writer.old) (W.contents writer.new) (other_size_text count)) }
+    ensures { OnOk result (Appends (W.contents writer.old) (W.contents writer.new)
+        (other_size_text count)) }
 {
     writeln!(writer, "no area: {count} bytes, not {AREA_BYTES}")
 }

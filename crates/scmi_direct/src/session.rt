@@ -27,7 +27,8 @@ impl<C: Channel> Model for Session<C> {
 
     ghost view = { λ s. length s.agents.items };
 
-    ghost invariant = { λ s. BelongTogether (map (λ l. C.name l.a2p) s.links.items) (map (λ l. C.name l.p2a) s.links.items) s.controller s.agents.items };
+    ghost invariant = { λ s. BelongTogether (map (λ l. C.name l.a2p) s.links.items)
+        (map (λ l. C.name l.p2a) s.links.items) s.controller s.agents.items };
 }
 
 impl<C: Channel> Session<C> {

@@ -35,10 +35,19 @@ impl<C: Channel> Model for AgentEnd<C> {
 
     ghost Value = { AgentView };
 
-    ghost view = { λ agent. record { id = agent.id; token = agent.token; caller = C.caller_view agent.caller; callee = C.callee_view agent.callee; a2p_name = C.caller_name agent.caller; p2a_name = C.callee_name agent.callee } };
+    ghost view = { λ agent. record {
+      id = agent.id;
+      token = agent.token;
+      caller = C.caller_view agent.caller;
+      callee = C.callee_view agent.callee;
+      a2p_name = C.caller_name agent.caller;
+      p2a_name = C.callee_name agent.callee;
+    } };
 
     // It owes no release.
-    ghost invariant = { λ agent. (agent.token < 1024) × (length (C.callee_view agent.callee).taken ≡ length (C.callee_view agent.callee).answered) };
+    ghost invariant = { λ agent. (agent.token < 1024) ×
+        (length (C.callee_view agent.callee).taken ≡ length
+        (C.callee_view agent.callee).answered) };
 }
 
 impl<C: Channel> AgentEnd<C> {
@@ -61,8 +70,10 @@ impl<C: Channel> AgentEnd<C> {
 
     // The ends of A2P and of P2A.
     pub(crate) fn into_ends(self) -> (C::Caller, C::Callee)
-        ensures views { (C.caller_view result.0 ≡ self.caller) × (C.callee_view result.1 ≡ self.callee) }
-        ensures names { (C.caller_name result.0 ≡ self.a2p_name) × (C.callee_name result.1 ≡ self.p2a_name) }
+        ensures views { (C.caller_view result.0 ≡ self.caller) ×
+            (C.callee_view result.1 ≡ self.callee) }
+        ensures names { (C.caller_name result.0 ≡ self.a2p_name) ×
+            (C.callee_name result.1 ≡ self.p2a_name) }
     {
         (self.caller, self.callee)
     }
@@ -146,7 +157,8 @@ impl<C: Channel> AgentEnd<C> {
         requires { IsOfLink (C.name link.now.a2p) (C.name link.now.p2a) self.old }
         ensures same { self.new ≡ record self.old { caller = self.new.caller } }
         ensures collects { Collects self.old.caller result self.new.caller }
-        ensures shut { is_shut self.old.caller ≡ true → ¬ (IsOutstanding self.old.caller) → result ≡ Collected.Closed }
+        ensures shut { is_shut self.old.caller ≡ true → ¬ (IsOutstanding self.old.caller) →
+            result ≡ Collected.Closed }
     {
         link.a2p.collect(&mut self.caller)
     }
@@ -155,9 +167,11 @@ impl<C: Channel> AgentEnd<C> {
     pub fn collect_into(&mut self, link: &Link<C>, answer: &mut Answer) -> Looked
         requires { IsOfLink (C.name link.now.a2p) (C.name link.now.p2a) self.old }
         ensures same { self.new ≡ record self.old { caller = self.new.caller } }
-        ensures collects { Collects self.old.caller (collected_by result answer.new) self.new.caller }
+        ensures collects { Collects self.old.caller
+            (collected_by result answer.new) self.new.caller }
         ensures stays { ¬ (result ≡ Looked.Got) → answer.new ≡ answer.old }
-        ensures shut { is_shut self.old.caller ≡ true → ¬ (IsOutstanding self.old.caller) → result ≡ Looked.Closed }
+        ensures shut { is_shut self.old.caller ≡ true → ¬ (IsOutstanding self.old.caller) →
+            result ≡ Looked.Closed }
     {
         link.a2p.collect_into(&mut self.caller, answer)
     }
@@ -217,7 +231,9 @@ fn release<C: Channel>(p2a: &C, callee: &mut C::Callee)
     requires name { C.callee_name callee.old ≡ C.name p2a.now }
     requires owes { Owes (C.callee_view callee.old) }
     ensures name { C.callee_name callee.new ≡ C.callee_name callee.old }
-    ensures answered { C.callee_view callee.new ≡ record (C.callee_view callee.old) { answered = (C.callee_view callee.old).answered ++ Released ∷ [] } }
+    ensures answered { C.callee_view callee.new ≡
+        record (C.callee_view callee.old)
+        { answered = (C.callee_view callee.old).answered ++ Released ∷ [] } }
 {
     p2a.answer(callee, &Answer::Released);
 }

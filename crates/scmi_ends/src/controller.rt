@@ -39,9 +39,21 @@ impl<C: Channel> Model for Controller<C> {
 
     ghost Value = { ControllerView };
 
-    ghost view = { λ platform. record { board = platform.core.board; history = platform.core.history; callees = map C.callee_view platform.callees.items; callers = map C.caller_view platform.callers.items; closed_at = platform.closed_at.items; a2p_names = map C.callee_name platform.callees.items; p2a_names = map C.caller_name platform.callers.items } };
+    ghost view = { λ platform.
+        record {
+          board = platform.core.board;
+          history = platform.core.history;
+          callees = map
+              C.callee_view platform.callees.items;
+          callers = map C.caller_view platform.callers.items;
+          closed_at = platform.closed_at.items;
+          a2p_names = map C.callee_name platform.callees.items;
+          p2a_names = map C.caller_name platform.callers.items;
+        } };
 
-    ghost invariant = { λ platform. Keeps platform.core.board platform.core.history (map C.callee_view platform.callees.items) (map C.caller_view platform.callers.items) platform.closed_at.items };
+    ghost invariant = { λ platform.
+        Keeps platform.core.board platform.core.history (map C.callee_view platform.callees.items)
+        (map C.caller_view platform.callers.items) platform.closed_at.items };
 }
 
 impl<C: Channel> Controller<C> {
@@ -73,8 +85,10 @@ impl<C: Channel> Controller<C> {
         ensures kept { IsKept self.new }
         ensures board { self.new.board ≡ self.old.board }
         ensures steps { IfOk result (λ served. Serves agent self.old served self.new) }
-        ensures closed { is_callee_shut (callee_of self.old agent) ≡ true → result ≢ Ok Served.Done }
-        ensures no_agent { (result ≡ Err ServeError.NoAgent) ↔ IsNoAgent (length self.old.board.agents) agent }
+        ensures closed { is_callee_shut (callee_of self.old agent) ≡ true →
+            result ≢ Ok Served.Done }
+        ensures no_agent { (result ≡ Err ServeError.NoAgent) ↔
+            IsNoAgent (length self.old.board.agents) agent }
         ensures err { OnErr result (self.new ≡ self.old) }
     {
         if agent == 0 || agent > self.core.agents() {
@@ -99,11 +113,17 @@ impl<C: Channel> Controller<C> {
     pub fn advance(&mut self) -> Result<bool, ServeError>
         ensures kept { IsKept self.new }
         ensures board { self.new.board ≡ self.old.board }
-        ensures pending { IfOk result (λ did. IsTrue did ↔ (0 < length (pending self.old.board (deeds self.old.board self.old.history)))) }
-        ensures event { IfOk result (λ did. IsTrue did → self.new ≡ record self.old { history = self.old.history ++ event.Advance ∷ [] }) }
+        ensures pending { IfOk result (λ did.
+            IsTrue did ↔
+            (0 < length (pending self.old.board (deeds self.old.board self.old.history)))) }
+        ensures event { IfOk result (λ did.
+            IsTrue did →
+            self.new ≡ record self.old { history = self.old.history ++ event.Advance ∷ [] }) }
         ensures same { IfOk result (λ did. ¬ (IsTrue did) → self.new ≡ self.old) }
         ensures err { OnErr result (self.new ≡ self.old) }
-        ensures memory { IfErr result (λ error. (error ≡ ServeError.Memory) × (pending self.old.board (deeds self.old.board self.old.history) ≢ [])) }
+        ensures memory { IfErr result (λ error.
+            (error ≡ ServeError.Memory) ×
+            (pending self.old.board (deeds self.old.board self.old.history) ≢ [])) }
     {
         match self.core.advance() {
             Ok(did) => Ok(did),
@@ -124,7 +144,8 @@ impl<C: Channel> Controller<C> {
         ensures kept { IsKept self.new }
         ensures board { self.new.board ≡ self.old.board }
         ensures steps { IfOk result (λ flushed. Flushes C.FULL agent self.old flushed self.new) }
-        ensures no_agent { (result ≡ Err ServeError.NoAgent) ↔ IsNoAgent (length self.old.board.agents) agent }
+        ensures no_agent { (result ≡ Err ServeError.NoAgent) ↔
+            IsNoAgent (length self.old.board.agents) agent }
         ensures err { OnErr result (self.new ≡ self.old) }
     {
         if agent == 0 || agent > self.core.agents() {
@@ -154,8 +175,10 @@ impl<C: Channel> Controller<C> {
         ensures links { HasLinks C.name links.now self.new }
         ensures kept { IsKept self.new }
         ensures board { self.new.board ≡ self.old.board }
-        ensures shuts { result ≢ Err ShutError.NoAgent → Shuts (ShowsClose C.caller_view C.close_shows) agent self.old result self.new }
-        ensures no_agent { (result ≡ Err ShutError.NoAgent) ↔ IsNoAgent (length self.old.board.agents) agent }
+        ensures shuts { result ≢ Err ShutError.NoAgent →
+            Shuts (ShowsClose C.caller_view C.close_shows) agent self.old result self.new }
+        ensures no_agent { (result ≡ Err ShutError.NoAgent) ↔
+            IsNoAgent (length self.old.board.agents) agent }
         ensures unchanged { result ≡ Err ShutError.NoAgent → self.new ≡ self.old }
     {
         if agent == 0 || agent > self.core.agents() {

@@ -23,9 +23,14 @@ pub fn connect<C: Channel>(
     core: Core,
 ) -> Result<(Controller<C>, Vec<Link<C>>, Vec<AgentEnd<C>>), Core>
     requires { core.history ≡ [] }
-    ensures count { IfOk result (λ r. (vec_len r.1 ≡ length core.board.agents) × (vec_len r.2 ≡ length core.board.agents)) }
-    ensures controller { IfOk result (λ r. (r.0.board ≡ core.board) × (r.0.history ≡ []) × (r.0.callees ≡ replicate (length core.board.agents) new_callee) × (r.0.callers ≡ replicate (length core.board.agents) new_caller)) }
-    ensures closed_at { IfOk result (λ r. r.0.closed_at ≡ replicate (length core.board.agents) None) }
+    ensures count { IfOk result (λ r.
+        (vec_len r.1 ≡ length core.board.agents) × (vec_len r.2 ≡ length core.board.agents)) }
+    ensures controller { IfOk result (λ r.
+        (r.0.board ≡ core.board) × (r.0.history ≡ []) ×
+        (r.0.callees ≡ replicate (length core.board.agents) new_callee) ×
+        (r.0.callers ≡ replicate (length core.board.agents) new_caller)) }
+    ensures closed_at { IfOk result (λ r.
+        r.0.closed_at ≡ replicate (length core.board.agents) None) }
     ensures kept { IfOk result (λ r. IsKept r.0) }
     ensures links { IfOk result (λ r. HasLinks C.name r.1.items r.0) }
     ensures ends { IfOk result (λ r. AreEndsOf C.name r.1.items r.2.items) }
@@ -75,9 +80,11 @@ fn make_one<C: Channel>(
     alloc: Global,
     id: u32,
 ) -> Result<(Link<C>, AgentEnd<C>, C::Callee, C::Caller), LinkError>
-    ensures platform { IfOk result (λ r. (C.callee_name r.2 ≡ C.name r.0.a2p) × (C.caller_name r.3 ≡ C.name r.0.p2a)) }
+    ensures platform { IfOk result (λ r.
+        (C.callee_name r.2 ≡ C.name r.0.a2p) × (C.caller_name r.3 ≡ C.name r.0.p2a)) }
     ensures agent { IfOk result (λ r. IsOfLink (C.name r.0.a2p) (C.name r.0.p2a) r.1) }
-    ensures new { IfOk result (λ r. IsNewAgent id r.1 × (C.callee_view r.2 ≡ new_callee) × (C.caller_view r.3 ≡ new_caller)) }
+    ensures new { IfOk result (λ r.
+        IsNewAgent id r.1 × (C.callee_view r.2 ≡ new_callee) × (C.caller_view r.3 ≡ new_caller)) }
 {
     let (a2p, caller, callee) = C::make(alloc)?;
     let (p2a, sender, receiver) = C::make(alloc)?;

@@ -33,7 +33,8 @@ pub(crate) fn serve_one<C: Channel>(
     ensures name { C.callee_name callee.new ≡ C.callee_name callee.old }
     ensures board { core.new.board ≡ core.old.board }
     ensures legal { IsLegal core.new.board core.new.history }
-    ensures step { ServesOne core.old.board agent core.old.history (C.callee_view callee.old) result core.new.history (C.callee_view callee.new) }
+    ensures step { ServesOne core.old.board agent core.old.history
+        (C.callee_view callee.old) result core.new.history (C.callee_view callee.new) }
 {
     if !a2p.take_into(callee, &mut room.frame) {
         return Served::Nothing;
@@ -52,7 +53,9 @@ fn answer_malformed<C: Channel>(a2p: &C, callee: &mut C::Callee)
     requires name { C.callee_name callee.old ≡ C.name a2p.now }
     requires owes { Owes (C.callee_view callee.old) }
     ensures name { C.callee_name callee.new ≡ C.callee_name callee.old }
-    ensures answered { C.callee_view callee.new ≡ record (C.callee_view callee.old) { answered = (C.callee_view callee.old).answered ++ ChannelError ∷ [] } }
+    ensures answered { C.callee_view callee.new ≡
+        record (C.callee_view callee.old)
+        { answered = (C.callee_view callee.old).answered ++ ChannelError ∷ [] } }
 {
     a2p.answer(callee, &Answer::ChannelError);
 }
@@ -74,7 +77,8 @@ pub(crate) fn flush_one<C: Channel>(
     ensures name { C.caller_name caller.new ≡ C.caller_name caller.old }
     ensures board { core.new.board ≡ core.old.board }
     ensures legal { IsLegal core.new.board core.new.history }
-    ensures step { CollectsAndFlushes C.FULL core.old.board agent core.old.history (C.caller_view caller.old) result core.new.history (C.caller_view caller.new) }
+    ensures step { CollectsAndFlushes C.FULL core.old.board agent core.old.history
+        (C.caller_view caller.old) result core.new.history (C.caller_view caller.new) }
 {
     let _ = p2a.collect_into(caller, &mut room.release);
     if C::outstanding(caller) {
@@ -108,9 +112,11 @@ pub(crate) fn shut_one<C: Channel>(
     requires owes { ¬ (Owes (C.callee_view callee.old)) }
     ensures a2p { C.callee_name callee.new ≡ C.callee_name callee.old }
     ensures p2a { C.caller_name caller.new ≡ C.caller_name caller.old }
-    ensures closes { C.callee_view callee.new ≡ record (C.callee_view callee.old) { closed = true } }
+    ensures closes { C.callee_view callee.new ≡
+        record (C.callee_view callee.old) { closed = true } }
     ensures closed_at { closed_at.new ≡ option_or closed_at.old (Some events) }
-    ensures step { CollectsAndShuts (ShowsClose C.caller_view C.close_shows) (C.caller_view caller.old) result (C.caller_view caller.new) }
+    ensures step { CollectsAndShuts (ShowsClose C.caller_view C.close_shows)
+        (C.caller_view caller.old) result (C.caller_view caller.new) }
 {
     let Ok(()) = link.a2p.close_callee(callee) else {
         return Err(ShutError::InService);

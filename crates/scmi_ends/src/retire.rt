@@ -27,13 +27,16 @@ impl<C: Channel> Controller<C> {
     /// made for it, where no delayed response is lost.
     pub fn retire(self, links: Vec<Link<C>>, agents: Vec<AgentEnd<C>>) -> Trace
         requires links { HasLinks C.name links.items self }
-        requires a2p { map (λ agent. agent.a2p_name) agents.items ≡ names_of_a2p C.name links.items }
-        requires p2a { map (λ agent. agent.p2a_name) agents.items ≡ names_of_p2a C.name links.items }
+        requires a2p { map (λ agent. agent.a2p_name) agents.items ≡
+            names_of_a2p C.name links.items }
+        requires p2a { map (λ agent. agent.p2a_name) agents.items ≡
+            names_of_p2a C.name links.items }
         ensures history { result.events ≡ self.history }
         ensures legal { IsLegal self.board result.events }
         ensures bounds { HasBounds self.board (deeds self.board result.events) }
         ensures responses { HasResponses self.board (deeds self.board result.events) }
-        ensures headline { Headlines self.board result.events 1 agents.items self.callees self.callers }
+        ensures headline { Headlines self.board result.events 1 agents.items self.callees
+            self.callers }
         ensures shut { StayShut result.events self.callees self.closed_at }
     {
         self.gather_ends(links, agents).into_trace()
@@ -42,11 +45,14 @@ impl<C: Channel> Controller<C> {
     // Gathers all channels, which leaves the core.
     fn gather_ends(self, links: Vec<Link<C>>, agents: Vec<AgentEnd<C>>) -> Core
         requires links { HasLinks C.name links.items self }
-        requires a2p { map (λ agent. agent.a2p_name) agents.items ≡ names_of_a2p C.name links.items }
-        requires p2a { map (λ agent. agent.p2a_name) agents.items ≡ names_of_p2a C.name links.items }
+        requires a2p { map (λ agent. agent.a2p_name) agents.items ≡
+            names_of_a2p C.name links.items }
+        requires p2a { map (λ agent. agent.p2a_name) agents.items ≡
+            names_of_p2a C.name links.items }
         ensures board { result.board ≡ self.board }
         ensures history { result.history ≡ self.history }
-        ensures headline { Headlines self.board self.history 1 agents.items self.callees self.callers }
+        ensures headline { Headlines self.board self.history 1 agents.items self.callees
+            self.callers }
         ensures shut { StayShut self.history self.callees self.closed_at }
     {
         let Controller {
@@ -67,10 +73,14 @@ fn gather_all<C: Channel>(
     mut callees: Vec<C::Callee>,
     mut callers: Vec<C::Caller>,
 )
-    requires agents { AllZip (λ link agent. IsOfLink (C.name link.a2p) (C.name link.p2a) agent) links.items agents.items }
-    requires callees { AllZip (λ link callee. C.callee_name callee ≡ C.name link.a2p) links.items callees.items }
-    requires callers { AllZip (λ link caller. C.caller_name caller ≡ C.name link.p2a) links.items callers.items }
-    ensures { AllGathered agents.items (map C.callee_view callees.items) (map C.caller_view callers.items) }
+    requires agents { AllZip (λ link agent.
+        IsOfLink (C.name link.a2p) (C.name link.p2a) agent) links.items agents.items }
+    requires callees { AllZip (λ link callee.
+        C.callee_name callee ≡ C.name link.a2p) links.items callees.items }
+    requires callers { AllZip (λ link caller.
+        C.caller_name caller ≡ C.name link.p2a) links.items callers.items }
+    ensures { AllGathered agents.items (map C.callee_view callees.items)
+        (map C.caller_view callers.items) }
 {
     'ends: while !links.is_empty() {
         let Link { a2p, p2a } = links.remove(0);

@@ -76,12 +76,14 @@ impl Ahead {
     /// Reads ahead, at most once. Nothing may be left from before.
     pub fn fill<R: CountedRead>(&mut self, reader: &mut R) -> Result<(), ReadError>
         requires { self.old ≡ [] }
-        ensures ok { OnOk result (Consumes (R.remaining reader.old) (R.remaining reader.new) self.new) }
+        ensures ok { OnOk result
+            (Consumes (R.remaining reader.old) (R.remaining reader.new) self.new) }
         ensures end { OnOk result (self.new ≡ [] → IsAtEnd (R.remaining reader.new)) }
         ensures err { OnErr result (Keeps (R.remaining reader.old) (R.remaining reader.new)) }
         ensures none { OnErr result (self.new ≡ []) }
         ensures reads { R.reads reader.new ≤ R.reads reader.old + 1 }
-        ensures failure { R.since_failure reader.old ≡ 0 → R.since_failure reader.new ≡ failures result }
+        ensures failure { R.since_failure reader.old ≡ 0 →
+            R.since_failure reader.new ≡ failures result }
     {
         self.start = 0;
         self.end = 0;

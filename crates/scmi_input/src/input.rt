@@ -76,7 +76,8 @@ impl<R: CountedRead + Drop> Input<R> {
         ensures stops { StopsAtFailure result self.old.since_failure self.new.since_failure }
         ensures line { IfOk result (λ kept. IfSome self.old.left (λ input.
             kept.items ≡ take KEPT_BYTES (first_line input))) }
-        ensures rest { OnOk result (IfSome self.old.left (λ input. self.new.left ≡ Some (after_line input))) }
+        ensures rest { OnOk result
+            (IfSome self.old.left (λ input. self.new.left ≡ Some (after_line input))) }
         ensures size { IsErrOf result InputError.Size →
             IfSome self.old.left (λ input. INPUT_BYTES < length (first_line input)) }
         ensures errors { IfErr result (λ e. (e ≡ InputError.Size) ⊎ (e ≡ InputError.Read)) }
@@ -120,7 +121,8 @@ fn refill<R: CountedRead>(
 ) -> Result<(), InputError>
     requires { ahead.old ≡ [] }
     ensures reads { R.reads reader.new + tries.new ≤ R.reads reader.old + tries.old }
-    ensures stops { StopsAtFailure result (R.since_failure reader.old) (R.since_failure reader.new) }
+    ensures stops { StopsAtFailure result (R.since_failure reader.old)
+        (R.since_failure reader.new) }
     ensures bytes { OnOk result
         (Keeps (R.remaining reader.old) (prepend_known ahead.new (R.remaining reader.new))) }
     ensures end { OnOk result (ahead.new ≡ [] → IsAtEnd (R.remaining reader.new)) }

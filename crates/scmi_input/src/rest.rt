@@ -17,8 +17,10 @@ const PIECE_BYTES: usize = 4096;
 /// not enough; `Memory` where memory is refused.
 pub fn read_rest<R: CountedRead>(alloc: Global, reader: &mut R) -> Result<Vec<u8>, InputError>
     ensures reads { R.reads reader.new ≤ R.reads reader.old + (INPUT_BYTES + 1) }
-    ensures stops { StopsAtFailure result (R.since_failure reader.old) (R.since_failure reader.new) }
-    ensures whole { IfOk result (λ all. IfSome (R.remaining reader.old) (λ input. all.items ≡ input)) }
+    ensures stops { StopsAtFailure result (R.since_failure reader.old)
+        (R.since_failure reader.new) }
+    ensures whole { IfOk result (λ all.
+        IfSome (R.remaining reader.old) (λ input. all.items ≡ input)) }
     ensures small { IfOk result (λ all. vec_len all ≤ INPUT_BYTES) }
     ensures size { IsErrOf result InputError.Size →
         IfSome (R.remaining reader.old) (λ input. INPUT_BYTES < length input) }

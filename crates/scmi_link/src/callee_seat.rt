@@ -38,7 +38,8 @@ impl CalleeSeat {
     // stands in the ring, and dropped there.
     pub(crate) fn take_into(&mut self, frame: &mut Frame) -> bool
         ensures rings { SameCalleeRings self.old self.new }
-        ensures takes { Takes (callee_seat_view self.old) (frame_if result frame.new) (callee_seat_view self.new) }
+        ensures takes { Takes (callee_seat_view self.old) (frame_if result frame.new)
+            (callee_seat_view self.new) }
         ensures stays { result ≡ false → frame.new ≡ frame.old }
     {
         self.takes = self.takes.wrapping_add(1);
@@ -55,7 +56,9 @@ impl CalleeSeat {
     pub(crate) fn answer(&mut self, answer: &Answer)
         requires { Owes (callee_seat_view self.old) }
         ensures rings { SameCalleeRings self.old self.new }
-        ensures answered { callee_seat_view self.new ≡ record (callee_seat_view self.old) { answered = (callee_seat_view self.old).answered ++ answer.now ∷ [] } }
+        ensures answered { callee_seat_view self.new ≡
+            record (callee_seat_view self.old)
+            { answered = (callee_seat_view self.old).answered ++ answer.now ∷ [] } }
     {
         self.answers.push_reserved(Note::Said(answer.copy()));
         self.owing = false;
@@ -65,7 +68,9 @@ impl CalleeSeat {
     pub(crate) fn reply(&mut self, message: &Message)
         requires { Owes (callee_seat_view self.old) }
         ensures rings { SameCalleeRings self.old self.new }
-        ensures answered { callee_seat_view self.new ≡ record (callee_seat_view self.old) { answered = (callee_seat_view self.old).answered ++ Reply message.now ∷ [] } }
+        ensures answered { callee_seat_view self.new ≡
+            record (callee_seat_view self.old)
+            { answered = (callee_seat_view self.old).answered ++ Reply message.now ∷ [] } }
     {
         let mut own = Message::default();
         own.copy_from(message);
@@ -76,7 +81,8 @@ impl CalleeSeat {
     // The close holds also where the ring takes no note.
     pub(crate) fn close(&mut self) -> Result<(), CloseError>
         ensures rings { SameCalleeRings self.old self.new }
-        ensures closes { ClosesCallee (callee_seat_view self.old) result (callee_seat_view self.new) }
+        ensures closes { ClosesCallee (callee_seat_view self.old) result
+            (callee_seat_view self.new) }
     {
         if self.owing {
             return Err(CloseError::InService);

@@ -28,7 +28,8 @@ pub struct CallerSeat {
     pub(crate) left: bool,
     // Its calls of `collect`, modulo 2^64.
     pub(crate) collects: u64,
-    ghost counted: { length (sent frames) ≡ length (said (received answers)) + (bit waiting + bit left) },
+    ghost counted: { length (sent frames) ≡ length (said (received answers)) +
+        (bit waiting + bit left) },
     ghost one: { waiting ≡ true → left ≡ false },
     ghost quiet: { closed ≡ true → waiting ≡ false },
     ghost heard: { told ≡ has_closing (received answers) },
@@ -76,7 +77,8 @@ impl CallerSeat {
         ensures idle { OnOk result (self.new.waiting ≡ false) }
         ensures unshut { OnOk result (is_shut (caller_seat_view self.new) ≡ false) }
         ensures none_outstanding { OnOk result (¬ (IsOutstanding (caller_seat_view self.old))) }
-        ensures refused { IfErr result (λ reason. RefusesPost true (caller_seat_view self.old) reason (caller_seat_view self.new)) }
+        ensures refused { IfErr result (λ reason.
+            RefusesPost true (caller_seat_view self.old) reason (caller_seat_view self.new)) }
     {
         if self.waiting {
             return Err(PostError::Outstanding);
@@ -94,9 +96,11 @@ impl CallerSeat {
     // dropped there.
     pub(crate) fn collect_into(&mut self, answer: &mut Answer) -> Looked
         ensures rings { SameCallerRings self.old self.new }
-        ensures collects { Collects (caller_seat_view self.old) (collected_by result answer.new) (caller_seat_view self.new) }
+        ensures collects { Collects (caller_seat_view self.old) (collected_by result answer.new)
+            (caller_seat_view self.new) }
         ensures stays { ¬ (result ≡ Looked.Got) → answer.new ≡ answer.old }
-        ensures shut { is_shut (caller_seat_view self.old) ≡ true → ¬ IsOutstanding (caller_seat_view self.old) → result ≡ Looked.Closed }
+        ensures shut { is_shut (caller_seat_view self.old) ≡ true →
+            ¬ IsOutstanding (caller_seat_view self.old) → result ≡ Looked.Closed }
     {
         self.collects = self.collects.wrapping_add(1);
         if !self.waiting {
@@ -131,7 +135,8 @@ impl CallerSeat {
     fn see_closing_note(&mut self) -> bool
         requires { self.old.waiting ≡ false }
         ensures rings { SameCallerRings self.old self.new }
-        ensures view { caller_seat_view self.new ≡ record (caller_seat_view self.old) { told = result } }
+        ensures view { caller_seat_view self.new ≡
+            record (caller_seat_view self.old) { told = result } }
         ensures kept { self.old.told ≡ true → result ≡ true }
     {
         if self.told || self.answers.is_empty() {
@@ -150,7 +155,8 @@ impl CallerSeat {
     // A frame in the ring cannot be taken back, so a close waits for its answer.
     pub(crate) fn close(&mut self) -> Result<Closing, CloseError>
         ensures rings { SameCallerRings self.old self.new }
-        ensures closes { ClosesCaller (caller_seat_view self.old) result (caller_seat_view self.new) }
+        ensures closes { ClosesCaller (caller_seat_view self.old) result
+            (caller_seat_view self.new) }
         ensures shows { IsIdleOrInService result }
     {
         if self.waiting {
@@ -167,7 +173,8 @@ impl CallerSeat {
 fn push_message(frames: &mut Producer<Frame>, header: Header, payload: &Payload)
     requires { 0 < known_free frames.old }
     ensures ring { SameProducer frames.old frames.new }
-    ensures sent { sent frames.new ≡ sent frames.old ++ Good (record { header = header; payload = payload.now }) ∷ [] }
+    ensures sent { sent frames.new ≡
+        sent frames.old ++ Good (record { header = header; payload = payload.now }) ∷ [] }
 {
     let mut message = Message::default();
     message.header = header;

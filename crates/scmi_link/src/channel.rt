@@ -59,8 +59,10 @@ pub trait Channel: Sync + Drop {
 
     /// A channel and its two ends, with nothing posted. `Memory` where there was none for it.
     fn make(alloc: Global) -> Result<(Self, Self::Caller, Self::Callee), LinkError>
-        ensures made { IfOk result (λ r. (caller_name r.1 ≡ name r.0) × (callee_name r.2 ≡ name r.0)) }
-        ensures fresh { IfOk result (λ r. (caller_view r.1 ≡ new_caller) × (callee_view r.2 ≡ new_callee)) };
+        ensures made { IfOk result (λ r.
+            (caller_name r.1 ≡ name r.0) × (callee_name r.2 ≡ name r.0)) }
+        ensures fresh { IfOk result (λ r.
+            (caller_view r.1 ≡ new_caller) × (callee_view r.2 ≡ new_callee)) };
 
     /// Posts a message.
     ///
@@ -71,7 +73,8 @@ pub trait Channel: Sync + Drop {
     fn post(&self, caller: &mut Self::Caller, message: &Message) -> Result<(), PostError>
         requires { caller_name caller.old ≡ name self.now }
         ensures name { caller_name caller.new ≡ caller_name caller.old }
-        ensures posts { Posts FULL (caller_view caller.old) (Good message.now) result (caller_view caller.new) }
+        ensures posts { Posts FULL (caller_view caller.old) (Good message.now) result
+            (caller_view caller.new) }
     {
         self.post_parts(caller, message.header, &message.payload)
     }
@@ -100,7 +103,8 @@ pub trait Channel: Sync + Drop {
         requires { caller_name caller.old ≡ name self.now }
         ensures name { caller_name caller.new ≡ caller_name caller.old }
         ensures well_formed { (result ≡ Err PostError.WellFormed) ↔ (is_well_formed length ≡ true) }
-        ensures unchanged { is_well_formed length ≡ true → caller_view caller.new ≡ caller_view caller.old }
+        ensures unchanged { is_well_formed length ≡ true →
+            caller_view caller.new ≡ caller_view caller.old }
         ensures posts { is_well_formed length ≡ false
             → Posts FULL (caller_view caller.old) (Malformed length header) result (caller_view caller.new) };
 
@@ -118,7 +122,8 @@ pub trait Channel: Sync + Drop {
         requires { caller_name caller.old ≡ name self.now }
         ensures name { caller_name caller.new ≡ caller_name caller.old }
         ensures collects { Collects (caller_view caller.old) result (caller_view caller.new) }
-        ensures shut { is_shut (caller_view caller.old) ≡ true → ¬ IsOutstanding (caller_view caller.old) → result ≡ Collected.Closed }
+        ensures shut { is_shut (caller_view caller.old) ≡ true →
+            ¬ IsOutstanding (caller_view caller.old) → result ≡ Collected.Closed }
     {
         let mut answer = Answer::Released;
         match self.collect_into(caller, &mut answer) {
@@ -133,9 +138,11 @@ pub trait Channel: Sync + Drop {
     fn collect_into(&self, caller: &mut Self::Caller, answer: &mut Answer) -> Looked
         requires { caller_name caller.old ≡ name self.now }
         ensures name { caller_name caller.new ≡ caller_name caller.old }
-        ensures collects { Collects (caller_view caller.old) (collected_by result answer.new) (caller_view caller.new) }
+        ensures collects { Collects (caller_view caller.old) (collected_by result answer.new)
+            (caller_view caller.new) }
         ensures stays { ¬ (result ≡ Looked.Got) → answer.new ≡ answer.old }
-        ensures shut { is_shut (caller_view caller.old) ≡ true → ¬ IsOutstanding (caller_view caller.old) → result ≡ Looked.Closed };
+        ensures shut { is_shut (caller_view caller.old) ≡ true →
+            ¬ IsOutstanding (caller_view caller.old) → result ≡ Looked.Closed };
 
     /// The frame that is posted. `None` where nothing is posted, an end has closed, or the callee
     /// still owes an answer.
@@ -160,7 +167,8 @@ pub trait Channel: Sync + Drop {
     fn take_into(&self, callee: &mut Self::Callee, frame: &mut Frame) -> bool
         requires { callee_name callee.old ≡ name self.now }
         ensures name { callee_name callee.new ≡ callee_name callee.old }
-        ensures takes { Takes (callee_view callee.old) (frame_if result frame.new) (callee_view callee.new) }
+        ensures takes { Takes (callee_view callee.old) (frame_if result frame.new)
+            (callee_view callee.new) }
         ensures stays { result ≡ false → frame.new ≡ frame.old };
 
     /// Whether the last frame that was taken has no answer yet.
@@ -172,14 +180,18 @@ pub trait Channel: Sync + Drop {
         requires name { callee_name callee.old ≡ name self.now }
         requires owes { Owes (callee_view callee.old) }
         ensures name { callee_name callee.new ≡ callee_name callee.old }
-        ensures answered { callee_view callee.new ≡ record (callee_view callee.old) { answered = (callee_view callee.old).answered ++ answer.now ∷ [] } };
+        ensures answered { callee_view callee.new ≡
+            record (callee_view callee.old)
+            { answered = (callee_view callee.old).answered ++ answer.now ∷ [] } };
 
     /// Answers the frame that was taken last by a reply, as `answer`.
     fn reply(&self, callee: &mut Self::Callee, message: &Message)
         requires name { callee_name callee.old ≡ name self.now }
         requires owes { Owes (callee_view callee.old) }
         ensures name { callee_name callee.new ≡ callee_name callee.old }
-        ensures answered { callee_view callee.new ≡ record (callee_view callee.old) { answered = (callee_view callee.old).answered ++ Reply message.now ∷ [] } }
+        ensures answered { callee_view callee.new ≡
+            record (callee_view callee.old)
+            { answered = (callee_view callee.old).answered ++ Reply message.now ∷ [] } }
     {
         self.answer(callee, &Answer::Reply(message.copy()));
     }

@@ -10,7 +10,8 @@ use rtrb::Consumer;
 pub(crate) fn drop_first<T: Drop>(ring: &mut Consumer<T>)
     requires { 0 < length (known_items ring.old) }
     ensures ring { SameConsumer ring.old ring.new }
-    ensures dropped { (item : T) × (received ring.new ≡ received ring.old ++ item ∷ []) × (known_items ring.old ≡ item ∷ known_items ring.new) }
+    ensures dropped { (item : T) × (received ring.new ≡ received ring.old ++ item ∷ []) ×
+        (known_items ring.old ≡ item ∷ known_items ring.new) }
 {
     let _ = ring.pop_known();
 }

@@ -203,7 +203,9 @@ impl<'a> Recorder<'a> {
         step: &Step,
         collected: &Collected,
     ) -> Result<(), AllocError>
-        ensures { OnOk result (self.new ≡ self.old ++ exchange_signs agent collected.now ++ collected_signs agent collected.now) }
+        ensures { OnOk result
+            (self.new ≡
+            self.old ++ exchange_signs agent collected.now ++ collected_signs agent collected.now) }
     {
         let after = slot.saturating_add(1);
         self.sent(agent, slot, step, reply_token(collected))?;

@@ -37,7 +37,8 @@ pub fn run_once<R: CountedRead, W: Write>(
     ensures errors { IfErr result (λ e. (e ≡ RunError.Size) ⊎ (e ≡ RunError.Read) ⊎
         (e ≡ RunError.Area) ⊎ (e ≡ RunError.Memory) ⊎ (e ≡ RunError.Write)) }
     ensures reads { R.reads reader.new ≤ R.reads reader.old + (INPUT_BYTES + 1) }
-    ensures stops { StopsAtFailure result (R.since_failure reader.old) (R.since_failure reader.new) }
+    ensures stops { StopsAtFailure result (R.since_failure reader.old)
+        (R.since_failure reader.new) }
 {
     let bytes = read_rest(alloc, reader)?;
     let mut area = read_area_line(&bytes)?;
@@ -59,7 +60,8 @@ fn read_area_line(input: &[u8]) -> Result<[u8; AREA_BYTES], RunError>
 
 /// Writes an area in lower-case digits, and a line feed.
 fn write_area_line<W: Write>(area: &[u8; AREA_BYTES], writer: &mut W) -> Result<(), RunError>
-    ensures ok { OnOk result (Appends (W.contents writer.old) (W.contents writer.new) (area_text area.now)) }
+    ensures ok { OnOk result (Appends (W.contents writer.old) (W.contents writer.new)
+        (area_text area.now)) }
     ensures err { IfErr result (λ e. e ≡ RunError.Write) }
 {
     let mut digits = [0u8; 2 * AREA_BYTES];

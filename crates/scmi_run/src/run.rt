@@ -47,8 +47,10 @@ pub fn run_input<T: Threads + Wait + Sync, G: Gate, R: CountedRead + Drop, W: Wr
     input: &mut Input<R>,
     writer: &mut W,
 ) -> u8
-    ensures answer { result ≡ 0 → AnswersOnce input.old.left (W.contents writer.old) (W.contents writer.new) }
-    ensures text { result ≡ 0 → RunsThreads input.old.left (W.contents writer.old) (W.contents writer.new) }
+    ensures answer { result ≡ 0 →
+        AnswersOnce input.old.left (W.contents writer.old) (W.contents writer.new) }
+    ensures text { result ≡ 0 →
+        RunsThreads input.old.left (W.contents writer.old) (W.contents writer.new) }
     ensures reads { input.new.reads ≤ input.old.reads + 2 * (INPUT_BYTES + 1) }
     ensures stops { input.old.since_failure ≡ 0 → input.new.since_failure ≤ 1 }
 {
@@ -97,7 +99,8 @@ fn run_in<T: Threads + Wait + Sync, G: Gate, R: CountedRead, W: Write>(
         IsTextOfRun (may_be_full kind) (W.contents writer.old) (W.contents writer.new)) }
     ensures kept { IfErr result (λ e. status_of e ≡ 2 → writer.new ≡ writer.old) }
     ensures reads { R.reads reader.new ≤ R.reads reader.old + (INPUT_BYTES + 1) }
-    ensures stops { StopsAtFailure result (R.since_failure reader.old) (R.since_failure reader.new) }
+    ensures stops { StopsAtFailure result (R.since_failure reader.old)
+        (R.since_failure reader.new) }
 {
     match mode {
         Mode::Once => run_once(alloc, reader, writer),

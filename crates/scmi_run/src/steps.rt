@@ -38,7 +38,8 @@ pub fn run_steps<R: CountedRead, W: Write>(
         (steps : List Step) × AreStepLines steps (W.contents writer.old) (W.contents writer.new) }
     ensures kept { IfErr result (λ e. status_of e ≡ 2 → writer.new ≡ writer.old) }
     ensures reads { R.reads reader.new ≤ R.reads reader.old + (INPUT_BYTES + 1) }
-    ensures stops { StopsAtFailure result (R.since_failure reader.old) (R.since_failure reader.new) }
+    ensures stops { StopsAtFailure result (R.since_failure reader.old)
+        (R.since_failure reader.new) }
 {
     let bytes = read_rest(alloc, reader)?;
     let mut lines = Lines::new(&bytes);
@@ -58,7 +59,8 @@ fn step_through<C: Channel, W: Write>(
     writer: &mut W,
 ) -> Result<(), RunError>
     requires { All (IsStepOf (length plan.agents)) steps.now }
-    ensures text { OnOk result (IsTextOfSteps steps.now (W.contents writer.old) (W.contents writer.new)) }
+    ensures text { OnOk result
+        (IsTextOfSteps steps.now (W.contents writer.old) (W.contents writer.new)) }
     ensures memory { IsErrOf result RunError.Memory →
         AreStepLines steps.now (W.contents writer.old) (W.contents writer.new) }
     ensures errors { IfErr result (λ e. (e ≡ RunError.Memory) ⊎ (e ≡ RunError.Write)) }
@@ -72,7 +74,8 @@ fn step_through<C: Channel, W: Write>(
 }
 
 fn write_line<W: Write>(writer: &mut W, line: &StepLine) -> Result<(), RunError>
-    ensures text { OnOk result (Appends (W.contents writer.old) (W.contents writer.new) (step_text line.now)) }
+    ensures text { OnOk result (Appends (W.contents writer.old) (W.contents writer.new)
+        (step_text line.now)) }
     ensures errors { IfErr result (λ e. e ≡ RunError.Write) }
 {
     write_step_line(writer, line).map_err(|_| RunError::Write)

@@ -37,7 +37,8 @@ pub fn run_threads<T: Threads + Wait + Sync, G: Gate, R: CountedRead, W: Write>(
     writer: &mut W,
     kind: Kind,
 ) -> Result<(), RunError>
-    ensures text { OnOk result (IsTextOfRun (may_be_full kind) (W.contents writer.old) (W.contents writer.new)) }
+    ensures text { OnOk result
+        (IsTextOfRun (may_be_full kind) (W.contents writer.old) (W.contents writer.new)) }
     ensures limit { IsErrOf result RunError.Limit →
         IsTextOfStoppedRun (may_be_full kind) (W.contents writer.old) (W.contents writer.new) }
     ensures memory { IsErrOf result RunError.Memory →
@@ -45,7 +46,8 @@ pub fn run_threads<T: Threads + Wait + Sync, G: Gate, R: CountedRead, W: Write>(
         IsTextOfStoppedRun (may_be_full kind) (W.contents writer.old) (W.contents writer.new) }
     ensures kept { IfErr result (λ e. status_of e ≡ 2 → writer.new ≡ writer.old) }
     ensures reads { R.reads reader.new ≤ R.reads reader.old + (INPUT_BYTES + 1) }
-    ensures stops { StopsAtFailure result (R.since_failure reader.old) (R.since_failure reader.new) }
+    ensures stops { StopsAtFailure result (R.since_failure reader.old)
+        (R.since_failure reader.new) }
 {
     let bytes = read_rest(alloc, reader)?;
     let mut lines = Lines::new(&bytes);
@@ -69,7 +71,8 @@ fn write_run<C: Channel, T: Threads + Wait + Sync, G: Gate, W: Write>(
     writer: &mut W,
 ) -> Result<(), RunError>
     requires scripts { AreScriptsOf (length plan.agents) scripts.now }
-    ensures text { OnOk result (IsTextOfRun C.FULL (W.contents writer.old) (W.contents writer.new)) }
+    ensures text { OnOk result
+        (IsTextOfRun C.FULL (W.contents writer.old) (W.contents writer.new)) }
     ensures limit { IsErrOf result RunError.Limit →
         IsTextOfStoppedRun C.FULL (W.contents writer.old) (W.contents writer.new) }
     ensures memory { IsErrOf result RunError.Memory →
@@ -88,7 +91,8 @@ fn write_run<C: Channel, T: Threads + Wait + Sync, G: Gate, W: Write>(
 /// Writes the lines of each agent, numbered from 1.
 fn write_logs<W: Write>(writer: &mut W, agents: u32, logs: &[AgentLog]) -> Result<(), RunError>
     requires { length logs.now ≡ agents }
-    ensures text { OnOk result (Appends (W.contents writer.old) (W.contents writer.new) (logs_text 1 logs.now)) }
+    ensures text { OnOk result (Appends (W.contents writer.old) (W.contents writer.new)
+        (logs_text 1 logs.now)) }
     ensures err { IfErr result (λ e. e ≡ RunError.Write) }
 {
     'logs: for i in 0..agents {

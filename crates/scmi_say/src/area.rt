@@ -12,7 +12,8 @@ use std::io::Write;
 
 /// Writes what an area is, as `write_told` does of what `tell` gives.
 pub fn write_area<W: Write>(writer: &mut W, area: &[u8; AREA_BYTES]) -> io::Result<()>
-    ensures text { OnOk result (Appends (W.contents writer.old) (W.contents writer.new) (told_text (told area.now))) }
+    ensures text { OnOk result (Appends (W.contents writer.old) (W.contents writer.new)
+        (told_text (told area.now))) }
 {
     write_told(writer, &tell(area))
 }

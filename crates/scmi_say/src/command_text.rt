@@ -18,7 +18,8 @@ pub(crate) fn write_command<W: Write>(
     message: &Message,
     request: &Result<Command, Status>,
 ) -> io::Result<()>
-    ensures { OnOk result (Appends (W.contents writer.old) (W.contents writer.new) (command_text message.now request.now)) }
+    ensures { OnOk result (Appends (W.contents writer.old) (W.contents writer.new)
+        (command_text message.now request.now)) }
 {
     write_command_line(writer, message, request)?;
     write_request_fields(writer, request)?;
@@ -31,7 +32,8 @@ fn write_command_line<W: Write>(
     message: &Message,
     request: &Result<Command, Status>,
 ) -> io::Result<()>
-    ensures { OnOk result (Appends (W.contents writer.old) (W.contents writer.new) (command_line message.now request.now)) }
+    ensures { OnOk result (Appends (W.contents writer.old) (W.contents writer.new)
+        (command_line message.now request.now)) }
 {
     write_state(writer, false)?;
     write_text(writer, "command ")?;
@@ -47,7 +49,8 @@ fn write_count<W: Write>(
     message: &Message,
     request: &Result<Command, Status>,
 ) -> io::Result<()>
-    ensures { OnOk result (Appends (W.contents writer.old) (W.contents writer.new) (count_text message.now request.now)) }
+    ensures { OnOk result (Appends (W.contents writer.old) (W.contents writer.new)
+        (count_text message.now request.now)) }
 {
     match request {
         Err(Status::ProtocolError) => {
@@ -89,7 +92,8 @@ fn write_request_fields<W: Write>(
     writer: &mut W,
     request: &Result<Command, Status>,
 ) -> io::Result<()>
-    ensures { OnOk result (Appends (W.contents writer.old) (W.contents writer.new) (request_fields_text request.now)) }
+    ensures { OnOk result (Appends (W.contents writer.old) (W.contents writer.new)
+        (request_fields_text request.now)) }
 {
     match request {
         Ok(command) => {
@@ -106,7 +110,8 @@ pub(crate) fn write_withdrawn<W: Write>(
     message: &Message,
     request: &Result<Command, Status>,
 ) -> io::Result<()>
-    ensures { OnOk result (Appends (W.contents writer.old) (W.contents writer.new) (withdrawn_text message.now request.now)) }
+    ensures { OnOk result (Appends (W.contents writer.old) (W.contents writer.new)
+        (withdrawn_text message.now request.now)) }
 {
     write_withdrawn_line(writer, message, request)?;
     write_request_fields(writer, request)?;
@@ -119,7 +124,8 @@ fn write_withdrawn_line<W: Write>(
     message: &Message,
     request: &Result<Command, Status>,
 ) -> io::Result<()>
-    ensures { OnOk result (Appends (W.contents writer.old) (W.contents writer.new) (withdrawn_line message.now request.now)) }
+    ensures { OnOk result (Appends (W.contents writer.old) (W.contents writer.new)
+        (withdrawn_line message.now request.now)) }
 {
     let header = &message.header;
     match request {
@@ -131,7 +137,8 @@ fn write_withdrawn_line<W: Write>(
 /// Writes the first line of a command that was withdrawn.
 #[tactic(auto, unfolding(crate::specs::Text::taken_back_line))]
 fn write_taken_back<W: Write>(writer: &mut W, header: &Header) -> io::Result<()>
-    ensures { OnOk result (Appends (W.contents writer.old) (W.contents writer.new) (taken_back_line header.now)) }
+    ensures { OnOk result (Appends (W.contents writer.old) (W.contents writer.new)
+        (taken_back_line header.now)) }
 {
     write_state(writer, true)?;
     write_text(writer, "command ")?;
@@ -144,7 +151,8 @@ fn write_taken_back<W: Write>(writer: &mut W, header: &Header) -> io::Result<()>
 /// Writes the first line of a message of another length than its command and the reply to it.
 #[tactic(auto, unfolding(crate::specs::Text::misfit_line))]
 fn write_misfit_line<W: Write>(writer: &mut W, message: &Message) -> io::Result<()>
-    ensures { OnOk result (Appends (W.contents writer.old) (W.contents writer.new) (misfit_line message.now)) }
+    ensures { OnOk result (Appends (W.contents writer.old) (W.contents writer.new)
+        (misfit_line message.now)) }
 {
     write_misfit_start(writer, message)?;
     write_misfit_end(writer, &message.header)
@@ -152,7 +160,8 @@ fn write_misfit_line<W: Write>(writer: &mut W, message: &Message) -> io::Result<
 
 #[tactic(auto, unfolding(crate::specs::Text::misfit_end))]
 fn write_misfit_end<W: Write>(writer: &mut W, header: &Header) -> io::Result<()>
-    ensures { OnOk result (Appends (W.contents writer.old) (W.contents writer.new) (misfit_end header.now)) }
+    ensures { OnOk result (Appends (W.contents writer.old) (W.contents writer.new)
+        (misfit_end header.now)) }
 {
     write_misfit_name(writer, header.protocol, header.id)?;
     write_token(writer, header)?;
@@ -161,7 +170,8 @@ fn write_misfit_end<W: Write>(writer: &mut W, header: &Header) -> io::Result<()>
 
 #[tactic(auto, unfolding(crate::specs::Text::misfit_name))]
 fn write_misfit_name<W: Write>(writer: &mut W, protocol: u8, id: u8) -> io::Result<()>
-    ensures { OnOk result (Appends (W.contents writer.old) (W.contents writer.new) (misfit_name protocol id)) }
+    ensures { OnOk result (Appends (W.contents writer.old) (W.contents writer.new)
+        (misfit_name protocol id)) }
 {
     write_message_name(writer, protocol, id)?;
     write_text(writer, " and no reply to it has, ")
@@ -169,7 +179,8 @@ fn write_misfit_name<W: Write>(writer: &mut W, protocol: u8, id: u8) -> io::Resu
 
 #[tactic(auto, unfolding(crate::specs::Text::misfit_start))]
 fn write_misfit_start<W: Write>(writer: &mut W, message: &Message) -> io::Result<()>
-    ensures { OnOk result (Appends (W.contents writer.old) (W.contents writer.new) (misfit_start message.now)) }
+    ensures { OnOk result (Appends (W.contents writer.old) (W.contents writer.new)
+        (misfit_start message.now)) }
 {
     let count = message.payload.len();
     write_state(writer, true)?;

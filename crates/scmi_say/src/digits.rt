@@ -10,7 +10,8 @@ use std::io::Write;
 /// Writes a word in eight lower-case hexadecimal digits.
 #[tactic(auto, unfolding(crate::specs::Digits::eight_digits))]
 pub(crate) fn write_eight_digits<W: Write>(writer: &mut W, word: u32) -> io::Result<()>
-    ensures { OnOk result (Appends (W.contents writer.old) (W.contents writer.new) (eight_digits word)) }
+    ensures { OnOk result (Appends (W.contents writer.old) (W.contents writer.new)
+        (eight_digits word)) }
 {
     let text = [
         last_digit(word >> 28),
@@ -28,7 +29,8 @@ pub(crate) fn write_eight_digits<W: Write>(writer: &mut W, word: u32) -> io::Res
 /// Writes a byte in two lower-case hexadecimal digits.
 #[tactic(auto, unfolding(crate::specs::Digits::two_digits))]
 pub(crate) fn write_two_digits<W: Write>(writer: &mut W, byte: u8) -> io::Result<()>
-    ensures { OnOk result (Appends (W.contents writer.old) (W.contents writer.new) (two_digits byte)) }
+    ensures { OnOk result (Appends (W.contents writer.old) (W.contents writer.new)
+        (two_digits byte)) }
 {
     let word = u32::from(byte);
     let text = [last_digit(word >> 4), last_digit(word)];

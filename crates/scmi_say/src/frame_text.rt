@@ -19,7 +19,8 @@ pub(crate) fn write_malformed<W: Write>(
     length: u32,
     header: u32,
 ) -> io::Result<()>
-    ensures { OnOk result (Appends (W.contents writer.old) (W.contents writer.new) (malformed_text is_free length header)) }
+    ensures { OnOk result (Appends (W.contents writer.old) (W.contents writer.new)
+        (malformed_text is_free length header)) }
 {
     write_state(writer, is_free)?;
     write_text(writer, "malformed: ")?;
@@ -28,7 +29,8 @@ pub(crate) fn write_malformed<W: Write>(
 
 #[tactic(auto, unfolding(crate::specs::Text::channel_error_text))]
 pub(crate) fn write_channel_error<W: Write>(writer: &mut W, frame: &Frame) -> io::Result<()>
-    ensures { OnOk result (Appends (W.contents writer.old) (W.contents writer.new) (channel_error_text frame.now)) }
+    ensures { OnOk result (Appends (W.contents writer.old) (W.contents writer.new)
+        (channel_error_text frame.now)) }
 {
     match frame {
         Frame::Good(message) => {
@@ -50,7 +52,8 @@ pub(crate) fn write_foreign<W: Write>(
     is_free: bool,
     message: &Message,
 ) -> io::Result<()>
-    ensures { OnOk result (Appends (W.contents writer.old) (W.contents writer.new) (foreign_text is_free message.now)) }
+    ensures { OnOk result (Appends (W.contents writer.old) (W.contents writer.new)
+        (foreign_text is_free message.now)) }
 {
     write_foreign_start(writer, is_free)?;
     write_header_end(writer, message.header.pack())?;
@@ -59,7 +62,8 @@ pub(crate) fn write_foreign<W: Write>(
 
 #[tactic(auto, unfolding(crate::specs::Text::foreign_start))]
 fn write_foreign_start<W: Write>(writer: &mut W, is_free: bool) -> io::Result<()>
-    ensures { OnOk result (Appends (W.contents writer.old) (W.contents writer.new) (foreign_start is_free)) }
+    ensures { OnOk result (Appends (W.contents writer.old) (W.contents writer.new)
+        (foreign_start is_free)) }
 {
     write_state(writer, is_free)?;
     write_text(writer, "message of type 1, which SCMI does not have")
@@ -68,7 +72,8 @@ fn write_foreign_start<W: Write>(writer: &mut W, is_free: bool) -> io::Result<()
 /// Writes a header word at the end of a line.
 #[tactic(auto, unfolding(crate::specs::Text::header_end))]
 fn write_header_end<W: Write>(writer: &mut W, header: u32) -> io::Result<()>
-    ensures { OnOk result (Appends (W.contents writer.old) (W.contents writer.new) (header_end header)) }
+    ensures { OnOk result (Appends (W.contents writer.old) (W.contents writer.new)
+        (header_end header)) }
 {
     write_text(writer, "; header 0x")?;
     write_eight_digits(writer, header)?;
@@ -78,7 +83,8 @@ fn write_header_end<W: Write>(writer: &mut W, header: u32) -> io::Result<()>
 /// Writes why a length in bytes is that of no frame, and the header word.
 #[tactic(auto, unfolding(crate::specs::Text::length_text))]
 fn write_length<W: Write>(writer: &mut W, length: u32, header: u32) -> io::Result<()>
-    ensures { OnOk result (Appends (W.contents writer.old) (W.contents writer.new) (length_text length header)) }
+    ensures { OnOk result (Appends (W.contents writer.old) (W.contents writer.new)
+        (length_text length header)) }
 {
     write_length_start(writer, length)?;
     write_why(writer, length)?;
@@ -87,7 +93,8 @@ fn write_length<W: Write>(writer: &mut W, length: u32, header: u32) -> io::Resul
 
 #[tactic(auto, unfolding(crate::specs::Text::length_start))]
 fn write_length_start<W: Write>(writer: &mut W, length: u32) -> io::Result<()>
-    ensures { OnOk result (Appends (W.contents writer.old) (W.contents writer.new) (length_start length)) }
+    ensures { OnOk result (Appends (W.contents writer.old) (W.contents writer.new)
+        (length_start length)) }
 {
     write_text(writer, "length ")?;
     write!(writer, "{length}")?;
@@ -96,7 +103,8 @@ fn write_length_start<W: Write>(writer: &mut W, length: u32) -> io::Result<()>
 
 #[tactic(auto, unfolding(crate::specs::Text::why_text))]
 fn write_why<W: Write>(writer: &mut W, length: u32) -> io::Result<()>
-    ensures { OnOk result (Appends (W.contents writer.old) (W.contents writer.new) (why_text length)) }
+    ensures { OnOk result (Appends (W.contents writer.old) (W.contents writer.new)
+        (why_text length)) }
 {
     let most = 4 + 4 * PAYLOAD_WORDS;
     if length < 4 {

@@ -14,7 +14,8 @@ use std::io::Write;
 /// Writes the name of a message, a comma and its token.
 #[tactic(auto, unfolding(crate::specs::Heading::heading_text))]
 pub(crate) fn write_heading<W: Write>(writer: &mut W, header: &Header) -> io::Result<()>
-    ensures { OnOk result (Appends (W.contents writer.old) (W.contents writer.new) (heading_text header.now)) }
+    ensures { OnOk result (Appends (W.contents writer.old) (W.contents writer.new)
+        (heading_text header.now)) }
 {
     write_message_name(writer, header.protocol, header.id)?;
     write_text(writer, ", ")?;
@@ -24,7 +25,8 @@ pub(crate) fn write_heading<W: Write>(writer: &mut W, header: &Header) -> io::Re
 /// Writes the token of a header, and reserved bits that are set.
 #[tactic(auto, unfolding(crate::specs::Heading::token_text))]
 pub(crate) fn write_token<W: Write>(writer: &mut W, header: &Header) -> io::Result<()>
-    ensures { OnOk result (Appends (W.contents writer.old) (W.contents writer.new) (token_text header.now)) }
+    ensures { OnOk result (Appends (W.contents writer.old) (W.contents writer.new)
+        (token_text header.now)) }
 {
     let token = header.token;
     let reserved = u32::from(header.reserved);
@@ -36,7 +38,8 @@ pub(crate) fn write_token<W: Write>(writer: &mut W, header: &Header) -> io::Resu
 /// Writes the name of a message.
 #[tactic(auto, unfolding(crate::specs::Heading::name_text))]
 pub(crate) fn write_message_name<W: Write>(writer: &mut W, protocol: u8, id: u8) -> io::Result<()>
-    ensures { OnOk result (Appends (W.contents writer.old) (W.contents writer.new) (name_text protocol id)) }
+    ensures { OnOk result (Appends (W.contents writer.old) (W.contents writer.new)
+        (name_text protocol id)) }
 {
     match message_name(protocol, id) {
         Some(name) => write!(writer, "{name}"),
@@ -47,7 +50,8 @@ pub(crate) fn write_message_name<W: Write>(writer: &mut W, protocol: u8, id: u8)
 /// Writes the ids of a message that has no name.
 #[tactic(auto, unfolding(crate::specs::Heading::unknown_text))]
 fn write_unknown<W: Write>(writer: &mut W, protocol: u8, id: u8) -> io::Result<()>
-    ensures { OnOk result (Appends (W.contents writer.old) (W.contents writer.new) (unknown_text protocol id)) }
+    ensures { OnOk result (Appends (W.contents writer.old) (W.contents writer.new)
+        (unknown_text protocol id)) }
 {
     write_ids(writer, protocol, id)?;
     write_in_brackets(writer, protocol)
@@ -63,7 +67,8 @@ fn write_id<W: Write>(writer: &mut W, id: u8) -> io::Result<()>
 
 #[tactic(auto, unfolding(crate::specs::Heading::ids_text))]
 fn write_ids<W: Write>(writer: &mut W, protocol: u8, id: u8) -> io::Result<()>
-    ensures { OnOk result (Appends (W.contents writer.old) (W.contents writer.new) (ids_text protocol id)) }
+    ensures { OnOk result (Appends (W.contents writer.old) (W.contents writer.new)
+        (ids_text protocol id)) }
 {
     write_text(writer, "unknown message 0x")?;
     write_id(writer, id)?;
@@ -74,7 +79,8 @@ fn write_ids<W: Write>(writer: &mut W, protocol: u8, id: u8) -> io::Result<()>
 /// Writes the short name of a protocol that has one, in brackets.
 #[tactic(auto, unfolding(crate::specs::Heading::in_brackets))]
 fn write_in_brackets<W: Write>(writer: &mut W, protocol: u8) -> io::Result<()>
-    ensures { OnOk result (Appends (W.contents writer.old) (W.contents writer.new) (in_brackets protocol)) }
+    ensures { OnOk result (Appends (W.contents writer.old) (W.contents writer.new)
+        (in_brackets protocol)) }
 {
     match protocol_name(protocol) {
         Some(name) => write!(writer, " ({name})"),
@@ -85,7 +91,8 @@ fn write_in_brackets<W: Write>(writer: &mut W, protocol: u8) -> io::Result<()>
 /// Writes whether the channel is free.
 #[tactic(auto, unfolding(crate::specs::Heading::state_text))]
 pub(crate) fn write_state<W: Write>(writer: &mut W, is_free: bool) -> io::Result<()>
-    ensures { OnOk result (Appends (W.contents writer.old) (W.contents writer.new) (state_text is_free)) }
+    ensures { OnOk result (Appends (W.contents writer.old) (W.contents writer.new)
+        (state_text is_free)) }
 {
     if is_free {
         write!(writer, "free: ")
@@ -97,7 +104,8 @@ pub(crate) fn write_state<W: Write>(writer: &mut W, is_free: bool) -> io::Result
 /// Ends the first line of a message of the platform's: it was taken where the channel is free.
 #[tactic(auto, unfolding(crate::specs::Heading::taken_text))]
 pub(crate) fn write_taken<W: Write>(writer: &mut W, is_free: bool) -> io::Result<()>
-    ensures { OnOk result (Appends (W.contents writer.old) (W.contents writer.new) (taken_text is_free)) }
+    ensures { OnOk result (Appends (W.contents writer.old) (W.contents writer.new)
+        (taken_text is_free)) }
 {
     if is_free {
         writeln!(writer, ", taken")
@@ -113,7 +121,8 @@ pub(crate) fn write_notification_name<W: Write>(
     protocol: u8,
     id: u8,
 ) -> io::Result<()>
-    ensures { OnOk result (Appends (W.contents writer.old) (W.contents writer.new) (notification_name_text protocol id)) }
+    ensures { OnOk result (Appends (W.contents writer.old) (W.contents writer.new)
+        (notification_name_text protocol id)) }
 {
     match notification_name(protocol, id) {
         Some(name) => write!(writer, "{name}"),
@@ -124,7 +133,8 @@ pub(crate) fn write_notification_name<W: Write>(
 /// Writes the token of a message that needs none, where there is one.
 #[tactic(auto, unfolding(crate::specs::Heading::own_token_text))]
 pub(crate) fn write_own_token<W: Write>(writer: &mut W, header: &Header) -> io::Result<()>
-    ensures { OnOk result (Appends (W.contents writer.old) (W.contents writer.new) (own_token_text header.now)) }
+    ensures { OnOk result (Appends (W.contents writer.old) (W.contents writer.new)
+        (own_token_text header.now)) }
 {
     if header.token == 0 && header.reserved == 0 {
         return Ok(());
@@ -136,7 +146,8 @@ pub(crate) fn write_own_token<W: Write>(writer: &mut W, header: &Header) -> io::
 /// Writes the status that a message begins with.
 #[tactic(auto, unfolding(crate::specs::Heading::status_word_text))]
 pub(crate) fn write_status_word<W: Write>(writer: &mut W, message: &Message) -> io::Result<()>
-    ensures { OnOk result (Appends (W.contents writer.old) (W.contents writer.new) (status_word_text message.now.payload.items)) }
+    ensures { OnOk result (Appends (W.contents writer.old) (W.contents writer.new)
+        (status_word_text message.now.payload.items)) }
 {
     let [word, ..] = message.payload.as_slice() else {
         return write!(writer, "no status");

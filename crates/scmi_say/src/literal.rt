@@ -9,7 +9,8 @@ use std::io::Write;
 /// Writes a text as it stands.
 #[tactic(auto, unfolding(crate::specs::Literal::literal))]
 pub(crate) fn write_text<W: Write>(writer: &mut W, text: &str) -> io::Result<()>
-    ensures { OnOk result (Appends (W.contents writer.old) (W.contents writer.new) (literal text.now)) }
+    ensures { OnOk result (Appends (W.contents writer.old) (W.contents writer.new)
+        (literal text.now)) }
 {
     write!(writer, "{text}")
 }

@@ -21,7 +21,8 @@ pub(crate) fn write_response<W: Write>(
     message: &Message,
     status: Status,
 ) -> io::Result<()>
-    ensures { OnOk result (Appends (W.contents writer.old) (W.contents writer.new) (response_text message.now status)) }
+    ensures { OnOk result (Appends (W.contents writer.old) (W.contents writer.new)
+        (response_text message.now status)) }
 {
     write_state(writer, true)?;
     write_text(writer, "reply to ")?;
@@ -32,7 +33,8 @@ pub(crate) fn write_response<W: Write>(
 
 #[tactic(auto, unfolding(crate::specs::Text::reply_text))]
 pub(crate) fn write_reply<W: Write>(writer: &mut W, message: &Message) -> io::Result<()>
-    ensures { OnOk result (Appends (W.contents writer.old) (W.contents writer.new) (reply_text message.now)) }
+    ensures { OnOk result (Appends (W.contents writer.old) (W.contents writer.new)
+        (reply_text message.now)) }
 {
     write_response(writer, message, Status::Success)?;
     write_reply_fields(writer, message)?;
@@ -42,7 +44,8 @@ pub(crate) fn write_reply<W: Write>(writer: &mut W, message: &Message) -> io::Re
 /// Writes what a successful reply says behind its status.
 #[tactic(auto, unfolding(crate::specs::Text::reply_fields_text))]
 fn write_reply_fields<W: Write>(writer: &mut W, message: &Message) -> io::Result<()>
-    ensures { OnOk result (Appends (W.contents writer.old) (W.contents writer.new) (reply_fields_text message.now)) }
+    ensures { OnOk result (Appends (W.contents writer.old) (W.contents writer.new)
+        (reply_fields_text message.now)) }
 {
     let header = &message.header;
     let [_, words @ ..] = message.payload.as_slice() else {
@@ -54,7 +57,8 @@ fn write_reply_fields<W: Write>(writer: &mut W, message: &Message) -> io::Result
 /// Writes what stands behind the status of a successful reply: a list, or the fields of its row.
 #[tactic(auto, unfolding(crate::specs::Text::listed_text))]
 fn write_listed<W: Write>(writer: &mut W, protocol: u8, id: u8, words: &[u32]) -> io::Result<()>
-    ensures { OnOk result (Appends (W.contents writer.old) (W.contents writer.new) (listed_text protocol id words.now)) }
+    ensures { OnOk result (Appends (W.contents writer.old) (W.contents writer.new)
+        (listed_text protocol id words.now)) }
 {
     if protocol == BASE_PROTOCOL && id == 0x6 {
         return write_protocols(writer, words);
@@ -69,7 +73,8 @@ fn write_listed<W: Write>(writer: &mut W, protocol: u8, id: u8, words: &[u32]) -
 /// Writes the fields of a reply that has the form of its row.
 #[tactic(auto, unfolding(crate::specs::Text::row_text))]
 fn write_row<W: Write>(writer: &mut W, row: &Result<Fields, Status>) -> io::Result<()>
-    ensures { OnOk result (Appends (W.contents writer.old) (W.contents writer.new) (row_text row.now)) }
+    ensures { OnOk result (Appends (W.contents writer.old) (W.contents writer.new)
+        (row_text row.now)) }
 {
     match row {
         Ok(fields) => write_fields(writer, fields.as_slice()),

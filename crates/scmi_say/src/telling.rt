@@ -18,7 +18,8 @@ const STATUS_AT: usize = 4;
 /// that was withdrawn (own).
 pub fn tell(area: &[u8; AREA_BYTES]) -> Told
     ensures told { result ≡ told area.now }
-    ensures answer { (frame : FrameOf) → (answer : AnswerOf) → StandsForAnswer area.now frame answer → result ≡ told_answer frame answer }
+    ensures answer { (frame : FrameOf) → (answer : AnswerOf) →
+        StandsForAnswer area.now frame answer → result ≡ told_answer frame answer }
 {
     match read_area(area) {
         Ok(Some(frame)) => tell_posted(frame),

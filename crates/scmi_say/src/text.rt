@@ -23,7 +23,8 @@ use std::io::Write;
 /// status; then each field on a line of its own, with its unit; then the words of the message. The
 /// error is the writer's; some parts may then be written.
 pub fn write_told<W: Write>(writer: &mut W, told: &Told) -> io::Result<()>
-    ensures { OnOk result (Appends (W.contents writer.old) (W.contents writer.new) (told_text told.now)) }
+    ensures { OnOk result (Appends (W.contents writer.old) (W.contents writer.new)
+        (told_text told.now)) }
 {
     match told {
         Told::Unused => writeln!(writer, "free: unused"),
@@ -48,7 +49,8 @@ pub fn write_told<W: Write>(writer: &mut W, told: &Told) -> io::Result<()>
 
 #[tactic(auto, unfolding(crate::specs::Text::delayed_text))]
 fn write_delayed<W: Write>(writer: &mut W, is_free: bool, message: &Message) -> io::Result<()>
-    ensures { OnOk result (Appends (W.contents writer.old) (W.contents writer.new) (delayed_text is_free message.now)) }
+    ensures { OnOk result (Appends (W.contents writer.old) (W.contents writer.new)
+        (delayed_text is_free message.now)) }
 {
     write_delayed_line(writer, is_free, message)?;
     let fields = delayed_fields(message);
@@ -58,7 +60,8 @@ fn write_delayed<W: Write>(writer: &mut W, is_free: bool, message: &Message) -> 
 
 #[tactic(auto, unfolding(crate::specs::Text::delayed_line))]
 fn write_delayed_line<W: Write>(writer: &mut W, is_free: bool, message: &Message) -> io::Result<()>
-    ensures { OnOk result (Appends (W.contents writer.old) (W.contents writer.new) (delayed_line is_free message.now)) }
+    ensures { OnOk result (Appends (W.contents writer.old) (W.contents writer.new)
+        (delayed_line is_free message.now)) }
 {
     write_delayed_start(writer, is_free, message)?;
     write_text(writer, ": ")?;
@@ -68,7 +71,8 @@ fn write_delayed_line<W: Write>(writer: &mut W, is_free: bool, message: &Message
 
 #[tactic(auto, unfolding(crate::specs::Text::delayed_start))]
 fn write_delayed_start<W: Write>(writer: &mut W, is_free: bool, message: &Message) -> io::Result<()>
-    ensures { OnOk result (Appends (W.contents writer.old) (W.contents writer.new) (delayed_start is_free message.now)) }
+    ensures { OnOk result (Appends (W.contents writer.old) (W.contents writer.new)
+        (delayed_start is_free message.now)) }
 {
     write_state(writer, is_free)?;
     write_text(writer, "delayed response to ")?;
@@ -77,7 +81,8 @@ fn write_delayed_start<W: Write>(writer: &mut W, is_free: bool, message: &Messag
 
 #[tactic(auto, unfolding(crate::specs::Text::notification_text))]
 fn write_notification<W: Write>(writer: &mut W, is_free: bool, message: &Message) -> io::Result<()>
-    ensures { OnOk result (Appends (W.contents writer.old) (W.contents writer.new) (notification_text is_free message.now)) }
+    ensures { OnOk result (Appends (W.contents writer.old) (W.contents writer.new)
+        (notification_text is_free message.now)) }
 {
     write_notification_line(writer, is_free, message)?;
     let fields = notification_fields(message);
@@ -91,7 +96,8 @@ fn write_notification_line<W: Write>(
     is_free: bool,
     message: &Message,
 ) -> io::Result<()>
-    ensures { OnOk result (Appends (W.contents writer.old) (W.contents writer.new) (notification_line is_free message.now)) }
+    ensures { OnOk result (Appends (W.contents writer.old) (W.contents writer.new)
+        (notification_line is_free message.now)) }
 {
     let header = &message.header;
     write_state(writer, is_free)?;

@@ -12,7 +12,8 @@ use std::io::Write;
 /// Writes each field on a line of its own, its name and what it says. The error is the writer's;
 /// some parts may then be written.
 pub(crate) fn write_fields<W: Write>(writer: &mut W, fields: &[Field]) -> io::Result<()>
-    ensures { OnOk result (Appends (W.contents writer.old) (W.contents writer.new) (fields_text fields.now)) }
+    ensures { OnOk result (Appends (W.contents writer.old) (W.contents writer.new)
+        (fields_text fields.now)) }
 {
     'fields: for field in fields {
         write!(writer, "    {}", label(field))?;
@@ -24,7 +25,8 @@ pub(crate) fn write_fields<W: Write>(writer: &mut W, fields: &[Field]) -> io::Re
 
 /// Writes what a field says.
 pub(crate) fn write_value<W: Write>(writer: &mut W, field: &Field) -> io::Result<()>
-    ensures { OnOk result (Appends (W.contents writer.old) (W.contents writer.new) (value_text field.now)) }
+    ensures { OnOk result (Appends (W.contents writer.old) (W.contents writer.new)
+        (value_text field.now)) }
 {
     match field {
         Field::Version(word) => write!(writer, " {}.{}", *word >> 16, *word % 65536),
@@ -69,7 +71,8 @@ pub(crate) fn write_value<W: Write>(writer: &mut W, field: &Field) -> io::Result
 /// Writes a text if a condition holds.
 #[tactic(auto, unfolding(crate::specs::Field::if_text))]
 pub(crate) fn write_if<W: Write>(writer: &mut W, holds: bool, text: &str) -> io::Result<()>
-    ensures { OnOk result (Appends (W.contents writer.old) (W.contents writer.new) (if_text holds text.now)) }
+    ensures { OnOk result (Appends (W.contents writer.old) (W.contents writer.new)
+        (if_text holds text.now)) }
 {
     if holds {
         return write!(writer, "{text}");
@@ -80,7 +83,8 @@ pub(crate) fn write_if<W: Write>(writer: &mut W, holds: bool, text: &str) -> io:
 /// Writes bits that have no meaning, if there are any.
 #[tactic(auto, unfolding(crate::specs::Field::reserved_text))]
 pub(crate) fn write_reserved<W: Write>(writer: &mut W, bits: u32) -> io::Result<()>
-    ensures { OnOk result (Appends (W.contents writer.old) (W.contents writer.new) (reserved_text bits)) }
+    ensures { OnOk result (Appends (W.contents writer.old) (W.contents writer.new)
+        (reserved_text bits)) }
 {
     if bits == 0 {
         return Ok(());
@@ -91,7 +95,8 @@ pub(crate) fn write_reserved<W: Write>(writer: &mut W, bits: u32) -> io::Result<
 /// Writes a word of flags of which bit 0 alone has a meaning.
 #[tactic(auto, unfolding(crate::specs::Field::flag_text))]
 fn write_flag<W: Write>(writer: &mut W, word: u32, on: &str, off: &str) -> io::Result<()>
-    ensures { OnOk result (Appends (W.contents writer.old) (W.contents writer.new) (flag_text word on.now off.now)) }
+    ensures { OnOk result (Appends (W.contents writer.old) (W.contents writer.new)
+        (flag_text word on.now off.now)) }
 {
     write_if(writer, word == 0, off)?;
     write_if(writer, word % 2 == 1, on)?;
@@ -101,7 +106,8 @@ fn write_flag<W: Write>(writer: &mut W, word: u32, on: &str, off: &str) -> io::R
 /// Writes the flags of a rate set.
 #[tactic(auto, unfolding(crate::specs::Field::rate_flags_text))]
 fn write_rate_flags<W: Write>(writer: &mut W, word: u32) -> io::Result<()>
-    ensures { OnOk result (Appends (W.contents writer.old) (W.contents writer.new) (rate_flags_text word)) }
+    ensures { OnOk result (Appends (W.contents writer.old) (W.contents writer.new)
+        (rate_flags_text word)) }
 {
     write_if(writer, word == 0, " -")?;
     write_if(writer, word % 2 == 1, " async")?;
@@ -114,7 +120,8 @@ fn write_rate_flags<W: Write>(writer: &mut W, word: u32) -> io::Result<()>
 /// Writes what a domain supports.
 #[tactic(auto, unfolding(crate::specs::Field::supports_text))]
 fn write_supports<W: Write>(writer: &mut W, word: u32) -> io::Result<()>
-    ensures { OnOk result (Appends (W.contents writer.old) (W.contents writer.new) (supports_text word)) }
+    ensures { OnOk result (Appends (W.contents writer.old) (W.contents writer.new)
+        (supports_text word)) }
 {
     write_supports_start(writer, word)?;
     write_supports_rest(writer, word)
@@ -123,7 +130,8 @@ fn write_supports<W: Write>(writer: &mut W, word: u32) -> io::Result<()>
 /// Writes what a domain supports, by the other bits.
 #[tactic(auto, unfolding(crate::specs::Field::supports_rest))]
 fn write_supports_rest<W: Write>(writer: &mut W, word: u32) -> io::Result<()>
-    ensures { OnOk result (Appends (W.contents writer.old) (W.contents writer.new) (supports_rest word)) }
+    ensures { OnOk result (Appends (W.contents writer.old) (W.contents writer.new)
+        (supports_rest word)) }
 {
     let reserved = word % 0x2000_0000;
     write_if(writer, word / 0x2000_0000 % 2 == 1, " synchronous")?;
@@ -133,7 +141,8 @@ fn write_supports_rest<W: Write>(writer: &mut W, word: u32) -> io::Result<()>
 /// Writes what a domain supports, by the upper two of its bits.
 #[tactic(auto, unfolding(crate::specs::Field::supports_start))]
 fn write_supports_start<W: Write>(writer: &mut W, word: u32) -> io::Result<()>
-    ensures { OnOk result (Appends (W.contents writer.old) (W.contents writer.new) (supports_start word)) }
+    ensures { OnOk result (Appends (W.contents writer.old) (W.contents writer.new)
+        (supports_start word)) }
 {
     write_if(writer, word == 0, " -")?;
     write_if(writer, word / 0x8000_0000 == 1, " notifications")?;
@@ -142,7 +151,8 @@ fn write_supports_start<W: Write>(writer: &mut W, word: u32) -> io::Result<()>
 
 #[tactic(auto, unfolding(crate::specs::Field::state_text))]
 fn write_state<W: Write>(writer: &mut W, word: u32) -> io::Result<()>
-    ensures { OnOk result (Appends (W.contents writer.old) (W.contents writer.new) (state_text word)) }
+    ensures { OnOk result (Appends (W.contents writer.old) (W.contents writer.new)
+        (state_text word)) }
 {
     if word == 0 {
         return write!(writer, " ON");
@@ -156,7 +166,8 @@ fn write_state<W: Write>(writer: &mut W, word: u32) -> io::Result<()>
 
 #[tactic(auto, unfolding(crate::specs::Field::agent_text))]
 fn write_agent<W: Write>(writer: &mut W, word: u32) -> io::Result<()>
-    ensures { OnOk result (Appends (W.contents writer.old) (W.contents writer.new) (agent_text word)) }
+    ensures { OnOk result (Appends (W.contents writer.old) (W.contents writer.new)
+        (agent_text word)) }
 {
     if word == 0xffff_ffff {
         return write!(writer, " the caller");
@@ -169,7 +180,8 @@ fn write_agent<W: Write>(writer: &mut W, word: u32) -> io::Result<()>
 
 #[tactic(auto, unfolding(crate::specs::Field::statistics_text))]
 fn write_statistics<W: Write>(writer: &mut W, words: &[u32; 3]) -> io::Result<()>
-    ensures { OnOk result (Appends (W.contents writer.old) (W.contents writer.new) (statistics_text words.now)) }
+    ensures { OnOk result (Appends (W.contents writer.old) (W.contents writer.new)
+        (statistics_text words.now)) }
 {
     let length = words[2];
     if words[0] == 0 && words[1] == 0 && length == 0 {
@@ -185,7 +197,8 @@ fn write_statistics<W: Write>(writer: &mut W, words: &[u32; 3]) -> io::Result<()
 /// Writes a word as a number in hexadecimal digits.
 #[tactic(auto, unfolding(crate::specs::Field::hexadecimal))]
 fn write_hexadecimal<W: Write>(writer: &mut W, word: u32) -> io::Result<()>
-    ensures { OnOk result (Appends (W.contents writer.old) (W.contents writer.new) (hexadecimal word)) }
+    ensures { OnOk result (Appends (W.contents writer.old) (W.contents writer.new)
+        (hexadecimal word)) }
 {
     write_text(writer, " 0x")?;
     write_eight_digits(writer, word)
@@ -194,7 +207,8 @@ fn write_hexadecimal<W: Write>(writer: &mut W, word: u32) -> io::Result<()>
 /// Writes a name in quotation marks.
 #[tactic(auto, unfolding(crate::specs::Field::name_text))]
 fn write_name<W: Write>(writer: &mut W, words: &[u32; 4]) -> io::Result<()>
-    ensures { OnOk result (Appends (W.contents writer.old) (W.contents writer.new) (name_text words.now)) }
+    ensures { OnOk result (Appends (W.contents writer.old) (W.contents writer.new)
+        (name_text words.now)) }
 {
     write_name_start(writer, words[0])?;
     write_name_part(writer, words[1])?;
@@ -206,7 +220,8 @@ fn write_name<W: Write>(writer: &mut W, words: &[u32; 4]) -> io::Result<()>
 /// Writes the first four bytes of a name behind a quotation mark.
 #[tactic(auto, unfolding(crate::specs::Field::name_start))]
 fn write_name_start<W: Write>(writer: &mut W, word: u32) -> io::Result<()>
-    ensures { OnOk result (Appends (W.contents writer.old) (W.contents writer.new) (name_start word)) }
+    ensures { OnOk result (Appends (W.contents writer.old) (W.contents writer.new)
+        (name_start word)) }
 {
     write_text(writer, " \"")?;
     write_name_part(writer, word)
@@ -215,7 +230,8 @@ fn write_name_start<W: Write>(writer: &mut W, word: u32) -> io::Result<()>
 /// Writes the four bytes of a word as characters, the lowest first.
 #[tactic(auto, unfolding(crate::specs::Field::name_part))]
 fn write_name_part<W: Write>(writer: &mut W, word: u32) -> io::Result<()>
-    ensures { OnOk result (Appends (W.contents writer.old) (W.contents writer.new) (name_part word)) }
+    ensures { OnOk result (Appends (W.contents writer.old) (W.contents writer.new)
+        (name_part word)) }
 {
     write_character(writer, word % 256)?;
     write_character(writer, word / 256 % 256)?;
@@ -226,7 +242,8 @@ fn write_name_part<W: Write>(writer: &mut W, word: u32) -> io::Result<()>
 /// Writes a printable byte of ASCII as it is, no zero, and `?` for any other.
 fn write_character<W: Write>(writer: &mut W, byte: u32) -> io::Result<()>
     requires { byte < 256 }
-    ensures { OnOk result (Appends (W.contents writer.old) (W.contents writer.new) (character byte)) }
+    ensures { OnOk result (Appends (W.contents writer.old) (W.contents writer.new)
+        (character byte)) }
 {
     if byte == 0 {
         return Ok(());

@@ -13,7 +13,8 @@ use std::io::Write;
 /// Writes the line of the header word and the payload words of a message, each in eight digits.
 #[tactic(auto, unfolding(crate::specs::Words::words_text))]
 pub(crate) fn write_words<W: Write>(writer: &mut W, message: &Message) -> io::Result<()>
-    ensures { OnOk result (Appends (W.contents writer.old) (W.contents writer.new) (words_text message.now)) }
+    ensures { OnOk result (Appends (W.contents writer.old) (W.contents writer.new)
+        (words_text message.now)) }
 {
     write_words_start(writer, message.header.pack())?;
     write_each_word(writer, message.payload.as_slice())?;
@@ -22,7 +23,8 @@ pub(crate) fn write_words<W: Write>(writer: &mut W, message: &Message) -> io::Re
 
 #[tactic(auto, unfolding(crate::specs::Words::words_start))]
 fn write_words_start<W: Write>(writer: &mut W, header: u32) -> io::Result<()>
-    ensures { OnOk result (Appends (W.contents writer.old) (W.contents writer.new) (words_start header)) }
+    ensures { OnOk result (Appends (W.contents writer.old) (W.contents writer.new)
+        (words_start header)) }
 {
     write_text(writer, "    words       ")?;
     write_eight_digits(writer, header)
@@ -30,7 +32,8 @@ fn write_words_start<W: Write>(writer: &mut W, header: u32) -> io::Result<()>
 
 /// Writes each word behind a space, in eight digits.
 fn write_each_word<W: Write>(writer: &mut W, words: &[u32]) -> io::Result<()>
-    ensures { OnOk result (Appends (W.contents writer.old) (W.contents writer.new) (each_word words.now)) }
+    ensures { OnOk result (Appends (W.contents writer.old) (W.contents writer.new)
+        (each_word words.now)) }
 {
     'words: for word in words {
         write_spaced(writer, *word)?;
@@ -41,7 +44,8 @@ fn write_each_word<W: Write>(writer: &mut W, words: &[u32]) -> io::Result<()>
 /// Writes a word behind a space, in eight digits.
 #[tactic(auto, unfolding(crate::specs::Words::word_text))]
 fn write_spaced<W: Write>(writer: &mut W, word: u32) -> io::Result<()>
-    ensures { OnOk result (Appends (W.contents writer.old) (W.contents writer.new) (word_text word)) }
+    ensures { OnOk result (Appends (W.contents writer.old) (W.contents writer.new)
+        (word_text word)) }
 {
     write_text(writer, " ")?;
     write_eight_digits(writer, word)
@@ -49,7 +53,8 @@ fn write_spaced<W: Write>(writer: &mut W, word: u32) -> io::Result<()>
 
 /// Writes the reply of a list of rates: what it has, and each of its rates on a line of its own.
 pub(crate) fn write_rates<W: Write>(writer: &mut W, words: &[u32]) -> io::Result<()>
-    ensures { OnOk result (Appends (W.contents writer.old) (W.contents writer.new) (rates_text words.now)) }
+    ensures { OnOk result (Appends (W.contents writer.old) (W.contents writer.new)
+        (rates_text words.now)) }
 {
     let [flags, rates @ ..] = words else {
         return Ok(());
@@ -61,7 +66,8 @@ pub(crate) fn write_rates<W: Write>(writer: &mut W, words: &[u32]) -> io::Result
 
 #[tactic(auto, unfolding(crate::specs::Words::rates_start))]
 fn write_rates_start<W: Write>(writer: &mut W, flags: u32) -> io::Result<()>
-    ensures { OnOk result (Appends (W.contents writer.old) (W.contents writer.new) (rates_start flags)) }
+    ensures { OnOk result (Appends (W.contents writer.old) (W.contents writer.new)
+        (rates_start flags)) }
 {
     write!(writer, "    rates       {}", flags % 4096)
 }
@@ -69,7 +75,8 @@ fn write_rates_start<W: Write>(writer: &mut W, flags: u32) -> io::Result<()>
 /// Writes whether rates are a triplet, and else how many follow them in the list.
 #[tactic(auto, unfolding(crate::specs::Words::amount_text))]
 fn write_amount<W: Write>(writer: &mut W, flags: u32) -> io::Result<()>
-    ensures { OnOk result (Appends (W.contents writer.old) (W.contents writer.new) (amount_text flags)) }
+    ensures { OnOk result (Appends (W.contents writer.old) (W.contents writer.new)
+        (amount_text flags)) }
 {
     if flags / 4096 % 2 == 1 {
         return writeln!(writer, ", lowest highest step");
@@ -79,7 +86,8 @@ fn write_amount<W: Write>(writer: &mut W, flags: u32) -> io::Result<()>
 
 /// Writes each rate of two words on a line of its own.
 fn write_rate_lines<W: Write>(writer: &mut W, words: &[u32]) -> io::Result<()>
-    ensures { OnOk result (Appends (W.contents writer.old) (W.contents writer.new) (rate_lines words.now)) }
+    ensures { OnOk result (Appends (W.contents writer.old) (W.contents writer.new)
+        (rate_lines words.now)) }
 {
     let [low, high, more @ ..] = words else {
         return Ok(());
@@ -90,14 +98,16 @@ fn write_rate_lines<W: Write>(writer: &mut W, words: &[u32]) -> io::Result<()>
 
 #[tactic(auto, unfolding(crate::specs::Words::rate_line))]
 fn write_rate<W: Write>(writer: &mut W, rate: u64) -> io::Result<()>
-    ensures { OnOk result (Appends (W.contents writer.old) (W.contents writer.new) (rate_line rate)) }
+    ensures { OnOk result (Appends (W.contents writer.old) (W.contents writer.new)
+        (rate_line rate)) }
 {
     writeln!(writer, "                {rate} Hz")
 }
 
 /// Writes the reply of a list of protocols: how many there are, and each by its id and name.
 pub(crate) fn write_protocols<W: Write>(writer: &mut W, words: &[u32]) -> io::Result<()>
-    ensures { OnOk result (Appends (W.contents writer.old) (W.contents writer.new) (protocols_text words.now)) }
+    ensures { OnOk result (Appends (W.contents writer.old) (W.contents writer.new)
+        (protocols_text words.now)) }
 {
     let [count, ids @ ..] = words else {
         return Ok(());
@@ -110,7 +120,8 @@ pub(crate) fn write_protocols<W: Write>(writer: &mut W, words: &[u32]) -> io::Re
 
 #[tactic(auto, unfolding(crate::specs::Words::protocols_start))]
 fn write_protocols_start<W: Write>(writer: &mut W, count: usize) -> io::Result<()>
-    ensures { OnOk result (Appends (W.contents writer.old) (W.contents writer.new) (protocols_start count)) }
+    ensures { OnOk result (Appends (W.contents writer.old) (W.contents writer.new)
+        (protocols_start count)) }
 {
     write!(writer, "    protocols   {count}")
 }
@@ -119,7 +130,8 @@ fn write_protocols_start<W: Write>(writer: &mut W, count: usize) -> io::Result<(
 #[tactic(auto, unfolding(crate::specs::Words::ids_text))]
 fn write_ids<W: Write>(writer: &mut W, count: usize, words: &[u32]) -> io::Result<()>
     requires { count ≤ 4 * length words.now }
-    ensures { OnOk result (Appends (W.contents writer.old) (W.contents writer.new) (ids_text count words.now)) }
+    ensures { OnOk result (Appends (W.contents writer.old) (W.contents writer.new)
+        (ids_text count words.now)) }
 {
     for i in 0..count {
         let id = words[i / 4] >> (8 * (i % 4)) & 0xff;

@@ -21,7 +21,8 @@ pub(crate) struct ScriptList {
     // The agents of the scripts, so that a second script is found without going through them.
     begun: BTreeSet<u32>,
     ghost within: { All (IsAgent agents) (agents_of scripts.items) },
-    ghost begun_are: { (agent : ℕ) → contains nat_cmp begun agent ≡ list_any (nat_eq agent) (agents_of scripts.items) },
+    ghost begun_are: { (agent : ℕ) →
+        contains nat_cmp begun agent ≡ list_any (nat_eq agent) (agents_of scripts.items) },
     ghost distinct: { AreOfDistinctAgents scripts.items } by { Prim.hlevel props },
 }
 

@@ -71,7 +71,8 @@ pub enum StepLine {
 /// Writes a line (own), straight to the writer, by as many writes as it has parts. The error is the
 /// writer's; some parts may then be written.
 pub fn write_step_line<W: Write>(writer: &mut W, line: &StepLine) -> io::Result<()>
-    ensures { OnOk result (Appends (W.contents writer.old) (W.contents writer.new) (step_text line.now)) }
+    ensures { OnOk result (Appends (W.contents writer.old) (W.contents writer.new)
+        (step_text line.now)) }
 {
     match line {
         StepLine::Token { agent, token } => writeln!(writer, "{agent} token {token}"),

@@ -19,7 +19,8 @@ pub(crate) fn write_message<W: Write>(writer: &mut W, message: &Message) -> io::
 
 /// Writes each word behind a space.
 pub(crate) fn write_words<W: Write>(writer: &mut W, words: &[u32]) -> io::Result<()>
-    ensures { OnOk result (Appends (W.contents writer.old) (W.contents writer.new) (words_text words.now)) }
+    ensures { OnOk result (Appends (W.contents writer.old) (W.contents writer.new)
+        (words_text words.now)) }
 {
     'words: for word in words {
         write_word(writer, *word)?;
@@ -29,7 +30,8 @@ pub(crate) fn write_words<W: Write>(writer: &mut W, words: &[u32]) -> io::Result
 
 /// Writes a word behind a space.
 fn write_word<W: Write>(writer: &mut W, word: u32) -> io::Result<()>
-    ensures { OnOk result (Appends (W.contents writer.old) (W.contents writer.new) (word_text word)) }
+    ensures { OnOk result (Appends (W.contents writer.old) (W.contents writer.new)
+        (word_text word)) }
 {
     let text = [
         b' ',

@@ -92,7 +92,9 @@ impl AgentLog {
         requires room { vec_len self.old.posted < vec_capacity self.old.posted }
         requires token { command_token frame ≡ Some (length self.old.posted.items % 1024) }
         ensures posted { self.new.posted.items ≡ self.old.posted.items ++ frame ∷ [] }
-        ensures same { (self.new.read ≡ self.old.read) × (self.new.p2a ≡ self.old.p2a) × (self.new.lines ≡ self.old.lines) × (self.new.closing ≡ self.old.closing) × (self.new.stopped ≡ self.old.stopped) }
+        ensures same { (self.new.read ≡ self.old.read) × (self.new.p2a ≡ self.old.p2a) ×
+            (self.new.lines ≡ self.old.lines) × (self.new.closing ≡ self.old.closing) ×
+            (self.new.stopped ≡ self.old.stopped) }
     {
         self.posted.push_reserved(frame);
     }
@@ -101,7 +103,9 @@ impl AgentLog {
     pub(crate) fn note_read(&mut self, answer: Answer)
         requires room { vec_len self.old.read < vec_capacity self.old.read }
         ensures read { self.new.read.items ≡ self.old.read.items ++ answer ∷ [] }
-        ensures same { (self.new.posted ≡ self.old.posted) × (self.new.p2a ≡ self.old.p2a) × (self.new.lines ≡ self.old.lines) × (self.new.closing ≡ self.old.closing) × (self.new.stopped ≡ self.old.stopped) }
+        ensures same { (self.new.posted ≡ self.old.posted) × (self.new.p2a ≡ self.old.p2a) ×
+            (self.new.lines ≡ self.old.lines) × (self.new.closing ≡ self.old.closing) ×
+            (self.new.stopped ≡ self.old.stopped) }
     {
         self.read.push_reserved(answer);
     }
@@ -112,7 +116,8 @@ impl AgentLog {
         requires room { vec_len self.old.lines < vec_capacity self.old.lines }
         ensures p2a { self.new.p2a.items ≡ self.old.p2a.items ++ frame ∷ [] }
         ensures lines { self.new.lines.items ≡ self.old.lines.items ++ line.P2a frame ∷ [] }
-        ensures same { (self.new.posted ≡ self.old.posted) × (self.new.read ≡ self.old.read) × (self.new.closing ≡ self.old.closing) × (self.new.stopped ≡ self.old.stopped) }
+        ensures same { (self.new.posted ≡ self.old.posted) × (self.new.read ≡ self.old.read) ×
+            (self.new.closing ≡ self.old.closing) × (self.new.stopped ≡ self.old.stopped) }
     {
         self.lines.push_reserved(Line::P2a(frame.copy()));
         self.p2a.push_reserved(frame);
@@ -123,7 +128,8 @@ impl AgentLog {
         requires room { vec_len self.old.lines < vec_capacity self.old.lines }
         ensures closing { self.new.closing ≡ option_or self.old.closing (Some closing) }
         ensures lines { self.new.lines.items ≡ self.old.lines.items ++ line.Close closing ∷ [] }
-        ensures same { (self.new.posted ≡ self.old.posted) × (self.new.read ≡ self.old.read) × (self.new.p2a ≡ self.old.p2a) × (self.new.stopped ≡ self.old.stopped) }
+        ensures same { (self.new.posted ≡ self.old.posted) × (self.new.read ≡ self.old.read) ×
+            (self.new.p2a ≡ self.old.p2a) × (self.new.stopped ≡ self.old.stopped) }
     {
         self.closing = self.closing.or(Some(closing));
         self.lines.push_reserved(Line::Close(closing));
@@ -135,7 +141,9 @@ impl AgentLog {
         requires room { vec_len self.old.lines < vec_capacity self.old.lines }
         requires of_call { IsOfCall line }
         ensures lines { self.new.lines.items ≡ self.old.lines.items ++ line ∷ [] }
-        ensures same { (self.new.posted ≡ self.old.posted) × (self.new.read ≡ self.old.read) × (self.new.p2a ≡ self.old.p2a) × (self.new.closing ≡ self.old.closing) × (self.new.stopped ≡ self.old.stopped) }
+        ensures same { (self.new.posted ≡ self.old.posted) × (self.new.read ≡ self.old.read) ×
+            (self.new.p2a ≡ self.old.p2a) × (self.new.closing ≡ self.old.closing) ×
+            (self.new.stopped ≡ self.old.stopped) }
     {
         self.lines.push_reserved(line);
     }

@@ -44,7 +44,8 @@ fn run_each<C: Channel, G: Gate, R: Threads + Wait + Sync>(
     ended: &AtomicUsize,
     seats: &mut [Seat<'_, C>],
 )
-    ensures { (i : ℕ) (d : _) → i < length seats.old → HasPlayed C.FULL (slice_index_or seats.old i d) (slice_index_or seats.new i d) }
+    ensures { (i : ℕ) (d : _) → i < length seats.old →
+        HasPlayed C.FULL (slice_index_or seats.old i d) (slice_index_or seats.new i d) }
 {
     for_each_mut(
         rt,

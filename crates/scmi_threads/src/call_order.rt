@@ -54,7 +54,9 @@ impl<'a, C: Channel> Seat<'a, C> {
         payload: &Payload,
     ) -> Result<(), Stop>
         ensures ran { HasRun self.old self.new }
-        ensures done { IsUndisturbed self.new.end.caller → IsAtRest self.old.log → HasDone C.FULL (order.Call protocol id payload.now) (stop_of result) self.old.end.caller self.new.end.caller self.old.log self.new.log }
+        ensures done { IsUndisturbed self.new.end.caller → IsAtRest self.old.log →
+            HasDone C.FULL (order.Call protocol id payload.now)
+            (stop_of result) self.old.end.caller self.new.end.caller self.old.log self.new.log }
     {
         self.log.reserve_line()?;
         let line = self.ask(rt, protocol, id, payload)?;
@@ -75,8 +77,13 @@ impl<'a, C: Channel> Seat<'a, C> {
         ensures ran { HasRun self.old self.new }
         ensures lines { self.new.log.lines ≡ self.old.log.lines }
         ensures of_call { IfOk result IsOfCall }
-        ensures asked { IsUndisturbed self.new.end.caller → IsAtRest self.old.log → IfOk result (λ line. HasAsked C.FULL self.old.end.caller.closed (command (length self.old.log.posted.items) protocol id payload.now) line self.old.log self.new.log) }
-        ensures rest { LeavesRest self.old.end.caller self.new.end.caller self.old.log self.new.log }
+        ensures asked { IsUndisturbed self.new.end.caller → IsAtRest self.old.log →
+            IfOk result (λ line.
+            HasAsked C.FULL self.old.end.caller.closed
+            (command (length self.old.log.posted.items) protocol id payload.now) line self.old.log
+            self.new.log) }
+        ensures rest { LeavesRest self.old.end.caller self.new.end.caller self.old.log
+            self.new.log }
         ensures same { OnErr result (IsSameLog self.old.log self.new.log) }
         ensures memory { IfErr result (λ why. why ≡ stop.Memory) }
     {
@@ -93,11 +100,17 @@ impl<'a, C: Channel> Seat<'a, C> {
         requires { vec_len self.old.log.posted < vec_capacity self.old.log.posted }
         ensures ran { HasRun self.old self.new }
         ensures unshut { OnOk result (self.new.end.caller.closed ≡ false) }
-        ensures same { (self.new.log.read ≡ self.old.log.read) × (self.new.log.lines ≡ self.old.log.lines) }
-        ensures posted { OnOk result (self.new.log.posted.items ≡ self.old.log.posted.items ++ command (length self.old.log.posted.items) protocol id payload.now ∷ []) }
+        ensures same { (self.new.log.read ≡ self.old.log.read) ×
+            (self.new.log.lines ≡ self.old.log.lines) }
+        ensures posted { OnOk result
+            (self.new.log.posted.items ≡ self.old.log.posted.items ++ command
+            (length self.old.log.posted.items) protocol id payload.now ∷ []) }
         ensures not_posted { OnErr result (self.new.log.posted.items ≡ self.old.log.posted.items) }
-        ensures refusal { IfErr result (λ error. IsUndisturbed self.new.end.caller → IsAtRest self.old.log → IsRefusal C.FULL self.old.end.caller.closed error) }
-        ensures rest { LeavesRest self.old.end.caller self.new.end.caller self.old.log self.new.log }
+        ensures refusal { IfErr result (λ error.
+            IsUndisturbed self.new.end.caller → IsAtRest self.old.log →
+            IsRefusal C.FULL self.old.end.caller.closed error) }
+        ensures rest { LeavesRest self.old.end.caller self.new.end.caller self.old.log
+            self.new.log }
     {
         let token = self.end.call(self.link, protocol, id, payload)?;
         let header = Header {
@@ -121,9 +134,11 @@ impl<'a, C: Channel> Seat<'a, C> {
         ensures ran { HasRun self.old self.new }
         ensures lines { self.new.log.lines ≡ self.old.log.lines }
         ensures of_call { IsOfCall result }
-        ensures awaited { IsUndisturbed self.new.end.caller → HasAwaited result self.old.log.read.items self.new.log.read.items }
+        ensures awaited { IsUndisturbed self.new.end.caller →
+            HasAwaited result self.old.log.read.items self.new.log.read.items }
         ensures posted { self.new.log.posted ≡ self.old.log.posted }
-        ensures rest { LeavesRest self.old.end.caller self.new.end.caller self.old.log self.new.log }
+        ensures rest { LeavesRest self.old.end.caller self.new.end.caller self.old.log
+            self.new.log }
     {
         match self.end.wait_reply(rt, self.link, TURNS) {
             Collected::Got(answer) => {

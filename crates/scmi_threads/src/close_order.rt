@@ -15,7 +15,9 @@ impl<'a, C: Channel> Seat<'a, C> {
     #[tactic(auto, using(crate::proofs::ClosesLemmas::closes_idle, crate::proofs::ClosesLemmas::closes_withdrawn))]
     pub(crate) fn close(&mut self) -> Result<(), Stop>
         ensures ran { HasRun self.old self.new }
-        ensures done { IsAtRest self.old.log → HasDone C.FULL order.Close (stop_of result) self.old.end.caller self.new.end.caller self.old.log self.new.log }
+        ensures done { IsAtRest self.old.log →
+            HasDone C.FULL order.Close
+            (stop_of result) self.old.end.caller self.new.end.caller self.old.log self.new.log }
     {
         self.log.reserve_line()?;
         match self.end.close(self.link) {

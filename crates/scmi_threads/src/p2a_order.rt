@@ -18,7 +18,8 @@ impl<'a, C: Channel> Seat<'a, C> {
     /// Takes so many P2A messages, and notes each.
     pub(crate) fn take_messages<R: Wait>(&mut self, rt: &R, count: u32) -> Result<(), Stop>
         ensures ran { HasRun self.old self.new }
-        ensures done { HasDone C.FULL (order.P2a count) (stop_of result) self.old.end.caller self.new.end.caller self.old.log self.new.log }
+        ensures done { HasDone C.FULL (order.P2a count)
+            (stop_of result) self.old.end.caller self.new.end.caller self.old.log self.new.log }
     {
         'messages: for _taken in 0..count {
             self.take_message(rt)?;
@@ -29,7 +30,8 @@ impl<'a, C: Channel> Seat<'a, C> {
     // Looks for a message, at most `TURNS` times, and notes it.
     fn take_message<R: Wait>(&mut self, rt: &R) -> Result<(), Stop>
         ensures ran { HasRun self.old self.new }
-        ensures unmoved { IsUnmoved self.old.end.caller self.new.end.caller self.old.log self.new.log }
+        ensures unmoved { IsUnmoved self.old.end.caller self.new.end.caller self.old.log
+            self.new.log }
         ensures taken { HasTaken result self.old.log self.new.log }
     {
         self.log.reserve_message()?;
@@ -49,7 +51,8 @@ impl<'a, C: Channel> Seat<'a, C> {
         requires p2a { vec_len self.old.log.p2a < vec_capacity self.old.log.p2a }
         requires lines { vec_len self.old.log.lines < vec_capacity self.old.log.lines }
         ensures ran { HasRun self.old self.new }
-        ensures unmoved { IsUnmoved self.old.end.caller self.new.end.caller self.old.log self.new.log }
+        ensures unmoved { IsUnmoved self.old.end.caller self.new.end.caller self.old.log
+            self.new.log }
         ensures taken { IsTrue result → HasTaken (Ok tt) self.old.log self.new.log }
         ensures none { ¬ (IsTrue result) → self.new.log ≡ self.old.log }
     {

@@ -73,7 +73,9 @@ impl<'a, C: Channel> Seat<'a, C> {
     /// Carries out an order.
     fn step<R: Wait>(&mut self, rt: &R, order: &Order) -> Result<(), Stop>
         ensures ran { HasRun self.old self.new }
-        ensures done { IsUndisturbed self.new.end.caller → IsAtRest self.old.log → HasDone C.FULL order.now (stop_of result) self.old.end.caller self.new.end.caller self.old.log self.new.log }
+        ensures done { IsUndisturbed self.new.end.caller → IsAtRest self.old.log →
+            HasDone C.FULL order.now
+            (stop_of result) self.old.end.caller self.new.end.caller self.old.log self.new.log }
     {
         match order {
             Order::Call(protocol, id, payload) => self.call(rt, *protocol, *id, payload),

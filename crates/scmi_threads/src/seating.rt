@@ -22,11 +22,17 @@ pub(crate) fn seat_agents<'a, C: Channel>(
     scripts: &'a [Script],
     mut ends: Vec<AgentEnd<C>>,
 ) -> Result<Vec<Seat<'a, C>>, AllocError>
-    requires a2p { map (λ agent. agent.a2p_name) ends.items ≡ map (λ link. C.name link.a2p) links.now }
-    requires p2a { map (λ agent. agent.p2a_name) ends.items ≡ map (λ link. C.name link.p2a) links.now }
+    requires a2p { map (λ agent. agent.a2p_name) ends.items ≡
+        map (λ link. C.name link.a2p) links.now }
+    requires p2a { map (λ agent. agent.p2a_name) ends.items ≡
+        map (λ link. C.name link.p2a) links.now }
     requires fresh { AllFrom IsNewAgent 1 ends.items }
-    ensures a2p { IfOk result (λ seats. map (λ seat. seat.end.a2p_name) seats.items ≡ map (λ link. C.name link.a2p) links.entry.now) }
-    ensures p2a { IfOk result (λ seats. map (λ seat. seat.end.p2a_name) seats.items ≡ map (λ link. C.name link.p2a) links.entry.now) }
+    ensures a2p { IfOk result (λ seats.
+        map (λ seat. seat.end.a2p_name) seats.items ≡
+        map (λ link. C.name link.a2p) links.entry.now) }
+    ensures p2a { IfOk result (λ seats.
+        map (λ seat. seat.end.p2a_name) seats.items ≡
+        map (λ link. C.name link.p2a) links.entry.now) }
     ensures seated { IfOk result (λ seats. AllFrom (IsSeated scripts.entry.now) 1 seats.items) }
 {
     let mut seats = Vec::new(alloc);
@@ -60,10 +66,13 @@ pub(crate) fn rise<C: Channel>(
     requires empty { (ends.items ≡ []) × (logs.items ≡ []) }
     requires ends { vec_len seats ≤ vec_capacity ends }
     requires logs { vec_len seats ≤ vec_capacity logs }
-    ensures a2p { map (λ agent. agent.a2p_name) result.0.items ≡ map (λ seat. seat.end.a2p_name) seats.entry.items }
-    ensures p2a { map (λ agent. agent.p2a_name) result.0.items ≡ map (λ seat. seat.end.p2a_name) seats.entry.items }
+    ensures a2p { map (λ agent. agent.a2p_name) result.0.items ≡
+        map (λ seat. seat.end.a2p_name) seats.entry.items }
+    ensures p2a { map (λ agent. agent.p2a_name) result.0.items ≡
+        map (λ seat. seat.end.p2a_name) seats.entry.items }
     ensures logs { AllZip IsLogOf result.0.items result.1.items }
-    ensures same { (result.0.items ≡ map (λ seat. seat.end) seats.entry.items) × (result.1.items ≡ map (λ seat. seat.log) seats.entry.items) }
+    ensures same { (result.0.items ≡ map (λ seat. seat.end) seats.entry.items) ×
+        (result.1.items ≡ map (λ seat. seat.log) seats.entry.items) }
 {
     'seats: while !seats.is_empty() {
         let Seat {

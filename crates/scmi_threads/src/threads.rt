@@ -56,10 +56,13 @@ pub fn run_agents<C: Channel, G: Gate, R: Threads + Wait + Sync>(
     requires scripts { AreScriptsOf (length plan.agents) scripts.now }
     ensures legal { IfOk result (λ outcome. IsLegal plan outcome.trace.events) }
     ensures bounds { IfOk result (λ outcome. HasBounds plan (deeds plan outcome.trace.events)) }
-    ensures responses { IfOk result (λ outcome. HasResponses plan (deeds plan outcome.trace.events)) }
+    ensures responses { IfOk result (λ outcome.
+        HasResponses plan (deeds plan outcome.trace.events)) }
     ensures count { IfOk result (λ outcome. vec_len outcome.logs ≡ length plan.agents) }
-    ensures scripts { IfOk result (λ outcome. AllFrom (λ a log. IsScriptLog C.FULL (orders_of scripts.now a) log) 1 outcome.logs.items) }
-    ensures headline { IfOk result (λ outcome. AllFrom (λ a log. LogHeadline plan outcome.trace.events a log) 1 outcome.logs.items) }
+    ensures scripts { IfOk result (λ outcome.
+        AllFrom (λ a log. IsScriptLog C.FULL (orders_of scripts.now a) log) 1 outcome.logs.items) }
+    ensures headline { IfOk result (λ outcome.
+        AllFrom (λ a log. LogHeadline plan outcome.trace.events a log) 1 outcome.logs.items) }
 {
     let core = Core::new(alloc, plan);
     let agents = core.agents();
@@ -84,18 +87,22 @@ fn run_beside<'a, C: Channel, G: Gate, R: Threads + Wait + Sync>(
     seats: Vec<Seat<'a, C>>,
     agents: u32,
 ) -> ((Controller<C>, bool), Vec<Seat<'a, C>>)
-    requires links { IsOfLinks (map (λ link. C.name link.a2p) links.now) (map (λ link. C.name link.p2a) links.now) controller }
+    requires links { IsOfLinks (map (λ link. C.name link.a2p) links.now)
+        (map (λ link. C.name link.p2a) links.now) controller }
     requires open_ends { AllOpen controller }
-    ensures goes_on { GoesOn (map (λ link. C.name link.a2p) links.now) (map (λ link. C.name link.p2a) links.now) controller result.0.0 }
+    ensures goes_on { GoesOn (map (λ link. C.name link.a2p) links.now)
+        (map (λ link. C.name link.p2a) links.now) controller result.0.0 }
     ensures ran { AllZip (HasPlayed C.FULL) seats.entry.items result.1.items }
 {
     let ended = AtomicUsize::new(0);
     join(
         rt,
         || -> (Controller<C>, bool)
-            requires links { IsOfLinks (map (λ link. C.name link.a2p) links.now) (map (λ link. C.name link.p2a) links.now) controller }
+            requires links { IsOfLinks (map (λ link. C.name link.a2p) links.now)
+                (map (λ link. C.name link.p2a) links.now) controller }
             requires open_ends { AllOpen controller }
-            ensures { GoesOn (map (λ link. C.name link.a2p) links.entry.now) (map (λ link. C.name link.p2a) links.entry.now) controller result.0 }
+            ensures { GoesOn (map (λ link. C.name link.a2p) links.entry.now)
+                (map (λ link. C.name link.p2a) links.entry.now) controller result.0 }
         { run_rounds(rt, links, &ended, controller, agents) },
         || -> Vec<Seat<C>>
             ensures { AllZip (HasPlayed C.FULL) seats.entry.items result.items }
@@ -111,16 +118,20 @@ fn conclude<C: Channel>(
     logs: Vec<AgentLog>,
     memory: bool,
 ) -> Outcome
-    requires links { IsOfLinks (map (λ link. C.name link.a2p) links.items) (map (λ link. C.name link.p2a) links.items) controller }
+    requires links { IsOfLinks (map (λ link. C.name link.a2p) links.items)
+        (map (λ link. C.name link.p2a) links.items) controller }
     requires open_ends { AllOpen controller }
-    requires a2p { map (λ agent. agent.a2p_name) ends.items ≡ map (λ link. C.name link.a2p) links.items }
-    requires p2a { map (λ agent. agent.p2a_name) ends.items ≡ map (λ link. C.name link.p2a) links.items }
+    requires a2p { map (λ agent. agent.a2p_name) ends.items ≡
+        map (λ link. C.name link.a2p) links.items }
+    requires p2a { map (λ agent. agent.p2a_name) ends.items ≡
+        map (λ link. C.name link.p2a) links.items }
     requires logs { AllZip IsLogOf ends.items logs.items }
     ensures legal { IsLegal controller.board result.trace.events }
     ensures bounds { HasBounds controller.board (deeds controller.board result.trace.events) }
     ensures responses { HasResponses controller.board (deeds controller.board result.trace.events) }
     ensures logs { result.logs ≡ logs }
-    ensures headline { AllFrom (λ a log. LogHeadline controller.board result.trace.events a log) 1 result.logs.items }
+    ensures headline { AllFrom (λ a log.
+        LogHeadline controller.board result.trace.events a log) 1 result.logs.items }
     ensures undisturbed { All (λ agent. IsUndisturbed agent.caller) ends.items }
     ensures memory { result.memory ≡ memory }
 {

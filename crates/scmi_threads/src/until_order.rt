@@ -44,7 +44,9 @@ impl<'a, C: Channel> Seat<'a, C> {
         state: u32,
     ) -> Result<(), Stop>
         ensures ran { HasRun self.old self.new }
-        ensures done { IsUndisturbed self.new.end.caller → IsAtRest self.old.log → HasDone C.FULL (order.Until domain state) (stop_of result) self.old.end.caller self.new.end.caller self.old.log self.new.log }
+        ensures done { IsUndisturbed self.new.end.caller → IsAtRest self.old.log →
+            HasDone C.FULL (order.Until domain state)
+            (stop_of result) self.old.end.caller self.new.end.caller self.old.log self.new.log }
     {
         self.log.reserve_line()?;
         if self.sees_state(rt, domain, state)? {
@@ -59,8 +61,13 @@ impl<'a, C: Channel> Seat<'a, C> {
     fn ask_state<R: Wait>(&mut self, rt: &R, domain: u32) -> Result<Line, Stop>
         ensures ran { HasRun self.old self.new }
         ensures lines { self.new.log.lines ≡ self.old.log.lines }
-        ensures asked { IsUndisturbed self.new.end.caller → IsAtRest self.old.log → IfOk result (λ line. HasAsked C.FULL self.old.end.caller.closed (command (length self.old.log.posted.items) 0x11 0x5 (record { items = domain ∷ [] })) line self.old.log self.new.log) }
-        ensures rest { LeavesRest self.old.end.caller self.new.end.caller self.old.log self.new.log }
+        ensures asked { IsUndisturbed self.new.end.caller → IsAtRest self.old.log →
+            IfOk result (λ line.
+            HasAsked C.FULL self.old.end.caller.closed
+            (command (length self.old.log.posted.items) 0x11 0x5 (record { items = domain ∷ [] }))
+            line self.old.log self.new.log) }
+        ensures rest { LeavesRest self.old.end.caller self.new.end.caller self.old.log
+            self.new.log }
         ensures same { OnErr result (IsSameLog self.old.log self.new.log) }
         ensures memory { IfErr result (λ why. why ≡ stop.Memory) }
     {
@@ -78,8 +85,11 @@ impl<'a, C: Channel> Seat<'a, C> {
     fn sees_state<R: Wait>(&mut self, rt: &R, domain: u32, state: u32) -> Result<bool, Stop>
         ensures ran { HasRun self.old self.new }
         ensures lines { self.new.log.lines ≡ self.old.log.lines }
-        ensures rest { LeavesRest self.old.end.caller self.new.end.caller self.old.log self.new.log }
-        ensures looked { IsUndisturbed self.new.end.caller → IsAtRest self.old.log → HasLooked C.FULL self.old.end.caller.closed domain state result self.old.log self.new.log }
+        ensures rest { LeavesRest self.old.end.caller self.new.end.caller self.old.log
+            self.new.log }
+        ensures looked { IsUndisturbed self.new.end.caller → IsAtRest self.old.log →
+            HasLooked C.FULL self.old.end.caller.closed domain state result self.old.log
+            self.new.log }
     {
         'calls: for _calls in 0..CALLS {
             let line = self.ask_state(rt, domain)?;

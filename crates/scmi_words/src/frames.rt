@@ -25,8 +25,12 @@ use scmi_codec::{Answer, Frame, Header, Message, Payload, is_well_formed};
 /// Stores a caller's message.
 pub fn write_command(table: &SharedTable, seat: &mut TableSeat, header: Header, payload: &Payload)
     requires table { IsSeatAt table.now seat.old }
-    requires half { HasCaller seat.old × ((caller_of seat.old).state.phase ≡ Idle) × ((caller_of seat.old).state.draft ≡ []) }
-    ensures view { CallerBecomes seat.old (caller_drafted (caller_of seat.old) (frame_words (Good (record { header = header; payload = payload.now }))) (2 + length payload.now.items)) seat.new }
+    requires half { HasCaller seat.old × ((caller_of seat.old).state.phase ≡ Idle) ×
+        ((caller_of seat.old).state.draft ≡ []) }
+    ensures view { CallerBecomes seat.old
+        (caller_drafted (caller_of seat.old)
+        (frame_words (Good (record { header = header; payload = payload.now })))
+        (2 + length payload.now.items)) seat.new }
     ensures lawful { IsLawfulMessage (record { header = header; payload = payload.now }) }
 {
     let words = payload.as_slice();
@@ -41,11 +45,13 @@ pub fn write_command(table: &SharedTable, seat: &mut TableSeat, header: Header, 
 fn read_response(table: &SharedTable, seat: &mut TableSeat, message: &mut Message)
     ghost posted: { Message }
     requires table { IsSeatAt table.now seat.old }
-    requires half { HasCaller seat.old × ((caller_of seat.old).state.phase ≡ Idle) × ((caller_of seat.old).state.draft ≡ []) }
+    requires half { HasCaller seat.old × ((caller_of seat.old).state.phase ≡ Idle) ×
+        ((caller_of seat.old).state.draft ≡ []) }
     requires area { answer_area (caller_of seat.old) ≡ frame_words (Good posted) }
     requires lawful { IsLawfulMessage posted }
     ensures value { message.new ≡ posted }
-    ensures view { CallerBecomes seat.old (caller_after (caller_of seat.old) (2 + length posted.payload.items)) seat.new }
+    ensures view { CallerBecomes seat.old
+        (caller_after (caller_of seat.old) (2 + length posted.payload.items)) seat.new }
 {
     let length = load_answer_word(table, seat, LENGTH);
     let header = load_answer_word(table, seat, HEADER);
@@ -63,11 +69,14 @@ fn read_response(table: &SharedTable, seat: &mut TableSeat, message: &mut Messag
 pub fn read_answer(table: &SharedTable, seat: &mut TableSeat, free: u64, answer: &mut Answer)
     ghost given: { Answer }
     requires table { IsSeatAt table.now seat.old }
-    requires half { HasCaller seat.old × ((caller_of seat.old).state.phase ≡ Idle) × ((caller_of seat.old).state.draft ≡ []) }
-    requires answer { (last_or None (caller_of seat.old).state.read ≡ Some given) × IsLawfulAnswer given }
+    requires half { HasCaller seat.old × ((caller_of seat.old).state.phase ≡ Idle) ×
+        ((caller_of seat.old).state.draft ≡ []) }
+    requires answer { (last_or None (caller_of seat.old).state.read ≡ Some given) ×
+        IsLawfulAnswer given }
     requires free { free ≡ status_word (answer_mark given) false }
     ensures value { answer.new ≡ given }
-    ensures view { (n : ℕ) × (n ≤ answer_size given + 2) × CallerBecomes seat.old (caller_after (caller_of seat.old) n) seat.new }
+    ensures view { (n : ℕ) × (n ≤ answer_size given + 2) ×
+        CallerBecomes seat.old (caller_after (caller_of seat.old) n) seat.new }
 {
     match free {
         FREE => read_reply(table, seat, answer),
@@ -96,11 +105,13 @@ fn set_released(answer: &mut Answer)
 fn read_reply(table: &SharedTable, seat: &mut TableSeat, answer: &mut Answer)
     ghost posted: { Message }
     requires table { IsSeatAt table.now seat.old }
-    requires half { HasCaller seat.old × ((caller_of seat.old).state.phase ≡ Idle) × ((caller_of seat.old).state.draft ≡ []) }
+    requires half { HasCaller seat.old × ((caller_of seat.old).state.phase ≡ Idle) ×
+        ((caller_of seat.old).state.draft ≡ []) }
     requires area { answer_area (caller_of seat.old) ≡ frame_words (Good posted) }
     requires lawful { IsLawfulMessage posted }
     ensures value { answer.new ≡ Reply posted }
-    ensures view { CallerBecomes seat.old (caller_after (caller_of seat.old) (2 + length posted.payload.items)) seat.new }
+    ensures view { CallerBecomes seat.old
+        (caller_after (caller_of seat.old) (2 + length posted.payload.items)) seat.new }
 {
     match answer {
         Answer::Reply(message) => read_response(table, seat, message),
@@ -114,11 +125,13 @@ fn read_reply(table: &SharedTable, seat: &mut TableSeat, answer: &mut Answer)
 fn read_new_response(table: &SharedTable, seat: &mut TableSeat, answer: &mut Answer)
     ghost posted: { Message }
     requires table { IsSeatAt table.now seat.old }
-    requires half { HasCaller seat.old × ((caller_of seat.old).state.phase ≡ Idle) × ((caller_of seat.old).state.draft ≡ []) }
+    requires half { HasCaller seat.old × ((caller_of seat.old).state.phase ≡ Idle) ×
+        ((caller_of seat.old).state.draft ≡ []) }
     requires area { answer_area (caller_of seat.old) ≡ frame_words (Good posted) }
     requires lawful { IsLawfulMessage posted }
     ensures value { answer.new ≡ Reply posted }
-    ensures view { CallerBecomes seat.old (caller_after (caller_of seat.old) (2 + length posted.payload.items)) seat.new }
+    ensures view { CallerBecomes seat.old
+        (caller_after (caller_of seat.old) (2 + length posted.payload.items)) seat.new }
 {
     let mut message = Message::default();
     read_response(table, seat, &mut message);
@@ -129,11 +142,13 @@ fn read_new_response(table: &SharedTable, seat: &mut TableSeat, answer: &mut Ans
 pub fn read_frame(table: &SharedTable, seat: &mut TableSeat, frame: &mut Frame)
     ghost posted: { Frame }
     requires table { IsSeatAt table.now seat.old }
-    requires half { HasCallee seat.old × IsOwing (callee_of seat.old) × ((callee_of seat.old).state.draft ≡ []) }
+    requires half { HasCallee seat.old × IsOwing (callee_of seat.old) ×
+        ((callee_of seat.old).state.draft ≡ []) }
     requires area { last_or None (callee_of seat.old).state.taken ≡ Some posted }
     requires lawful { IsLawful posted }
     ensures value { frame.new ≡ posted }
-    ensures view { CalleeBecomes seat.old (callee_after (callee_of seat.old) (2 + frame_size posted)) seat.new }
+    ensures view { CalleeBecomes seat.old
+        (callee_after (callee_of seat.old) (2 + frame_size posted)) seat.new }
 {
     let length = load_frame_word(table, seat, LENGTH);
     let header = load_frame_word(table, seat, HEADER);
@@ -168,7 +183,8 @@ fn read_new_message(
 )
     ghost posted: { Message }
     requires table { IsSeatAt table.now seat.old }
-    requires half { HasCallee seat.old × IsOwing (callee_of seat.old) × ((callee_of seat.old).state.draft ≡ []) }
+    requires half { HasCallee seat.old × IsOwing (callee_of seat.old) ×
+        ((callee_of seat.old).state.draft ≡ []) }
     requires area { frame_area (callee_of seat.old) ≡ frame_words (Good posted) }
     requires lawful { IsLawfulMessage posted }
     requires header { header ≡ header_word posted.header }
@@ -191,7 +207,8 @@ fn read_message(
 )
     ghost posted: { Message }
     requires table { IsSeatAt table.now seat.old }
-    requires half { HasCallee seat.old × IsOwing (callee_of seat.old) × ((callee_of seat.old).state.draft ≡ []) }
+    requires half { HasCallee seat.old × IsOwing (callee_of seat.old) ×
+        ((callee_of seat.old).state.draft ≡ []) }
     requires area { frame_area (callee_of seat.old) ≡ frame_words (Good posted) }
     requires lawful { IsLawfulMessage posted }
     requires header { header ≡ header_word posted.header }
@@ -211,8 +228,11 @@ fn read_message(
 /// Stores a callee's response.
 pub fn write_response(table: &SharedTable, seat: &mut TableSeat, message: &Message)
     requires table { IsSeatAt table.now seat.old }
-    requires half { HasCallee seat.old × IsOwing (callee_of seat.old) × ((callee_of seat.old).state.draft ≡ []) }
-    ensures view { CalleeBecomes seat.old (callee_drafted (callee_of seat.old) (frame_words (Good message.now)) (2 + length message.now.payload.items)) seat.new }
+    requires half { HasCallee seat.old × IsOwing (callee_of seat.old) ×
+        ((callee_of seat.old).state.draft ≡ []) }
+    ensures view { CalleeBecomes seat.old
+        (callee_drafted (callee_of seat.old) (frame_words (Good message.now))
+        (2 + length message.now.payload.items)) seat.new }
     ensures lawful { IsLawfulMessage message.now }
 {
     let words = message.payload.as_slice();

@@ -18,7 +18,8 @@ use std::alloc::Global;
 #[derive(Drop)]
 pub struct SharedTable {
     words: Table<(), View, (), Mailbox, Global>,
-    ghost shape: { (words.shared.table_id.words ≡ TABLE_WORDS) × (words.shared.table_id.slots ≡ 0) },
+    ghost shape: { (words.shared.table_id.words ≡ TABLE_WORDS) ×
+        (words.shared.table_id.slots ≡ 0) },
 }
 
 /// A seat at the table: the right to make steps, and what it knows.

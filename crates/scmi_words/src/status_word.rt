@@ -33,7 +33,8 @@ pub fn is_free(status: u64) -> bool
 
 /// The status of an answer without the closed mark.
 pub fn without_closed(status: u64) -> u64
-    ensures { (answer : Answer) (closed : Bool) → status ≡ status_word (answer_mark answer) closed → result ≡ status_word (answer_mark answer) false }
+    ensures { (answer : Answer) (closed : Bool) → status ≡ status_word (answer_mark answer) closed →
+        result ≡ status_word (answer_mark answer) false }
 {
     if status >= CLOSED {
         status - CLOSED

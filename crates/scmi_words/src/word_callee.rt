@@ -36,10 +36,12 @@ impl WordCallee {
     pub(crate) fn take_into(&mut self, table: &SharedTable, frame: &mut Frame) -> bool
         requires table { IsSeatAt table.now self.old.seat }
         ensures seat { IsSameCallee self.old self.new }
-        ensures takes { Takes (word_callee_view self.old) (frame_if result frame.new) (word_callee_view self.new) }
+        ensures takes { Takes (word_callee_view self.old) (frame_if result frame.new)
+            (word_callee_view self.new) }
         ensures stays { result ≡ false → frame.new ≡ frame.old }
         ensures none { WhyNone self.old (frame_if result frame.new) self.new }
-        ensures steps { (callee_half self.new).steps ≤ (callee_half self.old).steps + take_steps (frame_if result frame.new) }
+        ensures steps { (callee_half self.new).steps ≤ (callee_half self.old).steps + take_steps
+            (frame_if result frame.new) }
     {
         self.takes = self.takes.wrapping_add(1);
         if self.owes || self.closed || self.told {
@@ -67,8 +69,11 @@ impl WordCallee {
         requires table { IsSeatAt table.now self.old.seat }
         requires owes { Owes (word_callee_view self.old) }
         ensures seat { IsSameCallee self.old self.new }
-        ensures answered { word_callee_view self.new ≡ record (word_callee_view self.old) { answered = (word_callee_view self.old).answered ++ answer.now ∷ [] } }
-        ensures steps { (callee_half self.new).steps ≤ (callee_half self.old).steps + (answer_size answer.now + 4) }
+        ensures answered { word_callee_view self.new ≡
+            record (word_callee_view self.old)
+            { answered = (word_callee_view self.old).answered ++ answer.now ∷ [] } }
+        ensures steps { (callee_half self.new).steps ≤ (callee_half self.old).steps +
+            (answer_size answer.now + 4) }
     {
         let status = match answer {
             Answer::Reply(message) => return self.reply(table, message),
@@ -84,8 +89,11 @@ impl WordCallee {
         requires table { IsSeatAt table.now self.old.seat }
         requires owes { Owes (word_callee_view self.old) }
         ensures seat { IsSameCallee self.old self.new }
-        ensures answered { word_callee_view self.new ≡ record (word_callee_view self.old) { answered = (word_callee_view self.old).answered ++ Reply message.now ∷ [] } }
-        ensures steps { (callee_half self.new).steps ≤ (callee_half self.old).steps + (length message.now.payload.items + 4) }
+        ensures answered { word_callee_view self.new ≡
+            record (word_callee_view self.old)
+            { answered = (word_callee_view self.old).answered ++ Reply message.now ∷ [] } }
+        ensures steps { (callee_half self.new).steps ≤ (callee_half self.old).steps +
+            (length message.now.payload.items + 4) }
     {
         write_response(table, &mut self.seat, message);
         hand_back(table, &mut self.seat, FREE);
@@ -96,7 +104,8 @@ impl WordCallee {
     pub(crate) fn close(&mut self, table: &SharedTable) -> Result<(), CloseError>
         requires table { IsSeatAt table.now self.old.seat }
         ensures seat { IsSameCallee self.old self.new }
-        ensures closes { ClosesCallee (word_callee_view self.old) result (word_callee_view self.new) }
+        ensures closes { ClosesCallee (word_callee_view self.old) result
+            (word_callee_view self.new) }
         ensures steps { (callee_half self.new).steps ≤ (callee_half self.old).steps + 1 }
     {
         if self.owes {

@@ -49,8 +49,11 @@ impl WordCaller {
             Posts false (word_caller_view self.old) (Good message) result (word_caller_view self.new) }
         ensures never_full { result ≢ Err PostError.Full }
         ensures withdrawn_stays { IsWithdrawn self.old → IsWithdrawn self.new }
-        ensures draft { HasNoDraft self.old → (result ≡ Err PostError.Closed → is_shut (word_caller_view self.old) ≡ true) → HasNoDraft self.new }
-        ensures steps { (caller_half self.new).steps ≤ (caller_half self.old).steps + (length payload.now.items + 4) }
+        ensures draft { HasNoDraft self.old →
+            (result ≡ Err PostError.Closed → is_shut (word_caller_view self.old) ≡ true) →
+            HasNoDraft self.new }
+        ensures steps { (caller_half self.new).steps ≤ (caller_half self.old).steps +
+            (length payload.now.items + 4) }
     {
         self.may_post()?;
         write_command(table, &mut self.seat, header, payload);
@@ -73,12 +76,15 @@ impl WordCaller {
         requires table { IsSeatAt table.now self.old.seat }
         ensures seat { IsSameCaller self.old self.new }
         ensures well_formed { (result ≡ Err PostError.WellFormed) ↔ (is_well_formed length ≡ true) }
-        ensures unchanged { is_well_formed length ≡ true → word_caller_view self.new ≡ word_caller_view self.old }
+        ensures unchanged { is_well_formed length ≡ true →
+            word_caller_view self.new ≡ word_caller_view self.old }
         ensures posts { is_well_formed length ≡ false
             → Posts false (word_caller_view self.old) (Malformed length header) result (word_caller_view self.new) }
         ensures never_full { result ≢ Err PostError.Full }
         ensures withdrawn_stays { IsWithdrawn self.old → IsWithdrawn self.new }
-        ensures draft { HasNoDraft self.old → (result ≡ Err PostError.Closed → is_shut (word_caller_view self.old) ≡ true) → HasNoDraft self.new }
+        ensures draft { HasNoDraft self.old →
+            (result ≡ Err PostError.Closed → is_shut (word_caller_view self.old) ≡ true) →
+            HasNoDraft self.new }
         ensures steps { (caller_half self.new).steps ≤ (caller_half self.old).steps + 4 }
     {
         if is_well_formed(length) {
@@ -98,9 +104,12 @@ impl WordCaller {
 
     // Whether the caller may post, as far as it knows.
     fn may_post(&self) -> Result<(), PostError>
-        ensures ok { OnOk result ((self.now.phase ≡ Idle) × (self.now.closed ≡ false) × (self.now.told ≡ false)) }
-        ensures outstanding { (result ≡ Err PostError.Outstanding) ↔ IsOutstanding (word_caller_view self.now) }
-        ensures closed { result ≡ Err PostError.Closed → is_shut (word_caller_view self.now) ≡ true }
+        ensures ok { OnOk result
+            ((self.now.phase ≡ Idle) × (self.now.closed ≡ false) × (self.now.told ≡ false)) }
+        ensures outstanding { (result ≡ Err PostError.Outstanding) ↔
+            IsOutstanding (word_caller_view self.now) }
+        ensures closed { result ≡ Err PostError.Closed →
+            is_shut (word_caller_view self.now) ≡ true }
         ensures never { (result ≢ Err PostError.Full) × (result ≢ Err PostError.WellFormed) }
     {
         match self.phase {
@@ -125,13 +134,16 @@ impl WordCaller {
     pub(crate) fn collect_into(&mut self, table: &SharedTable, answer: &mut Answer) -> Looked
         requires table { IsSeatAt table.now self.old.seat }
         ensures seat { IsSameCaller self.old self.new }
-        ensures collects { Collects (word_caller_view self.old) (collected_by result answer.new) (word_caller_view self.new) }
+        ensures collects { Collects (word_caller_view self.old) (collected_by result answer.new)
+            (word_caller_view self.new) }
         ensures stays { ¬ (result ≡ Looked.Got) → answer.new ≡ answer.old }
-        ensures shut { is_shut (word_caller_view self.old) ≡ true → ¬ IsOutstanding (word_caller_view self.old) → result ≡ Looked.Closed }
+        ensures shut { is_shut (word_caller_view self.old) ≡ true →
+            ¬ IsOutstanding (word_caller_view self.old) → result ≡ Looked.Closed }
         ensures nothing { WhyNothing self.old (collected_by result answer.new) self.new }
         ensures withdrawn_stays { IsWithdrawn self.old → IsWithdrawn self.new }
         ensures draft { HasNoDraft self.old → HasNoDraft self.new }
-        ensures steps { (caller_half self.new).steps ≤ (caller_half self.old).steps + collect_steps (collected_by result answer.new) }
+        ensures steps { (caller_half self.new).steps ≤ (caller_half self.old).steps + collect_steps
+            (collected_by result answer.new) }
     {
         let Phase::Waiting = self.phase else {
             return if self.glance(table) {
@@ -162,9 +174,11 @@ impl WordCaller {
         requires phase { self.old.phase ≢ Waiting }
         requires idle { ¬ IsOutstanding (word_caller_view self.old) }
         ensures seat { IsSameCaller self.old self.new }
-        ensures collects { Collects (word_caller_view self.old) (cond result Collected.Closed Collected.Nothing) (word_caller_view self.new) }
+        ensures collects { Collects (word_caller_view self.old)
+            (cond result Collected.Closed Collected.Nothing) (word_caller_view self.new) }
         ensures shut { is_shut (word_caller_view self.old) ≡ true → result ≡ true }
-        ensures nothing { WhyNothing self.old (cond result Collected.Closed Collected.Nothing) self.new }
+        ensures nothing { WhyNothing self.old
+            (cond result Collected.Closed Collected.Nothing) self.new }
         ensures withdrawn_stays { IsWithdrawn self.old → IsWithdrawn self.new }
         ensures draft { HasNoDraft self.old → HasNoDraft self.new }
         ensures steps { (caller_half self.new).steps ≤ (caller_half self.old).steps + 1 }
@@ -182,7 +196,8 @@ impl WordCaller {
     pub(crate) fn close(&mut self, table: &SharedTable) -> Result<Closing, CloseError>
         requires table { IsSeatAt table.now self.old.seat }
         ensures seat { IsSameCaller self.old self.new }
-        ensures closes { ClosesCaller (word_caller_view self.old) result (word_caller_view self.new) }
+        ensures closes { ClosesCaller (word_caller_view self.old) result
+            (word_caller_view self.new) }
         ensures shows { CloseShows self.new result }
         ensures withdrawn_stays { IsWithdrawn self.old → IsWithdrawn self.new }
         ensures draft { HasNoDraft self.old → HasNoDraft self.new }

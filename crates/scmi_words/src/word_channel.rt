@@ -94,9 +94,13 @@ impl Channel for WordChannel {
     ghost close_shows = { CloseShows };
 
     fn make(alloc: Global) -> Result<(WordChannel, WordCaller, WordCallee), LinkError>
-        ensures name { IfOk result (λ r. (word_caller_name r.1 ≡ word_channel_name r.0) × (word_callee_name r.2 ≡ word_channel_name r.0)) }
-        ensures fresh { IfOk result (λ r. (word_caller_view r.1 ≡ new_caller) × (word_callee_view r.2 ≡ new_callee)) }
-        ensures halves { IfOk result (λ r. (caller_half r.1 ≡ first_caller) × (callee_half r.2 ≡ first_callee)) }
+        ensures name { IfOk result (λ r.
+            (word_caller_name r.1 ≡ word_channel_name r.0) ×
+            (word_callee_name r.2 ≡ word_channel_name r.0)) }
+        ensures fresh { IfOk result (λ r.
+            (word_caller_view r.1 ≡ new_caller) × (word_callee_view r.2 ≡ new_callee)) }
+        ensures halves { IfOk result (λ r.
+            (caller_half r.1 ≡ first_caller) × (callee_half r.2 ≡ first_callee)) }
         ensures draft { IfOk result (λ r. HasNoDraft r.1) }
     {
         let Ok((table, mut seat)) = make_table(alloc) else {
@@ -133,8 +137,11 @@ impl Channel for WordChannel {
             Posts false (word_caller_view caller.old) (Good message) result (word_caller_view caller.new) }
         ensures never_full { result ≢ Err PostError.Full }
         ensures withdrawn_stays { IsWithdrawn caller.old → IsWithdrawn caller.new }
-        ensures draft { HasNoDraft caller.old → (result ≡ Err PostError.Closed → is_shut (word_caller_view caller.old) ≡ true) → HasNoDraft caller.new }
-        ensures steps { (caller_half caller.new).steps ≤ (caller_half caller.old).steps + (length payload.now.items + 4) }
+        ensures draft { HasNoDraft caller.old →
+            (result ≡ Err PostError.Closed → is_shut (word_caller_view caller.old) ≡ true) →
+            HasNoDraft caller.new }
+        ensures steps { (caller_half caller.new).steps ≤ (caller_half caller.old).steps +
+            (length payload.now.items + 4) }
     {
         caller.post_parts(&self.table, header, payload)
     }
@@ -148,12 +155,15 @@ impl Channel for WordChannel {
         requires name { word_caller_name caller.old ≡ word_channel_name self.now }
         ensures name { word_caller_name caller.new ≡ word_caller_name caller.old }
         ensures well_formed { (result ≡ Err PostError.WellFormed) ↔ (is_well_formed length ≡ true) }
-        ensures unchanged { is_well_formed length ≡ true → word_caller_view caller.new ≡ word_caller_view caller.old }
+        ensures unchanged { is_well_formed length ≡ true →
+            word_caller_view caller.new ≡ word_caller_view caller.old }
         ensures posts { is_well_formed length ≡ false
             → Posts false (word_caller_view caller.old) (Malformed length header) result (word_caller_view caller.new) }
         ensures never_full { result ≢ Err PostError.Full }
         ensures withdrawn_stays { IsWithdrawn caller.old → IsWithdrawn caller.new }
-        ensures draft { HasNoDraft caller.old → (result ≡ Err PostError.Closed → is_shut (word_caller_view caller.old) ≡ true) → HasNoDraft caller.new }
+        ensures draft { HasNoDraft caller.old →
+            (result ≡ Err PostError.Closed → is_shut (word_caller_view caller.old) ≡ true) →
+            HasNoDraft caller.new }
         ensures steps { (caller_half caller.new).steps ≤ (caller_half caller.old).steps + 4 }
     {
         caller.post_malformed(&self.table, length, header)
@@ -166,13 +176,16 @@ impl Channel for WordChannel {
     fn collect_into(&self, caller: &mut WordCaller, answer: &mut Answer) -> Looked
         requires name { word_caller_name caller.old ≡ word_channel_name self.now }
         ensures name { word_caller_name caller.new ≡ word_caller_name caller.old }
-        ensures collects { Collects (word_caller_view caller.old) (collected_by result answer.new) (word_caller_view caller.new) }
+        ensures collects { Collects (word_caller_view caller.old) (collected_by result answer.new)
+            (word_caller_view caller.new) }
         ensures stays { ¬ (result ≡ Looked.Got) → answer.new ≡ answer.old }
-        ensures shut { is_shut (word_caller_view caller.old) ≡ true → ¬ IsOutstanding (word_caller_view caller.old) → result ≡ Looked.Closed }
+        ensures shut { is_shut (word_caller_view caller.old) ≡ true →
+            ¬ IsOutstanding (word_caller_view caller.old) → result ≡ Looked.Closed }
         ensures nothing { WhyNothing caller.old (collected_by result answer.new) caller.new }
         ensures withdrawn_stays { IsWithdrawn caller.old → IsWithdrawn caller.new }
         ensures draft { HasNoDraft caller.old → HasNoDraft caller.new }
-        ensures steps { (caller_half caller.new).steps ≤ (caller_half caller.old).steps + collect_steps (collected_by result answer.new) }
+        ensures steps { (caller_half caller.new).steps ≤
+            (caller_half caller.old).steps + collect_steps (collected_by result answer.new) }
     {
         caller.collect_into(&self.table, answer)
     }
@@ -180,10 +193,12 @@ impl Channel for WordChannel {
     fn take_into(&self, callee: &mut WordCallee, frame: &mut Frame) -> bool
         requires name { word_callee_name callee.old ≡ word_channel_name self.now }
         ensures name { word_callee_name callee.new ≡ word_callee_name callee.old }
-        ensures takes { Takes (word_callee_view callee.old) (frame_if result frame.new) (word_callee_view callee.new) }
+        ensures takes { Takes (word_callee_view callee.old) (frame_if result frame.new)
+            (word_callee_view callee.new) }
         ensures stays { result ≡ false → frame.new ≡ frame.old }
         ensures none { WhyNone callee.old (frame_if result frame.new) callee.new }
-        ensures steps { (callee_half callee.new).steps ≤ (callee_half callee.old).steps + take_steps (frame_if result frame.new) }
+        ensures steps { (callee_half callee.new).steps ≤ (callee_half callee.old).steps + take_steps
+            (frame_if result frame.new) }
     {
         callee.take_into(&self.table, frame)
     }
@@ -196,8 +211,11 @@ impl Channel for WordChannel {
         requires name { word_callee_name callee.old ≡ word_channel_name self.now }
         requires owes { Owes (word_callee_view callee.old) }
         ensures name { word_callee_name callee.new ≡ word_callee_name callee.old }
-        ensures answered { word_callee_view callee.new ≡ record (word_callee_view callee.old) { answered = (word_callee_view callee.old).answered ++ answer.now ∷ [] } }
-        ensures steps { (callee_half callee.new).steps ≤ (callee_half callee.old).steps + (answer_size answer.now + 4) }
+        ensures answered { word_callee_view callee.new ≡
+            record (word_callee_view callee.old)
+            { answered = (word_callee_view callee.old).answered ++ answer.now ∷ [] } }
+        ensures steps { (callee_half callee.new).steps ≤ (callee_half callee.old).steps +
+            (answer_size answer.now + 4) }
     {
         callee.answer(&self.table, answer);
     }
@@ -206,8 +224,11 @@ impl Channel for WordChannel {
         requires name { word_callee_name callee.old ≡ word_channel_name self.now }
         requires owes { Owes (word_callee_view callee.old) }
         ensures name { word_callee_name callee.new ≡ word_callee_name callee.old }
-        ensures answered { word_callee_view callee.new ≡ record (word_callee_view callee.old) { answered = (word_callee_view callee.old).answered ++ Reply message.now ∷ [] } }
-        ensures steps { (callee_half callee.new).steps ≤ (callee_half callee.old).steps + (length message.now.payload.items + 4) }
+        ensures answered { word_callee_view callee.new ≡
+            record (word_callee_view callee.old)
+            { answered = (word_callee_view callee.old).answered ++ Reply message.now ∷ [] } }
+        ensures steps { (callee_half callee.new).steps ≤ (callee_half callee.old).steps +
+            (length message.now.payload.items + 4) }
     {
         callee.reply(&self.table, message);
     }
@@ -215,7 +236,8 @@ impl Channel for WordChannel {
     fn close_caller(&self, caller: &mut WordCaller) -> Result<Closing, CloseError>
         requires name { word_caller_name caller.old ≡ word_channel_name self.now }
         ensures name { word_caller_name caller.new ≡ word_caller_name caller.old }
-        ensures closes { ClosesCaller (word_caller_view caller.old) result (word_caller_view caller.new) }
+        ensures closes { ClosesCaller (word_caller_view caller.old) result
+            (word_caller_view caller.new) }
         ensures shows { CloseShows caller.new result }
         ensures withdrawn_stays { IsWithdrawn caller.old → IsWithdrawn caller.new }
         ensures draft { HasNoDraft caller.old → HasNoDraft caller.new }
@@ -227,7 +249,8 @@ impl Channel for WordChannel {
     fn close_callee(&self, callee: &mut WordCallee) -> Result<(), CloseError>
         requires name { word_callee_name callee.old ≡ word_channel_name self.now }
         ensures name { word_callee_name callee.new ≡ word_callee_name callee.old }
-        ensures closes { ClosesCallee (word_callee_view callee.old) result (word_callee_view callee.new) }
+        ensures closes { ClosesCallee (word_callee_view callee.old) result
+            (word_callee_view callee.new) }
         ensures steps { (callee_half callee.new).steps ≤ (callee_half callee.old).steps + 1 }
     {
         callee.close(&self.table)
@@ -239,7 +262,8 @@ impl Channel for WordChannel {
         ensures agree { Agree (word_caller_view caller) (word_callee_view callee) }
         ensures closed { Closed (word_caller_view caller) (word_callee_view callee) }
         ensures rule { Rule (image_words result) (caller_half caller) (callee_half callee) }
-        ensures area { StandsAtEnd (caller_half caller).state (callee_half callee).state (image_area result) }
+        ensures area { StandsAtEnd (caller_half caller).state (callee_half callee).state
+            (image_area result) }
     {
         let words = self.take_apart(caller, callee);
         WordImage { words }

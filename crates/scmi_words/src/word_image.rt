@@ -47,7 +47,8 @@ impl WordImage {
 pub fn words_of(closed: &Closed<(), Global>) -> [u64; TABLE_WORDS]
     requires { IsFull closed.now.words × (slots_len closed.now.words ≡ TABLE_WORDS) }
     ensures long { length result ≡ TABLE_WORDS }
-    ensures same { (i : ℕ) → i < TABLE_WORDS → get_elem? (slots_items closed.now.words) i ≡ some (slice_index result i) }
+    ensures same { (i : ℕ) → i < TABLE_WORDS →
+        get_elem? (slots_items closed.now.words) i ≡ some (slice_index result i) }
 {
     let mut words = [0u64; TABLE_WORDS];
     for i in 0..TABLE_WORDS {

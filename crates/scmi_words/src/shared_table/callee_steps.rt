@@ -29,7 +29,9 @@ impl Play<(), View> for Takes {
 pub fn take_over(table: &SharedTable, seat: &mut TableSeat) -> u64
     requires table { IsSeatAt table.now seat.old }
     requires half { HasCallee seat.old }
-    ensures { (h : CalleeHalf) × CalleeBecomes seat.old h seat.new × (result ≡ 0 → (f : Frame) × IsLawful f × (h ≡ callee_took (callee_of seat.old) f)) × (result ≢ 0 → h ≡ callee_looked (callee_of seat.old) result) }
+    ensures { (h : CalleeHalf) × CalleeBecomes seat.old h seat.new ×
+        (result ≡ 0 → (f : Frame) × IsLawful f × (h ≡ callee_took (callee_of seat.old) f)) ×
+        (result ≢ 0 → h ≡ callee_looked (callee_of seat.old) result) }
 {
     let words = &table.words.shared;
     words.compare_exchange::<Takes>(seat, STATUS, POSTED, TAKEN)
@@ -46,10 +48,12 @@ impl Play<(), View> for Reads {
 /// A word of the area is loaded: the callee learns that word of the frame that it took.
 pub fn load_frame_word(table: &SharedTable, seat: &mut TableSeat, word: usize) -> u32
     requires table { IsSeatAt table.now seat.old }
-    requires half { HasCallee seat.old × IsOwing (callee_of seat.old) × ((callee_of seat.old).state.draft ≡ []) }
+    requires half { HasCallee seat.old × IsOwing (callee_of seat.old) ×
+        ((callee_of seat.old).state.draft ≡ []) }
     requires word { (0 < word) × (word < TABLE_WORDS) }
     ensures view { CalleeBecomes seat.old (callee_after (callee_of seat.old) 1) seat.new }
-    ensures value { (i : ℕ) → word ≡ LENGTH + i → i < length (frame_area (callee_of seat.old)) → result ≡ slice_index (frame_area (callee_of seat.old)) i }
+    ensures value { (i : ℕ) → word ≡ LENGTH + i → i < length (frame_area (callee_of seat.old)) →
+        result ≡ slice_index (frame_area (callee_of seat.old)) i }
 {
     let words = &table.words.shared;
     words.load::<Reads>(seat, word) as u32
@@ -67,7 +71,8 @@ impl Play<(), View> for Stores {
 pub fn store_answer_word(table: &SharedTable, seat: &mut TableSeat, word: usize, value: u32)
     requires table { IsSeatAt table.now seat.old }
     requires half { HasCallee seat.old × IsOwing (callee_of seat.old) }
-    requires next { (word ≡ LENGTH + length (callee_of seat.old).state.draft) × (word < TABLE_WORDS) }
+    requires next { (word ≡ LENGTH + length (callee_of seat.old).state.draft) ×
+        (word < TABLE_WORDS) }
     ensures { CalleeBecomes seat.old (callee_stored (callee_of seat.old) value) seat.new }
 {
     let words = &table.words.shared;

@@ -30,7 +30,8 @@ impl Play<(), View> for Stores {
 pub fn store_frame_word(table: &SharedTable, seat: &mut TableSeat, word: usize, value: u32)
     requires table { IsSeatAt table.now seat.old }
     requires half { HasCaller seat.old × ((caller_of seat.old).state.phase ≡ Idle) }
-    requires next { (word ≡ LENGTH + length (caller_of seat.old).state.draft) × (word < TABLE_WORDS) }
+    requires next { (word ≡ LENGTH + length (caller_of seat.old).state.draft) ×
+        (word < TABLE_WORDS) }
     ensures { CallerBecomes seat.old (caller_stored (caller_of seat.old) value) seat.new }
 {
     let words = &table.words.shared;
@@ -50,10 +51,14 @@ impl Play<(), View> for Posts {
 pub fn hand_over(table: &SharedTable, seat: &mut TableSeat, free: u64) -> bool
     ghost frame: { Frame }
     requires table { IsSeatAt table.now seat.old }
-    requires half { HasCaller seat.old × ((caller_of seat.old).state.phase ≡ Idle) × ((caller_of seat.old).state.closed ≡ false) }
-    requires free { free ≡ status_word (settled_mark (last_or None (caller_of seat.old).state.read)) false }
+    requires half { HasCaller seat.old × ((caller_of seat.old).state.phase ≡ Idle) ×
+        ((caller_of seat.old).state.closed ≡ false) }
+    requires free { free ≡ status_word
+        (settled_mark (last_or None (caller_of seat.old).state.read)) false }
     requires whole { IsLawful frame × ((caller_of seat.old).state.draft ≡ frame_words frame) }
-    ensures { MatchBool result (CallerBecomes seat.old (caller_posted (caller_of seat.old) frame) seat.new) (CallerBecomes seat.old (caller_refused (caller_of seat.old)) seat.new) }
+    ensures { MatchBool result
+        (CallerBecomes seat.old (caller_posted (caller_of seat.old) frame) seat.new)
+        (CallerBecomes seat.old (caller_refused (caller_of seat.old)) seat.new) }
 {
     let words = &table.words.shared;
     words.compare_exchange::<Posts>(seat, STATUS, free, POSTED) == free
@@ -72,7 +77,10 @@ impl Play<(), View> for Looks {
 pub fn look(table: &SharedTable, seat: &mut TableSeat) -> u64
     requires table { IsSeatAt table.now seat.old }
     requires half { HasCaller seat.old }
-    ensures { (h : CallerHalf) × CallerBecomes seat.old h seat.new × ((caller_of seat.old).state.phase ≡ Waiting → Sees (caller_of seat.old) result h) × ((caller_of seat.old).state.phase ≢ Waiting → h ≡ caller_looked (caller_of seat.old) result) }
+    ensures { (h : CallerHalf) × CallerBecomes seat.old h seat.new ×
+        ((caller_of seat.old).state.phase ≡ Waiting → Sees (caller_of seat.old) result h) ×
+        ((caller_of seat.old).state.phase ≢ Waiting →
+        h ≡ caller_looked (caller_of seat.old) result) }
 {
     let words = &table.words.shared;
     words.load::<Looks>(seat, STATUS)
@@ -89,10 +97,12 @@ impl Play<(), View> for Reads {
 /// A word of the area is loaded: the caller learns that word of the answer that it collected.
 pub fn load_answer_word(table: &SharedTable, seat: &mut TableSeat, word: usize) -> u32
     requires table { IsSeatAt table.now seat.old }
-    requires half { HasCaller seat.old × ((caller_of seat.old).state.phase ≡ Idle) × ((caller_of seat.old).state.draft ≡ []) }
+    requires half { HasCaller seat.old × ((caller_of seat.old).state.phase ≡ Idle) ×
+        ((caller_of seat.old).state.draft ≡ []) }
     requires word { (0 < word) × (word < TABLE_WORDS) }
     ensures view { CallerBecomes seat.old (caller_after (caller_of seat.old) 1) seat.new }
-    ensures value { (i : ℕ) → word ≡ LENGTH + i → i < length (answer_area (caller_of seat.old)) → result ≡ slice_index (answer_area (caller_of seat.old)) i }
+    ensures value { (i : ℕ) → word ≡ LENGTH + i → i < length (answer_area (caller_of seat.old)) →
+        result ≡ slice_index (answer_area (caller_of seat.old)) i }
 {
     let words = &table.words.shared;
     words.load::<Reads>(seat, word) as u32
@@ -111,7 +121,8 @@ impl Play<(), View> for Shuts {
 pub fn shut_caller(table: &SharedTable, seat: &mut TableSeat, bits: u64) -> u64
     requires table { IsSeatAt table.now seat.old }
     requires half { HasCaller seat.old }
-    requires bits { ((bits ≡ CLOSED) × ((caller_of seat.old).state.phase ≢ Waiting)) ⊎ ((bits ≡ CLOSED + FREE) × ((caller_of seat.old).state.phase ≡ Stranded)) }
+    requires bits { ((bits ≡ CLOSED) × ((caller_of seat.old).state.phase ≢ Waiting)) ⊎
+        ((bits ≡ CLOSED + FREE) × ((caller_of seat.old).state.phase ≡ Stranded)) }
     ensures { (t : ℕ) × CallerBecomes seat.old (shut_by (caller_of seat.old) bits t) seat.new }
 {
     let words = &table.words.shared;
@@ -131,7 +142,9 @@ impl Play<(), View> for Withdraws {
 pub fn withdraw(table: &SharedTable, seat: &mut TableSeat) -> u64
     requires table { IsSeatAt table.now seat.old }
     requires half { HasCaller seat.old × ((caller_of seat.old).state.phase ≡ Waiting) }
-    ensures { (h : CallerHalf) × CallerBecomes seat.old h seat.new × (result ≡ 0 → (t : ℕ) × (h ≡ caller_withdrew (caller_of seat.old) t)) × (result ≢ 0 → Refuses (caller_of seat.old) result h) }
+    ensures { (h : CallerHalf) × CallerBecomes seat.old h seat.new ×
+        (result ≡ 0 → (t : ℕ) × (h ≡ caller_withdrew (caller_of seat.old) t)) ×
+        (result ≢ 0 → Refuses (caller_of seat.old) result h) }
 {
     let words = &table.words.shared;
     words.compare_exchange::<Withdraws>(seat, STATUS, POSTED, CLOSED + FREE)

@@ -56,8 +56,10 @@ impl Join<View> for Parts {
 pub fn split_callee(table: &SharedTable, seat: &mut TableSeat) -> TableSeat
     requires table { IsSeatAt table.now seat.old }
     requires both { HasCaller seat.old × HasCallee seat.old }
-    ensures caller { (seat.new.table_id ≡ seat.old.table_id) × HasCaller seat.new × (caller_of seat.new ≡ caller_of seat.old) × (seat.new.me.0.callee ≡ None) }
-    ensures callee { (result.table_id ≡ seat.old.table_id) × (result.me.1 ≡ []) × HasCallee result × (callee_of result ≡ callee_of seat.old) × (result.me.0.caller ≡ None) }
+    ensures caller { (seat.new.table_id ≡ seat.old.table_id) × HasCaller seat.new ×
+        (caller_of seat.new ≡ caller_of seat.old) × (seat.new.me.0.callee ≡ None) }
+    ensures callee { (result.table_id ≡ seat.old.table_id) × (result.me.1 ≡ []) × HasCallee result ×
+        (callee_of result ≡ callee_of seat.old) × (result.me.0.caller ≡ None) }
 {
     let words = &table.words.shared;
     words.split_seat::<Parts>(seat)
@@ -68,7 +70,8 @@ pub fn join_callee(table: &SharedTable, seat: &mut TableSeat, other: TableSeat)
     requires table { IsSeatAt table.now seat.old × IsSeatAt table.now other }
     requires both { HasCaller seat.old × HasCallee other × (other.me.1 ≡ []) }
     ensures table { (seat.new.table_id ≡ seat.old.table_id) × (seat.new.id ≡ seat.old.id) }
-    ensures both { HasCaller seat.new × HasCallee seat.new × (caller_of seat.new ≡ caller_of seat.old) × (callee_of seat.new ≡ callee_of other) }
+    ensures both { HasCaller seat.new × HasCallee seat.new ×
+        (caller_of seat.new ≡ caller_of seat.old) × (callee_of seat.new ≡ callee_of other) }
 {
     let words = &table.words.shared;
     words.join_seat::<Parts>(seat, other);
@@ -78,7 +81,9 @@ pub fn join_callee(table: &SharedTable, seat: &mut TableSeat, other: TableSeat)
 pub fn close_table(table: SharedTable, seat: TableSeat) -> Closed<(), Global>
     requires table { IsSeatAt table seat }
     requires both { HasCaller seat × HasCallee seat }
-    ensures { IsFull result.words × (slots_len result.words ≡ TABLE_WORDS) × (slots_len result.slots ≡ 0) × Rule (slots_items result.words) (caller_of seat) (callee_of seat) }
+    ensures { IsFull result.words × (slots_len result.words ≡ TABLE_WORDS) ×
+        (slots_len result.slots ≡ 0) ×
+        Rule (slots_items result.words) (caller_of seat) (callee_of seat) }
 {
     let SharedTable { words } = table;
     words.close_with(seat)
