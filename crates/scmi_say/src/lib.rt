@@ -5,6 +5,7 @@
 //! an answer that was written is told as that answer) and of `write_told` (the text, to its last byte).
 #![tactic(auto)]
 
+mod alike;
 mod answering;
 mod area;
 mod command_text;
@@ -23,6 +24,7 @@ mod told;
 mod values;
 mod words;
 
+pub use alike::are_told_alike;
 pub use answering::{tell_answered, tell_written};
 pub use area::write_area;
 pub use commands::command_fields;

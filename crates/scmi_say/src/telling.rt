@@ -11,7 +11,7 @@ use byteorder::{ByteOrder, LittleEndian};
 use scmi_codec::{AREA_BYTES, Command, Frame, Message, Status, read_area, write_word};
 
 // The place of the status word, in bytes (DEN0056B, shared memory transport).
-const STATUS_AT: usize = 4;
+pub(crate) const STATUS_AT: usize = 4;
 
 /// What an area is. The status word decides first: of a busy channel its caller's message stands
 /// there. Of a free one a message of type 0 is a reply where it has the form of one, and else a command
@@ -35,7 +35,7 @@ fn has_error(area: &[u8; AREA_BYTES]) -> bool
 }
 
 /// The frame that stands in an area, whatever its status word.
-fn standing_frame(area: &[u8; AREA_BYTES]) -> Frame
+pub(crate) fn standing_frame(area: &[u8; AREA_BYTES]) -> Frame
     ensures { result ≡ frame_of area.now }
 {
     // The codec reads the frame of a busy channel alone.
