@@ -145,13 +145,19 @@ alike_from_text a b ha hb e =
       state = sa ∙ ap state_number states ∙ sym sb;
     }
 
--- areas that stand alike have equal texts
-pub text_from_alike : (a b : List ℕ) → StandAlike a b → told_text (told a) ≡ told_text (told b)
-text_from_alike a b same =
+-- of areas that stand alike the same is told
+pub told_from_alike : (a b : List ℕ) → StandAlike a b → told a ≡ told b
+told_from_alike a b same =
     let (s, sa, ta) = told_by_state a in
     let (t, sb, tb) = told_by_state b in
     let states = state_number-injective s t (sym sa ∙ same.state ∙ sb) in
-    ap told_text ta ∙ ap (λ x. told_text (told_at x (frame_of a))) states ∙ ap (λ f. told_text (told_at t f)) same.frame ∙ sym (ap told_text tb)
+    ta ∙ ap (λ x. told_at x (frame_of a)) states ∙ ap (told_at t) same.frame ∙ sym tb
 
--- areas stand alike just where they are told with the same text
-pub ruleset same_text = (alike_from_text, text_from_alike)
+pub text_from_alike : (a b : List ℕ) → StandAlike a b → told_text (told a) ≡ told_text (told b)
+text_from_alike a b same = ap told_text (told_from_alike a b same)
+
+pub alike_from_told : (a b : List ℕ) → AreBytes a → AreBytes b → told a ≡ told b → StandAlike a b
+alike_from_told a b ha hb e = alike_from_text a b ha hb (ap told_text e)
+
+-- areas stand alike just where the same is told of them, and just where it is the same text
+pub ruleset same_text = (told_from_alike, text_from_alike, alike_from_told, alike_from_text)

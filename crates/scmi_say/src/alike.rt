@@ -8,13 +8,14 @@ use crate::telling::{STATUS_AT, standing_frame};
 use byteorder::{ByteOrder, LittleEndian};
 use scmi_codec::{AREA_BYTES, Frame};
 
-/// Whether two areas are told with the same text. It is so just where they have the same frame
-/// (header and payload words, or the length and header word of a malformed one) and their
-/// channels are in the same state: busy, free, or free with the error bit. So the text loses
-/// nothing of these; of the other bytes of an area it says nothing.
+/// Whether the same is told of two areas, with the same text. It is so just where they have the
+/// same frame (header and payload words, or the length and header word of a malformed one) and
+/// their channels are in the same state: busy, free, or free with the error bit. So the text
+/// loses nothing of these; of the other bytes of an area it says nothing.
 #[tactic(auto, using(crate::proofs::SameText::same_text))]
 pub fn are_told_alike(first: &[u8; AREA_BYTES], second: &[u8; AREA_BYTES]) -> bool
     ensures area { IsTrue result ↔ StandAlike first.now second.now }
+    ensures told { IsTrue result ↔ (told first.now ≡ told second.now) }
     ensures text { IsTrue result ↔ (told_text (told first.now) ≡ told_text (told second.now)) }
 {
     let is_same_state = state_of(first) == state_of(second);
