@@ -13,6 +13,7 @@ use Rattle.scmi_plan.specs.declared.rates.Rates.TheVariants as rates
 use Rattle.scmi_codec.specs.Name.{name_words}
 use Rattle.scmi_codec.specs.Rate.{rate_words}
 use Rattle.scmi_codec.specs.Reply.{Check, reply_unless, other_bits}
+use Rattle.scmi_clock.specs.declared.discovery.TheConstants.{PENDING_SETS}
 use Rattle.scmi_clock.specs.Rounding.{round_to}
 use Rattle.scmi_clock.specs.SetFlags.{rounding_of, is_asynchronous, has_unknown_flags}
 
@@ -58,13 +59,9 @@ described (rates.List list) index =
     rates_word (left - count) count ∷ flat_map rate_words (take count (drop index list))
 described (rates.Steps low high step) index = triplet_word ∷ flat_map rate_words (low ∷ high ∷ step ∷ [])
 
--- the most sets that may be pending (own)
-abbrev pub most_pending : ℕ
-most_pending = 8
-
 -- the reply to 0x1: in bits 23 to 16 the most pending sets, in bits 15 to 0 the number of clocks
 abbrev pub attributes_reply : Board → List ℕ
-attributes_reply board = 0 ∷ (most_pending * 2 ^ 16 + length board.clocks) ∷ []
+attributes_reply board = 0 ∷ (PENDING_SETS * 2 ^ 16 + length board.clocks) ∷ []
 
 -- the reply to 0x2: an id of the protocol's table is supported, with no attributes
 abbrev pub message_reply : ℕ → List ℕ

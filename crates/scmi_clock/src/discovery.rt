@@ -16,8 +16,8 @@ use scmi_plan::{Plan, Rates};
 /// The version of the clock protocol: major 1, minor 0 (own).
 const VERSION: u32 = 0x0001_0000;
 
-/// The most sets that may be pending (own).
-const PENDING_SETS: u32 = 8;
+/// The most sets that are pending in all, of clocks and of domains (own).
+pub const PENDING_SETS: usize = 8;
 
 /// The most rates of one reply: two words each, after the status and the flags word.
 const MOST_RATES: usize = (PAYLOAD_WORDS - 2) / 2;
@@ -36,7 +36,10 @@ pub(crate) fn version(reply: &mut Payload)
 pub(crate) fn attributes(plan: &Plan, reply: &mut Payload)
     ensures { reply.new.items ≡ attributes_reply plan.now }
 {
-    set_payload(reply, &[SUCCESS, PENDING_SETS << 16 | plan.clocks()]);
+    set_payload(
+        reply,
+        &[SUCCESS, (PENDING_SETS as u32) << 16 | plan.clocks()],
+    );
 }
 
 /// 0x2: no attributes; NOT_FOUND for an id that the protocol lacks.
@@ -112,13 +115,18 @@ fn listed(list: &[u64], index: usize, reply: &mut Payload)
 {
     let left = list.len() - index;
     let count = left.min(MOST_RATES);
-    set_payload(reply, &[SUCCESS, rates_word(left - count, count)]);
+    let mut words = [0; PAYLOAD_WORDS];
+    words[0] = SUCCESS;
+    words[1] = rates_word(left - count, count);
+    let mut size = 2;
     let returned = &list[index..index + count];
     for rate in returned {
         let [low, high] = rate_words(*rate);
-        reply.push(low);
-        reply.push(high);
+        words[size] = low;
+        words[size + 1] = high;
+        size += 2;
     }
+    set_payload(reply, &words[..size]);
 }
 
 /// The flags word of a list: rates that remain in bits [31:16], rates returned in [11:0].

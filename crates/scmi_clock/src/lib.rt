@@ -13,4 +13,5 @@ mod rounding;
 mod set_flags;
 
 pub use clock_state::ClockState;
+pub use discovery::PENDING_SETS;
 pub use rounding::{Rounding, round};
