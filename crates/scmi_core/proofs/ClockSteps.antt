@@ -131,7 +131,7 @@ pub clock-stepped : (board : Board) (t new : Tables) (clocks' : ClockTables) (a 
     → IfSome later (λ set. set.0 < length board.clocks)
     → IfSome (if_success reply (rate_now board c)) (λ set. set.0 < length board.clocks) × IfSome (if_success reply (enabled_now c)) (λ set. set.0 < length board.clocks)
     → SameButPending (record { base = t.base; power = t.power; clocks = clocks'; pending = t.pending; outboxes = t.outboxes }) new
-    → new.pending.items ≡ t.pending.items ++ option_to_list (option_map (rate_set a header) later)
+    → new.pending ≡ t.pending ++ option_to_list (option_map (rate_set a header) later)
     → HasStepped board t (success_of a header (Ok (Clock c)) reply) None new
 clock-stepped board t new clocks' a header c reply later few lo hi is_later rates enabled known_later known kept pend =
     let change : change_of board (success_of a header (Ok (Clock c)) reply) None ≡ either a (if_success reply (rate_now board c)) (if_success reply (enabled_now c)) = change-clock board a header c reply in
@@ -140,14 +140,14 @@ clock-stepped board t new clocks' a header c reply later few lo hi is_later rate
       subscriptions = λ x d lo' hi' small. ap (λ p. is_subscribed p x d) kept.power ∙ sym (says_nothing a header (Ok (Clock c)) reply (subscription x d) (is_subscribed t.power x d) refl);
       values = λ x within. values x within ∙ ap (λ o. unwrap_or (option_and_then (value_in x) o) (value_at t x)) (sym change);
       known = subst (λ o. IfSome o (λ ch. IsThing board ch.thing)) (sym change) (either-known board a (if_success reply (rate_now board c)) (if_success reply (enabled_now c)) known.0 known.1);
-      pending_sets = pend ∙ ap (λ o. t.pending.items ++ option_to_list o) (ap (option_map (rate_set a header)) is_later ∙ sym (pending-clock board a header c reply));
-      known_sets = λ all. subst (All (IsOfBoard board)) (sym pend) (All-append (IsOfBoard board) t.pending.items (option_to_list (option_map (rate_set a header) later)) all (later-known board a header later lo hi known_later));
+      pending_sets = pend ∙ ap (λ o. t.pending ++ option_to_list o) (ap (option_map (rate_set a header)) is_later ∙ sym (pending-clock board a header c reply));
+      known_sets = λ all. subst (All (IsOfBoard board)) (sym pend) (All-append (IsOfBoard board) t.pending (option_to_list (option_map (rate_set a header) later)) all (later-known board a header later lo hi known_later));
       outboxes = λ x lo' hi'.
           same_box t new x kept.outboxes
           ∙ sym (append-nil (outbox_at t x))
           ∙ ap (λ b. outbox_at t x ++ b)
-          (no_notice t new.pending.items x a (if_success reply (rate_now board c)) (if_success reply (enabled_now c))
-          ∙ ap (λ o. made_in x (situation_in x t) new.pending.items None o) (sym change));
+          (no_notice t new.pending x a (if_success reply (rate_now board c)) (if_success reply (enabled_now c))
+          ∙ ap (λ o. made_in x (situation_in x t) new.pending None o) (sym change));
     } where
       values : (x : Thing) → IsThing board x → value_at new x ≡ unwrap_or (option_and_then (value_in x) (either a (if_success reply (rate_now board c)) (if_success reply (enabled_now c)))) (value_at t x)
       values (State d) within = ap (λ p. state_at p d) kept.power ∙ state-same a d (state_at t.power d) (if_success reply (rate_now board c)) (if_success reply (enabled_now c))
@@ -181,14 +181,14 @@ base-stepped board t new base' a header c reply permits ends states bases clocks
       subscriptions = λ x d lo' hi' small. ends x d lo' hi' small ∙ unsubscribed (begins_with_success reply) x d (is_subscribed t.power x d);
       values = λ x within. values x ∙ ap (λ o. unwrap_or (option_and_then (value_in x) o) (value_at t x)) (sym change);
       known = subst (λ o. IfSome o (λ ch. IsThing board ch.thing)) (sym change) tt;
-      pending_sets = ap (λ p. p.items) pend ∙ sym (append-nil t.pending.items) ∙ ap (λ o. t.pending.items ++ option_to_list o) (sym (pending-base board a header c reply));
-      known_sets = λ all. subst (λ p. All (IsOfBoard board) p.items) (sym pend) all;
+      pending_sets = pend ∙ sym (append-nil t.pending) ∙ ap (λ o. t.pending ++ option_to_list o) (sym (pending-base board a header c reply));
+      known_sets = λ all. subst (All (IsOfBoard board)) (sym pend) all;
       outboxes = λ x lo' hi'.
           same_box t new x boxes
           ∙ sym (append-nil (outbox_at t x))
           ∙ ap (λ b. outbox_at t x ++ b)
-          (sym (nothing-made x (situation_in x t) new.pending.items)
-          ∙ ap (λ o. made_in x (situation_in x t) new.pending.items None o) (sym change));
+          (sym (nothing-made x (situation_in x t) new.pending)
+          ∙ ap (λ o. made_in x (situation_in x t) new.pending None o) (sym change));
     } where
       permitted : (b : Bool) (x d : ℕ) (scope : Scope) (old : Bool) → (if b then unwrap_or (permission x d scope c) old else old) ≡ unwrap_or (option_and_then (λ s. permission_in x d scope s.command) (if b then success_with a header (Ok (Base c)) else None)) old
       permitted true x d scope old = refl

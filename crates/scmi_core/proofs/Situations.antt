@@ -116,7 +116,7 @@ module _ (board : Board) (a : ℕ) (s u : Situation) (same : SameSituation board
 
 -- what the protocols of power domains and clocks reply by tables and a load is the reply in the situation of the tables
 pub power-reply : (board : Board) (t : Tables) (a : ℕ) (load : Load) (c : PowerCommand) → length board.domains ≤ 32
-    → ((d : ℕ) → d < 32 → (bit_at load.busy d == 1) ≡ has_set_of (resource.Domain d) t.pending.items)
+    → ((d : ℕ) → d < 32 → (bit_at load.busy d == 1) ≡ has_set_of (resource.Domain d) t.pending)
     → load.room ≡ has_room a (situation_in a t)
     → power_reply board (power_table.view_of board t.base t.power load a) c ≡ reply_words board a (situation_in a t) (Ok (Power c))
 unfolding reply_words
@@ -125,7 +125,7 @@ power-reply board t a load c few busy room =
     (record { state = λ d small. refl; may = λ d small. refl; busy = λ d small. busy d (omega arith); room = room }) c
 
 pub clock-reply : (board : Board) (t : Tables) (a : ℕ) (load : Load) (c : ClockCommand) → length board.clocks ≤ 32
-    → ((d : ℕ) → d < 32 → (bit_at load.busy d == 1) ≡ has_set_of (resource.Clock d) t.pending.items)
+    → ((d : ℕ) → d < 32 → (bit_at load.busy d == 1) ≡ has_set_of (resource.Clock d) t.pending)
     → load.room ≡ has_room a (situation_in a t)
     → clock_reply board (clock_table.view_of board t.base t.clocks load a) c ≡ reply_words board a (situation_in a t) (Ok (Clock c))
 unfolding reply_words

@@ -1,8 +1,7 @@
 -- What a command or a completion leaves of the tables.
-use Rattle.std.proofs.Common.{◌≡◌, ℕ, ◌+◌, ◌-◌, ◌<◌, ◌≤◌, ◌==◌, ◌&&◌, nat_lt, Bool, true, false, not, List, [], ◌∷◌, ◌++◌, length, drop, get_or, slice_get, remove, Option, Some, None, IfSome, Ok, unwrap_or, option_map, refl, sym, ap, ◌∙◌, subst, arith, if◌then◌else◌}
+use Rattle.std.proofs.Common.{◌≡◌, ℕ, ◌+◌, ◌-◌, ◌<◌, ◌≤◌, ◌==◌, ◌&&◌, nat_lt, Bool, true, false, not, List, [], ◌∷◌, ◌++◌, length, drop, get_or, slice_get, Option, Some, None, IfSome, Ok, unwrap_or, option_map, refl, sym, ap, ◌∙◌, subst, arith, if◌then◌else◌}
 use Rattle.std.specs.List.{All}
 use Rattle.std.specs.Int.{bit_at}
-use Rattle.std.specs.Option.{option_map_or}
 use Rattle.std.proofs.lemmas.List.{append_assoc, append-nil, length-append}
 use Rattle.std.proofs.lemmas.List.Elements.{All-append, All-nil, All-cons, All-drop}
 use Rattle.scmi_codec.specs.Header.{HeaderFields}
@@ -115,7 +114,7 @@ later-known board a header None lo hi h = all_none (IsOfBoard board)
 later-known board a header (Some set) lo hi h = all_one (IsOfBoard board) (state_set a header set) (record { first = lo; last = hi; thing = h })
 
 -- the domain that a set sets, and that it asks for no notification
-set_of : (c : PowerCommand) (set : ℕ × ℕ) → set_now c ≡ Some set → set_domain c ≡ set.0
+set_of : (c : PowerCommand) (set : ℕ × ℕ) → set_now c ≡ Some set → set_domain c ≡ Some set.0
 set_of power.Version set e = absurd (cc)
 set_of power.Attributes set e = absurd (cc)
 set_of (power.MessageAttributes message) set e = absurd (cc)
@@ -123,9 +122,9 @@ set_of (power.DomainAttributes domain) set e = absurd (cc)
 set_of (power.Get domain) set e = absurd (cc)
 set_of (power.Notify domain enable) set e = absurd (cc)
 set_of (power.Set flags domain state) set e = by (bit_0 flags) e where
-  by : (b : Bool) → (if b then None else Some (domain, state)) ≡ Some set → domain ≡ set.0
+  by : (b : Bool) → (if b then None else Some (domain, state)) ≡ Some set → Some domain ≡ Some set.0
   by true e = absurd (cc)
-  by false e = ap (λ o. option_map_or (λ s. s.0) o 0) e
+  by false e = ap (option_map (λ s. s.0)) e
 
 no_request : (c : PowerCommand) (set : ℕ × ℕ) (x d a : ℕ) → set_now c ≡ Some set → notification x d a c ≡ None
 no_request power.Version set x d a e = refl
@@ -150,18 +149,18 @@ nothing_asked reply o old e = rw e (by (begins_with_success reply)) where
 
 -- what is announced after a response
 announced-after : (t m : Tables) (left : List PendingSet) (responses : List Message) (x a d s before : ℕ)
-    → outbox_at m x ≡ outbox_at t x ++ responses → m.pending.items ≡ left → before ≡ state_at t.power d → is_subscribed m.power x d ≡ is_subscribed t.power x d
+    → outbox_at m x ≡ outbox_at t x ++ responses → m.pending ≡ left → before ≡ state_at t.power d → is_subscribed m.power x d ≡ is_subscribed t.power x d
     → announced_at m x a (Some (d, s)) before
     ≡ (if nat_lt (length (outbox_at t x) + length responses + length (sets_by x left)) 16 then notice_in (situation_in x t) (state_change a (d, s)) else [])
 announced-after t m left responses x a d s before box pend was subs =
     told-notice (nat_lt (load_at m x) 16) (is_subscribed m.power x d) (s == before) (state_changed a d s)
     ∙ ap (λ b. if b then (if not (s == before) && is_subscribed m.power x d then state_changed a d s ∷ [] else []) else [])
-    (ap (λ l. nat_lt (l + length (sets_by x m.pending.items)) 16) (ap length box ∙ length-append (outbox_at t x) responses) ∙ ap (λ p. nat_lt (length (outbox_at t x) + length responses + length (sets_by x p)) 16) pend)
+    (ap (λ l. nat_lt (l + length (sets_by x m.pending)) 16) (ap length box ∙ length-append (outbox_at t x) responses) ∙ ap (λ p. nat_lt (length (outbox_at t x) + length responses + length (sets_by x p)) 16) pend)
     ∙ ap (λ v. if nat_lt (length (outbox_at t x) + length responses + length (sets_by x left)) 16 then (if not (s == v) && is_subscribed m.power x d then state_changed a d s ∷ [] else []) else []) was
     ∙ ap (λ b. if nat_lt (length (outbox_at t x) + length responses + length (sets_by x left)) 16 then (if not (s == state_at t.power d) && b then state_changed a d s ∷ [] else []) else []) subs
 
 -- what is announced is what is made, where no response is
-pub announced-made : (t n : Tables) (left : List PendingSet) (x a : ℕ) (changed : Option (ℕ × ℕ)) (before : ℕ) → n.outboxes ≡ t.outboxes → n.pending.items ≡ left
+pub announced-made : (t n : Tables) (left : List PendingSet) (x a : ℕ) (changed : Option (ℕ × ℕ)) (before : ℕ) → n.outboxes ≡ t.outboxes → n.pending ≡ left
     → ((set : ℕ × ℕ) → changed ≡ Some set → (before ≡ state_at t.power set.0) × (is_subscribed n.power x set.0 ≡ is_subscribed t.power x set.0))
     → announced_at n x a changed before ≡ made_in x (situation_in x t) left None (option_map (state_change a) changed)
 announced-made t n left x a None before boxes pend facts = sym (nothing-made x (situation_in x t) left)
@@ -175,28 +174,28 @@ pub power-stepped : (board : Board) (t n new : Tables) (power' : PowerTables) (a
     → ((d : ℕ) → d < 32 → state_at power' d ≡ set_to changed d (state_at t.power d))
     → ((x d : ℕ) → 1 ≤ x → x ≤ 8 → d < 32 → is_subscribed power' x d ≡ unwrap_or (if_success reply (notification x d a c)) (is_subscribed t.power x d))
     → IfSome changed (λ set. set.0 < length board.domains) → IfSome later (λ set. set.0 < length board.domains)
-    → (set_domain c < 32 → before ≡ state_at t.power (set_domain c))
+    → IfSome (set_domain c) (λ d. d < 32 → before ≡ state_at t.power d)
     → SameButPending (record { base = t.base; power = power'; clocks = t.clocks; pending = t.pending; outboxes = t.outboxes }) n
-    → n.pending.items ≡ t.pending.items ++ option_to_list (option_map (state_set a header) later)
+    → n.pending ≡ t.pending ++ option_to_list (option_map (state_set a header) later)
     → SameButOutboxes n new
     → ((x : ℕ) → 1 ≤ x → x ≤ length board.agents → outbox_at new x ≡ outbox_at n x ++ announced_at n x a changed before)
     → HasStepped board t (success_of a header (Ok (Power c)) reply) None new
 power-stepped board t n new power' a header c reply changed later before few few_agents lo hi is_changed is_later states subs known known_later was kept1 pend1 kept2 told2 =
     let change : change_of board (success_of a header (Ok (Power c)) reply) None ≡ option_map (state_change a) changed = change-power board a header c reply ∙ ap (option_map (state_change a)) (sym is_changed) in
-    let pend : new.pending.items ≡ t.pending.items ++ option_to_list (option_map (state_set a header) later) = ap (λ p. p.items) kept2.pending ∙ pend1 in
+    let pend : new.pending ≡ t.pending ++ option_to_list (option_map (state_set a header) later) = kept2.pending ∙ pend1 in
     record {
       permissions = λ x d scope lo' small. ap (λ b. is_allowed b x d scope) (kept2.base ∙ kept1.base) ∙ sym (permission-power a header c reply x d scope (is_allowed t.base x d scope));
       subscriptions = λ x d lo' hi' small. ap (λ p. is_subscribed p x d) (kept2.power ∙ kept1.power) ∙ subs x d lo' hi' small ∙ sym (subscription-power a header c reply x d (is_subscribed t.power x d));
       values = λ x within. values x within ∙ ap (λ o. unwrap_or (option_and_then (value_in x) o) (value_at t x)) (sym change);
       known = subst (λ o. IfSome o (λ ch. IsThing board ch.thing)) (sym change) (changed-known board a changed known);
-      pending_sets = pend ∙ ap (λ o. t.pending.items ++ option_to_list o) (ap (option_map (state_set a header)) is_later ∙ sym (pending-power board a header c reply));
-      known_sets = λ all. subst (All (IsOfBoard board)) (sym pend) (All-append (IsOfBoard board) t.pending.items (option_to_list (option_map (state_set a header) later)) all (later-known board a header later lo hi known_later));
+      pending_sets = pend ∙ ap (λ o. t.pending ++ option_to_list o) (ap (option_map (state_set a header)) is_later ∙ sym (pending-power board a header c reply));
+      known_sets = λ all. subst (All (IsOfBoard board)) (sym pend) (All-append (IsOfBoard board) t.pending (option_to_list (option_map (state_set a header) later)) all (later-known board a header later lo hi known_later));
       outboxes = λ x lo' hi'.
           told2 x lo' hi'
           ∙ ap (λ b. b ++ announced_at n x a changed before) (same_box t n x kept1.outboxes)
           ∙ ap (λ b. outbox_at t x ++ b)
-          (announced-made t n new.pending.items x a changed before kept1.outboxes (sym (ap (λ p. p.items) kept2.pending)) (facts x lo' hi')
-          ∙ ap (λ o. made_in x (situation_in x t) new.pending.items None o) (sym change));
+          (announced-made t n new.pending x a changed before kept1.outboxes (sym (kept2.pending)) (facts x lo' hi')
+          ∙ ap (λ o. made_in x (situation_in x t) new.pending None o) (sym change));
     } where
       values : (x : Thing) → IsThing board x → value_at new x ≡ unwrap_or (option_and_then (value_in x) (option_map (state_change a) changed)) (value_at t x)
       values (State d) within = ap (λ p. state_at p d) (kept2.power ∙ kept1.power) ∙ states d (omega arith) ∙ state-value a d (state_at t.power d) changed
@@ -206,9 +205,9 @@ power-stepped board t n new power' a header c reply changed later before few few
       facts : (x : ℕ) → 1 ≤ x → x ≤ length board.agents → (set : ℕ × ℕ) → changed ≡ Some set → (before ≡ state_at t.power set.0) × (is_subscribed n.power x set.0 ≡ is_subscribed t.power x set.0)
       facts x lo' hi' set e =
           let now : set_now c ≡ Some set = of_success reply (set_now c) set (sym e ∙ is_changed) in
-          let domain : set_domain c ≡ set.0 = set_of c set now in
+          let domain : set_domain c ≡ Some set.0 = set_of c set now in
           let inside : set.0 < length board.domains = subst (λ o. IfSome o (λ s. s.0 < length board.domains)) e known in (
-            was (omega (arith, few)) ∙ ap (state_at t.power) domain,
+            subst (λ o. IfSome o (λ d. d < 32 → before ≡ state_at t.power d)) domain was (omega (arith, few)),
             ap (λ p. is_subscribed p x set.0) kept1.power ∙ subs x set.0 lo' (omega (arith, few_agents)) (omega (arith, few)) ∙ nothing_asked reply (notification x set.0 a c) (is_subscribed t.power x set.0) (no_request c set x set.0 a now),
           )
 
@@ -216,32 +215,32 @@ power-stepped board t n new power' a header c reply changed later before few few
 
 pub state-completed : (board : Board) (t m new : Tables) (power' : PowerTables) (left : List PendingSet) (a : ℕ) (header : HeaderFields) (wanted : Bool) (d s before : ℕ)
     → length board.domains ≤ 32 → 1 ≤ a → a ≤ length board.agents → d < length board.domains
-    → slice_get t.pending.items 0 ≡ Some (record { agent = a; setting = setting.State d s; header = header; wanted = wanted })
-    → left ≡ drop 1 t.pending.items
+    → slice_get t.pending 0 ≡ Some (record { agent = a; setting = setting.State d s; header = header; wanted = wanted })
+    → left ≡ drop 1 t.pending
     → ((e : ℕ) → e < 32 → state_at power' e ≡ (if d == e then s else state_at t.power e))
     → power'.subscribers ≡ t.power.subscribers
     → before ≡ state_at t.power d
-    → SameButOutboxes (record { base = t.base; power = power'; clocks = t.clocks; pending = record { items = left }; outboxes = t.outboxes }) m
+    → SameButOutboxes (record { base = t.base; power = power'; clocks = t.clocks; pending = left; outboxes = t.outboxes }) m
     → ((x : ℕ) → 1 ≤ x → outbox_at m x ≡ outbox_at t x ++ response_for x (record { agent = a; setting = setting.State d s; header = header; wanted = wanted }))
     → SameButOutboxes m new
     → ((x : ℕ) → 1 ≤ x → x ≤ length board.agents → outbox_at new x ≡ outbox_at m x ++ announced_at m x a (Some (d, s)) before)
-    → HasStepped board t None (slice_get t.pending.items 0) new
+    → HasStepped board t None (slice_get t.pending 0) new
 state-completed board t m new power' left a header wanted d s before few lo hi within first rest states subs was kept1 resp kept2 told =
     let done : PendingSet = record { agent = a; setting = setting.State d s; header = header; wanted = wanted } in
-    let pend : new.pending.items ≡ drop 1 t.pending.items = ap (λ p. p.items) (kept2.pending ∙ kept1.pending) ∙ rest in
+    let pend : new.pending ≡ drop 1 t.pending = (kept2.pending ∙ kept1.pending) ∙ rest in
     subst (λ o. HasStepped board t None o new) (sym first) (record {
       permissions = λ x e scope lo' small. ap (λ b. is_allowed b x e scope) (kept2.base ∙ kept1.base);
       subscriptions = λ x e lo' hi' small. ap (λ p. is_subscribed p x e) (kept2.power ∙ kept1.power) ∙ same_subs x e;
       values = values;
       known = within;
-      pending_sets = pend ∙ sym (append-nil (drop 1 t.pending.items));
-      known_sets = λ all. subst (All (IsOfBoard board)) (sym pend) (All-drop (IsOfBoard board) 1 t.pending.items all);
+      pending_sets = pend ∙ sym (append-nil (drop 1 t.pending));
+      known_sets = λ all. subst (All (IsOfBoard board)) (sym pend) (All-drop (IsOfBoard board) 1 t.pending all);
       outboxes = λ x lo' hi'.
           told x lo' hi'
           ∙ ap (λ b. b ++ announced_at m x a (Some (d, s)) before) (resp x lo')
           ∙ append_assoc (outbox_at t x) (response_for x done) (announced_at m x a (Some (d, s)) before)
           ∙ ap (λ ys. outbox_at t x ++ (response_for x done ++ ys))
-          (announced-after t m new.pending.items (response_for x done) x a d s before (resp x lo') (sym (ap (λ p. p.items) kept2.pending)) was (ap (λ p. is_subscribed p x d) kept1.power ∙ same_subs x d));
+          (announced-after t m new.pending (response_for x done) x a d s before (resp x lo') (sym (kept2.pending)) was (ap (λ p. is_subscribed p x d) kept1.power ∙ same_subs x d));
     }) where
       same_subs : (x e : ℕ) → is_subscribed power' x e ≡ is_subscribed t.power x e
       same_subs x e = ap (λ l. bit_at (get_or l e 0) (x - 1) == 1) subs
@@ -253,33 +252,28 @@ state-completed board t m new power' left a header wanted d s before few lo hi w
 
 pub rate-completed : (board : Board) (t new : Tables) (clocks' : ClockTables) (left : List PendingSet) (a : ℕ) (header : HeaderFields) (wanted : Bool) (k rate : ℕ)
     → length board.clocks ≤ 32 → 1 ≤ a → a ≤ length board.agents → k < length board.clocks
-    → slice_get t.pending.items 0 ≡ Some (record { agent = a; setting = setting.Rate k rate; header = header; wanted = wanted })
-    → left ≡ drop 1 t.pending.items
+    → slice_get t.pending 0 ≡ Some (record { agent = a; setting = setting.Rate k rate; header = header; wanted = wanted })
+    → left ≡ drop 1 t.pending
     → ((e : ℕ) → e < 32 → rate_at clocks' e ≡ (if k == e then rate else rate_at t.clocks e))
     → clocks'.enabled ≡ t.clocks.enabled
-    → SameButOutboxes (record { base = t.base; power = t.power; clocks = clocks'; pending = record { items = left }; outboxes = t.outboxes }) new
+    → SameButOutboxes (record { base = t.base; power = t.power; clocks = clocks'; pending = left; outboxes = t.outboxes }) new
     → ((x : ℕ) → 1 ≤ x → outbox_at new x ≡ outbox_at t x ++ response_for x (record { agent = a; setting = setting.Rate k rate; header = header; wanted = wanted }))
-    → HasStepped board t None (slice_get t.pending.items 0) new
+    → HasStepped board t None (slice_get t.pending 0) new
 rate-completed board t new clocks' left a header wanted k rate few lo hi within first rest rates enabled kept resp =
     let done : PendingSet = record { agent = a; setting = setting.Rate k rate; header = header; wanted = wanted } in
-    let pend : new.pending.items ≡ drop 1 t.pending.items = ap (λ p. p.items) kept.pending ∙ rest in
+    let pend : new.pending ≡ drop 1 t.pending = kept.pending ∙ rest in
     subst (λ o. HasStepped board t None o new) (sym first) (record {
       permissions = λ x e scope lo' small. ap (λ b. is_allowed b x e scope) kept.base;
       subscriptions = λ x e lo' hi' small. ap (λ p. is_subscribed p x e) kept.power;
       values = values;
       known = within;
-      pending_sets = pend ∙ sym (append-nil (drop 1 t.pending.items));
-      known_sets = λ all. subst (All (IsOfBoard board)) (sym pend) (All-drop (IsOfBoard board) 1 t.pending.items all);
+      pending_sets = pend ∙ sym (append-nil (drop 1 t.pending));
+      known_sets = λ all. subst (All (IsOfBoard board)) (sym pend) (All-drop (IsOfBoard board) 1 t.pending all);
       outboxes = λ x lo' hi'.
           resp x lo' ∙ ap (λ ys. outbox_at t x ++ ys) (sym (append-nil (response_for x done))
-          ∙ ap (λ ys. response_for x done ++ ys) (sym (nothing_if (nat_lt (length (outbox_at t x) + length (response_for x done) + length (sets_by x new.pending.items)) 16))));
+          ∙ ap (λ ys. response_for x done ++ ys) (sym (nothing_if (nat_lt (length (outbox_at t x) + length (response_for x done) + length (sets_by x new.pending)) 16))));
     }) where
       values : (x : Thing) → IsThing board x → value_at new x ≡ unwrap_or (option_and_then (value_in x) (Some (record { thing = Rate k; value = rate; causer = a }))) (value_at t x)
       values (State e) inside = ap (λ p. state_at p e) kept.power
       values (Rate e) inside = ap (λ p. rate_at p e) kept.clocks ∙ rates e (omega arith) ∙ sym (pick (k == e) rate (rate_at t.clocks e))
       values (Enabled e) inside = ap (λ p. bit_value (enabled_at p e)) kept.clocks ∙ ap (λ l. bit_value (get_or l e false)) enabled
-
--- the first of a list, and the rest
-pub first-rest : (xs : List PendingSet) (x : PendingSet) → 0 < length xs → x ≡ get_or xs 0 x → (slice_get xs 0 ≡ Some x) × (remove xs 0 ≡ drop 1 xs)
-first-rest [] x h is = elim h [ ]
-first-rest (y ∷ ys) x h is = (ap Some (sym is), refl)

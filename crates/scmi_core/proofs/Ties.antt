@@ -58,9 +58,9 @@ same-situation board t h a agrees law lo hi =
 -- a deed, and the tables that it leaves
 module _ (board : Board) (t new : Tables) (h : List Event) (deed : Deed) (agrees : Agrees board t h) (law : IsLawful board)
     (stepped : HasStepped board t (added deed) (completed board (deeds board h) deed.event) new)
-    (pend : new.pending.items ≡ pending board (deeds board h ++ deed ∷ [])) where
+    (pend : new.pending ≡ pending board (deeds board h ++ deed ∷ [])) where
   made-tied : (a : ℕ) → 1 ≤ a → a ≤ length board.agents
-      → made_in a (situation_in a t) new.pending.items (completed board (deeds board h) deed.event) (change_of board (added deed) (completed board (deeds board h) deed.event))
+      → made_in a (situation_in a t) new.pending (completed board (deeds board h) deed.event) (change_of board (added deed) (completed board (deeds board h) deed.event))
       ≡ made_by board a (deeds board h) (made board a (deeds board h)) deed
   made-tied a lo hi =
       let done = completed board (deeds board h) deed.event in
@@ -89,7 +89,7 @@ module _ (board : Board) (t new : Tables) (h : List Event) (deed : Deed) (agrees
     known = stepped.known_sets agrees.known;
     outboxes = λ a lo hi.
         stepped.outboxes a lo hi
-        ∙ ap (λ b. b ++ made_in a (situation_in a t) new.pending.items (completed board (deeds board h) deed.event) (change_of board (added deed) (completed board (deeds board h) deed.event))) (agrees.outboxes a lo hi)
+        ∙ ap (λ b. b ++ made_in a (situation_in a t) new.pending (completed board (deeds board h) deed.event) (change_of board (added deed) (completed board (deeds board h) deed.event))) (agrees.outboxes a lo hi)
         ∙ ap (λ b. outbox board a h ++ b) (made-tied a lo hi)
         ∙ sym (ap (outbox_after board a) more ∙ outbox-push board a (deeds board h) deed (unsent a) (sent_le-made board h agrees.legal a));
   }
@@ -113,9 +113,9 @@ nothing-stepped board t = record {
   subscriptions = λ a d lo hi small. refl;
   values = λ x within. refl;
   known = tt;
-  pending_sets = sym (append-nil t.pending.items);
+  pending_sets = sym (append-nil t.pending);
   known_sets = λ all. all;
-  outboxes = λ a lo hi. sym (append-nil (outbox_at t a)) ∙ ap (λ ys. outbox_at t a ++ ys) (sym (nothing-made a (situation_in a t) t.pending.items));
+  outboxes = λ a lo hi. sym (append-nil (outbox_at t a)) ∙ ap (λ ys. outbox_at t a ++ ys) (sym (nothing-made a (situation_in a t) t.pending));
 }
 
 -- a message that is no command
@@ -131,7 +131,7 @@ pub Agrees-malformed : (board : Board) (t : Tables) (h : List Event) (a len head
 Agrees-malformed board t h a len header agrees law lo hi =
     let deed : Deed = record { event = Command a (Malformed len header); reply = [] } in
     Agrees-deed board t t h deed agrees law (nothing-stepped board t)
-    (sym (append-nil t.pending.items) ∙ ap (λ p. p ++ []) agrees.pending_sets ∙ sym (pending-push board (deeds board h) deed refl (advances_le-accepted board h agrees.legal)))
+    (sym (append-nil t.pending) ∙ ap (λ p. p ++ []) agrees.pending_sets ∙ sym (pending-push board (deeds board h) deed refl (advances_le-accepted board h agrees.legal)))
     (Command a (Malformed len header)) (deeds-push board h (Command a (Malformed len header))) (lo, hi) (λ x. refl)
 
 -- a frame that was answered
@@ -148,19 +148,19 @@ pub answer-table : (board : Board) (t : Tables) (h : List Event) (a : ℕ) (fram
 answer-table board t h a frame agrees law lo hi =
     answer-same board a (situation_in a t) (situation_after board a (deeds board h)) (same-situation board t h a agrees law lo hi) frame
 
-rest-drop : (t : Tables) (p : List PendingSet) → 0 < length p → rest_of t (slice_get p 0) ++ [] ≡ drop 1 t.pending.items
+rest-drop : (t : Tables) (p : List PendingSet) → 0 < length p → rest_of t (slice_get p 0) ++ [] ≡ drop 1 t.pending
 rest-drop t [] waiting = elim waiting [ ]
-rest-drop t (x ∷ xs) waiting = append-nil (drop 1 t.pending.items)
+rest-drop t (x ∷ xs) waiting = append-nil (drop 1 t.pending)
 
 -- a completion
-pub Agrees-advance : (board : Board) (t new : Tables) (h : List Event) → Agrees board t h → IsLawful board → 0 < length t.pending.items
-    → HasStepped board t None (slice_get t.pending.items 0) new → Agrees board new (h ++ Advance ∷ [])
+pub Agrees-advance : (board : Board) (t new : Tables) (h : List Event) → Agrees board t h → IsLawful board → 0 < length t.pending
+    → HasStepped board t None (slice_get t.pending 0) new → Agrees board new (h ++ Advance ∷ [])
 Agrees-advance board t new h agrees law waiting stepped =
     let deed : Deed = record { event = Advance; reply = [] } in
     let follows : 0 < length (pending board (deeds board h)) = subst (λ p. 0 < length p) agrees.pending_sets waiting in
     let stepped' : HasStepped board t None (completed board (deeds board h) Advance) new = subst (λ p. HasStepped board t None (slice_get p 0) new) agrees.pending_sets stepped in
     Agrees-deed board t new h deed agrees law stepped'
-    (stepped.pending_sets ∙ rest-drop t t.pending.items waiting ∙ ap (drop 1) agrees.pending_sets ∙ sym (pending-advance board (deeds board h)))
+    (stepped.pending_sets ∙ rest-drop t t.pending waiting ∙ ap (drop 1) agrees.pending_sets ∙ sym (pending-advance board (deeds board h)))
     Advance (deeds-push board h Advance) follows (λ x. refl)
 
 -- a message that was posted
@@ -178,9 +178,9 @@ Agrees-sent board t new h a agrees law lo hi waiting bases powers clocks pends f
       permissions = λ x d scope lo' hi' small. ap (λ b. is_allowed b x d scope) bases ∙ agrees.permissions x d scope lo' hi' small ∙ sym (ap (allowed x d scope) more ∙ allowed-push x d scope (deeds board h) deed);
       subscriptions = λ x d lo' hi' small. ap (λ p. is_subscribed p x d) powers ∙ agrees.subscriptions x d lo' hi' small ∙ sym (ap (subscribed x d) more ∙ subscribed-push x d (deeds board h) deed);
       values = λ x within. same_value x ∙ agrees.values x within ∙ sym (ap (value board x) more ∙ value-push board x (deeds board h) deed);
-      pending_sets = ap (λ p. p.items) pends ∙ agrees.pending_sets ∙ sym (append-nil (pending board (deeds board h)))
+      pending_sets = pends ∙ agrees.pending_sets ∙ sym (append-nil (pending board (deeds board h)))
           ∙ sym (ap (pending board) more ∙ pending-push board (deeds board h) deed refl (advances_le-accepted board h agrees.legal));
-      known = subst (λ p. All (IsOfBoard board) p.items) (sym pends) agrees.known;
+      known = subst (All (IsOfBoard board)) (sym pends) agrees.known;
       outboxes = λ x lo' hi'. by_agent x lo' hi' (eqb_tells x a);
     } where
       same_value : (x : Thing) → value_at new x ≡ value_at t x
@@ -204,7 +204,7 @@ Agrees-sent board t new h a agrees law lo hi waiting bases powers clocks pends f
 
 -- the tables of a new controller
 pub Agrees-new : (board : Board) (t : Tables) → ((a d : ℕ) (scope : Scope) → is_allowed t.base a d scope ≡ true) → ((a d : ℕ) → is_subscribed t.power a d ≡ false)
-    → ((x : Thing) → IsThing board x → value_at t x ≡ value_at_start board x) → t.pending.items ≡ [] → ((a : ℕ) → outbox_at t a ≡ []) → Agrees board t []
+    → ((x : Thing) → IsThing board x → value_at t x ≡ value_at_start board x) → t.pending ≡ [] → ((a : ℕ) → outbox_at t a ≡ []) → Agrees board t []
 unfolding deeds over outbox
 Agrees-new board t all none values pends boxes = record {
   legal = IsLegal-nil board;

@@ -22,6 +22,6 @@ pub record Agrees (board : Board) (t : Tables) (h : List Event) : Type 0 where
   pub permissions : (a d : ℕ) (scope : Scope) → 1 ≤ a → a ≤ AGENTS → d < DEVICES → is_allowed t.base a d scope ≡ allowed a d scope (deeds board h)
   pub subscriptions : (a d : ℕ) → 1 ≤ a → a ≤ AGENTS → d < DOMAINS → is_subscribed t.power a d ≡ subscribed a d (deeds board h)
   pub values : (x : Thing) → IsThing board x → value_at t x ≡ value board x (deeds board h)
-  pub pending_sets : t.pending.items ≡ pending board (deeds board h)
-  pub known : All (IsOfBoard board) t.pending.items
+  pub pending_sets : t.pending ≡ pending board (deeds board h)
+  pub known : All (IsOfBoard board) t.pending
   pub outboxes : (a : ℕ) → 1 ≤ a → a ≤ length board.agents → outbox_at t a ≡ outbox board a h

@@ -6,8 +6,8 @@ use Rattle.scmi_core.specs.declared.pending_set.PendingSet.{PendingSet}
 use Rattle.scmi_core.specs.Deed.{Deed}
 use Rattle.scmi_core.specs.Pending.{accepted, advances, pending, pending_of}
 use Rattle.scmi_core.specs.Outbox.{outbox_after, made, response_to}
-use Rattle.scmi_core.specs.declared.pending_set.TheConstants.{PENDING_SETS}
-use Rattle.scmi_core.specs.declared.outbox.TheConstants.{OUTBOX_ROOM}
+use Rattle.scmi_clock.specs.declared.discovery.TheConstants.{PENDING_SETS}
+use Rattle.scmi_core.specs.declared.outboxes.TheConstants.{OUTBOX_ROOM}
 
 -- the sets that are complete, in order
 abbrev pub completed_sets : Board → List Deed → List PendingSet

@@ -5,6 +5,7 @@ pub mod Pending
 pub mod Value
 pub mod Situation
 pub mod Outbox
+pub mod Outboxes
 pub mod Reply
 pub mod History
 pub mod Agents

@@ -16,7 +16,7 @@ use Rattle.scmi_core.specs.Permissions.{allowed}
 use Rattle.scmi_core.specs.Situation.{Situation}
 use Rattle.scmi_core.specs.Subscriptions.{subscribed}
 use Rattle.scmi_core.specs.declared.pending_set.Setting.TheVariants as setting
-use Rattle.scmi_core.specs.declared.outbox.TheConstants.{OUTBOX_ROOM}
+use Rattle.scmi_core.specs.declared.outboxes.TheConstants.{OUTBOX_ROOM}
 
 -- the message of a header and these payload words
 abbrev pub message_with : HeaderFields → List ℕ → Message

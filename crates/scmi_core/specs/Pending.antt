@@ -1,5 +1,5 @@
 -- Sets that are accepted for later, and those of them that are pending (own).
-use Rattle.std.specs.Prelude.{ℕ, ◌==◌, Bool, true, false, List, drop, filter, count_by, Option, None, option_map}
+use Rattle.std.specs.Prelude.{ℕ, ◌+◌, ◌==◌, ◌&&◌, nat_lt, Bool, true, false, List, length, drop, filter, count_by, Option, None, option_map}
 use Rattle.std.specs.List.{filter_map, list_any}
 use Rattle.scmi_codec.specs.Header.{HeaderFields}
 use Rattle.scmi_codec.specs.declared.command.Command.TheVariants.{Base, Power, Clock}
@@ -9,6 +9,8 @@ use Rattle.scmi_plan.specs.declared.resource.Resource.{Resource}
 use Rattle.scmi_plan.specs.declared.resource.Resource.TheVariants as resource
 use Rattle.scmi_power.specs.PowerTable.{set_later}
 use Rattle.scmi_clock.specs.ClockTable.{rate_later}
+use Rattle.scmi_clock.specs.declared.discovery.TheConstants.{PENDING_SETS}
+use Rattle.scmi_core.specs.declared.outboxes.TheConstants.{OUTBOX_ROOM}
 use Rattle.scmi_core.specs.declared.pending_set.PendingSet.{PendingSet}
 use Rattle.scmi_core.specs.declared.pending_set.Setting.{Setting}
 use Rattle.scmi_core.specs.declared.event.Event.{Event}
@@ -70,3 +72,11 @@ has_set_of r sets = list_any (λ p. is_set_by r p.setting) sets
 -- whether a domain or clock has a pending set
 abbrev pub is_pending : Board → Resource → List Deed → Bool
 is_pending board r h = has_set_of r (pending board h)
+
+-- the sets of agent a and the messages that wait in its outbox, together
+abbrev pub load_beside : ℕ → ℕ → List PendingSet → ℕ
+load_beside waiting a sets = waiting + length (sets_by a sets)
+
+-- another set of agent a has room where fewer than 8 are pending in all, and its sets and its outbox are fewer than 16 together (own)
+abbrev pub has_room_beside : ℕ → ℕ → List PendingSet → Bool
+has_room_beside waiting a sets = nat_lt (length sets) PENDING_SETS && nat_lt (load_beside waiting a sets) OUTBOX_ROOM

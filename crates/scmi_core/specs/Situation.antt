@@ -1,5 +1,5 @@
 -- Where an agent stands with the platform.
-use Rattle.std.specs.Prelude.{ℕ, ◌+◌, ◌&&◌, Bool, nat_lt, List, length, ◌==◌}
+use Rattle.std.specs.Prelude.{ℕ, Bool, List, length, ◌==◌}
 use Rattle.scmi_codec.specs.declared.message.Message.{Message}
 use Rattle.scmi_plan.specs.Board.{Board}
 use Rattle.scmi_plan.specs.declared.resource.Resource.TheVariants as resource
@@ -9,9 +9,7 @@ use Rattle.scmi_power.specs.PowerReply.{PowerView}
 use Rattle.scmi_clock.specs.ClockReply.{ClockView}
 use Rattle.scmi_core.specs.declared.pending_set.PendingSet.{PendingSet}
 use Rattle.scmi_core.specs.Value.{Enabled, Rate, State, Thing}
-use Rattle.scmi_core.specs.Pending.{has_set_of, sets_by}
-use Rattle.scmi_core.specs.declared.pending_set.TheConstants.{PENDING_SETS}
-use Rattle.scmi_core.specs.declared.outbox.TheConstants.{OUTBOX_ROOM}
+use Rattle.scmi_core.specs.Pending.{has_room_beside, has_set_of}
 
 -- all that replies to an agent and messages made for it depend on, besides the board
 pub record Situation : Type 0 where
@@ -26,10 +24,9 @@ pub record Situation : Type 0 where
   -- the agent's outbox
   pub outbox : List Message
 
--- an asynchronous set of agent a has room where fewer than 8 sets are pending in all, and outbox and pending sets of a are fewer than 16 (own)
+-- an asynchronous set of agent a has room beside the pending sets and what waits in its outbox
 abbrev pub has_room : ℕ → Situation → Bool
-has_room a s =
-    nat_lt (length s.pending) PENDING_SETS && nat_lt (length s.outbox + length (sets_by a s.pending)) OUTBOX_ROOM
+has_room a s = has_room_beside (length s.outbox) a s.pending
 
 -- what the replies of the power domain protocol to agent a read
 abbrev pub power_view : Board → ℕ → Situation → PowerView

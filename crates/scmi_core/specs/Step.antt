@@ -19,19 +19,20 @@ use Rattle.scmi_power.specs.PowerTable.{is_subscribed}
 use Rattle.scmi_core.specs.declared.pending_set.PendingSet.{PendingSet}
 use Rattle.scmi_core.specs.declared.tables.Tables.{Tables}
 use Rattle.scmi_core.specs.Value.{Thing, change_of, value_in}
-use Rattle.scmi_core.specs.Tables.{Gets, IsOfBoard, IsThing, load_at, situation_in, value_at}
+use Rattle.scmi_core.specs.Outboxes.{Gets}
+use Rattle.scmi_core.specs.Tables.{IsOfBoard, IsThing, load_at, situation_in, value_at}
 use Rattle.scmi_core.specs.Deed.{Success, success_of}
 use Rattle.scmi_core.specs.Pending.{acceptance}
 use Rattle.scmi_core.specs.Permissions.{permission_in}
 use Rattle.scmi_core.specs.Outbox.{made_in, state_changed}
 use Rattle.scmi_core.specs.Reply.{reply_words}
 use Rattle.scmi_core.specs.Subscriptions.{subscription}
-use Rattle.scmi_core.specs.declared.outbox.TheConstants.{OUTBOX_ROOM}
+use Rattle.scmi_core.specs.declared.outboxes.TheConstants.{OUTBOX_ROOM}
 
 -- the pending sets that stay after an event that may complete the first
 abbrev pub rest_of : Tables → Option PendingSet → List PendingSet
-rest_of t None = t.pending.items
-rest_of t (Some p) = drop 1 t.pending.items
+rest_of t None = t.pending
+rest_of t (Some p) = drop 1 t.pending
 
 -- what an event leaves that was a success, or completed a set
 pub record HasStepped (board : Board) (t : Tables) (success : Option Success) (done : Option PendingSet) (new : Tables) : Type 0 where
@@ -39,9 +40,9 @@ pub record HasStepped (board : Board) (t : Tables) (success : Option Success) (d
   pub subscriptions : (a d : ℕ) → 1 ≤ a → a ≤ AGENTS → d < DOMAINS → is_subscribed new.power a d ≡ unwrap_or (option_and_then (subscription a d) success) (is_subscribed t.power a d)
   pub values : (x : Thing) → IsThing board x → value_at new x ≡ unwrap_or (option_and_then (value_in x) (change_of board success done)) (value_at t x)
   pub known : IfSome (change_of board success done) (λ change. IsThing board change.thing)
-  pub pending_sets : new.pending.items ≡ rest_of t done ++ option_to_list (option_and_then (acceptance board) success)
-  pub known_sets : All (IsOfBoard board) t.pending.items → All (IsOfBoard board) new.pending.items
-  pub outboxes : (a : ℕ) → 1 ≤ a → a ≤ length board.agents → Gets t new a (made_in a (situation_in a t) new.pending.items done (change_of board success done))
+  pub pending_sets : new.pending ≡ rest_of t done ++ option_to_list (option_and_then (acceptance board) success)
+  pub known_sets : All (IsOfBoard board) t.pending → All (IsOfBoard board) new.pending
+  pub outboxes : (a : ℕ) → 1 ≤ a → a ≤ length board.agents → Gets t.outboxes new.outboxes a (made_in a (situation_in a t) new.pending done (change_of board success done))
 
 -- what a command of agent a that got this reply leaves
 abbrev pub HasExecuted : Board → ℕ → HeaderFields → Result codec.Command Status → List ℕ → Tables → Tables → Type 0
@@ -68,12 +69,12 @@ pub record SameButPending (t new : Tables) : Type 0 where
 
 -- a set was added behind those that are pending, if there is one, and nothing else changed there
 abbrev pub Accepts : Tables → Tables → Option PendingSet → Type 0
-Accepts t new set = new.pending.items ≡ t.pending.items ++ option_to_list set
+Accepts t new set = new.pending ≡ t.pending ++ option_to_list set
 
--- the domain that a command sets, 0 where it sets none
-abbrev pub set_domain : PowerCommand → ℕ
-set_domain (power.Set flags d state) = d
-set_domain _ = 0
+-- the domain that a command sets
+abbrev pub set_domain : PowerCommand → Option ℕ
+set_domain (power.Set flags d state) = Some d
+set_domain _ = None
 
 -- the notification of a domain's new state to agent a, if it asked for that and has room
 abbrev pub told_at : Tables → ℕ → ℕ → ℕ → ℕ → List Message

@@ -1,5 +1,5 @@
 -- The tables of a controller, and the situations that they say.
-use Rattle.std.specs.Prelude.{◌≡◌, ◌++◌, ℕ, ◌+◌, ◌-◌, List, [], length, ◌<◌, ◌≤◌, get_or}
+use Rattle.std.specs.Prelude.{ℕ, List, length, ◌<◌, ◌≤◌}
 use Rattle.scmi_codec.specs.declared.message.Message.{Message}
 use Rattle.scmi_plan.specs.Board.{Board}
 use Rattle.scmi_base.specs.Permission.{is_allowed}
@@ -8,24 +8,17 @@ use Rattle.scmi_clock.specs.ClockTable.{rate_at, enabled_at}
 use Rattle.scmi_core.specs.declared.pending_set.PendingSet.{PendingSet}
 use Rattle.scmi_core.specs.declared.tables.Tables.{Tables}
 use Rattle.scmi_core.specs.Value.{Enabled, Rate, State, Thing, bit_value, completion}
-use Rattle.scmi_core.specs.Pending.{sets_by}
+use Rattle.scmi_core.specs.Outboxes.{outbox_in}
+use Rattle.scmi_core.specs.Pending.{load_beside}
 use Rattle.scmi_core.specs.Situation.{Situation}
 
 -- an agent's outbox
 abbrev pub outbox_at : Tables → ℕ → List Message
-outbox_at t a = get_or t.outboxes (a - 1) []
-
--- an agent's outbox got these messages, and only these
-abbrev pub Gets : Tables → Tables → ℕ → List Message → Type 0
-Gets t new a messages = outbox_at new a ≡ outbox_at t a ++ messages
-
--- an agent's outbox is what it was
-abbrev pub KeepsOutbox : Tables → Tables → ℕ → Type 0
-KeepsOutbox t new a = outbox_at new a ≡ outbox_at t a
+outbox_at t a = outbox_in t.outboxes a
 
 -- the length of an agent's outbox and its pending sets together
 abbrev pub load_at : Tables → ℕ → ℕ
-load_at t a = length (outbox_at t a) + length (sets_by a t.pending.items)
+load_at t a = load_beside (length (outbox_at t a)) a t.pending
 
 -- a thing's value in the tables
 abbrev pub value_at : Tables → Thing → ℕ
@@ -40,7 +33,7 @@ situation_in a t =
       value = value_at t;
       allowed = is_allowed t.base a;
       subscribed = is_subscribed t.power a;
-      pending = t.pending.items;
+      pending = t.pending;
       outbox = outbox_at t a;
     }
 

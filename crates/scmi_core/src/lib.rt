@@ -6,16 +6,16 @@
 #![tactic(auto)]
 
 mod answered;
-mod busy;
 mod core_error;
 mod core_readers;
 mod event;
 mod events;
-mod load;
 mod mark;
 mod message_ring;
-mod outbox;
+mod notices;
+mod outboxes;
 mod p2a_message;
+mod pending;
 mod pending_set;
 mod platform;
 mod platform_core;

@@ -3,9 +3,9 @@ ghost use Rattle.std.specs.Prelude.{◌≡◌, ◌<◌, ◌≤◌, ◌++◌, ◌
 ghost use Rattle.std.specs.Option.{option_copied};
 ghost use Rattle.scmi_codec.specs.declared.payload.TheConstants.{PAYLOAD_WORDS};
 ghost use Rattle.scmi_core.specs.Outbox.{message_with};
-ghost use Rattle.scmi_core.specs.declared.outbox.TheConstants.{OUTBOX_ROOM};
+ghost use Rattle.scmi_core.specs.declared.outboxes.TheConstants.{OUTBOX_ROOM};
 
-use crate::outbox::OUTBOX_ROOM;
+use crate::outboxes::OUTBOX_ROOM;
 use scmi_codec::{Header, Message, set_payload};
 use std::array;
 use std::marker::Model;
@@ -24,7 +24,7 @@ impl Model for MessageRing {
     ghost use Rattle.std.specs.Prelude.{List, length, ◌<◌, ◌≤◌, ◌≡◌};
     ghost use Rattle.scmi_codec.specs.declared.message.Message.{Message};
     ghost use Rattle.scmi_core.specs.Window.{window};
-    ghost use Rattle.scmi_core.specs.declared.outbox.TheConstants.{OUTBOX_ROOM};
+    ghost use Rattle.scmi_core.specs.declared.outboxes.TheConstants.{OUTBOX_ROOM};
 
     ghost Value = { List Message };
 

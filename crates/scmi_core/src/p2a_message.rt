@@ -2,12 +2,11 @@
 ghost use Rattle.std.specs.Prelude.{◌≢◌, ◌≤◌, ◌<◌, ◌∷◌, [], ℕ, length};
 ghost use Rattle.scmi_plan.specs.declared.limits.TheConstants.{AGENTS};
 ghost use Rattle.scmi_core.specs.Outbox.{state_changed, response_to};
-ghost use Rattle.scmi_core.specs.Tables.{Gets, KeepsOutbox, outbox_at};
-ghost use Rattle.scmi_core.specs.Step.{SameButOutboxes};
-ghost use Rattle.scmi_core.specs.declared.outbox.TheConstants.{OUTBOX_ROOM};
+ghost use Rattle.scmi_core.specs.Outboxes.{Gets, Keeps, outbox_in};
+ghost use Rattle.scmi_core.specs.declared.outboxes.TheConstants.{OUTBOX_ROOM};
 
+use crate::outboxes::Outboxes;
 use crate::pending_set::Setting;
-use crate::tables::Tables;
 use scmi_codec::{Header, POWER_PROTOCOL, SUCCESS, rate_words};
 
 // Message types (DEN0056B, message header).
@@ -15,15 +14,14 @@ const DELAYED_RESPONSE: u8 = 2;
 
 const NOTIFICATION: u8 = 3;
 
-impl Tables {
+impl Outboxes {
     /// Puts the notification that an agent set a domain to a state into an agent's outbox.
     pub fn put_state_changed(&mut self, agent: u32, causer: u32, domain: u32, state: u32)
         requires first { 1 ≤ agent }
         requires last { agent ≤ AGENTS }
-        requires room { length (outbox_at self.now agent) < OUTBOX_ROOM }
+        requires room { length (outbox_in self.old agent) < OUTBOX_ROOM }
         ensures put { Gets self.old self.new agent (state_changed causer domain state ∷ []) }
-        ensures others { (a : ℕ) → 1 ≤ a → a ≢ agent → KeepsOutbox self.old self.new a }
-        ensures kept { SameButOutboxes self.old self.new }
+        ensures others { (a : ℕ) → 1 ≤ a → a ≢ agent → Keeps self.old self.new a }
     {
         let header = Header {
             reserved: 0,
@@ -39,10 +37,9 @@ impl Tables {
     pub fn put_response(&mut self, agent: u32, header: Header, setting: Setting)
         requires first { 1 ≤ agent }
         requires last { agent ≤ AGENTS }
-        requires room { length (outbox_at self.now agent) < OUTBOX_ROOM }
+        requires room { length (outbox_in self.old agent) < OUTBOX_ROOM }
         ensures put { Gets self.old self.new agent (response_to header setting ∷ []) }
-        ensures others { (a : ℕ) → 1 ≤ a → a ≢ agent → KeepsOutbox self.old self.new a }
-        ensures kept { SameButOutboxes self.old self.new }
+        ensures others { (a : ℕ) → 1 ≤ a → a ≢ agent → Keeps self.old self.new a }
     {
         let header = Header {
             reserved: 0,

@@ -5,9 +5,6 @@ ghost use Rattle.scmi_core.specs.Pending.{is_set_by};
 use scmi_codec::Header;
 use scmi_plan::Resource;
 
-/// The most sets that are pending in all (own).
-pub const PENDING_SETS: usize = 8;
-
 /// What a set changes: a domain and its state, or a clock and its rate in Hz.
 #[derive(Clone, Copy, PartialEq, Eq, Debug)]
 pub enum Setting {

@@ -119,7 +119,7 @@ impl Platform {
             → option_copied result ≡ slice_get (outbox self.now.board agent h) 0 }
     {
         let _agents = self.plan.agents();
-        self.tables.first(agent)
+        self.tables.outboxes.first(agent)
     }
 
     /// Takes the first message off an agent's outbox, as posted. `NoAgent` where the board lacks
@@ -150,7 +150,7 @@ impl Platform {
         ensures some { result ≡ false → 0 < length (outbox_at self.now.tables agent) }
     {
         let _agents = self.plan.agents();
-        self.tables.is_empty(agent)
+        self.tables.outboxes.is_empty(agent)
     }
 
     /// Takes the first message off an agent's outbox.
@@ -163,7 +163,7 @@ impl Platform {
         ensures board { self.new.board ≡ self.old.board }
     {
         let _agents = self.plan.agents();
-        self.tables.take(agent);
+        self.tables.outboxes.take(agent);
     }
 
     /// Executes a frame of an agent of the board.
@@ -182,15 +182,15 @@ impl Platform {
 
     /// Whether no set is pending.
     pub(crate) fn is_idle(&self) -> bool
-        ensures idle { (result ≡ true) ↔ (self.now.tables.pending.items ≡ []) }
-        ensures waiting { result ≡ false → 0 < length self.now.tables.pending.items }
+        ensures idle { (result ≡ true) ↔ (self.now.tables.pending ≡ []) }
+        ensures waiting { result ≡ false → 0 < length self.now.tables.pending }
     {
         self.tables.pending.is_empty()
     }
 
     /// Completes the first of the sets that are pending.
     pub(crate) fn complete(&mut self)
-        requires waiting { 0 < length self.now.tables.pending.items }
+        requires waiting { 0 < length self.now.tables.pending }
         ensures event { MovesOn self.old Advance self.new }
         ensures board { self.new.board ≡ self.old.board }
     {

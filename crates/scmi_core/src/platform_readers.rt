@@ -64,7 +64,7 @@ impl Platform {
         ensures { (h : List Event) → StandsAfter self.now h
             → result ≡ is_pending_after self.now.board (resource.Domain domain) h }
     {
-        self.tables.is_pending(Resource::Domain(domain))
+        self.tables.pending.is_pending(Resource::Domain(domain))
     }
 
     /// Whether a clock has a pending set of its rate.
@@ -72,7 +72,7 @@ impl Platform {
         ensures { (h : List Event) → StandsAfter self.now h
             → result ≡ is_pending_after self.now.board (resource.Clock clock) h }
     {
-        self.tables.is_pending(Resource::Clock(clock))
+        self.tables.pending.is_pending(Resource::Clock(clock))
     }
 
     /// How many messages wait in an agent's outbox, at most 16. `None` where the board lacks the
@@ -83,7 +83,7 @@ impl Platform {
         ensures none { (result ≡ None) ↔ IsNoAgent (length self.now.board.agents) agent }
     {
         if (1..=self.plan.agents()).contains(&agent) {
-            Some(self.tables.waiting(agent))
+            Some(self.tables.outboxes.waiting(agent))
         } else {
             None
         }

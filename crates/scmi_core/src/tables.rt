@@ -15,19 +15,19 @@ ghost use Rattle.scmi_core.specs.Subscriptions.{ended};
 ghost use Rattle.scmi_core.specs.Reply.{answer_in, reply_words};
 ghost use Rattle.scmi_core.specs.Tables.{outbox_at, load_at, value_at, situation_in, IsThing, IsOfBoard};
 ghost use Rattle.scmi_core.specs.Step.{Accepts, HasStepped, HasExecuted, HasAnswered, set_domain, SameButPending};
-ghost use Rattle.scmi_core.specs.declared.outbox.TheConstants.{OUTBOX_ROOM};
-ghost use Rattle.scmi_core.specs.declared.pending_set.TheConstants.{PENDING_SETS};
+ghost use Rattle.scmi_core.specs.declared.outboxes.TheConstants.{OUTBOX_ROOM};
+ghost use Rattle.scmi_clock.specs.declared.discovery.TheConstants.{PENDING_SETS};
 
 use crate::answered::Answered;
-use crate::outbox::Outbox;
-use crate::pending_set::{PENDING_SETS, PendingSet, Setting};
-use arrayvec::ArrayVec;
+use crate::outboxes::Outboxes;
+use crate::pending::Pending;
+use crate::pending_set::{PendingSet, Setting};
 use scmi_base::BaseState;
 use scmi_clock::ClockState;
 use scmi_codec::{
     BaseCommand, ClockCommand, Command, Frame, Header, Message, Payload, PowerCommand, set_refusal,
 };
-use scmi_plan::{AGENTS, DOMAINS, Plan};
+use scmi_plan::{DOMAINS, Plan};
 use scmi_power::PowerState;
 
 /// The tables of the protocols, the sets that are pending, and each agent's outbox.
@@ -36,10 +36,8 @@ pub struct Tables {
     pub base: BaseState,
     pub power: PowerState,
     pub clocks: ClockState,
-    // In order of acceptance.
-    pub pending: ArrayVec<PendingSet, PENDING_SETS>,
-    // That of agent a at index a - 1.
-    pub outboxes: [Outbox; AGENTS],
+    pub pending: Pending,
+    pub outboxes: Outboxes,
 }
 
 impl Tables {
@@ -49,24 +47,15 @@ impl Tables {
         ensures subscriptions { (a d : ℕ) → is_subscribed result.power a d ≡ false }
         ensures values { (x : Thing) → IsThing plan.now x
             → value_at result x ≡ value_at_start plan.now x }
-        ensures pending { result.pending.items ≡ [] }
+        ensures pending { result.pending ≡ [] }
         ensures outboxes { (a : ℕ) → outbox_at result a ≡ [] }
     {
         Tables {
             base: BaseState::new(plan),
             power: PowerState::new(plan),
             clocks: ClockState::new(plan),
-            pending: ArrayVec::new(),
-            outboxes: [
-                Outbox::new(),
-                Outbox::new(),
-                Outbox::new(),
-                Outbox::new(),
-                Outbox::new(),
-                Outbox::new(),
-                Outbox::new(),
-                Outbox::new(),
-            ],
+            pending: Pending::new(),
+            outboxes: Outboxes::new(),
         }
     }
 
@@ -172,8 +161,9 @@ impl Tables {
     {
         let agents = plan.agents();
         // A set is reported also where the state stays equal, so the state is read before it.
-        let before = self.state_before(set_domain(command));
-        let load = self.domain_load(agent);
+        let before = self.state_before(command);
+        let waiting = self.outboxes.waiting(agent);
+        let load = self.pending.domain_load(agent, waiting);
         let done = self
             .power
             .execute(plan, &self.base, agent, command, load, reply);
@@ -198,7 +188,8 @@ impl Tables {
         ensures stepped { HasExecuted plan.now agent header (Ok (Clock command))
             reply.new.items self.old self.new }
     {
-        let load = self.clock_load(agent);
+        let waiting = self.outboxes.waiting(agent);
+        let load = self.pending.clock_load(agent, waiting);
         let later = self
             .clocks
             .execute(plan, &self.base, agent, command, load, reply);
@@ -207,16 +198,16 @@ impl Tables {
 
     /// Completes the first pending set.
     pub fn complete(&mut self, plan: &Plan)
-        requires waiting { 0 < length self.now.pending.items }
-        requires known { All (IsOfBoard plan.now) self.now.pending.items }
+        requires waiting { 0 < length self.now.pending }
+        requires known { All (IsOfBoard plan.now) self.now.pending }
         requires room { (a : ℕ) → 1 ≤ a → a ≤ length plan.now.agents
             → load_at self.now a ≤ OUTBOX_ROOM }
         ensures lawful { IsLawful plan.now }
         ensures stepped { HasStepped plan.now self.old None
-            (slice_get self.old.pending.items 0) self.new }
+            (slice_get self.old.pending 0) self.new }
     {
         let agents = plan.agents();
-        let done = self.pending.remove(0);
+        let done = self.pending.pop_first();
         let PendingSet {
             agent,
             setting,
@@ -227,12 +218,12 @@ impl Tables {
             Setting::State(domain, state) => {
                 let before = self.power.state(domain);
                 self.power.complete(domain, state);
-                self.respond(agent, setting, header, wanted);
+                self.outboxes.respond(agent, setting, header, wanted);
                 self.announce(agents, agent, Some((domain, state)), before);
             }
             Setting::Rate(clock, rate) => {
                 self.clocks.complete(clock, rate);
-                self.respond(agent, setting, header, wanted);
+                self.outboxes.respond(agent, setting, header, wanted);
             }
         }
     }
@@ -256,7 +247,7 @@ impl Tables {
 
     /// Adds a domain's set that was accepted for later, if there is one.
     fn accept_state(&mut self, agent: u32, header: Header, later: Option<(u32, u32)>)
-        requires { IfSome later (λ set. length self.now.pending.items < PENDING_SETS) }
+        requires { IfSome later (λ set. length self.now.pending < PENDING_SETS) }
         ensures kept { SameButPending self.old self.new }
         ensures pending { Accepts self.old self.new (option_map (state_set agent header) later) }
     {
@@ -272,7 +263,7 @@ impl Tables {
 
     /// Adds a clock's set that was accepted for later, if there is one.
     fn accept_rate(&mut self, agent: u32, header: Header, later: Option<(u32, u64, bool)>)
-        requires { IfSome later (λ set. length self.now.pending.items < PENDING_SETS) }
+        requires { IfSome later (λ set. length self.now.pending < PENDING_SETS) }
         ensures kept { SameButPending self.old self.new }
         ensures pending { Accepts self.old self.new (option_map (rate_set agent header) later) }
     {
@@ -286,24 +277,16 @@ impl Tables {
         }
     }
 
-    /// A domain's state, if there is such a domain.
-    fn state_before(&self, domain: u32) -> u32
-        ensures { domain < DOMAINS → result ≡ state_at self.now.power domain }
+    /// The state of the domain that a command sets, 0 where it sets none.
+    fn state_before(&self, command: PowerCommand) -> u32
+        ensures { IfSome (set_domain command) (λ domain.
+            domain < DOMAINS → result ≡ state_at self.now.power domain) }
     {
-        if (domain as usize) < DOMAINS {
-            self.power.state(domain)
-        } else {
-            0
+        match command {
+            PowerCommand::Set { domain, .. } if (domain as usize) < DOMAINS => {
+                self.power.state(domain)
+            }
+            _ => 0,
         }
-    }
-}
-
-/// The domain that a command sets.
-fn set_domain(command: PowerCommand) -> u32
-    ensures { result ≡ set_domain command }
-{
-    match command {
-        PowerCommand::Set { domain, .. } => domain,
-        _ => 0,
     }
 }

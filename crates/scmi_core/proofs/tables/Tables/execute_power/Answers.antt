@@ -1,4 +1,5 @@
-use Rattle.std.proofs.Common.{◌∙◌, arith}
+use Rattle.std.proofs.Common.{◌∙◌, ap, arith}
+use Rattle.scmi_core.specs.Pending.{has_room_beside}
 use Rattle.scmi_core.proofs.Situations.{power-reply}
 use Rattle.scmi_core.proofs.Steps.{power-stepped}
 use Rattle.scmi_core.proofs.tables.Tables.execute_power.Goals as goal
@@ -6,7 +7,8 @@ use Rattle.scmi_core.proofs.tables.Tables.execute_power.Goals as goal
 pub returns-clause-reply : goal.returns-clause-reply
 returns-clause-reply c =
     c.execute-done.ensures.reply
-    ∙ power-reply c.args.plan.now c.args.self.now c.args.agent c.domain_load-load.result c.args.command c.agents-agents.ensures.lawful.few_domains c.domain_load-load.ensures.busy c.domain_load-load.ensures.room
+    ∙ power-reply c.args.plan.now c.args.self.now c.args.agent c.domain_load-load.result c.args.command c.agents-agents.ensures.lawful.few_domains c.domain_load-load.ensures.busy
+    (c.domain_load-load.ensures.room ∙ ap (λ waiting. has_room_beside waiting c.args.agent c.args.self.now.pending) c.waiting-waiting.ensures.count)
 
 pub returns-clause-stepped : goal.returns-clause-stepped
 returns-clause-stepped c =
@@ -17,6 +19,6 @@ returns-clause-stepped c =
     law.few_domains law.few_agents c.requires.first c.requires.last
     c.execute-done.ensures.changed c.execute-done.ensures.later c.execute-done.ensures.states c.execute-done.ensures.subscribed
     c.execute-done.ensures.known_now c.execute-done.ensures.known_later
-    (rw (← c.set_domain.ensures) c.state_before-before.ensures)
+    c.state_before-before.ensures
     c.accept_state.ensures.kept c.accept_state.ensures.pending c.announce.ensures.kept
     (λ x lo hi. c.announce.ensures.told x lo (omega (arith, count)))

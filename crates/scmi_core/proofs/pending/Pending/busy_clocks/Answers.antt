@@ -4,14 +4,14 @@ use Rattle.std.specs.Int.{bit_at}
 use Rattle.scmi_plan.specs.declared.resource.Resource.TheVariants as resource
 use Rattle.scmi_core.specs.Pending.{is_set_by}
 use Rattle.scmi_core.proofs.Masks.{any-more}
-use Rattle.scmi_core.proofs.busy.busy_clocks.Goals as goal
-use Rattle.scmi_core.proofs.busy.busy_clocks.Goals.{in-State, in-Rate}
+use Rattle.scmi_core.proofs.pending.Pending.busy_clocks.Goals as goal
+use Rattle.scmi_core.proofs.pending.Pending.busy_clocks.Goals.{in-State, in-Rate}
 
 pub loop-set-preserved : goal.loop-set-preserved
 loop-set-preserved c = record {
   marked = λ d small.
       let i = c.loop-set.set-index in
-      let sets = c.args.sets.now in
+      let sets = c.as_slice-sets.result.now in
       let more = any-more (λ p. is_set_by (resource.Clock d) p.setting) i sets c.set-item.result c.loop-set-test.true c.set-item.is in
       let old = list_any (λ p. is_set_by (resource.Clock d) p.setting) (take i sets) in
       elim c.match-set.branch [

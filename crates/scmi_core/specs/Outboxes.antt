@@ -1,0 +1,15 @@
+-- The outboxes of all agents.
+use Rattle.std.specs.Prelude.{◌≡◌, ◌++◌, ℕ, ◌-◌, List, [], get_or}
+use Rattle.scmi_codec.specs.declared.message.Message.{Message}
+
+-- the outbox of agent a, of agents that are numbered from 1
+abbrev pub outbox_in : List (List Message) → ℕ → List Message
+outbox_in outboxes a = get_or outboxes (a - 1) []
+
+-- an agent's outbox got these messages behind the others, and only these
+abbrev pub Gets : List (List Message) → List (List Message) → ℕ → List Message → Type 0
+Gets outboxes new a messages = outbox_in new a ≡ outbox_in outboxes a ++ messages
+
+-- an agent's outbox is what it was
+abbrev pub Keeps : List (List Message) → List (List Message) → ℕ → Type 0
+Keeps outboxes new a = outbox_in new a ≡ outbox_in outboxes a

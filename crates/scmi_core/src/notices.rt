@@ -1,0 +1,67 @@
+//! What subscribers are told of a domain's state.
+ghost use Rattle.std.specs.Prelude.{◌≡◌, ◌≢◌, ◌≤◌, ◌<◌, ℕ, IfSome};
+ghost use Rattle.scmi_plan.specs.declared.limits.TheConstants.{AGENTS, DOMAINS};
+ghost use Rattle.scmi_core.specs.Outboxes.{Gets, Keeps};
+ghost use Rattle.scmi_core.specs.Step.{told_at, announced_at, SameButOutboxes};
+ghost use Rattle.scmi_core.specs.Tables.{load_at};
+
+use crate::outboxes::OUTBOX_ROOM;
+use crate::tables::Tables;
+
+impl Tables {
+    /// Tells subscribers of a domain's state that was set, if it is another than before.
+    pub fn announce(&mut self, agents: u32, causer: u32, changed: Option<(u32, u32)>, before: u32)
+        requires agents { agents ≤ AGENTS }
+        requires domain { IfSome changed (λ set. set.0 < DOMAINS) }
+        ensures kept { SameButOutboxes self.old self.new }
+        ensures told { (a : ℕ) → 1 ≤ a → a ≤ agents → Gets self.old.outboxes self.new.outboxes a
+            (announced_at self.old a causer changed before) }
+    {
+        if let Some((domain, state)) = changed {
+            if state != before {
+                self.notify(agents, causer, domain, state);
+            }
+        }
+    }
+
+    /// Tells the subscribers of a domain its new state, by rising agent number.
+    fn notify(&mut self, agents: u32, causer: u32, domain: u32, state: u32)
+        requires agents { agents ≤ AGENTS }
+        requires domain { domain < DOMAINS }
+        ensures kept { SameButOutboxes self.old self.new }
+        ensures told { (a : ℕ) → 1 ≤ a → a ≤ agents → Gets self.old.outboxes self.new.outboxes a
+            (told_at self.old a causer domain state) }
+    {
+        for agent in 0..agents {
+            self.tell(agent + 1, causer, domain, state);
+        }
+    }
+
+    /// Tells an agent a domain's new state, if it asked for that and its outbox has room.
+    fn tell(&mut self, agent: u32, causer: u32, domain: u32, state: u32)
+        requires first { 1 ≤ agent }
+        requires last { agent ≤ AGENTS }
+        requires domain { domain < DOMAINS }
+        ensures told { Gets self.old.outboxes self.new.outboxes agent
+            (told_at self.old agent causer domain state) }
+        ensures others { (a : ℕ) → 1 ≤ a → a ≢ agent
+            → Keeps self.old.outboxes self.new.outboxes a }
+        ensures kept { SameButOutboxes self.old self.new }
+    {
+        if self.load(agent) < OUTBOX_ROOM
+            && (self.power.subscribers(domain) >> (agent - 1)) & 1 == 1
+        {
+            self.outboxes
+                .put_state_changed(agent, causer, domain, state);
+        }
+    }
+
+    /// The length of an agent's outbox and its pending sets.
+    fn load(&self, agent: u32) -> usize
+        requires first { 1 ≤ agent }
+        requires last { agent ≤ AGENTS }
+        ensures { result ≡ load_at self.now agent }
+    {
+        self.pending.load(agent, self.outboxes.waiting(agent))
+    }
+}

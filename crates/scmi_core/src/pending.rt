@@ -1,0 +1,185 @@
+//! The sets that are pending.
+ghost use Rattle.std.specs.Prelude.{◌≡◌, ◌≤◌, ◌<◌, ◌==◌, ◌||◌, ◌++◌, ◌∷◌, [], ◌↔◌, ℕ, Some, true, false, length, drop, slice_get};
+ghost use Rattle.std.specs.Int.{bit_at};
+ghost use Rattle.scmi_clock.specs.declared.discovery.TheConstants.{PENDING_SETS};
+ghost use Rattle.scmi_plan.specs.declared.resource.Resource.TheVariants as resource;
+ghost use Rattle.scmi_plan.specs.declared.limits.TheConstants.{CLOCKS, DOMAINS};
+ghost use Rattle.scmi_core.specs.Pending.{has_room_beside, has_set_of, load_beside, sets_by};
+ghost use Rattle.scmi_core.specs.declared.outboxes.TheConstants.{OUTBOX_ROOM};
+ghost use Rattle.scmi_core.specs.declared.pending.TheConstants.{MASK_BITS};
+
+use crate::outboxes::OUTBOX_ROOM;
+use crate::pending_set::{PendingSet, Setting};
+use arrayvec::ArrayVec;
+use scmi_clock::PENDING_SETS;
+use scmi_plan::{Load, Resource};
+use std::marker::Model;
+
+/// How many domains or clocks a mask has bits for.
+const MASK_BITS: u32 = u32::BITS;
+
+/// The sets that were accepted for later and are not complete, at most `PENDING_SETS`, in order of
+/// acceptance. They complete in that order.
+#[derive(Drop, Debug)]
+pub struct Pending {
+    sets: ArrayVec<PendingSet, PENDING_SETS>,
+}
+
+impl Model for Pending {
+    ghost use Rattle.std.specs.Prelude.{List, length, ◌≤◌};
+    ghost use Rattle.scmi_clock.specs.declared.discovery.TheConstants.{PENDING_SETS};
+    ghost use Rattle.scmi_core.specs.declared.pending_set.PendingSet.{PendingSet};
+
+    ghost Value = { List PendingSet };
+
+    ghost view = { λ p. p.sets.items };
+
+    ghost invariant = { λ p. length p.sets.items ≤ PENDING_SETS };
+}
+
+impl Pending {
+    /// No sets.
+    pub fn new() -> Pending
+        ensures { result ≡ [] }
+    {
+        Pending {
+            sets: ArrayVec::new(),
+        }
+    }
+
+    /// Whether no set is pending.
+    pub fn is_empty(&self) -> bool
+        ensures empty { (result ≡ true) ↔ (self.now ≡ []) }
+        ensures some { result ≡ false → 0 < length self.now }
+    {
+        self.sets.is_empty()
+    }
+
+    /// Adds a set behind the others.
+    pub fn push(&mut self, set: PendingSet)
+        requires { length self.old < PENDING_SETS }
+        ensures { self.new ≡ self.old ++ set ∷ [] }
+    {
+        self.sets.push(set);
+    }
+
+    /// Takes the first set off.
+    pub fn pop_first(&mut self) -> PendingSet
+        requires { 0 < length self.old }
+        ensures first { slice_get self.old 0 ≡ Some result }
+        ensures rest { self.new ≡ drop 1 self.old }
+    {
+        self.sets.remove(0)
+    }
+
+    /// Whether a domain or clock has a pending set.
+    pub fn is_pending(&self, resource: Resource) -> bool
+        ensures { result ≡ has_set_of resource self.now }
+    {
+        self.sets
+            .as_slice()
+            .iter()
+            .any(|set| set.setting.is_of(resource))
+    }
+
+    /// The load that a power command of an agent meets whose outbox has `waiting` messages.
+    pub fn domain_load(&self, agent: u32, waiting: usize) -> Load
+        requires { waiting ≤ OUTBOX_ROOM }
+        ensures busy { (d : ℕ) → d < DOMAINS
+            → (bit_at result.busy d == 1) ≡ has_set_of (resource.Domain d) self.now }
+        ensures room { result.room ≡ has_room_beside waiting agent self.now }
+    {
+        Load {
+            busy: self.busy_domains(),
+            room: self.has_room(agent, waiting),
+        }
+    }
+
+    /// The load that a clock command of an agent meets whose outbox has `waiting` messages.
+    pub fn clock_load(&self, agent: u32, waiting: usize) -> Load
+        requires { waiting ≤ OUTBOX_ROOM }
+        ensures busy { (c : ℕ) → c < CLOCKS
+            → (bit_at result.busy c == 1) ≡ has_set_of (resource.Clock c) self.now }
+        ensures room { result.room ≡ has_room_beside waiting agent self.now }
+    {
+        Load {
+            busy: self.busy_clocks(),
+            room: self.has_room(agent, waiting),
+        }
+    }
+
+    /// The number of an agent's pending sets and of the messages that wait in its outbox.
+    pub fn load(&self, agent: u32, waiting: usize) -> usize
+        requires { waiting ≤ OUTBOX_ROOM }
+        ensures { result ≡ load_beside waiting agent self.now }
+    {
+        waiting + self.count_of(agent)
+    }
+
+    /// Whether another set of an agent has room.
+    fn has_room(&self, agent: u32, waiting: usize) -> bool
+        requires { waiting ≤ OUTBOX_ROOM }
+        ensures { result ≡ has_room_beside waiting agent self.now }
+    {
+        self.sets.len() < PENDING_SETS && self.load(agent, waiting) < OUTBOX_ROOM
+    }
+
+    /// How many of the sets are an agent's.
+    fn count_of(&self, agent: u32) -> usize
+        ensures count { result ≡ length (sets_by agent self.now) }
+        ensures few { result ≤ PENDING_SETS }
+    {
+        let sets = self.sets.as_slice();
+        let mut count = 0;
+        for set in sets {
+            if set.agent == agent {
+                count += 1;
+            }
+        }
+        count
+    }
+
+    /// Which domains have a pending set, a bit for each.
+    fn busy_domains(&self) -> u32
+        ensures { (d : ℕ) → d < DOMAINS
+            → (bit_at result d == 1) ≡ has_set_of (resource.Domain d) self.now }
+    {
+        let sets = self.sets.as_slice();
+        let mut busy = 0;
+        for set in sets {
+            match set.setting {
+                Setting::State(domain, _) => busy = mark(busy, domain),
+                Setting::Rate(_, _) => {}
+            }
+        }
+        busy
+    }
+
+    /// Which clocks have a pending set, a bit for each.
+    fn busy_clocks(&self) -> u32
+        ensures { (c : ℕ) → c < CLOCKS
+            → (bit_at result c == 1) ≡ has_set_of (resource.Clock c) self.now }
+    {
+        let sets = self.sets.as_slice();
+        let mut busy = 0;
+        for set in sets {
+            match set.setting {
+                Setting::Rate(clock, _) => busy = mark(busy, clock),
+                Setting::State(_, _) => {}
+            }
+        }
+        busy
+    }
+}
+
+/// A mask with one more bit, if it has that bit.
+fn mark(busy: u32, number: u32) -> u32
+    ensures { (d : ℕ) → d < MASK_BITS
+        → (bit_at result d == 1) ≡ ((d == number) || (bit_at busy d == 1)) }
+{
+    if number < MASK_BITS {
+        busy | (1u32 << number)
+    } else {
+        busy
+    }
+}
