@@ -1,26 +1,28 @@
 -- How the notes read after one more, and what stands after the closing note.
-use Rattle.std.proofs.Common.{◌≡◌, true, false, List, [], ◌∷◌, ◌++◌, refl, ap}
-use Rattle.scmi_codec.specs.declared.frame.Answer.{Answer}
+use Rattle.std.proofs.Common.{◌≡◌, true, false, List, [], ◌∷◌, ◌++◌, Box, refl, ap}
+use Rattle.std.specs.declared.alloc.Global.{Global}
+use Rattle.scmi_link.specs.declared.envelope.Envelope.{Envelope}
+use Rattle.scmi_link.specs.Envelope.{frames_in}
 use Rattle.scmi_link.specs.declared.note.Note.{Note}
 use Rattle.scmi_link.specs.declared.note.Note.TheVariants.{Said, Closing}
 use Rattle.scmi_link.specs.Note.{said, has_closing, ends_well, is_nil}
 
-pub said-said : (ns : List Note) (a : Answer) → said (ns ++ Said a ∷ []) ≡ said ns ++ a ∷ []
-said-said [] a = refl
-said-said (Said b ∷ ns) a = ap (λ xs. b ∷ xs) (said-said ns a)
-said-said (Closing ∷ ns) a = said-said ns a
+pub said-said : (ns : List Note) (e : Box Envelope Global) → said (ns ++ Said e ∷ []) ≡ said ns ++ e.value.answer ∷ []
+said-said [] e = refl
+said-said (Said b ∷ ns) e = ap (λ xs. b.value.answer ∷ xs) (said-said ns e)
+said-said (Closing ∷ ns) e = said-said ns e
 
 pub said-closing : (ns : List Note) → said (ns ++ Closing ∷ []) ≡ said ns
 said-closing [] = refl
-said-closing (Said b ∷ ns) = ap (λ xs. b ∷ xs) (said-closing ns)
+said-closing (Said b ∷ ns) = ap (λ xs. b.value.answer ∷ xs) (said-closing ns)
 said-closing (Closing ∷ ns) = said-closing ns
 
 pub said-append : (ns ms : List Note) → said (ns ++ ms) ≡ said ns ++ said ms
 said-append [] ms = refl
-said-append (Said b ∷ ns) ms = ap (λ xs. b ∷ xs) (said-append ns ms)
+said-append (Said b ∷ ns) ms = ap (λ xs. b.value.answer ∷ xs) (said-append ns ms)
 said-append (Closing ∷ ns) ms = said-append ns ms
 
-pub has_closing-said : (ns : List Note) (a : Answer) → has_closing (ns ++ Said a ∷ []) ≡ has_closing ns
+pub has_closing-said : (ns : List Note) (a : Box Envelope Global) → has_closing (ns ++ Said a ∷ []) ≡ has_closing ns
 has_closing-said [] a = refl
 has_closing-said (Said b ∷ ns) a = has_closing-said ns a
 has_closing-said (Closing ∷ ns) a = refl
@@ -35,7 +37,7 @@ has_closing-front [] ms h = cc
 has_closing-front (Said b ∷ ns) ms h = has_closing-front ns ms h
 has_closing-front (Closing ∷ ns) ms h = refl
 
-pub ends_well-said : (ns : List Note) (a : Answer) → has_closing ns ≡ false → ends_well (ns ++ Said a ∷ []) ≡ true
+pub ends_well-said : (ns : List Note) (a : Box Envelope Global) → has_closing ns ≡ false → ends_well (ns ++ Said a ∷ []) ≡ true
 ends_well-said [] a h = refl
 ends_well-said (Said b ∷ ns) a h = ends_well-said ns a h
 ends_well-said (Closing ∷ ns) a h = cc
@@ -58,3 +60,8 @@ pub all_seen : (ns ms : List Note) → ends_well (ns ++ ms) ≡ true → has_clo
 all_seen [] ms e h = cc
 all_seen (Said b ∷ ns) ms e h = all_seen ns ms e h
 all_seen (Closing ∷ ns) ms e h = left_of ns ms e
+
+-- the frames in one envelope list after another
+pub frames_in-append : (es fs : List (Box Envelope Global)) → frames_in (es ++ fs) ≡ frames_in es ++ frames_in fs
+frames_in-append [] fs = refl
+frames_in-append (e ∷ es) fs = ap (λ xs. e.value.frame ∷ xs) (frames_in-append es fs)

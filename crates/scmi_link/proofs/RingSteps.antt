@@ -1,9 +1,11 @@
 -- What a push or a pop of a note leaves true.
-use Rattle.std.proofs.Common.{◌≡◌, ℕ, ◌+◌, ◌⊎◌, inl, inr, Bool, true, false, ◌||◌, not, List, [], ◌∷◌, ◌++◌, length, Result, Ok, Err, OnOk, IfErr, refl, sym, ap, ◌∙◌, arith, length-append}
+use Rattle.std.proofs.Common.{◌≡◌, ℕ, ◌+◌, ◌⊎◌, inl, inr, Bool, true, false, ◌||◌, not, List, [], ◌∷◌, ◌++◌, length, Box, Result, Ok, Err, OnOk, IfErr, refl, sym, ap, ◌∙◌, arith, length-append}
 use Rattle.std.proofs.lemmas.Bool.{false≢true}
 use mathlib.Core.List.{IsPrefix}
 use Rattle.rtrb.specs.Ring.{sent, received}
-use Rattle.scmi_codec.specs.declared.frame.Answer.{Answer}
+use Rattle.std.specs.declared.alloc.Global.{Global}
+use Rattle.scmi_link.specs.declared.envelope.Envelope.{Envelope}
+use Rattle.scmi_link.specs.Envelope.{frames_in}
 use Rattle.scmi_link.specs.declared.callee_seat.CalleeSeat.{CalleeSeat}
 use Rattle.scmi_link.specs.declared.note.Note.{Note}
 use Rattle.scmi_link.specs.declared.note.Note.TheVariants.{Said, Closing}
@@ -20,15 +22,15 @@ not_true true h = absurd (h refl)
 not_true false h = refl
 
 -- an owed answer goes in
-module _ (d : CalleeSeat) (ns' : List Note) (a : Answer) (owes : length (received d.frames) ≡ length (said (sent d.answers)) + 1) (e : ns' ≡ sent d.answers ++ Said a ∷ []) where
+module _ (d : CalleeSeat) (ns' : List Note) (a : Box Envelope Global) (owes : length (frames_in (received d.frames)) ≡ length (said (sent d.answers)) + 1) (e : ns' ≡ sent d.answers ++ Said a ∷ []) where
   no_closing : has_closing (sent d.answers) ≡ false
   no_closing = not_true _ (λ h. false≢true (sym (d.done (d.noted h)) ∙ is_set d.owing _ (length (said (sent d.answers))) d.counted owes))
 
-  pub answered_said : said ns' ≡ said (sent d.answers) ++ a ∷ []
+  pub answered_said : said ns' ≡ said (sent d.answers) ++ a.value.answer ∷ []
   answered_said = ap said e ∙ said-said (sent d.answers) a
 
-  pub answered_counted : length (received d.frames) ≡ length (said ns') + bit false
-  answered_counted = rw answered_said (omega (arith, owes, length-append (said (sent d.answers)) (a ∷ [])))
+  pub answered_counted : length (frames_in (received d.frames)) ≡ length (said ns') + bit false
+  answered_counted = rw answered_said (omega (arith, owes, length-append (said (sent d.answers)) (a.value.answer ∷ [])))
 
   pub answered_noted : has_closing ns' ≡ true → d.closed ≡ true
   answered_noted h = absurd (false≢true (sym no_closing ∙ sym (has_closing-said (sent d.answers) a) ∙ sym (ap has_closing e) ∙ h))

@@ -1,18 +1,20 @@
 -- What the two ends of a pair of rings show, side by side.
-use Rattle.std.proofs.Common.{◌≡◌, ◌+◌, ◌≤◌, ◌⊎◌, inl, inr, Bool, true, false, List, [], ◌∷◌, ◌++◌, length, refl, sym, ap, ◌∙◌, arith, length-append}
+use Rattle.std.proofs.Common.{◌≡◌, ◌+◌, ◌≤◌, ◌⊎◌, inl, inr, Bool, true, false, List, [], ◌∷◌, ◌++◌, length, Box, refl, sym, ap, ◌∙◌, arith, length-append}
 use Rattle.std.proofs.lemmas.List.{append-nil}
 use Rattle.std.proofs.lemmas.Bool.{false≢true, true≢false}
 use Rattle.rtrb.specs.Ring.{sent, received}
-use Rattle.scmi_codec.specs.declared.frame.Frame.{Frame}
+use Rattle.std.specs.declared.alloc.Global.{Global}
+use Rattle.scmi_link.specs.declared.envelope.Envelope.{Envelope}
 use Rattle.scmi_link.specs.declared.note.Note.{Note}
 use Rattle.scmi_link.specs.declared.caller_seat.CallerSeat.{CallerSeat}
 use Rattle.scmi_link.specs.declared.callee_seat.CalleeSeat.{CalleeSeat}
+use Rattle.scmi_link.specs.Envelope.{frames_in}
 use Rattle.scmi_link.specs.Note.{said, has_closing, ends_well}
 use Rattle.scmi_link.specs.Bit.{bit}
 use Rattle.scmi_link.specs.CallerSeat.{caller_seat_view}
 use Rattle.scmi_link.specs.CalleeSeat.{callee_seat_view}
 use Rattle.scmi_link.specs.Gathered.{IsAllButLast, Agree, Closed}
-use Rattle.scmi_link.proofs.NoteLemmas.{said-append, has_closing-front, all_seen}
+use Rattle.scmi_link.proofs.NoteLemmas.{frames_in-append, said-append, has_closing-front, all_seen}
 
 -- a list of length 0 adds nothing
 whole : {X : Type 0} (ts ks fs : List X) → ts ++ ks ≡ fs → length ks ≡ 0 → ts ≡ fs
@@ -44,15 +46,18 @@ small_bit true = inr refl
 small_bit false = inl refl
 
 -- what was pushed into each ring is what was popped and what stands in it
-module _ (p : CallerSeat) (q : CalleeSeat) (ks : List Frame) (ms : List Note) (frames : received q.frames ++ ks ≡ sent p.frames) (notes : received p.answers ++ ms ≡ sent q.answers) where
+module _ (p : CallerSeat) (q : CalleeSeat) (es : List (Box Envelope Global)) (ms : List Note) (envelopes : received q.frames ++ es ≡ sent p.frames) (notes : received p.answers ++ ms ≡ sent q.answers) where
   said_all : said (received p.answers) ++ said ms ≡ said (sent q.answers)
   said_all = sym (said-append (received p.answers) ms) ∙ ap said notes
 
   note_lengths : length (said (received p.answers)) + length (said ms) ≡ length (said (sent q.answers))
   note_lengths = sym (length-append (said (received p.answers)) (said ms)) ∙ ap length said_all
 
-  frame_lengths : length (received q.frames) + length ks ≡ length (sent p.frames)
-  frame_lengths = sym (length-append (received q.frames) ks) ∙ ap length frames
+  frames : frames_in (received q.frames) ++ frames_in es ≡ frames_in (sent p.frames)
+  frames = sym (frames_in-append (received q.frames) es) ∙ ap frames_in envelopes
+
+  frame_lengths : length (frames_in (received q.frames)) + length (frames_in es) ≡ length (frames_in (sent p.frames))
+  frame_lengths = sym (length-append (frames_in (received q.frames)) (frames_in es)) ∙ ap length frames
 
   other_closed : p.told ≡ true → q.closed ≡ true
   other_closed t = q.noted (ap has_closing (sym notes) ∙ has_closing-front (received p.answers) ms (sym p.heard ∙ t))
@@ -63,7 +68,7 @@ module _ (p : CallerSeat) (q : CalleeSeat) (ks : List Frame) (ms : List Note) (f
 
   pub agree : Agree (caller_seat_view p) (callee_seat_view q)
   agree = let few = one_bit p.waiting p.left p.one in record {
-    taken = at_most_one (received q.frames) ks (sent p.frames) frames (omega (arith, note_lengths, frame_lengths, p.counted, q.counted));
+    taken = at_most_one (frames_in (received q.frames)) (frames_in es) (frames_in (sent p.frames)) frames (omega (arith, note_lengths, frame_lengths, p.counted, q.counted));
     answered = elim (small_bit q.owing) [ inl z ↦ inl (omega (arith, q.counted, z)) | inr z ↦ inr (omega (arith, q.counted, z)) ];
     read = (said ms, said_all);
     unread = omega (arith, p.counted);
@@ -78,11 +83,11 @@ module _ (p : CallerSeat) (q : CalleeSeat) (ks : List Frame) (ms : List Note) (f
         let idle = ap bit (unset p.waiting p.left p.one l) in
         let gave_up = ap bit l in
         let done = ap bit (q.done (other_closed told)) in
-        (but_last (received q.frames) ks (sent p.frames) frames (omega (arith, ap length read, frame_lengths, p.counted, q.counted, idle, gave_up, done)), read);
+        (but_last (frames_in (received q.frames)) (frames_in es) (frames_in (sent p.frames)) frames (omega (arith, ap length read, frame_lengths, p.counted, q.counted, idle, gave_up, done)), read);
     idle = λ c l.
         let idle = ap bit (p.quiet c) in
         let stayed = ap bit l in (
-          whole (received q.frames) ks (sent p.frames) frames (omega (arith, note_lengths, frame_lengths, p.counted, q.counted, idle, stayed)),
+          whole (frames_in (received q.frames)) (frames_in es) (frames_in (sent p.frames)) frames (omega (arith, note_lengths, frame_lengths, p.counted, q.counted, idle, stayed)),
           whole (said (received p.answers)) (said ms) (said (sent q.answers)) said_all (omega (arith, note_lengths, frame_lengths, p.counted, q.counted, idle, stayed)),
         );
     caller_told = other_closed;

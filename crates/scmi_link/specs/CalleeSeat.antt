@@ -2,6 +2,7 @@
 use Rattle.std.specs.Prelude.{◌≡◌, ℕ, List, false}
 use Rattle.rtrb.specs.Ring.{sent, received, SameProducer, SameConsumer, IsPair}
 use Rattle.scmi_link.specs.View.{CalleeView}
+use Rattle.scmi_link.specs.Envelope.{frames_in}
 use Rattle.scmi_link.specs.Note.{said}
 use Rattle.scmi_link.specs.Rings.{rings_name}
 use Rattle.scmi_link.specs.declared.rings.Rings.{Rings}
@@ -12,7 +13,7 @@ use Rattle.scmi_link.specs.declared.callee_seat.CalleeSeat.{CalleeSeat}
 abbrev pub callee_seat_view : CalleeSeat → CalleeView
 callee_seat_view c =
     record {
-      taken = received c.frames;
+      taken = frames_in (received c.frames);
       answered = said (sent c.answers);
       closed = c.closed;
       told = false;

@@ -2,6 +2,7 @@
 use Rattle.std.specs.Prelude.{◌≡◌, ℕ, List, Result, Ok, Err}
 use Rattle.rtrb.specs.Ring.{sent, received, SameProducer, SameConsumer, IsPair}
 use Rattle.scmi_link.specs.View.{CallerView}
+use Rattle.scmi_link.specs.Envelope.{frames_in}
 use Rattle.scmi_link.specs.Note.{said}
 use Rattle.scmi_link.specs.Rings.{rings_name}
 use Rattle.scmi_link.specs.declared.rings.Rings.{Rings}
@@ -15,7 +16,7 @@ use Rattle.scmi_link.specs.declared.close_error.CloseError.TheVariants.{InServic
 abbrev pub caller_seat_view : CallerSeat → CallerView
 caller_seat_view c =
     record {
-      posted = sent c.frames;
+      posted = frames_in (sent c.frames);
       read = said (received c.answers);
       closed = c.closed;
       told = c.told;

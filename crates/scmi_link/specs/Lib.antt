@@ -2,6 +2,7 @@ pub mod View
 pub mod Calls
 pub mod Gathered
 pub mod Bit
+pub mod Envelope
 pub mod Note
 pub mod Rings
 pub mod CallerSeat

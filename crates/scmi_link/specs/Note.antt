@@ -7,13 +7,13 @@ use Rattle.scmi_link.specs.declared.note.Note.TheVariants.{Said, Closing}
 -- the answers among the notes
 abbrev pub said : List Note → List Answer
 said [] = []
-said (Said answer ∷ notes) = answer ∷ said notes
+said (Said envelope ∷ notes) = envelope.value.answer ∷ said notes
 said (Closing ∷ notes) = said notes
 
 -- whether the closing note is among them
 abbrev pub has_closing : List Note → Bool
 has_closing [] = false
-has_closing (Said answer ∷ notes) = has_closing notes
+has_closing (Said envelope ∷ notes) = has_closing notes
 has_closing (Closing ∷ notes) = true
 
 -- whether there is no note
@@ -24,5 +24,5 @@ is_nil (note ∷ notes) = false
 -- whether nothing comes after the closing note
 abbrev pub ends_well : List Note → Bool
 ends_well [] = true
-ends_well (Said answer ∷ notes) = ends_well notes
+ends_well (Said envelope ∷ notes) = ends_well notes
 ends_well (Closing ∷ notes) = is_nil notes

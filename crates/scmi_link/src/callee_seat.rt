@@ -1,11 +1,12 @@
 //! The callee's ends of a pair of rings, and what the callee has done.
-ghost use Rattle.std.specs.Prelude.{◌≡◌, ◌+◌, ◌<◌, true, false, length};
+ghost use Rattle.std.specs.Prelude.{◌≡◌, ◌+◌, ◌<◌, true, false, length, IsSome};
 ghost use Rattle.rtrb.specs.Ring.{sent, received, known_free};
+ghost use Rattle.scmi_link.specs.Envelope.{frames_in};
 ghost use Rattle.scmi_link.specs.Note.{said, has_closing, ends_well};
 ghost use Rattle.scmi_link.specs.Bit.{bit};
 
 use crate::close_error::CloseError;
-use crate::drop_first::drop_first;
+use crate::envelope::{Envelope, set_reply};
 use crate::note::Note;
 use rtrb::{Consumer, Producer};
 use scmi_codec::{Answer, Frame, Message};
@@ -13,14 +14,18 @@ use scmi_codec::{Answer, Frame, Message};
 /// The callee's ends of a pair of rings, and what the callee has done.
 #[derive(Drop)]
 pub struct CalleeSeat {
-    pub(crate) frames: Consumer<Frame>,
+    pub(crate) frames: Consumer<Box<Envelope>>,
     pub(crate) answers: Producer<Note>,
     pub(crate) closed: bool,
     // The frame taken last has no answer yet.
     pub(crate) owing: bool,
+    // The envelope of that frame.
+    pub(crate) envelope: Option<Box<Envelope>>,
     // Its calls of `take`, modulo 2^64.
     pub(crate) takes: u64,
-    ghost counted: { length (received frames) ≡ length (said (sent answers)) + bit owing },
+    ghost counted: { length (frames_in (received frames)) ≡
+        length (said (sent answers)) + bit owing },
+    ghost held: { owing ≡ true → IsSome envelope },
     ghost room: { owing ≡ true → 0 < known_free answers },
     ghost noted: { has_closing (sent answers) ≡ true → closed ≡ true },
     ghost last: { ends_well (sent answers) ≡ true },
@@ -34,8 +39,7 @@ impl CalleeSeat {
     ghost use Rattle.scmi_link.specs.Calls.{Takes, ClosesCallee, frame_if};
     ghost use Rattle.scmi_link.specs.CalleeSeat.{callee_seat_view, SameCalleeRings};
 
-    // A frame is taken only where a place for its answer is known to be free. It is copied where it
-    // stands in the ring, and dropped there.
+    // A frame is taken only where a place for its answer is known to be free.
     pub(crate) fn take_into(&mut self, frame: &mut Frame) -> bool
         ensures rings { SameCalleeRings self.old self.new }
         ensures takes { Takes (callee_seat_view self.old) (frame_if result frame.new)
@@ -46,8 +50,9 @@ impl CalleeSeat {
         if self.closed || self.owing || self.answers.is_full() || self.frames.is_empty() {
             return false;
         }
-        frame.copy_from(self.frames.peek_known());
-        drop_first(&mut self.frames);
+        let envelope = self.frames.pop_known();
+        frame.copy_from(&envelope.frame);
+        self.envelope = Some(envelope);
         self.owing = true;
         true
     }
@@ -60,7 +65,9 @@ impl CalleeSeat {
             record (callee_seat_view self.old)
             { answered = (callee_seat_view self.old).answered ++ answer.now ∷ [] } }
     {
-        self.answers.push_reserved(Note::Said(answer.copy()));
+        let mut envelope = self.envelope.take().unwrap();
+        envelope.answer.copy_from(answer);
+        self.answers.push_reserved(Note::Said(envelope));
         self.owing = false;
     }
 
@@ -72,9 +79,9 @@ impl CalleeSeat {
             record (callee_seat_view self.old)
             { answered = (callee_seat_view self.old).answered ++ Reply message.now ∷ [] } }
     {
-        let mut own = Message::default();
-        own.copy_from(message);
-        self.answers.push_reserved(Note::Said(Answer::Reply(own)));
+        let mut envelope = self.envelope.take().unwrap();
+        set_reply(&mut envelope.answer, message);
+        self.answers.push_reserved(Note::Said(envelope));
         self.owing = false;
     }
 

@@ -1,23 +1,24 @@
 //! The caller's ends of a pair of rings, and what the caller has done.
-ghost use Rattle.std.specs.Prelude.{◌≡◌, ◌<◌, ◌+◌, ◌++◌, ◌∷◌, [], true, false, length};
+ghost use Rattle.std.specs.Prelude.{◌≡◌, ◌<◌, ◌+◌, ◌++◌, ◌∷◌, [], true, false, length, IsSome};
 ghost use Rattle.rtrb.specs.Ring.{sent, received, known_free, SameProducer};
-ghost use Rattle.scmi_codec.specs.declared.frame.Frame.TheVariants.{Good};
+ghost use Rattle.scmi_link.specs.Envelope.{frames_in};
 ghost use Rattle.scmi_link.specs.Note.{said, has_closing};
 ghost use Rattle.scmi_link.specs.Bit.{bit};
 
 use crate::close_error::CloseError;
 use crate::closing::Closing;
 use crate::drop_first::drop_first;
+use crate::envelope::{Envelope, set_malformed, set_message};
 use crate::looked::Looked;
 use crate::note::Note;
 use crate::post_error::PostError;
 use rtrb::{Consumer, Producer};
-use scmi_codec::{Answer, Frame, Header, Message, Payload, set_payload};
+use scmi_codec::{Answer, Header, Payload};
 
 /// The caller's ends of a pair of rings, and what the caller has done.
 #[derive(Drop)]
 pub struct CallerSeat {
-    pub(crate) frames: Producer<Frame>,
+    pub(crate) frames: Producer<Box<Envelope>>,
     pub(crate) answers: Consumer<Note>,
     pub(crate) closed: bool,
     // It has taken the closing note.
@@ -26,10 +27,13 @@ pub struct CallerSeat {
     pub(crate) waiting: bool,
     // The last post was given up.
     pub(crate) left: bool,
+    // The channel's envelope, while no frame is on its way in it.
+    pub(crate) envelope: Option<Box<Envelope>>,
     // Its calls of `collect`, modulo 2^64.
     pub(crate) collects: u64,
-    ghost counted: { length (sent frames) ≡ length (said (received answers)) +
+    ghost counted: { length (frames_in (sent frames)) ≡ length (said (received answers)) +
         (bit waiting + bit left) },
+    ghost held: { waiting ≡ false → left ≡ false → IsSome envelope },
     ghost one: { waiting ≡ true → left ≡ false },
     ghost quiet: { closed ≡ true → waiting ≡ false },
     ghost heard: { told ≡ has_closing (received answers) },
@@ -51,7 +55,9 @@ impl CallerSeat {
             Posts true (caller_seat_view self.old) (Good message) result (caller_seat_view self.new) }
     {
         self.may_post()?;
-        push_message(&mut self.frames, header, payload);
+        let mut envelope = self.envelope.take().unwrap();
+        set_message(&mut envelope.frame, header, payload);
+        push_envelope(&mut self.frames, envelope);
         self.waiting = true;
         Ok(())
     }
@@ -63,8 +69,9 @@ impl CallerSeat {
             Posts true (caller_seat_view self.old) frame result (caller_seat_view self.new) }
     {
         self.may_post()?;
-        self.frames
-            .push_reserved(Frame::Malformed { length, header });
+        let mut envelope = self.envelope.take().unwrap();
+        set_malformed(&mut envelope.frame, length, header);
+        push_envelope(&mut self.frames, envelope);
         self.waiting = true;
         Ok(())
     }
@@ -113,15 +120,14 @@ impl CallerSeat {
         if self.answers.is_empty() {
             return Looked::Nothing;
         }
-        match self.answers.peek_known() {
-            Note::Said(found) => {
-                answer.copy_from(found);
-                drop_first(&mut self.answers);
+        match self.answers.pop_known() {
+            Note::Said(envelope) => {
+                answer.copy_from(&envelope.answer);
+                self.envelope = Some(envelope);
                 self.waiting = false;
                 Looked::Got
             }
             Note::Closing => {
-                drop_first(&mut self.answers);
                 self.told = true;
                 self.waiting = false;
                 self.left = true;
@@ -167,17 +173,12 @@ impl CallerSeat {
     }
 }
 
-// Posts a message where there is a place for it. A function clears its locals at its entry, so the message is
-// none of those of `post_parts`, which may refuse.
-#[inline(never)]
-fn push_message(frames: &mut Producer<Frame>, header: Header, payload: &Payload)
+// Puts an envelope into a ring that has a place for it.
+fn push_envelope(frames: &mut Producer<Box<Envelope>>, envelope: Box<Envelope>)
     requires { 0 < known_free frames.old }
     ensures ring { SameProducer frames.old frames.new }
-    ensures sent { sent frames.new ≡
-        sent frames.old ++ Good (record { header = header; payload = payload.now }) ∷ [] }
+    ensures sent { frames_in (sent frames.new) ≡
+        frames_in (sent frames.old) ++ envelope.value.frame ∷ [] }
 {
-    let mut message = Message::default();
-    message.header = header;
-    set_payload(&mut message.payload, payload.as_slice());
-    frames.push_reserved(Frame::Good(message));
+    frames.push_reserved(envelope);
 }

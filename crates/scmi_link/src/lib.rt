@@ -13,6 +13,7 @@ mod close_error;
 mod closing;
 mod collected;
 mod drop_first;
+mod envelope;
 mod link_error;
 mod looked;
 mod note;

@@ -1,10 +1,11 @@
 //! What goes through the ring from the callee to the caller.
-use scmi_codec::Answer;
+use crate::envelope::Envelope;
 
 /// What a callee sends back through a ring.
-#[derive(PartialEq, Eq, Debug, Drop)]
+#[derive(Drop)]
 pub enum Note {
-    Said(Answer),
+    /// The answer is in the envelope.
+    Said(Box<Envelope>),
     /// The callee has closed; nothing comes after this.
     Closing,
 }

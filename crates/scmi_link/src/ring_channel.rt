@@ -6,6 +6,7 @@ use crate::caller_seat::CallerSeat;
 use crate::channel::Channel;
 use crate::close_error::CloseError;
 use crate::closing::Closing;
+use crate::envelope::Envelope;
 use crate::link_error::LinkError;
 use crate::looked::Looked;
 use crate::note::Note;
@@ -65,10 +66,13 @@ impl Channel for RingChannel {
     ghost close_shows = { ring_close_shows };
 
     fn make(alloc: Global) -> Result<(RingChannel, RingCaller, RingCallee), LinkError> {
-        let Ok((frames, posted)) = RingBuffer::<Frame>::new(alloc, FRAME_PLACES) else {
+        let Ok((frames, posted)) = RingBuffer::<Box<Envelope>>::new(alloc, FRAME_PLACES) else {
             return Err(LinkError::Memory);
         };
         let Ok((notes, answers)) = RingBuffer::<Note>::new(alloc, ANSWER_PLACES) else {
+            return Err(LinkError::Memory);
+        };
+        let Ok(envelope) = Envelope::make(alloc) else {
             return Err(LinkError::Memory);
         };
         let rings = Rings {
@@ -87,6 +91,7 @@ impl Channel for RingChannel {
                 told: false,
                 waiting: false,
                 left: false,
+                envelope: Some(envelope),
                 collects: 0,
             },
         };
@@ -97,6 +102,7 @@ impl Channel for RingChannel {
                 answers: notes,
                 closed: false,
                 owing: false,
+                envelope: None,
                 takes: 0,
             },
         };

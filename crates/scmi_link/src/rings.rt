@@ -1,15 +1,15 @@
 //! The two rings of a channel, as they were made.
 
+use crate::envelope::Envelope;
 use crate::note::Note;
 use boxcar::tag::Names;
 use rtrb::Producer;
-use scmi_codec::Frame;
 use std::snapshot::Snapshot;
 
 /// The ring of frames and the ring of answers, as they were made. It has no bytes.
 #[derive(Drop)]
 pub struct Rings {
-    pub(crate) frames: Snapshot<Producer<Frame>>,
+    pub(crate) frames: Snapshot<Producer<Box<Envelope>>>,
     pub(crate) answers: Snapshot<Producer<Note>>,
 }
 
