@@ -1,6 +1,8 @@
 -- What loads of the area tell of a message.
-use Rattle.std.proofs.Common.{◌≡◌, ℕ, suc, ◌+◌, ◌*◌, ◌<◌, List, [], ◌∷◌, ◌++◌, length, take, get_or, slice_index, sym, ap, ◌∙◌, subst, arith}
-use Rattle.std.proofs.lemmas.List.{take_more}
+use Rattle.std.proofs.Common.{◌≡◌, ℕ, suc, ◌+◌, ◌*◌, ◌<◌, List, [], ◌∷◌, ◌++◌, length, take, get_or, slice_index, refl, sym, ap, ◌∙◌, subst, arith}
+use Rattle.std.specs.List.{refill}
+use Rattle.std.proofs.Math.ListN.{set}
+use Rattle.std.proofs.lemmas.List.{take_more, take_more_set, length-set}
 use Rattle.scmi_codec.specs.Header.{header_word}
 use Rattle.scmi_codec.specs.declared.message.Message.{Message}
 use Rattle.scmi_codec.specs.declared.frame.Frame.TheVariants.{Good}
@@ -17,9 +19,23 @@ half_is s t h b = ap (λ (m : Rattle.atomic_table.specs.Table.Me (Unit {0}) Ratt
 pub third_on : (a b : ℕ) (xs : List ℕ) (i : ℕ) → get_or (a ∷ b ∷ xs) (2 + i) 0 ≡ get_or xs i 0
 third_on a b xs i = let e : 2 + i ≡ suc (suc i) = omega arith in ap (λ (k : ℕ). get_or (a ∷ b ∷ xs) k 0) e
 
+-- as many words as before, written over them
+written_over : (xs ys : List ℕ) → length ys ≡ length xs → refill (length xs) xs ys ≡ ys
+written_over [] [] e = refl
+written_over [] (y ∷ ys) e = absurd (omega arith)
+written_over (x ∷ xs) [] e = absurd (omega arith)
+written_over (x ∷ xs) (y ∷ ys) e = ap (λ zs. y ∷ zs) (written_over xs ys (omega arith))
+
+-- one word written over another
+pub one_over : (xs ys : List ℕ) (i n : ℕ) → ys ≡ xs → refill (length xs) xs (set ys i n) ≡ set xs i n
+one_over xs ys i n is = ap (λ zs. refill (length xs) xs (set zs i n)) is ∙ written_over xs (set xs i n) (length-set xs i n)
+
+pub one_over_long : (xs ys : List ℕ) (i n count : ℕ) → ys ≡ xs → length xs ≡ count → length (refill (length xs) xs (set ys i n)) ≡ count
+one_over_long xs ys i n count is long = ap length (one_over xs ys i n is) ∙ length-set xs i n ∙ long
+
 -- the payload so far, with one more word of the area
-pub payload_more : (m : Message) (got : List ℕ) (i n : ℕ) → i < length m.payload.items → got ≡ take i m.payload.items → n ≡ get_or (frame_words (Good m)) (2 + i) 0 → got ++ n ∷ [] ≡ take (i + 1) m.payload.items
-payload_more m got i n lt is word = (λ j. is j ++ (word ∙ third_on (4 + 4 * length m.payload.items) (header_word m.header) m.payload.items i) j ∷ []) ∙ sym (take_more m.payload.items i 0 lt)
+pub payload_more : (m : Message) (xs ys : List ℕ) (i n : ℕ) → ys ≡ xs → length xs ≡ length m.payload.items → i < length m.payload.items → take i xs ≡ take i m.payload.items → n ≡ get_or (frame_words (Good m)) (2 + i) 0 → take (i + 1) (refill (length xs) xs (set ys i n)) ≡ take (i + 1) m.payload.items
+payload_more m xs ys i n over long lt is word = ap (λ zs. take (i + 1) zs) (one_over xs ys i n over) ∙ take_more_set xs i n (omega arith) ∙ (λ j. is j ++ (word ∙ third_on (4 + 4 * length m.payload.items) (header_word m.header) m.payload.items i) j ∷ []) ∙ sym (take_more m.payload.items i 0 lt)
 
 -- a load of the area by a seat whose caller's half is h
 pub word_at : (t : TableSeat) (h : CallerHalf) (m : Message) (n word i : ℕ) → caller_of t ≡ h → answer_area h ≡ frame_words (Good m)

@@ -7,6 +7,7 @@ ghost use Rattle.scmi_codec.specs.declared.frame.Answer.{Answer};
 ghost use Rattle.scmi_codec.specs.declared.frame.Answer.TheVariants.{Reply, Released, ChannelError};
 ghost use Rattle.scmi_codec.specs.declared.message.Message.{Message};
 ghost use Rattle.scmi_codec.specs.Header.{header_word};
+ghost use Rattle.scmi_codec.specs.declared.payload.TheConstants.{PAYLOAD_WORDS};
 ghost use Rattle.scmi_words.specs.declared.phase.Phase.TheVariants.{Idle};
 ghost use Rattle.scmi_words.specs.Area.{frame_words, IsLawful, IsLawfulAnswer, IsLawfulMessage, answer_size, frame_size};
 ghost use Rattle.scmi_words.specs.StatusWord.{status_word, answer_mark};
@@ -20,7 +21,9 @@ use crate::shared_table::callee_steps::{load_frame_word, store_answer_word};
 use crate::shared_table::caller_steps::{load_answer_word, store_frame_word};
 use crate::shared_table::{SharedTable, TableSeat};
 use crate::status_word::{CHANNEL_ERROR, FREE};
-use scmi_codec::{Answer, Frame, Header, Message, Payload, is_well_formed};
+use scmi_codec::{
+    Answer, Frame, Header, Message, PAYLOAD_WORDS, Payload, is_well_formed, set_payload,
+};
 
 /// Stores a caller's message.
 pub fn write_command(table: &SharedTable, seat: &mut TableSeat, header: Header, payload: &Payload)
@@ -57,11 +60,11 @@ fn read_response(table: &SharedTable, seat: &mut TableSeat, message: &mut Messag
     let header = load_answer_word(table, seat, HEADER);
     let count = (length / 4 - 1) as usize;
     message.header = Header::unpack(header);
-    message.payload.clear();
+    if message.payload.len() != count {
+        set_length(&mut message.payload, count);
+    }
     for i in 0..count {
-        message
-            .payload
-            .push(load_answer_word(table, seat, PAYLOAD + i));
+        message.payload[i] = load_answer_word(table, seat, PAYLOAD + i);
     }
 }
 
@@ -217,12 +220,22 @@ fn read_message(
     ensures view { CalleeBecomes seat.old (callee_after (callee_of seat.old) count) seat.new }
 {
     message.header = Header::unpack(header);
-    message.payload.clear();
-    for i in 0..count {
-        message
-            .payload
-            .push(load_frame_word(table, seat, PAYLOAD + i));
+    if message.payload.len() != count {
+        set_length(&mut message.payload, count);
     }
+    for i in 0..count {
+        message.payload[i] = load_frame_word(table, seat, PAYLOAD + i);
+    }
+}
+
+/// Makes a payload one of so many words, over which others are to be loaded. What it is made of is
+/// none of the locals of the callers.
+#[inline(never)]
+fn set_length(payload: &mut Payload, count: usize)
+    requires { count ≤ PAYLOAD_WORDS }
+    ensures { length payload.new.items ≡ count }
+{
+    set_payload(payload, &[0; PAYLOAD_WORDS][..count]);
 }
 
 /// Stores a callee's response.

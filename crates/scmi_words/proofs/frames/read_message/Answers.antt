@@ -1,4 +1,4 @@
-use Rattle.std.proofs.Common.{rules, arith, ◌≡◌, ◌+◌, ◌<◌, length, get_or, ap, ◌∙◌}
+use Rattle.std.proofs.Common.{rules, arith, ◌≡◌, ◌+◌, ◌<◌, length, get_or, sym, ap, ◌∙◌}
 use Rattle.std.proofs.lemmas.List.{take_all}
 use Rattle.scmi_codec.specs.Header.{header_of, header_word}
 use Rattle.scmi_codec.specs.declared.message.Message.{Message}
@@ -6,7 +6,7 @@ use Rattle.scmi_codec.specs.declared.frame.Frame.TheVariants.{Good}
 use Rattle.scmi_words.specs.Area.{frame_words, IsLawfulMessage}
 use Rattle.scmi_words.specs.View.{callee_of}
 use Rattle.scmi_words.specs.CalleeSteps.{callee_after, frame_area}
-use Rattle.scmi_words.proofs.Loads.{callee_is, payload_more, callee_word_at}
+use Rattle.scmi_words.proofs.Loads.{callee_is, one_over_long, payload_more, callee_word_at}
 use Rattle.scmi_words.proofs.frames.read_message.Goals as goal
 
 pub loop-i-preserved : goal.loop-i-preserved
@@ -16,13 +16,14 @@ loop-i-preserved g c = let inv = c.loop-i.invariant in let h = callee_of c.args.
     let word : c.load_frame_word.result ≡ get_or (frame_words (Good m)) (2 + c.loop-i.i) 0 = callee_word_at c.loop-i.seat (callee_after h c.loop-i.i) (frame_words (Good m)) _ (4 + c.loop-i.i) (2 + c.loop-i.i)
     (callee_is c.args.seat.now c.loop-i.seat (callee_after h c.loop-i.i) inv.0) area c.load_frame_word.ensures.value (omega arith) (omega arith) in (
       search rules,
-      c.push.ensures.items ∙ payload_more m c.loop-i.message.payload.items c.loop-i.i c.load_frame_word.result lt inv.1 word,
-      inv.2,
+      one_over_long c.loop-i.message.payload.items c.deref_mut.result.now c.loop-i.i c.load_frame_word.result c.args.count c.deref_mut.ensures.value inv.1,
+      payload_more m c.loop-i.message.payload.items c.deref_mut.result.now c.loop-i.i c.load_frame_word.result c.deref_mut.ensures.value (omega arith) lt inv.2 word,
+      inv.3,
     )
 
 pub returns-clause-value : goal.returns-clause-value
 returns-clause-value g c = let inv = c.loop-i.invariant in let m : Message = g.posted in let lawful : IsLawfulMessage m = search rules in
-    let all : c.loop-i.message.payload.items ≡ m.payload.items = inv.1 ∙ take_all c.loop-i.i m.payload.items (omega arith) in
+    let all : c.loop-i.message.payload.items ≡ m.payload.items = sym (take_all c.loop-i.i c.loop-i.message.payload.items (omega arith)) ∙ inv.2 ∙ take_all c.loop-i.i m.payload.items (omega arith) in
     let head : c.args.header ≡ header_word m.header = search rules in
-    let fields = inv.2 ∙ (ap header_of head ∙ lawful.header) in
+    let fields = inv.3 ∙ (ap header_of head ∙ lawful.header) in
     λ j. record { header = fields j; payload = record { items = all j } }
