@@ -39,11 +39,11 @@ pub same_push : {V : Type 0} (vs : List V) (n : ℕ) (v : V) → vs ≡ replicat
 same_push vs n v e = ap (λ xs. xs ++ v ∷ []) e ∙ replicate_more n v
 
 -- lists with the same images, item by item
-pub zipped : {D L N : Type 0} (f : D → N) (g : L → N) (ds : List D) (ls : List L) → map f ds ≡ map g ls → AllZip (λ l d. f d ≡ g l) ls ds
-zipped f g [] [] e = tt
-zipped f g [] (l ∷ ls) e = absurd (omega (arith, ap length e))
-zipped f g (d ∷ ds) [] e = absurd (omega (arith, ap length e))
-zipped f g (d ∷ ds) (l ∷ ls) e = (ap (λ zs. get_or zs 0 (f d)) e, zipped f g ds ls (ap (drop 1) e))
+pub zip_of_maps : {D L N : Type 0} (f : D → N) (g : L → N) (ds : List D) (ls : List L) → map f ds ≡ map g ls → AllZip (λ l d. f d ≡ g l) ls ds
+zip_of_maps f g [] [] e = tt
+zip_of_maps f g [] (l ∷ ls) e = absurd (omega (arith, ap length e))
+zip_of_maps f g (d ∷ ds) [] e = absurd (omega (arith, ap length e))
+zip_of_maps f g (d ∷ ds) (l ∷ ls) e = (ap (λ zs. get_or zs 0 (f d)) e, zip_of_maps f g ds ls (ap (drop 1) e))
 
 -- two facts of each pair make a third
 pub zip_both : {D L : Type 0} (P Q R : L → D → Type 0) → ((l : L) (d : D) → P l d → Q l d → R l d) → (ls : List L) (ds : List D) → AllZip P ls ds → AllZip Q ls ds → AllZip R ls ds

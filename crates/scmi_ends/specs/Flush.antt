@@ -14,7 +14,7 @@ use Rattle.scmi_ends.specs.declared.flushed.Flushed.TheVariants as flushed
 use Rattle.scmi_ends.specs.ControllerView.{ControllerView, caller_of}
 
 -- the first message of agent a's outbox is posted, and the history says so
-pub record Posts (board : Board) (a : ℕ) (h : List Event) (old : CallerView) (h' : List Event) (new : CallerView) : Type 0 where
+pub record PostsFirst (board : Board) (a : ℕ) (h : List Event) (old : CallerView) (h' : List Event) (new : CallerView) : Type 0 where
   pub message : Message
   pub first : slice_get (outbox board a h) 0 ≡ Some message
   pub unshut : is_shut old ≡ false
@@ -26,7 +26,7 @@ abbrev pub FlushesOne : Bool → Board → ℕ → List Event → CallerView →
 FlushesOne full board a h old flushed.Waiting h' new = (h' ≡ h) × (new ≡ old) × (IsOutstanding old ⊎ (full ≡ true))
 FlushesOne full board a h old flushed.Nothing h' new = (h' ≡ h) × (new ≡ old) × (¬ (IsOutstanding old)) × (outbox board a h ≡ [])
 FlushesOne full board a h old flushed.Closed h' new = (h' ≡ h) × IsRefused old new × (¬ (IsOutstanding old)) × (0 < length (outbox board a h))
-FlushesOne full board a h old flushed.Posted h' new = Posts board a h old h' new
+FlushesOne full board a h old flushed.Posted h' new = PostsFirst board a h old h' new
 
 -- one `collect` at the end of an agent's P2A channel, and then this
 pub record CollectsAndFlushes (full : Bool) (board : Board) (a : ℕ) (h : List Event) (old : CallerView) (result : Flushed) (h' : List Event) (new : CallerView) : Type 0 where

@@ -18,11 +18,11 @@ more_collects zero collects = collects
 more_collects (suc n) collects = one_more (more_collects n collects)
 
 -- after n calls of `collect` that gave `Nothing`
-abbrev pub polled : ℕ → CallerView → CallerView
-polled n old = record old { collects = more_collects n old.collects }
+abbrev pub after_polls : ℕ → CallerView → CallerView
+after_polls n old = record old { collects = more_collects n old.collects }
 
 -- at most so many calls of `collect`, all but the last of which gave `Nothing`; `Nothing` only after all of them
 abbrev pub Waits : ℕ → CallerView → Collected → CallerView → Type 0
-Waits turns old collected.Nothing new = new ≡ polled turns old
-Waits turns old (collected.Got answer) new = (n : ℕ) × (n < turns) × Collects (polled n old) (collected.Got answer) new
-Waits turns old collected.Closed new = (n : ℕ) × (n < turns) × Collects (polled n old) collected.Closed new
+Waits turns old collected.Nothing new = new ≡ after_polls turns old
+Waits turns old (collected.Got answer) new = (n : ℕ) × (n < turns) × Collects (after_polls n old) (collected.Got answer) new
+Waits turns old collected.Closed new = (n : ℕ) × (n < turns) × Collects (after_polls n old) collected.Closed new

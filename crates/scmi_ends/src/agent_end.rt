@@ -17,10 +17,11 @@ use std::marker::Model;
 /// The tokens of a message header: 10 bits (DEN0056B, message header).
 const TOKENS: u16 = 1024;
 
-/// What one agent holds: its ends of its two channels, its number, and the token of its next command.
+/// What one agent holds: its ends of its two channels, its number, and the token of its next
+/// command.
 ///
-/// Condition of each call that is given a link: it is the agent's own. No call takes memory, and none
-/// but `wait_reply` waits.
+/// Condition of each call that is given a link: it is the agent's own. No call takes memory, and
+/// none but `wait_reply` waits.
 #[derive(Drop)]
 pub struct AgentEnd<C: Channel> {
     caller: C::Caller,
@@ -85,12 +86,14 @@ impl<C: Channel> AgentEnd<C> {
         self.id
     }
 
-    /// Posts a command of this protocol, message id and payload on A2P, and gives its token.
+    /// Posts a command of this protocol, message id and payload on A2P, and gives its token, 0 to
+    /// 1,023.
     ///
-    /// Tokens are counted from 0, and only a successful call moves them on, by one modulo 1,024 (own).
-    /// The first that applies: `Outstanding` where the answer to the post before was not collected;
-    /// `Closed` where the agent has closed, or is now told that the platform has; `Full` where the
-    /// channel has no place. After `Closed` the agent knows of the close; nothing else changed.
+    /// Tokens are counted from 0, and only a successful call moves them on, by one modulo 1,024
+    /// (own). The first that applies: `Outstanding` where the answer to the post before was not
+    /// collected; `Closed` where the agent has closed, or is now told that the platform has; `Full`
+    /// where the channel has no place. After `Closed` the agent knows of the close; nothing else
+    /// changed.
     pub fn call(
         &mut self,
         link: &Link<C>,
@@ -120,7 +123,8 @@ impl<C: Channel> AgentEnd<C> {
         Ok(token)
     }
 
-    /// Posts a message on A2P as it stands, with its own token. It is refused as `call` is.
+    /// Posts a message on A2P as it stands, with its own token; that of the next `call` stays. It
+    /// is refused as `call` is.
     pub fn post(&mut self, link: &Link<C>, message: &Message) -> Result<(), PostError>
         requires { IsOfLink (C.name link.now.a2p) (C.name link.now.p2a) self.old }
         ensures same { self.new ≡ record self.old { caller = self.new.caller } }
@@ -131,8 +135,8 @@ impl<C: Channel> AgentEnd<C> {
 
     /// Posts a frame on A2P whose length in bytes is not well formed (own).
     ///
-    /// `WellFormed` where the length is 4 + 4k with k from 0 to `PAYLOAD_WORDS`, and then nothing
-    /// changed. Else it is refused as `call` is.
+    /// The length is that of header and payload in bytes. `WellFormed` where it is 4 + 4k with k
+    /// from 0 to `PAYLOAD_WORDS`, and then nothing changed. Else it is refused as `call` is.
     pub fn post_malformed(
         &mut self,
         link: &Link<C>,
@@ -151,8 +155,8 @@ impl<C: Channel> AgentEnd<C> {
 
     /// Looks once for the answer to the post on A2P; an answer that stands is given first.
     ///
-    /// `Closed`: one of the two sides has closed and no answer stands; an outstanding command is then
-    /// given up, and was not executed. After one `Closed` every later call gives `Closed`.
+    /// `Closed`: one of the two sides has closed and no answer stands; an outstanding command is
+    /// then given up, and was not executed. After one `Closed` every later call gives `Closed`.
     pub fn collect(&mut self, link: &Link<C>) -> Collected
         requires { IsOfLink (C.name link.now.a2p) (C.name link.now.p2a) self.old }
         ensures same { self.new ≡ record self.old { caller = self.new.caller } }
@@ -163,7 +167,8 @@ impl<C: Channel> AgentEnd<C> {
         link.a2p.collect(&mut self.caller)
     }
 
-    /// Looks once for the answer to the post on A2P, as `collect`, and reads it into `answer`.
+    /// Looks once for the answer to the post on A2P, as `collect`, and reads it into `answer`,
+    /// which stays where there is none.
     pub fn collect_into(&mut self, link: &Link<C>, answer: &mut Answer) -> Looked
         requires { IsOfLink (C.name link.now.a2p) (C.name link.now.p2a) self.old }
         ensures same { self.new ≡ record self.old { caller = self.new.caller } }
@@ -176,8 +181,8 @@ impl<C: Channel> AgentEnd<C> {
         link.a2p.collect_into(&mut self.caller, answer)
     }
 
-    /// Takes the platform's message off P2A, if one is posted, and releases it at once. `None` where
-    /// none is posted, or one of the two sides has closed.
+    /// Takes the platform's message off P2A, if one is posted, and releases it at once. `None`
+    /// where none is posted, or one of the two sides has closed.
     pub fn next_p2a(&mut self, link: &Link<C>) -> Option<Frame>
         requires { IsOfLink (C.name link.now.a2p) (C.name link.now.p2a) self.old }
         ensures same { self.new ≡ record self.old { callee = self.new.callee } }
@@ -191,7 +196,8 @@ impl<C: Channel> AgentEnd<C> {
         }
     }
 
-    /// Takes the platform's message off P2A, as `next_p2a`, into `frame`, and says whether there was one.
+    /// Takes the platform's message off P2A, as `next_p2a`, into `frame`, and says whether there
+    /// was one; where there was none, `frame` stays.
     pub fn next_p2a_into(&mut self, link: &Link<C>, frame: &mut Frame) -> bool
         requires { IsOfLink (C.name link.now.a2p) (C.name link.now.p2a) self.old }
         ensures same { self.new ≡ record self.old { callee = self.new.callee } }
@@ -207,9 +213,10 @@ impl<C: Channel> AgentEnd<C> {
 
     /// Closes A2P, and then P2A.
     ///
-    /// `Withdrawn` where the outstanding command was not executed and never will be; `Idle` where none
-    /// was outstanding. `InService` and `ReplyWaiting` come only where a command is outstanding: it was
-    /// taken or cannot be taken back, or its answer stands. After an error neither is closed.
+    /// `Withdrawn` where the outstanding command was not executed and never will be; `Idle` where
+    /// none was outstanding. `InService` and `ReplyWaiting` come only where a command is
+    /// outstanding: it was taken or cannot be taken back, or its answer stands. After an error
+    /// nothing changed.
     pub fn close(&mut self, link: &Link<C>) -> Result<Closing, CloseError>
         requires { IsOfLink (C.name link.now.a2p) (C.name link.now.p2a) self.old }
         ensures closes { ClosesCaller self.old.caller result self.new.caller }
@@ -224,8 +231,8 @@ impl<C: Channel> AgentEnd<C> {
     }
 }
 
-// Releases the message that was taken. A function clears its locals at its entry, so the answer is none of
-// those of `next_p2a_into`, which mostly finds nothing.
+// Releases the message that was taken. A function clears its locals at its entry, so the answer is
+// none of those of `next_p2a_into`, which mostly finds nothing.
 #[inline(never)]
 fn release<C: Channel>(p2a: &C, callee: &mut C::Callee)
     requires name { C.callee_name callee.old ≡ C.name p2a.now }

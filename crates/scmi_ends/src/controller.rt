@@ -1,14 +1,14 @@
 //! The platform's side of all agents' channels.
-ghost use Rattle.std.specs.Prelude.{◌≡◌, ◌≢◌, ◌<◌, ◌++◌, ◌∷◌, ◌↔◌, [], true, length, map, IfOk, OnErr, IfErr, IsTrue};
-ghost use Rattle.scmi_plan.specs.Agent.{IsNoAgent};
+ghost use Rattle.std.specs.Prelude.{◌≡◌, ◌≢◌, ◌<◌, ◌++◌, ◌∷◌, ◌↔◌, [], true, false, length, map, IfOk, OnOk, OnErr, IfErr, IsTrue};
+ghost use Rattle.scmi_plan.specs.Agent.{IsAgent, IsNoAgent};
 ghost use Rattle.scmi_core.specs.History.{deeds};
 ghost use Rattle.scmi_core.specs.Pending.{pending};
 ghost use Rattle.scmi_core.specs.declared.event.Event.TheVariants as event;
 
+use crate::buffers::Buffers;
 use crate::flushed::Flushed;
 use crate::link::Link;
 use crate::one_agent::{flush_one, serve_one, shut_one};
-use crate::room::Room;
 use crate::serve_error::ServeError;
 use crate::served::Served;
 use crate::shut_error::ShutError;
@@ -18,10 +18,10 @@ use std::marker::Model;
 
 /// The platform: its core, and its ends of each agent's two channels.
 ///
-/// Condition of each call that is given links: they are the whole list of `connect`, in order. Agents
-/// are numbered from 1. Between any two calls the commands taken off each agent's A2P channel are those
-/// of the history, each answered as the history says, and the messages posted on its P2A channel are
-/// those delivered to it. No call waits, and `close` takes no memory.
+/// Condition of each call that is given links: they are the whole list of `connect`, in order.
+/// Agents are numbered from 1. Between any two calls the commands taken off each agent's A2P
+/// channel are those of the history, each answered as the history says, and the messages posted on
+/// its P2A channel are those delivered to it. No call waits, and `close` takes no memory.
 #[derive(Drop)]
 pub struct Controller<C: Channel> {
     pub(crate) core: Core,
@@ -29,7 +29,7 @@ pub struct Controller<C: Channel> {
     pub(crate) callers: Vec<C::Caller>,
     // After how many events each agent's A2P channel was first closed here, if it was.
     pub(crate) closed_at: Vec<Option<usize>>,
-    pub(crate) room: Room,
+    pub(crate) buffers: Buffers,
 }
 
 impl<C: Channel> Model for Controller<C> {
@@ -73,45 +73,41 @@ impl<C: Channel> Controller<C> {
         &self.core
     }
 
-    /// Makes room in the trace, takes one frame off an agent's A2P channel, executes it and answers it.
+    /// Makes room in the trace, takes one frame off an agent's A2P channel, executes it and answers
+    /// it.
     ///
-    /// `Done` adds the command to the history, and never comes once the channel is closed. `Nothing`
-    /// where the take gave none, and then the history stays. `NoAgent`, looked at first, where the board
-    /// lacks the agent; `Memory` where the trace could not grow. After either nothing was taken, and
-    /// nothing changed.
+    /// `Done` adds the command to the history, and never comes once the channel is closed.
+    /// `Nothing` where the take gave none, and then the history stays. `NoAgent`, looked at first,
+    /// where the board lacks the agent (own); `Memory` where the trace could not grow. After either
+    /// nothing was taken, and nothing changed.
     pub fn serve(&mut self, links: &[Link<C>], agent: u32) -> Result<Served, ServeError>
         requires { HasLinks C.name links.now self.old }
         ensures links { HasLinks C.name links.now self.new }
-        ensures kept { IsKept self.new }
+        ensures agrees { IsKept self.new }
         ensures board { self.new.board ≡ self.old.board }
-        ensures steps { IfOk result (λ served. Serves agent self.old served self.new) }
+        ensures serves { IfOk result (λ served. Serves agent self.old served self.new) }
         ensures closed { is_callee_shut (callee_of self.old agent) ≡ true →
             result ≢ Ok Served.Done }
         ensures no_agent { (result ≡ Err ServeError.NoAgent) ↔
             IsNoAgent (length self.old.board.agents) agent }
         ensures err { OnErr result (self.new ≡ self.old) }
     {
-        if agent == 0 || agent > self.core.agents() {
-            return Err(ServeError::NoAgent);
-        }
-        let Ok(()) = self.core.reserve() else {
-            return Err(ServeError::Memory);
-        };
+        reserve_for(&mut self.core, agent)?;
         let index = agent as usize - 1;
         Ok(serve_one(
             &mut self.core,
             &links[index].a2p,
             &mut self.callees[index],
             agent,
-            &mut self.room,
+            &mut self.buffers,
         ))
     }
 
-    /// Completes the first pending set and adds that to the history (own); `Ok(false)` where nothing is
-    /// pending. `Memory` where a set is pending and the trace could not grow is the only refusal. After
-    /// it, and after `Ok(false)`, nothing changed.
+    /// Completes the first pending set and adds that to the history (own); `Ok(false)` where
+    /// nothing is pending. `Memory` where a set is pending and the trace could not grow is the only
+    /// refusal. After it, and after `Ok(false)`, nothing changed.
     pub fn advance(&mut self) -> Result<bool, ServeError>
-        ensures kept { IsKept self.new }
+        ensures agrees { IsKept self.new }
         ensures board { self.new.board ≡ self.old.board }
         ensures pending { IfOk result (λ did.
             IsTrue did ↔
@@ -131,49 +127,44 @@ impl<C: Channel> Controller<C> {
         }
     }
 
-    /// Makes room in the trace, collects a release on an agent's P2A channel, and then posts the first
-    /// message of its outbox, which adds the posting to the history.
+    /// Makes room in the trace, collects a release on an agent's P2A channel, and then posts the
+    /// first message of its outbox, which adds the posting to the history.
     ///
-    /// The first that applies: `Waiting` where the message before is still outstanding; `Nothing` where
-    /// the outbox is empty; `Closed` where the channel is; `Waiting` where it has no place. `NoAgent`,
-    /// looked at first, where the board lacks the agent; `Memory` where the trace could not grow. After
-    /// either nothing was collected or posted, and nothing changed.
+    /// The first that applies: `Waiting` where the message before is still outstanding; `Nothing`
+    /// where the outbox is empty; `Closed` where the channel is; `Waiting` where it has no place.
+    /// `NoAgent`, looked at first, where the board lacks the agent (own); `Memory` where the trace
+    /// could not grow. After either nothing was collected or posted, and nothing changed.
     pub fn flush(&mut self, links: &[Link<C>], agent: u32) -> Result<Flushed, ServeError>
         requires { HasLinks C.name links.now self.old }
         ensures links { HasLinks C.name links.now self.new }
-        ensures kept { IsKept self.new }
+        ensures agrees { IsKept self.new }
         ensures board { self.new.board ≡ self.old.board }
-        ensures steps { IfOk result (λ flushed. Flushes C.FULL agent self.old flushed self.new) }
+        ensures flushes { IfOk result (λ flushed. Flushes C.FULL agent self.old flushed self.new) }
         ensures no_agent { (result ≡ Err ServeError.NoAgent) ↔
             IsNoAgent (length self.old.board.agents) agent }
         ensures err { OnErr result (self.new ≡ self.old) }
     {
-        if agent == 0 || agent > self.core.agents() {
-            return Err(ServeError::NoAgent);
-        }
-        let Ok(()) = self.core.reserve() else {
-            return Err(ServeError::Memory);
-        };
+        reserve_for(&mut self.core, agent)?;
         let index = agent as usize - 1;
         Ok(flush_one(
             &mut self.core,
             &links[index].p2a,
             &mut self.callers[index],
             agent,
-            &mut self.room,
+            &mut self.buffers,
         ))
     }
 
-    /// Closes an agent's A2P channel, so that no further command of it is executed, and notes after how
-    /// many events it first did; collects once on its P2A channel, and closes that.
+    /// Closes an agent's A2P channel, so that no further command of it is executed, and notes after
+    /// how many events it first did; collects once on its P2A channel, and closes that.
     ///
-    /// `NoAgent`, looked at first, where the board lacks the agent; then nothing changed. `InService`
-    /// and `ReplyWaiting` come only where a message is outstanding on P2A: A2P is closed then, P2A is
-    /// not, and the call may be repeated.
+    /// `NoAgent`, looked at first, where the board lacks the agent; then nothing changed (own).
+    /// `InService` and `ReplyWaiting` come only where a message is outstanding on P2A: A2P is
+    /// closed then, P2A is not, and the call may be repeated.
     pub fn close(&mut self, links: &[Link<C>], agent: u32) -> Result<(), ShutError>
         requires { HasLinks C.name links.now self.old }
         ensures links { HasLinks C.name links.now self.new }
-        ensures kept { IsKept self.new }
+        ensures agrees { IsKept self.new }
         ensures board { self.new.board ≡ self.old.board }
         ensures shuts { result ≢ Err ShutError.NoAgent →
             Shuts (ShowsClose C.caller_view C.close_shows) agent self.old result self.new }
@@ -181,7 +172,7 @@ impl<C: Channel> Controller<C> {
             IsNoAgent (length self.old.board.agents) agent }
         ensures unchanged { result ≡ Err ShutError.NoAgent → self.new ≡ self.old }
     {
-        if agent == 0 || agent > self.core.agents() {
+        if is_no_agent(&self.core, agent) {
             return Err(ShutError::NoAgent);
         }
         let index = agent as usize - 1;
@@ -194,4 +185,28 @@ impl<C: Channel> Controller<C> {
             events,
         )
     }
+}
+
+// Whether this is the number of no agent of the board.
+fn is_no_agent(core: &Core, agent: u32) -> bool
+    ensures no_agent { result ≡ true → IsNoAgent (length core.now.board.agents) agent }
+    ensures agent { result ≡ false → IsAgent (length core.now.board.agents) agent }
+{
+    agent == 0 || agent > core.agents()
+}
+
+// Makes room in the trace for one event of an agent of the board.
+fn reserve_for(core: &mut Core, agent: u32) -> Result<(), ServeError>
+    ensures agent { OnOk result (IsAgent (length core.old.board.agents) agent) }
+    ensures room { OnOk result (0 < core.new.room) }
+    ensures board { core.new.board ≡ core.old.board }
+    ensures history { core.new.history ≡ core.old.history }
+    ensures no_agent { (result ≡ Err ServeError.NoAgent) ↔
+        IsNoAgent (length core.old.board.agents) agent }
+    ensures err { OnErr result (core.new ≡ core.old) }
+{
+    if is_no_agent(core, agent) {
+        return Err(ServeError::NoAgent);
+    }
+    core.reserve().map_err(|_| ServeError::Memory)
 }

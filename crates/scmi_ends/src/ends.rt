@@ -7,17 +7,18 @@ ghost use Rattle.scmi_ends.specs.Links.{HasLinks, AreEndsOf};
 ghost use Rattle.scmi_ends.specs.Kept.{IsKept};
 
 use crate::agent_end::AgentEnd;
+use crate::buffers::Buffers;
 use crate::controller::Controller;
 use crate::link::Link;
-use crate::room::Room;
 use scmi_core::Core;
 use scmi_link::{Channel, LinkError};
 use std::alloc::Global;
 
-/// Makes two channels for each agent of the board, and gives out their ends. Item i of the links and
-/// of the agents' ends is agent i + 1's.
+/// Makes two channels for each agent of the board, and gives out their ends. Item i of the links
+/// and of the agents' ends is agent i + 1's.
 ///
-/// Condition: nothing is in the core's history. The error hands the core back for want of memory.
+/// Condition: nothing is in the core's history. Want of memory is the only error, and it hands the
+/// core back as it was.
 pub fn connect<C: Channel>(
     alloc: Global,
     core: Core,
@@ -31,11 +32,11 @@ pub fn connect<C: Channel>(
         (r.0.callers ≡ replicate (length core.board.agents) new_caller)) }
     ensures closed_at { IfOk result (λ r.
         r.0.closed_at ≡ replicate (length core.board.agents) None) }
-    ensures kept { IfOk result (λ r. IsKept r.0) }
+    ensures agrees { IfOk result (λ r. IsKept r.0) }
     ensures links { IfOk result (λ r. HasLinks C.name r.1.items r.0) }
     ensures ends { IfOk result (λ r. AreEndsOf C.name r.1.items r.2.items) }
     ensures agents { IfOk result (λ r. AllFrom IsNewAgent 1 r.2.items) }
-    ensures memory { IfErr result (λ c. c ≡ core) }
+    ensures err { IfErr result (λ c. c ≡ core) }
 {
     let mut links = Vec::new(alloc);
     let mut callees = Vec::new(alloc);
@@ -68,7 +69,7 @@ pub fn connect<C: Channel>(
             callees,
             callers,
             closed_at,
-            room: Room::new(),
+            buffers: Buffers::new(),
         },
         links,
         agents,

@@ -9,22 +9,23 @@ ghost use Rattle.scmi_ends.specs.Serve.{ServesOne};
 ghost use Rattle.scmi_ends.specs.Flush.{CollectsAndFlushes};
 ghost use Rattle.scmi_ends.specs.Shut.{CollectsAndShuts, ShowsClose};
 
+use crate::buffers::Buffers;
 use crate::flushed::Flushed;
 use crate::link::Link;
-use crate::room::Room;
 use crate::served::Served;
 use crate::shut_error::ShutError;
 use scmi_codec::Answer;
 use scmi_core::{Answered, Core};
 use scmi_link::{Channel, CloseError, PostError};
 
-// Takes a command off A2P, executes it and answers it, by way of `room`. The trace has room for it.
+// Takes a command off A2P, executes it and answers it, by way of `buffers`. The trace has room for
+// it.
 pub(crate) fn serve_one<C: Channel>(
     core: &mut Core,
     a2p: &C,
     callee: &mut C::Callee,
     agent: u32,
-    room: &mut Room,
+    buffers: &mut Buffers,
 ) -> Served
     requires name { C.callee_name callee.old ≡ C.name a2p.now }
     requires room { 0 < core.old.room }
@@ -36,18 +37,18 @@ pub(crate) fn serve_one<C: Channel>(
     ensures step { ServesOne core.old.board agent core.old.history
         (C.callee_view callee.old) result core.new.history (C.callee_view callee.new) }
 {
-    if !a2p.take_into(callee, &mut room.frame) {
+    if !a2p.take_into(callee, &mut buffers.frame) {
         return Served::Nothing;
     }
-    match core.execute(agent, &room.frame, &mut room.reply) {
-        Answered::Reply => a2p.reply(callee, &room.reply),
+    match core.execute(agent, &buffers.frame, &mut buffers.reply) {
+        Answered::Reply => a2p.reply(callee, &buffers.reply),
         Answered::ChannelError => answer_malformed(a2p, callee),
     }
     Served::Done
 }
 
-// Answers a frame that was malformed. A function clears its locals at its entry, so the answer is none of
-// those of `serve_one`.
+// Answers a frame that was malformed. A function clears its locals at its entry, so the answer is
+// none of those of `serve_one`.
 #[inline(never)]
 fn answer_malformed<C: Channel>(a2p: &C, callee: &mut C::Callee)
     requires name { C.callee_name callee.old ≡ C.name a2p.now }
@@ -60,15 +61,15 @@ fn answer_malformed<C: Channel>(a2p: &C, callee: &mut C::Callee)
     a2p.answer(callee, &Answer::ChannelError);
 }
 
-// Collects on P2A into `room`, and then posts the first message of the agent's outbox. The trace has room
-// for it.
+// Collects on P2A into `buffers`, and then posts the first message of the agent's outbox. The trace
+// has room for it.
 #[tactic(auto, using(crate::proofs::Places::nothing_first))]
 pub(crate) fn flush_one<C: Channel>(
     core: &mut Core,
     p2a: &C,
     caller: &mut C::Caller,
     agent: u32,
-    room: &mut Room,
+    buffers: &mut Buffers,
 ) -> Flushed
     requires name { C.caller_name caller.old ≡ C.name p2a.now }
     requires room { 0 < core.old.room }
@@ -80,7 +81,7 @@ pub(crate) fn flush_one<C: Channel>(
     ensures step { CollectsAndFlushes C.FULL core.old.board agent core.old.history
         (C.caller_view caller.old) result core.new.history (C.caller_view caller.new) }
 {
-    let _ = p2a.collect_into(caller, &mut room.release);
+    let _ = p2a.collect_into(caller, &mut buffers.release);
     if C::outstanding(caller) {
         return Flushed::Waiting;
     }
@@ -98,8 +99,8 @@ pub(crate) fn flush_one<C: Channel>(
     }
 }
 
-// Closes A2P, where no answer is owed, and notes after how many events it first did; collects on P2A, and
-// closes that.
+// Closes A2P, where no answer is owed, and notes after how many events it first did; collects on
+// P2A, and closes that.
 pub(crate) fn shut_one<C: Channel>(
     link: &Link<C>,
     callee: &mut C::Callee,

@@ -9,15 +9,15 @@ use std::time::Duration;
 /// thread has a processor (own).
 const SPINS: u32 = 100;
 
-/// Waits that sleep, after those: what is waited for has lost its processor to others. A thread that
-/// sleeps runs soon once it wakes, where one that yields waits for its turn among all (own).
+/// Waits that sleep, after those: what is waited for has lost its processor to others. A thread
+/// that sleeps runs soon once it wakes, where one that yields waits for its turn among all (own).
 const SLEEPS: u32 = 1_000;
 
 /// How long each of these is, at least, in microseconds (own).
 const SLEEP_MICROSECONDS: u64 = 50;
 
-/// A row of waits for something that another thread does. After `SPINS` and `SLEEPS` the thread only
-/// yields, so that a wait for what never comes is not drawn out.
+/// A row of waits for something that another thread does. After `SPINS` and `SLEEPS` the thread
+/// only yields, so that a wait for what never comes is not drawn out.
 #[derive(Drop)]
 pub struct Pause {
     backoff: Backoff,
@@ -35,7 +35,7 @@ impl Pause {
         }
     }
 
-    /// Waits a little. It may return early.
+    /// Waits a little (own). It may return early.
     pub fn wait<R: Wait>(&mut self, rt: &R) {
         self.waits = self.waits.saturating_add(1);
         if self.waits <= SPINS {

@@ -5,7 +5,7 @@ ghost use Rattle.scmi_core.specs.Bounds.{HasBounds, HasResponses};
 ghost use Rattle.scmi_core.specs.History.{deeds};
 ghost use Rattle.scmi_core.specs.Legal.{IsLegal};
 ghost use Rattle.scmi_ends.specs.AgentView.{IsOfLink};
-ghost use Rattle.scmi_ends.specs.Links.{HasLinks, names_of_a2p, names_of_p2a};
+ghost use Rattle.scmi_ends.specs.Links.{HasLinks, AreEndsOf};
 ghost use Rattle.scmi_ends.specs.Headline.{Headlines, AllGathered};
 ghost use Rattle.scmi_ends.specs.Kept.{StayShut};
 
@@ -18,19 +18,17 @@ use scmi_link::Channel;
 impl<C: Channel> Controller<C> {
     /// Gathers all channels, and gives the one history of the platform. It takes no memory.
     ///
-    /// Condition: the links and the agents' ends are the whole lists of `connect`, in order. The history
-    /// is legal. The commands that it has of each agent are those the agent posted, in order, each once,
-    /// at most the last left out; each reply that the agent read is the answer at its command's place; a
-    /// command that was withdrawn or given up was not executed; where the platform has closed the agent's
-    /// A2P channel, what it had executed then is all that was executed; and the messages that the agent
-    /// took are those delivered to it, at most the last left out. With its outbox they are all that was
-    /// made for it, where no delayed response is lost.
+    /// Condition: the links and the agents' ends are the whole lists of `connect`, in order. The
+    /// history is legal. The commands that it has of each agent are those the agent posted, in
+    /// order, each once, at most the last left out; each reply that the agent read is the answer at
+    /// its command's place; a command that was withdrawn or given up was not executed; where the
+    /// platform has closed the agent's A2P channel, what it had executed then is all that was
+    /// executed; and the messages that the agent took are those delivered to it, at most the last
+    /// left out. With its outbox they are all that was made for it, where no delayed response is
+    /// lost.
     pub fn retire(self, links: Vec<Link<C>>, agents: Vec<AgentEnd<C>>) -> Trace
         requires links { HasLinks C.name links.items self }
-        requires a2p { map (λ agent. agent.a2p_name) agents.items ≡
-            names_of_a2p C.name links.items }
-        requires p2a { map (λ agent. agent.p2a_name) agents.items ≡
-            names_of_p2a C.name links.items }
+        requires ends { AreEndsOf C.name links.items agents.items }
         ensures history { result.events ≡ self.history }
         ensures legal { IsLegal self.board result.events }
         ensures bounds { HasBounds self.board (deeds self.board result.events) }
@@ -45,10 +43,7 @@ impl<C: Channel> Controller<C> {
     // Gathers all channels, which leaves the core.
     fn gather_ends(self, links: Vec<Link<C>>, agents: Vec<AgentEnd<C>>) -> Core
         requires links { HasLinks C.name links.items self }
-        requires a2p { map (λ agent. agent.a2p_name) agents.items ≡
-            names_of_a2p C.name links.items }
-        requires p2a { map (λ agent. agent.p2a_name) agents.items ≡
-            names_of_p2a C.name links.items }
+        requires ends { AreEndsOf C.name links.items agents.items }
         ensures board { result.board ≡ self.board }
         ensures history { result.history ≡ self.history }
         ensures headline { Headlines self.board self.history 1 agents.items self.callees

@@ -1,8 +1,8 @@
 //! Why the platform's side did nothing.
 use thiserror::Error;
 
-/// Why `serve`, `advance` or `flush` was refused. Nothing was taken, executed or posted. `NoAgent` is
-/// looked at first (own).
+/// Why `serve`, `advance` or `flush` was refused. Nothing was taken, executed or posted. `NoAgent`
+/// is looked at first (own).
 #[derive(Clone, Copy, PartialEq, Eq, Debug, Error)]
 pub enum ServeError {
     /// A growth of the trace was refused.

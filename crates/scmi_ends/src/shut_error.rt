@@ -1,9 +1,9 @@
 //! Why the platform's side was not closed.
 use thiserror::Error;
 
-/// Why `Controller::close` was refused. After `InService` and `ReplyWaiting` the agent's A2P channel is
-/// closed and its P2A channel is not, and the call may be repeated; after `NoAgent`, which is looked at
-/// first, nothing has changed (own).
+/// Why `Controller::close` was refused. After `InService` and `ReplyWaiting` the agent's A2P
+/// channel is closed and its P2A channel is not, and the call may be repeated; after `NoAgent`,
+/// which is looked at first, nothing has changed (own).
 #[derive(Clone, Copy, PartialEq, Eq, Debug, Error)]
 pub enum ShutError {
     /// The agent has taken the last P2A message, or may yet take it.

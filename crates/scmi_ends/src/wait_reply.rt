@@ -11,10 +11,10 @@ impl<C: Channel> AgentEnd<C> {
     ghost use Rattle.scmi_ends.specs.AgentView.{IsOfLink};
     ghost use Rattle.scmi_ends.specs.Poll.{Waits};
 
-    /// Collects until there is an answer or the channel is closed, at most `turns` times.
+    /// Collects on A2P until there is an answer or `Closed`, at most `turns` times.
     ///
-    /// `Nothing` where each of them gave `Nothing`; with 0 turns nothing changes. Between two of them
-    /// the thread pauses.
+    /// `Nothing` where each of them gave `Nothing`; with 0 turns nothing changes. After each of
+    /// these the thread pauses (own).
     #[tactic(auto, unfolding(crate::specs::Poll::more_collects))]
     pub fn wait_reply<R: Wait>(&mut self, rt: &R, link: &Link<C>, turns: u32) -> Collected
         requires { IsOfLink (C.name link.now.a2p) (C.name link.now.p2a) self.old }

@@ -36,8 +36,8 @@ keeps g c = rw (c.requires, c.loop-index.invariant.callees, c.loop-index.invaria
 pub invariant_of-result : goal.invariant_of-result
 invariant_of-result g c = keeps g (goal.at.invariant_of-result g c).After-loop-index
 
-pub returns-clause-kept : goal.returns-clause-kept
-returns-clause-kept g c = keeps g (goal.at.returns-clause-kept g c).After-loop-index
+pub returns-clause-agrees : goal.returns-clause-agrees
+returns-clause-agrees g c = keeps g (goal.at.returns-clause-agrees g c).After-loop-index
 
 pub returns-clause-closed_at : goal.returns-clause-closed_at
 returns-clause-closed_at g c =

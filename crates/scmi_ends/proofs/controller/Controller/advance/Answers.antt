@@ -10,5 +10,5 @@ keeps g c = kept_after c.self.inside.core c.advance.new.self _ _ _ c.advance.res
 pub invariant_of-self : goal.invariant_of-self
 invariant_of-self g c = keeps g (goal.at.invariant_of-self g c).After-advance
 
-pub returns-clause-kept : goal.returns-clause-kept
-returns-clause-kept g c = keeps g (goal.at.returns-clause-kept g c).After-advance
+pub returns-clause-agrees : goal.returns-clause-agrees
+returns-clause-agrees g c = keeps g (goal.at.returns-clause-agrees g c).After-advance

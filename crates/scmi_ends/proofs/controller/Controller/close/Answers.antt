@@ -9,10 +9,10 @@ use Rattle.scmi_ends.proofs.controller.Controller.close.Goals as goal
 use Rattle.scmi_ends.proofs.controller.Controller.close.Goals.{After-index_mut-2, After-shut_one}
 
 within : (g : _) (c : After-index_mut-2 g) → c.args.agent - 1 < length c.self.inside.callees.items
-within g c = omega (arith, length-map c.self.inside.callees.items g.C.Channel.callee_view, c.self.invariant.callees_count, c.agents.ensures)
+within g c = omega (arith, length-map c.self.inside.callees.items g.C.Channel.callee_view, c.self.invariant.callees_count, c.is_no_agent.ensures.agent c.if-is_no_agent.false)
 
 within_p2a : (g : _) (c : After-index_mut-2 g) → c.args.agent - 1 < length c.self.inside.callers.items
-within_p2a g c = omega (arith, length-map c.self.inside.callers.items g.C.Channel.caller_view, c.self.invariant.callers_count, c.agents.ensures)
+within_p2a g c = omega (arith, length-map c.self.inside.callers.items g.C.Channel.caller_view, c.self.invariant.callers_count, c.is_no_agent.ensures.agent c.if-is_no_agent.false)
 
 names : (g : _) (c : After-index_mut-2 g) → map g.C.Channel.callee_name c.self.inside.callees.items ≡ map (λ l. g.C.Channel.name l.a2p) c.args.links.now
 names g c = ap (λ v. v.a2p_names) c.self.view_is ∙ c.requires.of_a2p
@@ -21,7 +21,7 @@ names_p2a : (g : _) (c : After-index_mut-2 g) → map g.C.Channel.caller_name c.
 names_p2a g c = ap (λ v. v.p2a_names) c.self.view_is ∙ c.requires.of_p2a
 
 within_places : (g : _) (c : After-index_mut-2 g) → c.args.agent - 1 < length c.self.inside.closed_at.items
-within_places g c = omega (arith, c.self.invariant.closed_at_count, c.agents.ensures)
+within_places g c = omega (arith, c.self.invariant.closed_at_count, c.is_no_agent.ensures.agent c.if-is_no_agent.false)
 
 -- the close is noted, where it is the first
 noted : (g : _) (c : After-shut_one g) → c.shut_one.new.closed_at ≡ option_or c.index_mut-3.result.now (Some (length c.self.inside.core.history))
@@ -36,8 +36,8 @@ keeps g c =
     let i = c.args.agent - 1 in
     let callees = map g.C.Channel.callee_view (slice_set c.self.inside.callees.items i c.shut_one.new.callee) in
     let places = slice_set c.self.inside.closed_at.items i c.shut_one.new.closed_at in
-    let closed = kept_close g.C.Channel.callee_view c.self.inside.core.board c.args.agent i c.self.inside.callees.items (map g.C.Channel.caller_view c.self.inside.callers.items) c.self.inside.closed_at.items c.index_mut.result.now c.shut_one.new.callee c.self.inside.core.history (omega arith) (within g c.before.before.before) c.index_mut.ensures.value c.self.invariant c.shut_one.ensures.closes in
-    kept_caller g.C.Channel.caller_view c.self.inside.core.board c.args.agent i callees c.self.inside.callers.items places c.index_mut-2.result.now c.shut_one.new.caller c.self.inside.core.history (omega arith) (within_p2a g c.before.before.before) c.index_mut-2.ensures.value
+    let closed = kept_close g.C.Channel.callee_view c.self.inside.core.board c.args.agent i c.self.inside.callees.items (map g.C.Channel.caller_view c.self.inside.callers.items) c.self.inside.closed_at.items c.index_mut.result.now c.shut_one.new.callee c.self.inside.core.history (omega (arith, c.is_no_agent.ensures.agent c.if-is_no_agent.false)) (within g c.before.before.before) c.index_mut.ensures.value c.self.invariant c.shut_one.ensures.closes in
+    kept_caller g.C.Channel.caller_view c.self.inside.core.board c.args.agent i callees c.self.inside.callers.items places c.index_mut-2.result.now c.shut_one.new.caller c.self.inside.core.history (omega (arith, c.is_no_agent.ensures.agent c.if-is_no_agent.false)) (within_p2a g c.before.before.before) c.index_mut-2.ensures.value
     (rw (noted_here g c) closed)
     (shuts_posted _ _ c.shut_one.result _ c.shut_one.ensures.step)
 
@@ -48,13 +48,13 @@ pub shut_one-requires-clause-p2a : goal.shut_one-requires-clause-p2a
 shut_one-requires-clause-p2a g c κs inside = name_at g.C.Channel.caller_name (λ l. g.C.Channel.name l.p2a) c.self.inside.callers.items c.args.links.now (c.args.agent - 1) c.index_mut-2.result.now c.index-links-index.result (names_p2a g c.before.before) (within_p2a g c.before.before) c.index_mut-2.ensures.value ∙ sym (ap (λ l. g.C.Channel.name l.p2a) c.index-links-index.is)
 
 pub shut_one-requires-clause-owes : goal.shut_one-requires-clause-owes
-shut_one-requires-clause-owes g c κs inside = never_owes g.C.Channel.callee_view c.self.inside.core.board c.args.agent (c.args.agent - 1) c.self.inside.callees.items _ _ c.index_mut.result.now c.self.inside.core.history (omega arith) (within g c.before.before) c.index_mut.ensures.value c.self.invariant
+shut_one-requires-clause-owes g c κs inside = never_owes g.C.Channel.callee_view c.self.inside.core.board c.args.agent (c.args.agent - 1) c.self.inside.callees.items _ _ c.index_mut.result.now c.self.inside.core.history (omega (arith, c.is_no_agent.ensures.agent c.if-is_no_agent.false)) (within g c.before.before) c.index_mut.ensures.value c.self.invariant
 
 pub invariant_of-self : goal.invariant_of-self
 invariant_of-self g c = keeps g (goal.at.invariant_of-self g c).After-shut_one
 
-pub returns-clause-kept : goal.returns-clause-kept
-returns-clause-kept g c = keeps g (goal.at.returns-clause-kept g c).After-shut_one
+pub returns-clause-agrees : goal.returns-clause-agrees
+returns-clause-agrees g c = keeps g (goal.at.returns-clause-agrees g c).After-shut_one
 
 pub returns-clause-links : goal.returns-clause-links
 returns-clause-links g c = let at = (goal.at.returns-clause-links g c).After-index_mut-2 in record {
