@@ -12,8 +12,8 @@ use std::alloc::Global;
 /// What an agent posted, read and took, in order, and what came of each line of its script.
 #[derive(Drop)]
 pub struct AgentLog {
-    /// The commands that it posted on A2P: the n-th has token (n - 1) modulo 1,024, message type 0 and
-    /// reserved bits 0.
+    /// The commands that it posted on A2P: the n-th has token (n - 1) modulo 1,024, message type 0
+    /// and reserved bits 0.
     pub posted: Vec<Frame>,
     /// The answers that it read on A2P.
     pub read: Vec<Answer>,
@@ -58,7 +58,7 @@ impl AgentLog {
         ensures room { OnOk result (vec_len self.new.lines < vec_capacity self.new.lines) }
         ensures same { IsSameLog self.old self.new }
         ensures p2a { self.new.p2a ≡ self.old.p2a }
-        ensures memory { IfErr result (λ error. error ≡ stop.Memory) }
+        ensures errors { IfErr result (λ error. error ≡ stop.Memory) }
     {
         self.lines.reserve(1).map_err(|_| Stop::Memory)
     }
@@ -69,7 +69,7 @@ impl AgentLog {
         ensures read { OnOk result (vec_len self.new.read < vec_capacity self.new.read) }
         ensures same { IsSameLog self.old self.new }
         ensures lines { self.new.lines ≡ self.old.lines }
-        ensures memory { IfErr result (λ error. error ≡ stop.Memory) }
+        ensures errors { IfErr result (λ error. error ≡ stop.Memory) }
     {
         self.posted.reserve(1).map_err(|_| Stop::Memory)?;
         self.read.reserve(1).map_err(|_| Stop::Memory)
@@ -80,7 +80,7 @@ impl AgentLog {
         ensures p2a { OnOk result (vec_len self.new.p2a < vec_capacity self.new.p2a) }
         ensures room { OnOk result (vec_len self.new.lines < vec_capacity self.new.lines) }
         ensures same { IsSameLog self.old self.new }
-        ensures memory { IfErr result (λ error. error ≡ stop.Memory) }
+        ensures errors { IfErr result (λ error. error ≡ stop.Memory) }
     {
         self.p2a.reserve(1).map_err(|_| Stop::Memory)?;
         self.reserve_line()

@@ -65,8 +65,8 @@ impl<'a, C: Channel> Seat<'a, C> {
         ended
     }
 
-    /// Makes room in the log, posts a command, and waits for its reply. Gives the line that says what
-    /// came of it.
+    /// Makes room in the log, posts a command, and waits for its reply. Gives the line that says
+    /// what came of it.
     pub(crate) fn ask<R: Wait>(
         &mut self,
         rt: &R,
@@ -85,7 +85,7 @@ impl<'a, C: Channel> Seat<'a, C> {
         ensures rest { LeavesRest self.old.end.caller self.new.end.caller self.old.log
             self.new.log }
         ensures same { OnErr result (IsSameLog self.old.log self.new.log) }
-        ensures memory { IfErr result (λ why. why ≡ stop.Memory) }
+        ensures errors { IfErr result (λ why. why ≡ stop.Memory) }
     {
         self.log.reserve_call()?;
         match self.post_command(protocol, id, payload) {

@@ -3,7 +3,8 @@ use std::sync::Wait;
 
 /// What an agent's thread passes before each line of its script. A test can hold an agent there.
 pub trait Gate: Sync {
-    /// Called by the agent's thread before this line of its script, counted from 1.
+    /// Called by the agent's thread before this line of its script; agents and lines are counted
+    /// from 1.
     fn before<R: Wait>(&self, rt: &R, agent: u32, line: u32);
 }
 

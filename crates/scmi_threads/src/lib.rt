@@ -1,10 +1,10 @@
 //! Agents of SCMI (DEN0056B, version 2.0) in threads of their own, beside one platform controller.
 //!
 //! The main type is `Outcome`, what a run of scripts leaves. The main theorem is the contract of
-//! `run_agents`: whatever the threads' order, the outcome's trace is a legal history of the plan, and
-//! each agent's log agrees with it: its commands were executed in order, each once, at most the last
-//! left out, and each answer that it read is the one at its command's place. And each log follows its
-//! agent's script, order by order.
+//! `run_agents`: whatever the threads' order, the outcome's trace is a legal history of the plan,
+//! and each agent's log agrees with it: its commands were executed in order, each once, at most the
+//! last left out, and each answer that it read is the one at its command's place. And each log
+//! follows its agent's script, order by order.
 #![tactic(auto)]
 
 mod agent_log;

@@ -13,11 +13,12 @@ pub enum Line {
     Closed,
     /// A call was not posted.
     NotPosted(PostError),
-    /// The turns of a wait ran out, and the script ended.
+    /// The `TURNS` of a wait ran out, and the script ended.
     Limit,
     /// The domain has the state that was waited for.
     UntilOk,
-    /// The domain did not come to the state within the limits, and the script ended.
+    /// The domain did not come to the state within `CALLS` calls, or one of them was not answered;
+    /// the script ended.
     UntilLimit,
     /// A P2A message.
     P2a(Frame),

@@ -1,14 +1,16 @@
 //! The orders of a script.
 use scmi_codec::Payload;
 
-/// One line of an agent's script.
+/// One line of an agent's script (own).
 #[derive(PartialEq, Eq, Debug, Drop)]
 pub enum Order {
-    /// Post a command of this protocol and message id with this payload, and wait for its reply.
+    /// Post a command of this protocol and message id with this payload, and look for its reply at
+    /// most `TURNS` times.
     Call(u8, u8, Payload),
-    /// Ask for the state of this power domain, again and again, until it is this state.
+    /// Ask for the state of the power domain of this number until it is this state word, by at most
+    /// `CALLS` calls.
     Until(u32, u32),
-    /// Take so many P2A messages.
+    /// Take so many P2A messages, each by at most `TURNS` looks.
     P2a(u32),
     /// Close the agent's end.
     Close,

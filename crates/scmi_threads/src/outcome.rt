@@ -9,6 +9,6 @@ pub struct Outcome {
     pub trace: Trace,
     /// What each agent did; item i is agent i + 1's.
     pub logs: Vec<AgentLog>,
-    /// Whether the controller ended its rounds for want of memory.
+    /// Whether the controller ended its rounds because a growth of the trace was refused.
     pub memory: bool,
 }

@@ -1,6 +1,5 @@
 //! The platform's side of a run: the controller's rounds.
-ghost use Rattle.std.specs.Prelude.{map};
-ghost use Rattle.scmi_ends.specs.ControllerView.{IsOfLinks};
+ghost use Rattle.scmi_ends.specs.Links.{HasLinks};
 ghost use Rattle.scmi_threads.specs.Rounds.{AllOpen, GoesOn};
 
 use scmi_ends::{Controller, Link, ServeError};
@@ -17,11 +16,9 @@ pub(crate) fn run_rounds<C: Channel, R: Wait>(
     mut controller: Controller<C>,
     agents: u32,
 ) -> (Controller<C>, bool)
-    requires links { IsOfLinks (map (λ link. C.name link.a2p) links.now)
-        (map (λ link. C.name link.p2a) links.now) controller }
+    requires links { HasLinks C.name links.now controller }
     requires open_ends { AllOpen controller }
-    ensures { GoesOn (map (λ link. C.name link.a2p) links.now)
-        (map (λ link. C.name link.p2a) links.now) controller result.0 }
+    ensures { GoesOn C.name links.now controller result.0 }
 {
     let mut refused = false;
     'rounds: for _ in rt.forever() {
@@ -41,11 +38,9 @@ fn run_round<C: Channel>(
     links: &[Link<C>],
     agents: u32,
 ) -> Result<(), ServeError>
-    requires links { IsOfLinks (map (λ link. C.name link.a2p) links.now)
-        (map (λ link. C.name link.p2a) links.now) controller.old }
+    requires links { HasLinks C.name links.now controller.old }
     requires open_ends { AllOpen controller.old }
-    ensures { GoesOn (map (λ link. C.name link.a2p) links.now)
-        (map (λ link. C.name link.p2a) links.now) controller.old controller.new }
+    ensures { GoesOn C.name links.now controller.old controller.new }
 {
     'served: for agent in 1..agents.saturating_add(1) {
         controller.serve(links, agent)?;

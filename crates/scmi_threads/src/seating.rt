@@ -3,6 +3,7 @@ ghost use Rattle.std.specs.Prelude.{◌≡◌, ◌≤◌, [], map, vec_len, vec_
 ghost use Rattle.std.specs.List.{AllZip};
 ghost use Rattle.scmi_ends.specs.Each.{AllFrom};
 ghost use Rattle.scmi_ends.specs.AgentView.{IsNewAgent};
+ghost use Rattle.scmi_ends.specs.Links.{AreEndsOf, names_of_a2p, names_of_p2a};
 ghost use Rattle.scmi_threads.specs.Logs.{IsLogOf};
 ghost use Rattle.scmi_threads.specs.ScriptLogs.{orders_of};
 ghost use Rattle.scmi_threads.specs.Seats.{IsSeated};
@@ -22,17 +23,12 @@ pub(crate) fn seat_agents<'a, C: Channel>(
     scripts: &'a [Script],
     mut ends: Vec<AgentEnd<C>>,
 ) -> Result<Vec<Seat<'a, C>>, AllocError>
-    requires a2p { map (λ agent. agent.a2p_name) ends.items ≡
-        map (λ link. C.name link.a2p) links.now }
-    requires p2a { map (λ agent. agent.p2a_name) ends.items ≡
-        map (λ link. C.name link.p2a) links.now }
+    requires ends { AreEndsOf C.name links.now ends.items }
     requires fresh { AllFrom IsNewAgent 1 ends.items }
     ensures a2p { IfOk result (λ seats.
-        map (λ seat. seat.end.a2p_name) seats.items ≡
-        map (λ link. C.name link.a2p) links.entry.now) }
+        map (λ seat. seat.end.a2p_name) seats.items ≡ names_of_a2p C.name links.entry.now) }
     ensures p2a { IfOk result (λ seats.
-        map (λ seat. seat.end.p2a_name) seats.items ≡
-        map (λ link. C.name link.p2a) links.entry.now) }
+        map (λ seat. seat.end.p2a_name) seats.items ≡ names_of_p2a C.name links.entry.now) }
     ensures seated { IfOk result (λ seats. AllFrom (IsSeated scripts.entry.now) 1 seats.items) }
 {
     let mut seats = Vec::new(alloc);

@@ -3,8 +3,8 @@
 /// Why a script ended before its last line was done.
 #[derive(Clone, Copy, PartialEq, Eq, Debug)]
 pub enum Stop {
-    /// A wait or an `Order::Until` ran out.
+    /// A wait ran out, or an `Order::Until` did not see its state.
     Limit,
-    /// Room in the agent's log was refused.
+    /// Room in the agent's log was refused, before the command was posted or the message taken.
     Memory,
 }

@@ -1,11 +1,11 @@
 //! The run: each agent in a thread of its own, and the controller in another.
-ghost use Rattle.std.specs.Prelude.{◌≡◌, ◌≤◌, [], length, map, vec_len, vec_capacity, IfOk};
+ghost use Rattle.std.specs.Prelude.{◌≡◌, ◌≤◌, [], length, vec_len, vec_capacity, IfOk};
 ghost use Rattle.std.specs.List.{All, AllZip};
 ghost use Rattle.scmi_core.specs.Bounds.{HasBounds, HasResponses};
 ghost use Rattle.scmi_core.specs.History.{deeds};
 ghost use Rattle.scmi_core.specs.Legal.{IsLegal};
 ghost use Rattle.scmi_ends.specs.Each.{AllFrom};
-ghost use Rattle.scmi_ends.specs.ControllerView.{IsOfLinks};
+ghost use Rattle.scmi_ends.specs.Links.{HasLinks, AreEndsOf};
 ghost use Rattle.scmi_threads.specs.Logs.{IsLogOf, LogHeadline};
 ghost use Rattle.scmi_threads.specs.Rounds.{AllOpen, GoesOn};
 ghost use Rattle.scmi_threads.specs.Orders.{IsUndisturbed};
@@ -31,21 +31,21 @@ use std::sync::atomic::AtomicUsize;
 use std::thread::{Threads, join};
 
 /// Runs the scripts on a new platform of this plan, each agent in a thread of its own and the
-/// controller in one (own). Where a thread cannot be made, its part runs whole on another's before that
-/// one's part, the controller's last. An agent without a script does nothing. The controller serves
-/// each agent by rising number, completes one pending set, and flushes each agent's outbox by rising
-/// number; it ends after one more such round once it has seen that all scripts have ended, or with the
-/// first that is refused memory.
+/// controller in one (own). Where a thread cannot be made, its part runs whole on another's before
+/// that one's part, the controller's last. An agent without a script does nothing. The controller
+/// serves each agent by rising number, completes one pending set, and flushes each agent's outbox
+/// by rising number; it ends after one more such round once it has seen that all scripts have
+/// ended, or with the first that is refused memory.
 ///
-/// Condition: each script is of an agent of the plan, numbered from 1, and no two are of the same. The
-/// trace is a legal history of the plan. The logs are the agents', in order. Of each: the commands
-/// executed for it are those it posted, in order, each once, at most the last left out; each answer it
-/// read is the one at that command's place; after a close with nothing outstanding all were executed
-/// and read, and a command that was withdrawn was not executed; the messages it took are those
-/// delivered, at most the last left out, and with its outbox they are all that was made for it, where
-/// no delayed response is lost; and its n-th command has token (n - 1) modulo 1,024. Each log follows
-/// its agent's script order by order, and to its end where it was not stopped. Want of memory before
-/// the scripts start is the only refusal.
+/// Condition: each script is of an agent of the plan, numbered from 1, and no two are of the same.
+/// The trace is a legal history of the plan. The logs are the agents', in order. Of each: the
+/// commands executed for it are those it posted, in order, each once, at most the last left out;
+/// each answer it read is the one at that command's place; after a close with nothing outstanding
+/// all were executed and read, and a command that was withdrawn was not executed; the messages it
+/// took are those delivered, at most the last left out, and with its outbox they are all that was
+/// made for it, where no delayed response is lost; and its n-th command has token (n - 1) modulo
+/// 1,024. Each log follows its agent's script order by order, and to its end where it was not
+/// stopped. Want of memory before the scripts start is the only refusal.
 pub fn run_agents<C: Channel, G: Gate, R: Threads + Wait + Sync>(
     rt: &R,
     alloc: Global,
@@ -87,22 +87,18 @@ fn run_beside<'a, C: Channel, G: Gate, R: Threads + Wait + Sync>(
     seats: Vec<Seat<'a, C>>,
     agents: u32,
 ) -> ((Controller<C>, bool), Vec<Seat<'a, C>>)
-    requires links { IsOfLinks (map (λ link. C.name link.a2p) links.now)
-        (map (λ link. C.name link.p2a) links.now) controller }
+    requires links { HasLinks C.name links.now controller }
     requires open_ends { AllOpen controller }
-    ensures goes_on { GoesOn (map (λ link. C.name link.a2p) links.now)
-        (map (λ link. C.name link.p2a) links.now) controller result.0.0 }
+    ensures goes_on { GoesOn C.name links.now controller result.0.0 }
     ensures ran { AllZip (HasPlayed C.FULL) seats.entry.items result.1.items }
 {
     let ended = AtomicUsize::new(0);
     join(
         rt,
         || -> (Controller<C>, bool)
-            requires links { IsOfLinks (map (λ link. C.name link.a2p) links.now)
-                (map (λ link. C.name link.p2a) links.now) controller }
+            requires links { HasLinks C.name links.now controller }
             requires open_ends { AllOpen controller }
-            ensures { GoesOn (map (λ link. C.name link.a2p) links.entry.now)
-                (map (λ link. C.name link.p2a) links.entry.now) controller result.0 }
+            ensures { GoesOn C.name links.entry.now controller result.0 }
         { run_rounds(rt, links, &ended, controller, agents) },
         || -> Vec<Seat<C>>
             ensures { AllZip (HasPlayed C.FULL) seats.entry.items result.items }
@@ -118,13 +114,9 @@ fn conclude<C: Channel>(
     logs: Vec<AgentLog>,
     memory: bool,
 ) -> Outcome
-    requires links { IsOfLinks (map (λ link. C.name link.a2p) links.items)
-        (map (λ link. C.name link.p2a) links.items) controller }
+    requires links { HasLinks C.name links.items controller }
     requires open_ends { AllOpen controller }
-    requires a2p { map (λ agent. agent.a2p_name) ends.items ≡
-        map (λ link. C.name link.a2p) links.items }
-    requires p2a { map (λ agent. agent.p2a_name) ends.items ≡
-        map (λ link. C.name link.p2a) links.items }
+    requires ends { AreEndsOf C.name links.items ends.items }
     requires logs { AllZip IsLogOf ends.items logs.items }
     ensures legal { IsLegal controller.board result.trace.events }
     ensures bounds { HasBounds controller.board (deeds controller.board result.trace.events) }
@@ -133,7 +125,7 @@ fn conclude<C: Channel>(
     ensures headline { AllFrom (λ a log.
         LogHeadline controller.board result.trace.events a log) 1 result.logs.items }
     ensures undisturbed { All (λ agent. IsUndisturbed agent.caller) ends.items }
-    ensures memory { result.memory ≡ memory }
+    ensures refused { result.memory ≡ memory }
 {
     Outcome {
         trace: controller.retire(links, ends),

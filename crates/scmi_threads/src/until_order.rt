@@ -69,7 +69,7 @@ impl<'a, C: Channel> Seat<'a, C> {
         ensures rest { LeavesRest self.old.end.caller self.new.end.caller self.old.log
             self.new.log }
         ensures same { OnErr result (IsSameLog self.old.log self.new.log) }
-        ensures memory { IfErr result (λ why. why ≡ stop.Memory) }
+        ensures errors { IfErr result (λ why. why ≡ stop.Memory) }
     {
         let command = Command::Power(PowerCommand::Get { domain }).pack(0);
         self.ask(
@@ -80,8 +80,8 @@ impl<'a, C: Channel> Seat<'a, C> {
         )
     }
 
-    // Asks at most `CALLS` times, up to the first call without an answer. Says whether the last reply
-    // is SUCCESS and this state.
+    // Asks at most `CALLS` times, up to the first call without an answer. Says whether the last
+    // reply is SUCCESS and this state.
     fn sees_state<R: Wait>(&mut self, rt: &R, domain: u32, state: u32) -> Result<bool, Stop>
         ensures ran { HasRun self.old self.new }
         ensures lines { self.new.log.lines ≡ self.old.log.lines }

@@ -14,7 +14,7 @@ links-init g c = record {
   ids = c.requires.fresh;
   a2p = ap (map (λ s. s.end.a2p_name)) c.new-seats.ensures.items;
   p2a = ap (map (λ s. s.end.p2a_name)) c.new-seats.ensures.items;
-  left = all_ready (λ k. g.C.Channel.name k.a2p) (λ k. g.C.Channel.name k.p2a) 1 c.args.links.now c.args.ends.items c.requires.a2p c.requires.p2a c.requires.fresh;
+  left = all_ready (λ k. g.C.Channel.name k.a2p) (λ k. g.C.Channel.name k.p2a) 1 c.args.links.now c.args.ends.items c.requires.ends.0 c.requires.ends.1 c.requires.fresh;
 }
 
 pub remove-end-requires : goal.remove-end-requires

@@ -2,13 +2,14 @@ use Rattle.std.proofs.Common.{◌≡◌, ◌+◌, length, map, take, drop}
 use Rattle.std.specs.List.{AllZip}
 use Rattle.scmi_ends.specs.Each.{AllFrom}
 use Rattle.scmi_ends.specs.AgentView.{IsNewAgent}
+use Rattle.scmi_ends.specs.Links.{names_of_a2p, names_of_p2a}
 use Rattle.scmi_threads.specs.Seats.{IsReady, IsSeated}
 use Rattle.scmi_threads.proofs.seating.seat_agents.Given as goal
 
 abbrev pub invariant-links : goal.invariant-links
 invariant-links g l = record {
-  a2p : map (λ s. s.end.a2p_name) l.seats.items ≡ map (λ k. g.C.Channel.name k.a2p) (take l.i l.links);
-  p2a : map (λ s. s.end.p2a_name) l.seats.items ≡ map (λ k. g.C.Channel.name k.p2a) (take l.i l.links);
+  a2p : map (λ s. s.end.a2p_name) l.seats.items ≡ names_of_a2p g.C.Channel.name (take l.i l.links);
+  p2a : map (λ s. s.end.p2a_name) l.seats.items ≡ names_of_p2a g.C.Channel.name (take l.i l.links);
   seated : AllFrom (IsSeated l.scripts) 1 l.seats.items;
   count : length l.seats.items ≡ l.i;
   ids : AllFrom IsNewAgent (l.i + 1) l.ends.items;

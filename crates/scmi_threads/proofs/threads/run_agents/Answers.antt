@@ -5,6 +5,7 @@ use Rattle.scmi_threads.specs.Logs.{IsLogOf}
 use Rattle.scmi_threads.specs.Seats.{HasPlayed}
 use Rattle.std.specs.List.{All}
 use Rattle.scmi_ends.specs.Each.{AllFrom}
+use Rattle.scmi_ends.specs.Links.{names_of_a2p, names_of_p2a}
 use Rattle.scmi_threads.specs.Orders.{IsUndisturbed}
 use Rattle.scmi_threads.specs.ScriptLogs.{IsScriptLog, orders_of}
 use Rattle.scmi_threads.specs.declared.agent_log.AgentLog.{AgentLog}
@@ -13,17 +14,14 @@ use Rattle.scmi_threads.proofs.Moves.{zip_maps}
 use Rattle.scmi_threads.proofs.threads.run_agents.Goals as goal
 use Rattle.scmi_threads.proofs.threads.run_agents.Goals.{After-rise-ends}
 
-a2p_names : (g : _) (c : After-rise-ends g) → map (λ agent. agent.a2p_name) c.rise-ends.result.0.items ≡ map (λ link. g.C.Channel.name link.a2p) c.in-Ok.links.items
-a2p_names g c = c.rise-ends.ensures.a2p ∙ zip_maps (HasPlayed g.C.Channel.FULL) (λ seat. seat.end.a2p_name) (λ a b r. r.ran.a2p) c.in_ok-seats.seats.items c.run_beside-controller.result.1.items c.run_beside-controller.ensures.ran ∙ c.in_ok-seats.ensures.a2p ∙ ap (map (λ link. g.C.Channel.name link.a2p)) c.deref.ensures.value
+a2p_names : (g : _) (c : After-rise-ends g) → map (λ agent. agent.a2p_name) c.rise-ends.result.0.items ≡ names_of_a2p g.C.Channel.name c.in-Ok.links.items
+a2p_names g c = c.rise-ends.ensures.a2p ∙ zip_maps (HasPlayed g.C.Channel.FULL) (λ seat. seat.end.a2p_name) (λ a b r. r.ran.a2p) c.in_ok-seats.seats.items c.run_beside-controller.result.1.items c.run_beside-controller.ensures.ran ∙ c.in_ok-seats.ensures.a2p ∙ ap (names_of_a2p g.C.Channel.name) c.deref.ensures.value
 
-p2a_names : (g : _) (c : After-rise-ends g) → map (λ agent. agent.p2a_name) c.rise-ends.result.0.items ≡ map (λ link. g.C.Channel.name link.p2a) c.in-Ok.links.items
-p2a_names g c = c.rise-ends.ensures.p2a ∙ zip_maps (HasPlayed g.C.Channel.FULL) (λ seat. seat.end.p2a_name) (λ a b r. r.ran.p2a) c.in_ok-seats.seats.items c.run_beside-controller.result.1.items c.run_beside-controller.ensures.ran ∙ c.in_ok-seats.ensures.p2a ∙ ap (map (λ link. g.C.Channel.name link.p2a)) c.deref.ensures.value
+p2a_names : (g : _) (c : After-rise-ends g) → map (λ agent. agent.p2a_name) c.rise-ends.result.0.items ≡ names_of_p2a g.C.Channel.name c.in-Ok.links.items
+p2a_names g c = c.rise-ends.ensures.p2a ∙ zip_maps (HasPlayed g.C.Channel.FULL) (λ seat. seat.end.p2a_name) (λ a b r. r.ran.p2a) c.in_ok-seats.seats.items c.run_beside-controller.result.1.items c.run_beside-controller.ensures.ran ∙ c.in_ok-seats.ensures.p2a ∙ ap (names_of_p2a g.C.Channel.name) c.deref.ensures.value
 
-pub seat_agents-requires-clause-a2p : goal.seat_agents-requires-clause-a2p
-seat_agents-requires-clause-a2p g c κs within = rw c.deref.ensures.value c.in-Ok.ensures.ends.0
-
-pub seat_agents-requires-clause-p2a : goal.seat_agents-requires-clause-p2a
-seat_agents-requires-clause-p2a g c κs within = rw c.deref.ensures.value c.in-Ok.ensures.ends.1
+pub seat_agents-requires-clause-ends : goal.seat_agents-requires-clause-ends
+seat_agents-requires-clause-ends g c κs within = rw c.deref.ensures.value c.in-Ok.ensures.ends
 
 pub run_beside-controller-requires-clause-links : goal.run_beside-controller-requires-clause-links
 run_beside-controller-requires-clause-links g c κs within = rw c.deref-2.ensures.value c.in-Ok.ensures.links
@@ -35,13 +33,10 @@ pub rise-ends-requires-clause-logs : goal.rise-ends-requires-clause-logs
 rise-ends-requires-clause-logs g c κs within = omega (arith, AllZip-long (HasPlayed g.C.Channel.FULL) c.in_ok-seats.seats.items c.run_beside-controller.result.1.items c.run_beside-controller.ensures.ran, c.in_ok-seats.seats.ok.0, c.run_beside-controller.result.1.ok.0, c.in_ok-logs.ensures.exact, c.len-2.ensures)
 
 pub conclude-requires-clause-links : goal.conclude-requires-clause-links
-conclude-requires-clause-links g c κs within = rw (← c.deref-2.ensures.value) c.run_beside-controller.ensures.goes_on.links
+conclude-requires-clause-links g c κs within = rw (← c.deref-2.ensures.value) c.run_beside-controller.ensures.goes_on.has_links
 
-pub conclude-requires-clause-a2p : goal.conclude-requires-clause-a2p
-conclude-requires-clause-a2p g c κs within = a2p_names g (goal.at.conclude-requires-clause-a2p g c).After-rise-ends
-
-pub conclude-requires-clause-p2a : goal.conclude-requires-clause-p2a
-conclude-requires-clause-p2a g c κs within = p2a_names g (goal.at.conclude-requires-clause-p2a g c).After-rise-ends
+pub conclude-requires-clause-ends : goal.conclude-requires-clause-ends
+conclude-requires-clause-ends g c κs within = let at = (goal.at.conclude-requires-clause-ends g c).After-rise-ends in (a2p_names g at, p2a_names g at)
 
 pub returns-clause-count : goal.returns-clause-count
 returns-clause-count g c =
