@@ -33,8 +33,8 @@ impl Commands {
         })
     }
 
-    /// Has them executed. The lines are of the board, the last reply, and the length of the history,
-    /// where it is kept.
+    /// Has them executed. The lines are of the board, the last reply, and the length of the
+    /// history, where it is kept.
     pub fn make<W: Write>(&self, alloc: Global, lines: &mut Lines<'_, W>) {
         let Some(plan) = new_plan(alloc, lines) else {
             return;

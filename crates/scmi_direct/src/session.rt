@@ -20,15 +20,14 @@ pub struct Session<C: Channel> {
 }
 
 impl<C: Channel> Model for Session<C> {
-    ghost use Rattle.std.specs.Prelude.{ℕ, length, map};
+    ghost use Rattle.std.specs.Prelude.{ℕ, length};
     ghost use Rattle.scmi_direct.specs.Session.{BelongTogether};
 
     ghost Value = { ℕ };
 
     ghost view = { λ s. length s.agents.items };
 
-    ghost invariant = { λ s. BelongTogether (map (λ l. C.name l.a2p) s.links.items)
-        (map (λ l. C.name l.p2a) s.links.items) s.controller s.agents.items };
+    ghost invariant = { λ s. BelongTogether C.name s.links.items s.controller s.agents.items };
 }
 
 impl<C: Channel> Session<C> {
@@ -38,7 +37,7 @@ impl<C: Channel> Session<C> {
     pub fn open(alloc: Global, core: Core) -> Result<Session<C>, Core>
         requires { core.history ≡ [] }
         ensures agents { IfOk result (λ session. session ≡ length core.board.agents) }
-        ensures memory { IfErr result (λ c. c ≡ core) }
+        ensures err { IfErr result (λ c. c ≡ core) }
     {
         let (controller, links, agents) = connect(alloc, core)?;
         Ok(Session {
@@ -84,8 +83,8 @@ impl<C: Channel> Session<C> {
         }
     }
 
-    /// Agent 1 posts a command of the base protocol that asks for its version, with these payload words;
-    /// it is served, and its answer read into `answer`.
+    /// Agent 1 posts a command of the base protocol that asks for its version, with these payload
+    /// words; it is served, and its answer read into `answer`.
     pub fn exchange(&mut self, payload: &Payload, answer: &mut Answer)
         requires { 1 ≤ self.old }
         ensures { self.new ≡ self.old }
