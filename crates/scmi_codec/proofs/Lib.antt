@@ -1,3 +1,4 @@
 pub mod HeaderLemmas
 pub mod WordLemmas
 pub mod AreaLemmas
+pub mod ShortLemmas

@@ -4,7 +4,7 @@ ghost use Rattle.std.specs.List.{AllByRecursion};
 ghost use Rattle.scmi_codec.specs.Header.{header_of};
 ghost use Rattle.scmi_codec.specs.Word.{words_at, put_words};
 ghost use Rattle.scmi_codec.specs.Area.{frame_of, arrived, answered, posted, written, is_well_formed, StandsFor, StandsForAnswer, IsKept, IsOutside};
-ghost use Rattle.scmi_codec.specs.declared.frame.Frame.TheVariants.{Good};
+ghost use Rattle.scmi_codec.specs.declared.frame.Frame.TheVariants.{Good, Malformed};
 ghost use Rattle.scmi_codec.specs.declared.frame.Answer.TheVariants.{Reply};
 ghost use Rattle.scmi_codec.specs.declared.area.TheConstants.{AREA_BYTES};
 ghost use Rattle.scmi_codec.specs.declared.payload.TheConstants.{PAYLOAD_WORDS};
@@ -13,7 +13,7 @@ use crate::channel_status::ChannelStatus;
 use crate::frame::{Answer, Frame};
 use crate::header::Header;
 use crate::message::Message;
-use crate::payload::{PAYLOAD_WORDS, Payload};
+use crate::payload::{PAYLOAD_WORDS, Payload, resize};
 use crate::word::{read_word, write_word};
 use arrayvec::ArrayVec;
 use bitflags::Flags;
@@ -106,18 +106,37 @@ fn read_frame(area: &[u8], frame: &mut Frame)
     let length = read_word(area, LENGTH_AT);
     let header = read_word(area, HEADER_AT);
     if !is_well_formed(length) {
-        *frame = Frame::Malformed { length, header };
+        set_malformed(frame, length, header);
         return;
     }
     let count = (length as usize - 4) / 4;
     match frame {
         Frame::Good(message) => read_message(area, header, count, message),
-        Frame::Malformed { .. } => {
-            let mut message = Message::default();
-            read_message(area, header, count, &mut message);
-            *frame = Frame::Good(message);
-        }
+        Frame::Malformed { .. } => read_anew(area, header, count, frame),
     }
+}
+
+/// Reads a message as `read_message` into a frame that holds none.
+#[inline(never)]
+fn read_anew(area: &[u8], header: u32, count: usize, frame: &mut Frame)
+    requires few { count ≤ PAYLOAD_WORDS }
+    requires size { length area.now ≡ AREA_BYTES }
+    ensures { frame.new ≡ Good (record {
+      header = header_of header;
+      payload = record { items = words_at 0x1C count area.now };
+    }) }
+{
+    let mut message = Message::default();
+    read_message(area, header, count, &mut message);
+    *frame = Frame::Good(message);
+}
+
+/// Makes a frame one of a length that is not well formed.
+#[inline(never)]
+fn set_malformed(frame: &mut Frame, length: u32, header: u32)
+    ensures { frame.new ≡ Malformed length header }
+{
+    *frame = Frame::Malformed { length, header };
 }
 
 /// Reads a message of this header word and so many payload words of an area into `message`.
@@ -136,9 +155,42 @@ fn read_payload(area: &[u8], count: usize, payload: &mut Payload)
     requires size { length area.now ≡ AREA_BYTES }
     ensures { payload.new.items ≡ words_at 0x1C count area.now }
 {
-    payload.clear();
-    for i in 0..count {
-        payload.push(read_word(area, PAYLOAD_AT + 4 * i));
+    resize(payload, count);
+    read_words(area, payload.as_mut_slice());
+}
+
+/// Reads the first payload words of an area over as many others. Most commands have none to three,
+/// which take no loop.
+fn read_words(area: &[u8], words: &mut [u32])
+    requires few { length words.old ≤ PAYLOAD_WORDS }
+    requires size { length area.now ≡ AREA_BYTES }
+    ensures { words.new ≡ words_at 0x1C (length words.old) area.now }
+{
+    match words.len() {
+        0 => {}
+        1 => words[0] = read_word(area, PAYLOAD_AT),
+        2 => {
+            words[0] = read_word(area, PAYLOAD_AT);
+            words[1] = read_word(area, PAYLOAD_AT + 4);
+        }
+        3 => {
+            words[0] = read_word(area, PAYLOAD_AT);
+            words[1] = read_word(area, PAYLOAD_AT + 4);
+            words[2] = read_word(area, PAYLOAD_AT + 8);
+        }
+        _ => read_many(area, words),
+    }
+}
+
+/// Reads the first payload words of an area over as many others.
+#[inline(never)]
+fn read_many(area: &[u8], words: &mut [u32])
+    requires few { length words.old ≤ PAYLOAD_WORDS }
+    requires size { length area.now ≡ AREA_BYTES }
+    ensures { words.new ≡ words_at 0x1C (length words.old) area.now }
+{
+    for i in 0..words.len() {
+        words[i] = read_word(area, PAYLOAD_AT + 4 * i);
     }
 }
 
@@ -215,13 +267,39 @@ fn write_with_status(area: &mut [u8], message: &Message, status: u32)
     write_word(area, STATUS_AT, status);
 }
 
+/// Writes the payload words. Most replies have one to three, which take no loop.
 fn write_payload(area: &mut [u8], payload: &Payload)
     requires size { length area.old ≡ AREA_BYTES }
     requires few { length payload.now.items ≤ PAYLOAD_WORDS }
     ensures written { area.new ≡ put_words 0x1C payload.now.items area.old }
     ensures words { AllByRecursion (λ w. w < 2 ^ 32) payload.now.items }
 {
-    for (i, word) in payload.as_slice().iter().enumerate() {
+    let words = payload.as_slice();
+    match words.len() {
+        0 => {}
+        1 => write_word(area, PAYLOAD_AT, words[0]),
+        2 => {
+            write_word(area, PAYLOAD_AT, words[0]);
+            write_word(area, PAYLOAD_AT + 4, words[1]);
+        }
+        3 => {
+            write_word(area, PAYLOAD_AT, words[0]);
+            write_word(area, PAYLOAD_AT + 4, words[1]);
+            write_word(area, PAYLOAD_AT + 8, words[2]);
+        }
+        _ => write_words(area, words),
+    }
+}
+
+/// Writes words as the payload of an area.
+#[inline(never)]
+fn write_words(area: &mut [u8], words: &[u32])
+    requires size { length area.old ≡ AREA_BYTES }
+    requires few { length words.now ≤ PAYLOAD_WORDS }
+    ensures written { area.new ≡ put_words 0x1C words.now area.old }
+    ensures words { AllByRecursion (λ w. w < 2 ^ 32) words.now }
+{
+    for (i, word) in words.iter().enumerate() {
         write_word(area, PAYLOAD_AT + 4 * i, *word);
     }
 }

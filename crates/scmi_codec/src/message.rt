@@ -2,7 +2,7 @@
 ghost use Rattle.std.specs.Prelude.{◌≡◌};
 
 use crate::header::Header;
-use crate::payload::{Payload, payload_of};
+use crate::payload::{Payload, payload_of, set_payload};
 use arrayvec::ArrayVec;
 
 /// A header and the payload words that follow it.
@@ -28,10 +28,7 @@ impl Message {
         ensures { self.new ≡ message.now }
     {
         self.header = message.header;
-        self.payload.clear();
-        let _ = self
-            .payload
-            .try_extend_from_slice(message.payload.as_slice());
+        set_payload(&mut self.payload, message.payload.as_slice());
     }
 }
 

@@ -39,8 +39,43 @@ pub fn set_payload(payload: &mut Payload, words: &[u32])
     requires { length words.now ≤ PAYLOAD_WORDS }
     ensures { payload.new.items ≡ words.now }
 {
-    payload.clear();
-    let _ = payload.try_extend_from_slice(words);
+    resize(payload, words.len());
+    copy_words(payload.as_mut_slice(), words);
+}
+
+/// Gives a payload so many words, whichever they are.
+#[inline]
+pub(crate) fn resize(payload: &mut Payload, count: usize)
+    requires { count ≤ PAYLOAD_WORDS }
+    ensures { length payload.new.items ≡ count }
+{
+    // A payload is mostly written again with as many words as it has, and none is cleared then.
+    if payload.len() != count {
+        refit(payload, count);
+    }
+}
+
+/// Gives a payload another number of words.
+#[inline(never)]
+fn refit(payload: &mut Payload, count: usize)
+    requires { count ≤ PAYLOAD_WORDS }
+    ensures { length payload.new.items ≡ count }
+{
+    payload.truncate(count);
+    for _ in payload.len()..count {
+        payload.push(0);
+    }
+}
+
+/// Writes words over as many others.
+#[inline]
+fn copy_words(own: &mut [u32], words: &[u32])
+    requires { length own.old ≡ length words.now }
+    ensures { own.new ≡ words.now }
+{
+    for i in 0..words.len() {
+        own[i] = words[i];
+    }
 }
 
 /// Makes a payload that of an error response, where it stands: the status word alone (own).

@@ -1,25 +1,21 @@
-use Rattle.std.proofs.Common.{◌≡◌, ℕ, ◌+◌, ◌*◌, refl, ap, sym, ◌∙◌, length, take, get_or, ◌<◌, arith, List}
-use Rattle.std.proofs.lemmas.List.{take_more, length-take-le}
-use Rattle.scmi_codec.specs.Word.{put_words, put_word}
-use Rattle.scmi_codec.proofs.WordLemmas.{put_words-push}
+use Rattle.scmi_codec.proofs.ShortLemmas.{write-none, write-one, write-two, write-three}
 use Rattle.scmi_codec.proofs.area.write_payload.Goals as goal
 
--- one more word of the payload is written
-written_more : (words start before after : List ℕ) (i : ℕ) → i < length words → before ≡ put_words 0x1C (take i words) start
-    → after ≡ put_word (0x1C + 4 * i) (get_or words i 0) before → after ≡ put_words 0x1C (take (i + 1) words) start
-written_more words start before after i within so_far write =
-    let len : length (take i words) ≡ i = length-take-le i words (omega arith) in
-    write ∙ ap (put_word (0x1C + 4 * i) (get_or words i 0)) so_far
-    ∙ sym (ap (λ ws. put_words 0x1C ws start) (take_more words i 0 within)
-    ∙ put_words-push 0x1C (take i words) (get_or words i 0) start
-    ∙ ap (λ n. put_word (0x1C + 4 * n) (get_or words i 0) (put_words 0x1C (take i words) start)) len)
+pub returns-in-0-clause-written : goal.returns-in-0-clause-written
+returns-in-0-clause-written c =
+    write-none c.args.payload.now.items c.args.area.now (rw c.as_slice-words.ensures.value at c.in-0.is)
 
-pub loop-i-init : goal.loop-i-init
-unfolding put_words
-loop-i-init c = refl
+pub returns-in-1-clause-written : goal.returns-in-1-clause-written
+returns-in-1-clause-written c =
+    rw (c.write_word.ensures, c.as_slice-words.ensures.value)
+    (write-one c.args.payload.now.items c.args.area.now (rw c.as_slice-words.ensures.value at c.in-1.is))
 
-pub loop-i-preserved : goal.loop-i-preserved
-loop-i-preserved c =
-    let same = c.as_slice-word-items.ensures.value in
-    written_more c.args.payload.now.items c.args.area.now c.loop-i.area c.write_word.new.bytes c.loop-i.i
-    (rw same at c.loop-i-test.true) c.loop-i.invariant (rw same at c.write_word.ensures)
+pub returns-in-2-clause-written : goal.returns-in-2-clause-written
+returns-in-2-clause-written c =
+    rw (c.write_word-in-2-2.ensures, c.write_word-in-2.ensures, c.as_slice-words.ensures.value)
+    (write-two c.args.payload.now.items c.args.area.now (rw c.as_slice-words.ensures.value at c.in-2.is))
+
+pub returns-in-3-clause-written : goal.returns-in-3-clause-written
+returns-in-3-clause-written c =
+    rw (c.write_word-in-3-3.ensures, c.write_word-in-3-2.ensures, c.write_word-in-3.ensures, c.as_slice-words.ensures.value)
+    (write-three c.args.payload.now.items c.args.area.now (rw c.as_slice-words.ensures.value at c.in-3.is))
