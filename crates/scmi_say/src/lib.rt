@@ -1,9 +1,9 @@
 //! What an area of shared memory is, in words: messages, fields and statuses by their names (DEN0056B).
 //!
 //! The main type is `Told`, what an area is; `tell` makes it of the bytes, and `write_told` writes it.
-//! The main theorems are the contracts of `tell` (what is told is the codec's frame and command, and
-//! an answer that was written is told as that answer), of `write_told` (the text, to its last byte) and
-//! of `are_told_alike` (the text loses nothing of the frame and of the channel's state).
+//! The main theorems are the contracts of `tell` (what is told is the codec's frame and command,
+//! and an answer that was written is told as that answer), of `write_told` (the text, to its last
+//! byte) and of `are_told_alike` (the text loses nothing of the frame and of the channel's state).
 #![tactic(auto)]
 
 mod alike;
