@@ -28,15 +28,15 @@ pub struct Outboxes {
 }
 
 impl Model for Outboxes {
-    ghost use Rattle.std.specs.Prelude.{List, length, ◌≡◌};
+    ghost use Rattle.std.specs.Prelude.{List};
     ghost use Rattle.scmi_codec.specs.declared.message.Message.{Message};
-    ghost use Rattle.scmi_plan.specs.declared.limits.TheConstants.{AGENTS};
+    ghost use Rattle.scmi_core.specs.Outboxes.{AreOutboxes};
 
     ghost Value = { List (List Message) };
 
     ghost view = { λ o. o.each };
 
-    ghost invariant = { λ o. length o.each ≡ AGENTS };
+    ghost invariant = { λ o. AreOutboxes o.each };
 }
 
 impl Outboxes {
