@@ -11,7 +11,7 @@ use crate::desk::Desk;
 use crate::held::Held;
 use crate::refusal::Refusal;
 use scmi_codec::{
-    AREA_BYTES, Answer, is_free, read_area_into, write_answer, write_message, write_reply,
+    AREA_BYTES, Answer, is_free, read_area_into, write_answer, write_message, write_response,
 };
 use scmi_core::Answered;
 
@@ -34,7 +34,8 @@ pub fn answer(desk: &mut Desk, agent: u32, area: &mut [u8; AREA_BYTES]) -> Resul
         return Err(Refusal::Nothing);
     };
     let _ = match desk.held.command(agent, &desk.frame, &mut desk.reply)? {
-        Answered::Reply => write_reply(area, &desk.reply),
+        // The reply's header is the frame's, which stands in the area.
+        Answered::Reply => write_response(area, &desk.reply.payload),
         Answered::ChannelError => write_answer(area, &Answer::ChannelError),
     };
     Ok(())

@@ -46,3 +46,6 @@ header_of-header_word h w = λ j. record {
 
   ei : field 7 0 (header_word h) ≡ h.id
   ei = omega arith
+
+pub header_word-header_of : (word : ℕ) → word < 2 ^ 32 → header_word (header_of word) ≡ word
+header_word-header_of word small = omega arith

@@ -1,4 +1,4 @@
--- One, two and three words of a payload, read and written one by one.
+-- Payloads of a few words, read and written word by word.
 use Rattle.std.proofs.Common.{◌≡◌, ℕ, List, [], ◌∷◌, length, get_or, slice_set, refl, arith}
 use Rattle.scmi_codec.specs.Word.{word_at, words_at, put_word, put_words}
 
@@ -30,6 +30,17 @@ read-three (x ∷ []) area e = absurd (omega arith)
 read-three (x ∷ y ∷ []) area e = absurd (omega arith)
 read-three (x ∷ y ∷ z ∷ []) area e = refl
 read-three (x ∷ y ∷ z ∷ w ∷ words) area e = absurd (omega arith)
+
+pub read-four : (words area : List ℕ) → length words ≡ 4
+    → slice_set (slice_set (slice_set (slice_set words 0 (word_at 0x1C area)) 1 (word_at 0x20 area)) 2 (word_at 0x24 area)) 3 (word_at 0x28 area)
+    ≡ words_at 0x1C (length words) area
+unfolding words_at
+read-four [] area e = absurd (omega arith)
+read-four (x ∷ []) area e = absurd (omega arith)
+read-four (x ∷ y ∷ []) area e = absurd (omega arith)
+read-four (x ∷ y ∷ z ∷ []) area e = absurd (omega arith)
+read-four (x ∷ y ∷ z ∷ w ∷ []) area e = refl
+read-four (x ∷ y ∷ z ∷ w ∷ v ∷ words) area e = absurd (omega arith)
 
 pub write-none : (words area : List ℕ) → length words ≡ 0 → area ≡ put_words 0x1C words area
 unfolding put_words

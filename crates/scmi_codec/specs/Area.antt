@@ -35,6 +35,10 @@ frame_of area =
     })
     else Malformed (length_at area) (header_at area)
 
+-- the message of a header word and payload words
+abbrev pub message_of : ℕ → List ℕ → Message
+message_of word words = record { header = header_of word; payload = record { items = words } }
+
 -- what a callee finds: nothing while the channel is free
 abbrev pub arrived : List ℕ → Option Frame
 arrived area = if status_at area % 2 == 1 then None else Some (frame_of area)

@@ -3,7 +3,7 @@ ghost use Rattle.std.specs.Prelude.{◌≡◌, ◌+◌, ◌*◌, ◌^◌, ◌<�
 ghost use Rattle.std.specs.List.{AllByRecursion};
 ghost use Rattle.scmi_codec.specs.Header.{header_of};
 ghost use Rattle.scmi_codec.specs.Word.{words_at, put_words};
-ghost use Rattle.scmi_codec.specs.Area.{frame_of, arrived, answered, posted, written, is_well_formed, StandsFor, StandsForAnswer, IsKept, IsOutside};
+ghost use Rattle.scmi_codec.specs.Area.{frame_of, arrived, header_at, message_of, answered, posted, written, is_well_formed, StandsFor, StandsForAnswer, IsKept, IsOutside};
 ghost use Rattle.scmi_codec.specs.declared.frame.Frame.TheVariants.{Good, Malformed};
 ghost use Rattle.scmi_codec.specs.declared.frame.Answer.TheVariants.{Reply};
 ghost use Rattle.scmi_codec.specs.declared.area.TheConstants.{AREA_BYTES};
@@ -109,7 +109,7 @@ fn read_frame(area: &[u8], frame: &mut Frame)
         set_malformed(frame, length, header);
         return;
     }
-    let count = (length as usize - 4) / 4;
+    let count = ((length - 4) / 4) as usize;
     match frame {
         Frame::Good(message) => read_message(area, header, count, message),
         Frame::Malformed { .. } => read_anew(area, header, count, frame),
@@ -121,10 +121,7 @@ fn read_frame(area: &[u8], frame: &mut Frame)
 fn read_anew(area: &[u8], header: u32, count: usize, frame: &mut Frame)
     requires few { count ≤ PAYLOAD_WORDS }
     requires size { length area.now ≡ AREA_BYTES }
-    ensures { frame.new ≡ Good (record {
-      header = header_of header;
-      payload = record { items = words_at 0x1C count area.now };
-    }) }
+    ensures { frame.new ≡ Good (message_of header (words_at 0x1C count area.now)) }
 {
     let mut message = Message::default();
     read_message(area, header, count, &mut message);
@@ -140,6 +137,7 @@ fn set_malformed(frame: &mut Frame, length: u32, header: u32)
 }
 
 /// Reads a message of this header word and so many payload words of an area into `message`.
+#[inline(always)]
 fn read_message(area: &[u8], header: u32, count: usize, message: &mut Message)
     requires few { count ≤ PAYLOAD_WORDS }
     requires size { length area.now ≡ AREA_BYTES }
@@ -159,8 +157,8 @@ fn read_payload(area: &[u8], count: usize, payload: &mut Payload)
     read_words(area, payload.as_mut_slice());
 }
 
-/// Reads the first payload words of an area over as many others. Most commands have none to three,
-/// which take no loop.
+/// Reads the first payload words of an area over as many others. Commands have four at most, which
+/// take no loop.
 fn read_words(area: &[u8], words: &mut [u32])
     requires few { length words.old ≤ PAYLOAD_WORDS }
     requires size { length area.now ≡ AREA_BYTES }
@@ -177,6 +175,12 @@ fn read_words(area: &[u8], words: &mut [u32])
             words[0] = read_word(area, PAYLOAD_AT);
             words[1] = read_word(area, PAYLOAD_AT + 4);
             words[2] = read_word(area, PAYLOAD_AT + 8);
+        }
+        4 => {
+            words[0] = read_word(area, PAYLOAD_AT);
+            words[1] = read_word(area, PAYLOAD_AT + 4);
+            words[2] = read_word(area, PAYLOAD_AT + 8);
+            words[3] = read_word(area, PAYLOAD_AT + 12);
         }
         _ => read_many(area, words),
     }
@@ -235,6 +239,27 @@ pub fn write_reply(area: &mut [u8], message: &Message) -> Result<(), AreaError>
     Ok(())
 }
 
+/// Writes a response to the message that stands in an area, as `write_reply` writes one of that
+/// message's header: the header word stays as it is.
+pub fn write_response(area: &mut [u8], payload: &Payload) -> Result<(), AreaError>
+    ensures size { IsOk result ↔ (length area.old ≡ AREA_BYTES) }
+    ensures written { OnOk result (area.new
+        ≡ answered (Reply (message_of (header_at area.old) payload.now.items)) area.old) }
+    ensures stands { OnOk result (StandsForAnswer area.new (frame_of area.old)
+        (Reply (message_of (header_at area.old) payload.now.items))) }
+    ensures kept { OnOk result
+        ((i : ℕ) → IsKept (Reply (message_of (header_at area.old) payload.now.items)) i
+        → slice_index area.new i ≡ slice_index area.old i) }
+    ensures err { OnErr result (area.new ≡ area.old) }
+    ensures wrong_size { IfErr result (λ e. e ≡ AreaError.WrongSize) }
+{
+    check_size(area)?;
+    // A word written back as it was read takes no access.
+    let header = read_word(area, HEADER_AT);
+    write_parts(area, header, payload, ChannelStatus::FREE.bits());
+    Ok(())
+}
+
 /// Writes a message as a caller posts it: its length, header and payload words, and last the status
 /// word 0, so that the channel is no longer free; every other byte stays (own). `WrongSize` where there
 /// are not `AREA_BYTES` bytes, and then nothing is written.
@@ -260,21 +285,31 @@ fn write_with_status(area: &mut [u8], message: &Message, status: u32)
     ensures kept { (i : ℕ) → IsOutside message.now i →
         slice_index area.new i ≡ slice_index area.old i }
 {
-    let payload = &message.payload;
-    write_word(area, LENGTH_AT, 4 + 4 * payload.len() as u32);
-    write_word(area, HEADER_AT, message.header.pack());
-    write_payload(area, payload);
+    write_parts(area, message.header.pack(), &message.payload, status);
+}
+
+/// Writes a message of this header word, and then the status word.
+fn write_parts(area: &mut [u8], header: u32, payload: &Payload, status: u32)
+    requires { length area.old ≡ AREA_BYTES }
+    ensures written { area.new ≡ written status (message_of header payload.now.items) area.old }
+    ensures stands { StandsFor area.new status (Good (message_of header payload.now.items)) }
+    ensures kept { (i : ℕ) → IsOutside (message_of header payload.now.items) i →
+        slice_index area.new i ≡ slice_index area.old i }
+{
+    let words = payload.as_slice();
+    write_word(area, LENGTH_AT, 4 + 4 * words.len() as u32);
+    write_word(area, HEADER_AT, header);
+    write_payload(area, words);
     write_word(area, STATUS_AT, status);
 }
 
 /// Writes the payload words. Most replies have one to three, which take no loop.
-fn write_payload(area: &mut [u8], payload: &Payload)
+fn write_payload(area: &mut [u8], words: &[u32])
     requires size { length area.old ≡ AREA_BYTES }
-    requires few { length payload.now.items ≤ PAYLOAD_WORDS }
-    ensures written { area.new ≡ put_words 0x1C payload.now.items area.old }
-    ensures words { AllByRecursion (λ w. w < 2 ^ 32) payload.now.items }
+    requires few { length words.now ≤ PAYLOAD_WORDS }
+    ensures written { area.new ≡ put_words 0x1C words.now area.old }
+    ensures words { AllByRecursion (λ w. w < 2 ^ 32) words.now }
 {
-    let words = payload.as_slice();
     match words.len() {
         0 => {}
         1 => write_word(area, PAYLOAD_AT, words[0]),

@@ -25,7 +25,7 @@ mod word;
 
 pub use area::{
     AREA_BYTES, AreaError, is_free, is_well_formed, read_area, read_area_into, write_answer,
-    write_message, write_reply,
+    write_message, write_reply, write_response,
 };
 pub use base_command::{BASE_PROTOCOL, BaseCommand};
 pub use channel_status::ChannelStatus;
