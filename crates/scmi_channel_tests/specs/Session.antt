@@ -1,17 +1,14 @@
 -- What a session of the tests holds.
-use Rattle.std.specs.Prelude.{◌≡◌, ℕ, List, map}
+use Rattle.std.specs.Prelude.{◌≡◌, ℕ, List}
+use Rattle.scmi_ends.specs.declared.link.Link.{Link}
 use Rattle.scmi_ends.specs.AgentView.{AgentView}
-use Rattle.scmi_ends.specs.ControllerView.{ControllerView, IsOfLinks}
+use Rattle.scmi_ends.specs.ControllerView.{ControllerView}
+use Rattle.scmi_ends.specs.Links.{HasLinks, AreEndsOf}
 
--- the agents' ends are those of the channels with these names, in order
-pub record AreOfLinks (a2p_names p2a_names : List (List ℕ)) (agents : List AgentView) : Type 0 where
-  pub a2p : map (λ agent. agent.a2p_name) agents ≡ a2p_names
-  pub p2a : map (λ agent. agent.p2a_name) agents ≡ p2a_names
-
--- the platform's ends and the agents' are those of the same channels
-pub record BelongTogether (a2p_names p2a_names : List (List ℕ)) (platform : ControllerView) (agents : List AgentView) : Type 0 where
-  pub platform_ends : IsOfLinks a2p_names p2a_names platform
-  pub agents_ends : AreOfLinks a2p_names p2a_names agents
+-- the platform's ends and the agents' are those of the links, in order
+pub record BelongTogether {C Caller Callee Rest : Type 0} (name : C → List ℕ) (links : List (Link C Caller Callee Rest)) (platform : ControllerView) (agents : List AgentView) : Type 0 where
+  pub platform_ends : HasLinks name links platform
+  pub agents_ends : AreEndsOf name links agents
 
 -- an agent's end is still of the same channels
 pub record HasSameNames (before after : AgentView) : Type 0 where

@@ -15,8 +15,8 @@ const DOMAINS: [(&str, bool, [bool; 3]); 3] = [
 /// The devices of the reference board: `cpu` and `core`, and `gpu`.
 const DEVICES: [(u32, u32); 2] = [(0b001, 0b001), (0b010, 0)];
 
-/// Agents `ap`, which is trusted, and `modem`; domains `cpu`, `gpu` and `usb`; clocks `core` and `bus`;
-/// a device of `cpu` and `core`, and one of `gpu`.
+/// Agents `ap`, which is trusted, and `modem`; domains `cpu`, `gpu` and `usb`; clocks `core` and
+/// `bus`; a device of `cpu` and `core`, and one of `gpu`.
 pub fn reference_board(alloc: Global) -> Result<RawPlan, Fail> {
     let mut raw = empty(alloc)?;
     for name in ["ap", "modem"] {

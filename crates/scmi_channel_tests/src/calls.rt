@@ -107,18 +107,18 @@ fn close_caller<C: Channel>(pair: &mut Pair<C>) -> Said {
     match pair.close_caller() {
         Ok(Closing::Idle) => Said::Idle,
         Ok(Closing::Withdrawn) => Said::Withdrawn,
-        Err(error) => refused(error),
+        Err(error) => said_of(error),
     }
 }
 
 fn close_callee<C: Channel>(pair: &mut Pair<C>) -> Said {
     match pair.close_callee() {
         Ok(()) => Said::Ok,
-        Err(error) => refused(error),
+        Err(error) => said_of(error),
     }
 }
 
-fn refused(error: CloseError) -> Said {
+fn said_of(error: CloseError) -> Said {
     match error {
         CloseError::InService => Said::InService,
         CloseError::ReplyWaiting => Said::ReplyWaiting,

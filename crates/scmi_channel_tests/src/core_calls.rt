@@ -1,5 +1,5 @@
-//! Calls of the controller without channels that no script can make: refused ones, and ones that find
-//! nothing.
+//! Calls of the controller without channels that no script can make: refused ones, and ones that
+//! find nothing.
 
 use crate::boards::reference_plan;
 use crate::messages::message;
@@ -42,7 +42,8 @@ fn other_numbers_are_no_agents(rt: HostRuntime) -> Result<(), Fail> {
     Ok(())
 }
 
-/// Whether a malformed frame is answered by the error bit, and a set for later completes and is told.
+/// Whether a malformed frame is answered by the error bit, and a set for later completes and is
+/// told.
 fn four_calls(core: &mut Core, malformed: &Frame, set: &Frame) -> bool {
     core.command(2, malformed) == Ok(Answer::ChannelError)
         && core.command(1, set).is_ok()

@@ -97,9 +97,9 @@ fn command_frame() -> Frame {
 /// Frames and answers of all kinds, so that each kind comes after each other.
 fn variants() -> [(Frame, Answer); 7] {
     [
-        (malformed(5), Answer::ChannelError),
+        (malformed_frame(5), Answer::ChannelError),
         (full_frame(), short_answer()),
-        (malformed(3), Answer::Released),
+        (malformed_frame(3), Answer::Released),
         (short_frame(), Answer::ChannelError),
         (command_frame(), Answer::Released),
         (full_frame(), Answer::Reply(command())),
@@ -146,7 +146,7 @@ fn a_buffer_stays_where_nothing_is_there(rt: HostRuntime) -> Result<(), Fail> {
     Ok(())
 }
 
-fn malformed(length: u32) -> Frame {
+fn malformed_frame(length: u32) -> Frame {
     Frame::Malformed {
         length,
         header: HEADER,
@@ -155,8 +155,8 @@ fn malformed(length: u32) -> Frame {
 
 /// Whether a malformed frame goes through as it is, one at a time, and a well-formed one does not.
 fn carries_malformed<C: Channel>(pair: &mut Pair<C>) -> bool {
-    let well_formed = malformed(4 + 4 * PAYLOAD_WORDS as u32);
-    let frame = malformed(5);
+    let well_formed = malformed_frame(4 + 4 * PAYLOAD_WORDS as u32);
+    let frame = malformed_frame(5);
     pair.post(&well_formed) == Err(PostError::WellFormed)
         && pair.post(&frame) == Ok(())
         && pair.post(&frame) == Err(PostError::Outstanding)

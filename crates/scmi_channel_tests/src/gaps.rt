@@ -200,8 +200,8 @@ const WORDS: [Row<'static>; 5] = [
     ),
 ];
 
-/// Over rings a frame cannot be taken back: until its answer is collected, or the callee's closing note
-/// is, it is in service.
+/// Over rings a frame cannot be taken back: until its answer is collected, or the callee's closing
+/// note is, it is in service.
 const RINGS: [&[Step]; 5] = [
     // The caller closes after `post`, `take` and `answer`.
     &[

@@ -1,5 +1,5 @@
-//! Tests of channels of both kinds, of the platform and its agents over them, and of what no session
-//! shows of the program's text, by their public items alone.
+//! Tests of channels of both kinds, of the platform and its agents over them, and of what no
+//! session shows of the program's text, by their public items alone.
 #![tactic(auto)]
 
 #[cfg(test)]

@@ -1,5 +1,5 @@
-//! Lines of output that no session shows, since no script of the program gives them, and a write that
-//! fails.
+//! Lines of output that no session shows, since no script of the program gives them, and a write
+//! that fails.
 
 use crate::messages::message;
 use scmi_codec::{Answer, Frame, Message};
@@ -21,21 +21,21 @@ const MALFORMED: Frame = Frame::Malformed {
     header: 7,
 };
 
-fn shut(error: ShutError) -> StepLine {
+fn shut_line(error: ShutError) -> StepLine {
     StepLine::Shut {
         agent: 1,
         result: Err(error),
     }
 }
 
-fn collected(answer: Answer) -> StepLine {
+fn collected_line(answer: Answer) -> StepLine {
     StepLine::Collected {
         agent: 2,
         collected: Collected::Got(answer),
     }
 }
 
-fn p2a(frame: Frame) -> StepLine {
+fn p2a_line(frame: Frame) -> StepLine {
     StepLine::P2a {
         agent: 8,
         frame: Some(frame),
@@ -72,12 +72,15 @@ fn a_line_that_no_step_gives_has_its_text(rt: HostRuntime) {
             },
             "serve 10 done\n",
         ),
-        (shut(ShutError::ReplyWaiting), "shut 1 reply-waiting\n"),
-        (shut(ShutError::NoAgent), "shut 1 no-agent\n"),
-        (collected(Answer::Reply(no_words())), "2 reply 0x00000000\n"),
-        (collected(Answer::Released), "2 released\n"),
-        (p2a(Frame::Good(no_words())), "8 p2a 0x00000000\n"),
-        (p2a(MALFORMED), "8 p2a error\n"),
+        (shut_line(ShutError::ReplyWaiting), "shut 1 reply-waiting\n"),
+        (shut_line(ShutError::NoAgent), "shut 1 no-agent\n"),
+        (
+            collected_line(Answer::Reply(no_words())),
+            "2 reply 0x00000000\n",
+        ),
+        (collected_line(Answer::Released), "2 released\n"),
+        (p2a_line(Frame::Good(no_words())), "8 p2a 0x00000000\n"),
+        (p2a_line(MALFORMED), "8 p2a error\n"),
     ];
     for (line, text) in rows {
         assert!(rt; is_step_text(rt.alloc(), &line, text), "{text}");
@@ -140,7 +143,7 @@ impl Write for Room {
 #[test]
 fn a_write_that_fails_is_an_error(rt: HostRuntime) {
     let reply = message(0xffc_4000, &[0, 0x20000, u32::MAX, 0xabcd_ef01]);
-    let line = collected(Answer::Reply(reply));
+    let line = collected_line(Answer::Reply(reply));
     let length = b"2 reply 0x0ffc4000 0x00000000 0x00020000 0xffffffff 0xabcdef01\n".len();
     for bytes in 0..length + 1 {
         let written = write_step_line(&mut Room { bytes }, &line).is_ok();

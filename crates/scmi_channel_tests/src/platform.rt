@@ -11,7 +11,8 @@ use std::test::Fail;
 /// A call of both, and what both answer.
 #[derive(Clone, Copy, PartialEq, Debug)]
 enum Line<'a> {
-    /// An agent's message: agent, header, payload words; words of the reply, whose header is the same.
+    /// An agent's message: agent, header, payload words; words of the reply, whose header is the
+    /// same.
     Do(u32, u32, &'a [u32], &'a [u32]),
     /// An agent's malformed frame.
     Malformed(u32),

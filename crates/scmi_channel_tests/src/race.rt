@@ -1,8 +1,8 @@
 //! One thread posts and closes at once while another serves.
-ghost use Rattle.std.specs.Prelude.{◌≡◌, map};
+ghost use Rattle.std.specs.Prelude.{◌≡◌};
 ghost use Rattle.scmi_ends.specs.AgentView.{IsOfLink};
-ghost use Rattle.scmi_ends.specs.ControllerView.{IsOfLinks};
-ghost use Rattle.scmi_channel_tests.specs.Session.{AreOfLinks, HasSameNames};
+ghost use Rattle.scmi_ends.specs.Links.{HasLinks, AreEndsOf};
+ghost use Rattle.scmi_channel_tests.specs.Session.{HasSameNames};
 
 use crate::boards::plan_of_one;
 use crate::messages::{command, response};
@@ -58,14 +58,10 @@ fn run_beside<C: Channel, R: Threads + Wait + Sync>(
     controller: Controller<C>,
     agents: Vec<AgentEnd<C>>,
 ) -> (Controller<C>, (Vec<AgentEnd<C>>, Ended))
-    requires links { IsOfLinks (map (λ link. C.name link.a2p) links.now)
-        (map (λ link. C.name link.p2a) links.now) controller }
-    requires agents { AreOfLinks (map (λ link. C.name link.a2p) links.now)
-        (map (λ link. C.name link.p2a) links.now) agents.items }
-    ensures links { IsOfLinks (map (λ link. C.name link.a2p) links.now)
-        (map (λ link. C.name link.p2a) links.now) result.0 }
-    ensures agents { AreOfLinks (map (λ link. C.name link.a2p) links.now)
-        (map (λ link. C.name link.p2a) links.now) result.1.0.items }
+    requires links { HasLinks C.name links.now controller }
+    requires agents { AreEndsOf C.name links.now agents.items }
+    ensures links { HasLinks C.name links.now result.0 }
+    ensures agents { AreEndsOf C.name links.now result.1.0.items }
 {
     let flags = Flags {
         serving: AtomicBool::new(false),
@@ -74,16 +70,12 @@ fn run_beside<C: Channel, R: Threads + Wait + Sync>(
     join(
         rt,
         || -> Controller<C>
-            requires { IsOfLinks (map (λ link. C.name link.a2p) links.now)
-                (map (λ link. C.name link.p2a) links.now) controller }
-            ensures { IsOfLinks (map (λ link. C.name link.a2p) links.entry.now)
-                (map (λ link. C.name link.p2a) links.entry.now) result }
+            requires { HasLinks C.name links.now controller }
+            ensures { HasLinks C.name links.entry.now result }
         { serve_until_done(links, &flags, controller) },
         || -> (Vec<AgentEnd<C>>, Ended)
-            requires { AreOfLinks (map (λ link. C.name link.a2p) links.now)
-                (map (λ link. C.name link.p2a) links.now) agents.items }
-            ensures { AreOfLinks (map (λ link. C.name link.a2p) links.entry.now)
-                (map (λ link. C.name link.p2a) links.entry.now) result.0.items }
+            requires { AreEndsOf C.name links.now agents.items }
+            ensures { AreEndsOf C.name links.entry.now result.0.items }
         { have_round(rt, links, &flags, agents) },
     )
 }
@@ -94,10 +86,8 @@ fn serve_until_done<C: Channel>(
     flags: &Flags,
     mut controller: Controller<C>,
 ) -> Controller<C>
-    requires { IsOfLinks (map (λ link. C.name link.a2p) links.now)
-        (map (λ link. C.name link.p2a) links.now) controller }
-    ensures { IsOfLinks (map (λ link. C.name link.a2p) links.now)
-        (map (λ link. C.name link.p2a) links.now) result }
+    requires { HasLinks C.name links.now controller }
+    ensures { HasLinks C.name links.now result }
 {
     flags.serving.store(true, Ordering::SeqCst);
     'turns: for _ in 0..TURNS {
@@ -118,10 +108,8 @@ fn have_round<C: Channel, R: Wait>(
     flags: &Flags,
     mut agents: Vec<AgentEnd<C>>,
 ) -> (Vec<AgentEnd<C>>, Ended)
-    requires { AreOfLinks (map (λ link. C.name link.a2p) links.now)
-        (map (λ link. C.name link.p2a) links.now) agents.items }
-    ensures { AreOfLinks (map (λ link. C.name link.a2p) links.now)
-        (map (λ link. C.name link.p2a) links.now) result.0.items }
+    requires { AreEndsOf C.name links.now agents.items }
+    ensures { AreEndsOf C.name links.now result.0.items }
 {
     if agents.is_empty() {
         return (agents, Ended::Otherwise);

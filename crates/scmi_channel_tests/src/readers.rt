@@ -1,5 +1,5 @@
-//! What the readers of texts give and no session shows: a line to its last byte, lines that have ended,
-//! and the last word of the longest payload.
+//! What the readers of texts give and no session shows: a line to its last byte, lines that have
+//! ended, and the last word of the longest payload.
 
 use scmi_board::{Items, Lines, TextLine};
 use scmi_codec::PAYLOAD_WORDS;

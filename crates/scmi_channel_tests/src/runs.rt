@@ -29,7 +29,7 @@ fn run_scripts<C: Channel, G: Gate, R: Threads + Wait + Sync>(
 }
 
 /// The lines of two agents as text.
-fn written(alloc: Global, logs: &[AgentLog]) -> Result<Vec<u8>, Fail> {
+fn text_of(alloc: Global, logs: &[AgentLog]) -> Result<Vec<u8>, Fail> {
     let mut output = Vec::new(alloc);
     for (agent, log) in [1, 2].iter().zip(logs) {
         write_script_lines(&mut output, *agent, &log.lines)?;
@@ -46,8 +46,8 @@ fn count(logs: &[AgentLog], index: usize) -> Option<Count> {
     Some((numbers, log.closing, log.stopped))
 }
 
-/// Scripts, the lines that they give, and, where no agent asks for a state again and again, what agent
-/// 1 did and the number of events.
+/// Scripts, the lines that they give, and, where no agent asks for a state again and again, what
+/// agent 1 did and the number of events.
 #[derive(Clone, Copy)]
 struct Row<'a> {
     scripts: &'a [u8],
@@ -57,7 +57,7 @@ struct Row<'a> {
 
 /// Whether an outcome is the row's.
 fn is_outcome(alloc: Global, outcome: &Outcome, row: &Row<'_>) -> Result<bool, Fail> {
-    let lines = written(alloc, &outcome.logs)?;
+    let lines = text_of(alloc, &outcome.logs)?;
     Ok(lines.as_slice() == row.lines && has_left(outcome, row.left) && !outcome.memory)
 }
 

@@ -4,13 +4,10 @@ pub run_beside-controller-requires-clause-links : goal.run_beside-controller-req
 run_beside-controller-requires-clause-links g c κs within = rw c.deref.ensures.value c.in-Ok.ensures.links
 
 pub run_beside-controller-requires-clause-agents : goal.run_beside-controller-requires-clause-agents
-run_beside-controller-requires-clause-agents g c κs within = rw c.deref.ensures.value (record { a2p = c.in-Ok.ensures.ends.0; p2a = c.in-Ok.ensures.ends.1 })
+run_beside-controller-requires-clause-agents g c κs within = rw c.deref.ensures.value c.in-Ok.ensures.ends
 
 pub retire-requires-clause-links : goal.retire-requires-clause-links
 retire-requires-clause-links g c κs within = rw (← c.deref.ensures.value) c.run_beside-controller.ensures.links
 
-pub retire-requires-clause-a2p : goal.retire-requires-clause-a2p
-retire-requires-clause-a2p g c κs within = rw (← c.deref.ensures.value) c.run_beside-controller.ensures.agents.a2p
-
-pub retire-requires-clause-p2a : goal.retire-requires-clause-p2a
-retire-requires-clause-p2a g c κs within = rw (← c.deref.ensures.value) c.run_beside-controller.ensures.agents.p2a
+pub retire-requires-clause-ends : goal.retire-requires-clause-ends
+retire-requires-clause-ends g c κs within = rw (← c.deref.ensures.value) c.run_beside-controller.ensures.agents
