@@ -4,10 +4,11 @@ use Rattle.std.proofs.lemmas.List.{append-nil, take_more, take_all}
 use Rattle.std.specs.Prelude.{map}
 use Rattle.scmi_text.specs.declared.step.Step.{Step}
 use Rattle.scmi_text.specs.declared.step_line.StepLine.{StepLine}
-use Rattle.scmi_session.specs.StepLines.{IsLineOf}
+use Rattle.scmi_session.proofs.Lines.{follow_more}
+use Rattle.scmi_session.specs.StepLines.{AreLinesOf, IsLineOf}
 use Rattle.scmi_chart.specs.declared.chart.Chart.{Chart}
 use Rattle.scmi_record.specs.Signs.{Sign, sign_of, signs_of, run_signs}
-use Rattle.scmi_draw.specs.Run.{AreLinesOf, ShowsRun}
+use Rattle.scmi_draw.specs.Run.{ShowsRun}
 
 -- these are the signs of lines of these steps
 pub record SoFar (steps : List Step) (signs : List Sign) : Type 0 where
@@ -23,12 +24,6 @@ signs_more [] [] s line all = append-nil (signs_of s line)
 signs_more [] (x ∷ lines) s line all = absurd all
 signs_more (t ∷ steps) [] s line all = absurd all
 signs_more (t ∷ steps) (x ∷ lines) s line all = ap (λ ys. signs_of t x ++ ys) (signs_more steps lines s line all.1) ∙ sym (append_assoc (signs_of t x) (run_signs steps lines) (signs_of s line))
-
-follow_more : (steps : List Step) (lines : List StepLine) (s : Step) (line : StepLine) → AreLinesOf steps lines → IsLineOf s line → AreLinesOf (steps ++ s ∷ []) (lines ++ line ∷ [])
-follow_more [] [] s line all one = (one, tt)
-follow_more [] (x ∷ lines) s line all one = absurd all
-follow_more (t ∷ steps) [] s line all one = absurd all
-follow_more (t ∷ steps) (x ∷ lines) s line all one = (all.0, follow_more steps lines s line all.1 one)
 
 pub step_more : (steps : List Step) (i : ℕ) (s : Step) (before after : List Sign) (line : StepLine) → i < length steps → s ≡ get_or steps i s → SoFar (take i steps) before → IsLineOf s line → after ≡ before ++ signs_of s line → SoFar (take (i + 1) steps) after
 step_more steps i s before after line below is so_far one more =

@@ -3,16 +3,10 @@ use Rattle.std.specs.Prelude.{◌≡◌, ◌≤◌, ℕ, List, [], ◌∷◌, Op
 use Rattle.std.specs.Io.KnownBytes.{Appends}
 use Rattle.scmi_text.specs.declared.step.Step.{Step}
 use Rattle.scmi_text.specs.declared.step_line.StepLine.{StepLine}
-use Rattle.scmi_session.specs.StepLines.{IsLineOf}
+use Rattle.scmi_session.specs.StepLines.{AreLinesOf}
 use Rattle.scmi_chart.specs.Chart.{svg_text}
 use Rattle.scmi_chart.specs.declared.chart.Chart.{Chart}
 use Rattle.scmi_record.specs.Signs.{sign_of, run_signs}
-
--- one line for each step, in order
-abbrev pub AreLinesOf : List Step → List StepLine → Type 0
-AreLinesOf [] [] = Unit {0}
-AreLinesOf (s ∷ steps) (line ∷ lines) = IsLineOf s line × AreLinesOf steps lines
-AreLinesOf _ _ = ⊥
 
 -- the chart's marks are those of a run of these steps: of each line what it says, in order, and nothing else
 pub record ShowsRun (steps : List Step) (chart : Chart) : Type 0 where

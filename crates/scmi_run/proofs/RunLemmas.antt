@@ -13,8 +13,9 @@ use Rattle.scmi_text.specs.declared.step.Step.{Step}
 use Rattle.scmi_text.specs.declared.step_line.StepLine.{StepLine}
 use Rattle.scmi_text.specs.declared.step_line.StepLine.TheVariants.{Trace}
 use Rattle.scmi_run.specs.Runs.{logs_text}
-use Rattle.scmi_session.specs.StepLines.{IsLineOf}
-use Rattle.scmi_run.specs.Steps.{AreLinesOf, AreStepLines, IsTextOfSteps}
+use Rattle.scmi_session.proofs.Lines.{follow_more}
+use Rattle.scmi_session.specs.StepLines.{AreLinesOf, IsLineOf}
+use Rattle.scmi_run.specs.Steps.{AreStepLines, IsTextOfSteps}
 
 pub nothing_written : (old : Option (List ℕ)) → Appends old old []
 nothing_written None = tt
@@ -67,12 +68,6 @@ no_step a = record { lines = []; follow = tt; text = nothing_written a }
 lines_more : (lines : List StepLine) (line : StepLine) → flat_map step_text (lines ++ line ∷ []) ≡ flat_map step_text lines ++ step_text line
 lines_more [] line = append-nil (step_text line)
 lines_more (x ∷ lines) line = ap (λ ys. step_text x ++ ys) (lines_more lines line) ∙ sym (append_assoc (step_text x) (flat_map step_text lines) (step_text line))
-
-follow_more : (steps : List Step) (lines : List StepLine) (s : Step) (line : StepLine) → AreLinesOf steps lines → IsLineOf s line → AreLinesOf (steps ++ s ∷ []) (lines ++ line ∷ [])
-follow_more [] [] s line all one = (one, tt)
-follow_more [] (x ∷ lines) s line all one = absurd all
-follow_more (t ∷ steps) [] s line all one = absurd all
-follow_more (t ∷ steps) (x ∷ lines) s line all one = (all.0, follow_more steps lines s line all.1 one)
 
 pub step_more : (steps : List Step) (i : ℕ) (s : Step) (a b c : Option (List ℕ)) (line : StepLine) → i < length steps → s ≡ get_or steps i s → SoFar (take i steps) a b → IsLineOf s line → Appends b c (step_text line) → SoFar (take (i + 1) steps) a c
 step_more steps i s a b c line below is so_far one more =

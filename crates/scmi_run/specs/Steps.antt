@@ -5,13 +5,7 @@ use Rattle.scmi_text.specs.StepLine.{step_text}
 use Rattle.scmi_text.specs.declared.step.Step.{Step}
 use Rattle.scmi_text.specs.declared.step_line.StepLine.{StepLine}
 use Rattle.scmi_text.specs.declared.step_line.StepLine.TheVariants.{Trace}
-use Rattle.scmi_session.specs.StepLines.{IsLineOf}
-
--- one line for each step, in order
-abbrev pub AreLinesOf : List Step → List StepLine → Type 0
-AreLinesOf [] [] = Unit {0}
-AreLinesOf (s ∷ steps) (line ∷ lines) = IsLineOf s line × AreLinesOf steps lines
-AreLinesOf _ _ = ⊥
+use Rattle.scmi_session.specs.StepLines.{AreLinesOf}
 
 -- what is written is the lines of the first of these steps, as far as they came
 pub record AreStepLines (steps : List Step) (old new : Option (List ℕ)) : Type 0 where

@@ -1,5 +1,5 @@
 -- Which lines a step gives.
-use Rattle.std.specs.Prelude.{◌≡◌, ℕ}
+use Rattle.std.specs.Prelude.{◌≡◌, ℕ, List, [], ◌∷◌}
 use Rattle.scmi_text.specs.declared.step.AgentStep.{AgentStep}
 use Rattle.scmi_text.specs.declared.step.AgentStep.TheVariants.{Call, Raw, Malformed, Collect, P2a, Close}
 use Rattle.scmi_text.specs.declared.step.PlatformStep.{PlatformStep}
@@ -37,3 +37,9 @@ IsLineOf (Do a call) (line.NotPosted b refusal) = b ≡ a
 IsLineOf (Do a call) (line.Collected b collected) = b ≡ a
 IsLineOf Advance (line.Advanced more) = Unit {0}
 IsLineOf _ _ = ⊥
+
+-- one line for each step, in order
+abbrev pub AreLinesOf : List Step → List StepLine → Type 0
+AreLinesOf [] [] = Unit {0}
+AreLinesOf (s ∷ steps) (line ∷ lines) = IsLineOf s line × AreLinesOf steps lines
+AreLinesOf _ _ = ⊥

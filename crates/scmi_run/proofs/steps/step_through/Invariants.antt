@@ -1,5 +1,4 @@
 use Rattle.std.proofs.Common.{◌≡◌, length, take}
-use Rattle.scmi_run.specs.Steps.{AreLinesOf}
 use Rattle.scmi_run.proofs.RunLemmas.{SoFar}
 use Rattle.scmi_run.proofs.steps.step_through.Given as goal
 
