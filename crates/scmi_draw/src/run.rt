@@ -13,7 +13,7 @@ use scmi_link::{Channel, RingChannel};
 use scmi_plan::{Plan, PlanError, RawPlan};
 use scmi_record::Recorder;
 use scmi_session::Session;
-use scmi_text::{Step, read_steps};
+use scmi_text::{Step, StepList, read_steps};
 use scmi_words::WordChannel;
 use std::alloc::{AllocError, Global};
 
@@ -63,7 +63,7 @@ fn step_through<C: Channel>(
     kind: Kind,
     plan: Plan,
     board: &RawPlan,
-    steps: &[Step],
+    steps: &StepList,
     lines: &mut Lines<'_>,
 ) -> Result<Chart, DrawError>
     requires { All (IsStepOf (length plan.agents)) steps.now }
@@ -71,9 +71,11 @@ fn step_through<C: Channel>(
 {
     let mut session = Session::<C>::open(alloc, plan)?;
     let mut recorder = Recorder::new(alloc, board, session.core())?;
-    for step in steps {
-        let came = session.step(step)?;
-        recorder.record(next_text(lines), step, &came, session.core())?;
+    let mut step = Step::Advance;
+    'steps: for i in 0..steps.len() {
+        steps.read_into(i, &mut step);
+        let came = session.step(&step)?;
+        recorder.record(next_text(lines), &step, &came, session.core())?;
     }
     let events = session.retire().len();
     let title = format!(in alloc; "{} {}", board.vendor, board.sub_vendor)?;

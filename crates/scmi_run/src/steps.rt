@@ -17,7 +17,7 @@ use scmi_input::{CountedRead, read_rest};
 use scmi_link::{Channel, RingChannel};
 use scmi_plan::Plan;
 use scmi_session::Session;
-use scmi_text::{Step, StepLine, read_steps, write_step_line};
+use scmi_text::{Step, StepLine, StepList, read_steps, write_step_line};
 use scmi_words::WordChannel;
 use std::alloc::Global;
 use std::io::Write;
@@ -55,7 +55,7 @@ pub fn run_steps<R: CountedRead, W: Write>(
 fn step_through<C: Channel, W: Write>(
     alloc: Global,
     plan: Plan,
-    steps: &[Step],
+    steps: &StepList,
     writer: &mut W,
 ) -> Result<(), RunError>
     requires { All (IsStepOf (length plan.agents)) steps.now }
@@ -66,8 +66,10 @@ fn step_through<C: Channel, W: Write>(
     ensures errors { IfErr result (λ e. (e ≡ RunError.Memory) ⊎ (e ≡ RunError.Write)) }
 {
     let mut session = Session::<C>::open(alloc, plan)?;
-    for step in steps {
-        write_line(writer, &session.step(step)?)?;
+    let mut step = Step::Advance;
+    'steps: for i in 0..steps.len() {
+        steps.read_into(i, &mut step);
+        write_line(writer, &session.step(&step)?)?;
     }
     let events = session.retire().len();
     write_line(writer, &StepLine::Trace { events })

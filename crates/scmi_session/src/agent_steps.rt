@@ -82,7 +82,8 @@ fn post_malformed<C: Channel>(
     }
 }
 
-fn collect<C: Channel>(agent: u32, end: &mut AgentEnd<C>, link: &Link<C>) -> StepLine
+/// The agent collects.
+pub fn collect<C: Channel>(agent: u32, end: &mut AgentEnd<C>, link: &Link<C>) -> StepLine
     requires { IsOfLink (C.name link.now.a2p) (C.name link.now.p2a) end.old }
     ensures names { HasSameNames end.old end.new }
     ensures line { IsAgentLine agent step.Collect result }

@@ -154,7 +154,16 @@ impl<C: Channel> Session<C> {
             refused => return Ok(refused),
         }
         self.serve(agent)?;
-        Ok(self.of_agent(agent, &AgentStep::Collect))
+        Ok(self.collect(agent))
+    }
+
+    fn collect(&mut self, agent: u32) -> StepLine
+        requires { IsAgent self.old agent }
+        ensures agents { self.new ≡ self.old }
+        ensures line { IsAgentLine agent AgentStep.Collect result }
+    {
+        let index = agent as usize - 1;
+        agent_steps::collect(agent, &mut self.agents[index], &self.links[index])
     }
 
     fn call(&mut self, agent: u32, call: &Call) -> StepLine

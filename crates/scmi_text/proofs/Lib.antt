@@ -1,2 +1,3 @@
 pub mod EightDigits
+pub mod Packing
 pub mod ScriptAgents

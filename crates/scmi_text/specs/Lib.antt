@@ -1,4 +1,5 @@
 pub mod Names
+pub mod PackedStep
 pub mod ScriptLine
 pub mod Scripts
 pub mod Step

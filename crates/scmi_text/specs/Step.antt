@@ -1,5 +1,5 @@
 -- The agents that scripts name.
-use Rattle.std.specs.Prelude.{ℕ, Option, Some, None, IfSome}
+use Rattle.std.specs.Prelude.{◌≡◌, ℕ, List, [], ◌∷◌, ◌++◌, Option, Some, None, IfSome}
 use Rattle.scmi_plan.specs.Agent.{IsAgent}
 use Rattle.scmi_text.specs.declared.step.Step.{Step}
 use Rattle.scmi_text.specs.declared.step.Step.TheVariants.{Agent, Platform, Do, Advance}
@@ -14,3 +14,9 @@ step_agent Advance = None
 -- the agent that a step names is one of the board's
 abbrev pub IsStepOf : ℕ → Step → Type 0
 IsStepOf agents step = IfSome (step_agent step) (IsAgent agents)
+
+-- one step more, whose agent is one of the board's
+pub record AddsStepOf (agents : ℕ) (old new : List Step) : Type 0 where
+  pub step : Step
+  pub of_agent : IsStepOf agents step
+  pub added : new ≡ old ++ step ∷ []

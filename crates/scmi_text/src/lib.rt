@@ -1,17 +1,19 @@
 //! The program's text: scripts as they are read, and the lines of a run as they are written.
 //!
-//! The main types are `Step`, a line of a script, and `StepLine`, a line of a run's output. The main
-//! theorem is the contract of `write_step_line` (and of `write_script_line`): what is written is the
-//! text of the line, to the last byte. Each agent that `read_steps` and `read_scripts` give is an agent
-//! of the board. The rest of reading is tested.
+//! The main types are `StepList`, the steps of a script, and `StepLine`, a line of a run's output.
+//! The main theorem is the contract of `write_step_line` (and of `write_script_line`): what is
+//! written is the text of the line, to the last byte. Each agent that `read_steps` and
+//! `read_scripts` give is an agent of the board. The rest of reading is tested.
 #![tactic(auto)]
 
 mod names;
+mod packed_step;
 mod script_line;
 mod script_list;
 mod scripts;
 mod step;
 mod step_line;
+mod step_list;
 mod steps;
 mod words;
 
@@ -19,4 +21,5 @@ pub use script_line::{write_script_line, write_script_lines};
 pub use scripts::read_scripts;
 pub use step::{AgentStep, Call, PlatformStep, Step};
 pub use step_line::{StepLine, write_step_line};
+pub use step_list::StepList;
 pub use steps::read_steps;

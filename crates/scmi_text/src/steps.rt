@@ -1,95 +1,132 @@
 //! Scripts that run on one thread, as they are read.
-ghost use Rattle.std.specs.Prelude.{◌≡◌, Some, IfOk, IfErr};
+ghost use Rattle.std.specs.Prelude.{◌≡◌, ◌≤◌, ◌+◌, List, ℕ, Some, IfOk, IfErr, length};
 ghost use Rattle.std.specs.List.{All};
-ghost use Rattle.scmi_text.specs.Step.{IsStepOf, step_agent};
 ghost use Rattle.scmi_board.specs.TextError.{IsOfScript};
+ghost use Rattle.scmi_codec.specs.declared.payload.TheConstants.{PAYLOAD_WORDS};
+ghost use Rattle.scmi_text.specs.PackedStep.{IsPacked, Keeps, step_of, step_with};
+ghost use Rattle.scmi_text.specs.Step.{IsStepOf, step_agent};
 
-use crate::step::{AgentStep, Call, PlatformStep, Step};
+use crate::packed_step::{Head, PackedStep, has_payload};
+use crate::step::PlatformStep;
+use crate::step_list::StepList;
 use scmi_board::{Items, LineError, Lines, TextError};
-use scmi_codec::{Header, Message};
-use std::alloc::Global;
+use scmi_codec::PAYLOAD_WORDS;
+use std::alloc::{AllocError, Global};
 
 /// The steps of all lines that are left (own). Each names an agent of the board, which has this many,
 /// numbered from 1.
 ///
 /// `Script` gives the number of the first line of another form, with more payload words than
 /// `PAYLOAD_WORDS`, or of an agent that the board lacks. `Memory` where memory is refused.
-pub fn read_steps(alloc: Global, lines: &mut Lines<'_>, agents: u32) -> Result<Vec<Step>, TextError>
-    ensures agents { IfOk result (λ steps. All (IsStepOf agents) steps.items) }
+pub fn read_steps(alloc: Global, lines: &mut Lines<'_>, agents: u32) -> Result<StepList, TextError>
+    ensures agents { IfOk result (λ steps. All (IsStepOf agents) steps) }
     ensures errors { IfErr result IsOfScript }
 {
-    let mut steps = Vec::new(alloc);
+    let mut steps = StepList::new(alloc);
     while let Some(line) = lines.next_line() {
-        match read_step(line.text, agents) {
-            Ok(step) => {
-                if steps.push(step).is_err() {
-                    return Err(TextError::Memory);
-                }
-            }
-            Err(error) => return Err(error.in_script(line.number)),
+        if let Err(error) = steps.add(line.text, agents) {
+            return Err(error.in_script(line.number));
         }
     }
     Ok(steps)
 }
 
-fn read_step(text: &[u8], agents: u32) -> Result<Step, LineError>
-    ensures { IfOk result (IsStepOf agents) }
+/// The step of a line, whose payload words are added behind others.
+pub(crate) fn read_step(
+    text: &[u8],
+    agents: u32,
+    words: &mut Vec<u32>,
+) -> Result<PackedStep, LineError>
+    ensures kept { Keeps words.old.items words.new.items }
+    ensures packed { IfOk result (IsPacked words.new.items) }
+    ensures agent { IfOk result (λ step. IsStepOf agents (step_of words.new.items step)) }
 {
     let mut items = Items::new(text);
-    let step = match items.next_item()? {
-        b"advance" => Step::Advance,
-        name => {
-            let agent = items.next_agent(agents)?;
-            read_step_of(agent, name, &mut items)?
-        }
+    let head = read_head(&mut items, agents)?;
+    let first = words.len();
+    let count = if has_payload(head) {
+        read_words(&mut items, words)?
+    } else {
+        0
     };
     items.finish()?;
-    Ok(step)
+    Ok(PackedStep { head, first, count })
 }
 
-/// What follows the agent, where the line has this name.
-fn read_step_of(agent: u32, name: &[u8], items: &mut Items<'_>) -> Result<Step, LineError>
-    ensures { IfOk result (λ step. step_agent step ≡ Some agent) }
+/// Adds all items that are left behind words, and gives how many they were. `Form` where there are
+/// more than `PAYLOAD_WORDS`, or one is no word.
+fn read_words(items: &mut Items<'_>, words: &mut Vec<u32>) -> Result<usize, LineError>
+    ensures kept { Keeps words.old.items words.new.items }
+    ensures few { IfOk result (λ count. count ≤ PAYLOAD_WORDS) }
+    ensures count { IfOk result (λ count.
+        length words.old.items + count ≡ length words.new.items) }
 {
-    let step = match name {
-        b"do" => {
-            let call = read_call(items)?;
-            return Ok(Step::Do { agent, call });
+    let mut count = 0;
+    while !items.is_done() {
+        let word = items.next_word()?;
+        if count == PAYLOAD_WORDS {
+            return Err(LineError::Form);
         }
-        b"serve" => PlatformStep::Serve,
-        b"flush" => PlatformStep::Flush,
-        b"shut" => PlatformStep::Shut,
-        _ => {
-            let step = read_agent_step(name, items)?;
-            return Ok(Step::Agent { agent, step });
-        }
-    };
-    Ok(Step::Platform { agent, step })
+        words.push(word).map_err(AllocError::from)?;
+        count += 1;
+    }
+    Ok(count)
 }
 
-fn read_agent_step(name: &[u8], items: &mut Items<'_>) -> Result<AgentStep, LineError> {
-    match name {
-        b"call" => Ok(AgentStep::Call(read_call(items)?)),
-        b"raw" => Ok(AgentStep::Raw(Message {
-            header: Header::unpack(items.next_word()?),
-            payload: items.payload()?,
-        })),
-        b"bad" => Ok(AgentStep::Malformed {
-            length: items.next_word()?,
-            header: items.next_word()?,
-        }),
-        b"collect" => Ok(AgentStep::Collect),
-        b"p2a" => Ok(AgentStep::P2a),
-        b"close" => Ok(AgentStep::Close),
-        _ => Err(LineError::Form),
+/// The line but for its payload words.
+fn read_head(items: &mut Items<'_>, agents: u32) -> Result<Head, LineError>
+    ensures { IfOk result (λ head. (words : List ℕ) → IsStepOf agents (step_with head words)) }
+{
+    match items.next_item()? {
+        b"advance" => Ok(Head::Advance),
+        name => {
+            let agent = items.next_agent(agents)?;
+            read_head_of(agent, name, items)
+        }
     }
 }
 
-/// What a call is of: `P M W..`.
-fn read_call(items: &mut Items<'_>) -> Result<Call, LineError> {
-    Ok(Call {
-        protocol: items.next_byte()?,
-        message: items.next_byte()?,
-        payload: items.payload()?,
-    })
+/// What follows the agent, where the line has this name.
+fn read_head_of(agent: u32, name: &[u8], items: &mut Items<'_>) -> Result<Head, LineError>
+    ensures { IfOk result (λ head. (words : List ℕ) →
+        step_agent (step_with head words) ≡ Some agent) }
+{
+    let head = match name {
+        b"do" => Head::Do {
+            agent,
+            protocol: items.next_byte()?,
+            message: items.next_byte()?,
+        },
+        b"call" => Head::Call {
+            agent,
+            protocol: items.next_byte()?,
+            message: items.next_byte()?,
+        },
+        b"raw" => Head::Raw {
+            agent,
+            header: items.next_word()?,
+        },
+        b"bad" => Head::Malformed {
+            agent,
+            length: items.next_word()?,
+            header: items.next_word()?,
+        },
+        b"collect" => Head::Collect { agent },
+        b"p2a" => Head::P2a { agent },
+        b"close" => Head::Close { agent },
+        _ => Head::Platform {
+            agent,
+            step: platform_step(name)?,
+        },
+    };
+    Ok(head)
+}
+
+fn platform_step(name: &[u8]) -> Result<PlatformStep, LineError> {
+    match name {
+        b"serve" => Ok(PlatformStep::Serve),
+        b"flush" => Ok(PlatformStep::Flush),
+        b"shut" => Ok(PlatformStep::Shut),
+        _ => Err(LineError::Form),
+    }
 }

@@ -1,21 +1,24 @@
-use Rattle.std.proofs.Common.{◌∙◌}
+use Rattle.std.proofs.Common.{◌∙◌, ◌<◌, ◌≤◌, length, arith}
 use Rattle.scmi_run.proofs.RunLemmas.{all_steps, first_steps, no_step, step_more}
 use Rattle.scmi_run.proofs.steps.step_through.Goals as goal
 
-pub loop-step-init : goal.loop-step-init
-loop-step-init g c = record { agents = c.in_ok-session.ensures; so_far = no_step _ }
+pub steps-init : goal.steps-init
+steps-init g c = record { agents = c.in_ok-session.ensures; so_far = no_step _ }
 
-pub loop-step-preserved : goal.loop-step-preserved
-loop-step-preserved g c = record {
-  agents = c.step.ensures.agents ∙ c.loop-step.invariant.agents;
-  so_far = step_more _ c.loop-step.step-index c.step-item.result _ _ _ _ c.loop-step-test.true c.step-item.is c.loop-step.invariant.so_far c.in_ok-step.ensures.line c.in_ok-write_line.ensures.text;
-}
+pub steps-preserved : goal.steps-preserved
+steps-preserved g c =
+    let below : c.steps.i < length c.args.steps.now = omega (arith, c.steps-test.true, c.len-i-end.ensures) in record {
+      agents = c.step.ensures.agents ∙ c.steps.invariant.agents;
+      so_far = step_more _ c.steps.i c.read_into.new.step _ _ _ _ below c.read_into.ensures c.steps.invariant.so_far c.in_ok-step.ensures.line c.in_ok-write_line.ensures.text;
+    }
 
 pub returns-in_err-session-clause-memory : goal.returns-in_err-session-clause-memory
 returns-in_err-session-clause-memory g c = λ memory. first_steps _ 0 _ _ (no_step _)
 
 pub returns-in_err-step-clause-memory : goal.returns-in_err-step-clause-memory
-returns-in_err-step-clause-memory g c = λ memory. first_steps _ c.loop-step.step-index _ _ c.loop-step.invariant.so_far
+returns-in_err-step-clause-memory g c = λ memory. first_steps _ c.steps.i _ _ c.steps.invariant.so_far
 
 pub returns-clause-text : goal.returns-clause-text
-returns-clause-text g c = all_steps _ _ c.loop-step.step-index _ _ _ _ c.loop-step-test.false c.loop-step.invariant.so_far c.write_line-2.ensures.text
+returns-clause-text g c =
+    let all : length c.args.steps.now ≤ c.steps.i = omega (arith, c.steps-test.false, c.len-i-end.ensures) in
+    all_steps _ _ c.steps.i _ _ _ _ all c.steps.invariant.so_far c.write_line-2.ensures.text

@@ -1,0 +1,58 @@
+-- The steps of a script as more words are added behind theirs.
+use Rattle.std.proofs.Common.{◌≡◌, ℕ, ◌+◌, ◌≤◌, List, [], ◌∷◌, ◌++◌, length, take, drop, get_or, Some, refl, sym, ap, ◌∙◌, arith}
+use Rattle.std.proofs.lemmas.List.{drop-take, length-take, map-append, take-append-le, take-take, take_all}
+use Rattle.std.proofs.lemmas.List.Elements.{All-head, All-push, All-tail}
+use Rattle.std.specs.List.{All}
+use Rattle.std.specs.Prelude.{map}
+use Rattle.scmi_text.specs.PackedStep.{IsPacked, Keeps, step_of, step_with}
+use Rattle.scmi_text.specs.Step.{AddsStepOf, IsStepOf}
+use Rattle.scmi_text.specs.declared.packed_step.PackedStep.{PackedStep}
+use Rattle.scmi_text.specs.declared.step.Step.{Step}
+
+module _ (old new : List ℕ) (keeps : Keeps old new) where
+  -- words that are kept are no fewer
+  pub length_kept : length old ≤ length new
+  length_kept =
+      let cut : length (take (length old) new) ≡ length old = ap length keeps in
+      let least = length-take (length old) new in
+      omega (arith, cut, least)
+
+  part_kept : (first count : ℕ) → first + count ≤ length old → take count (drop first new) ≡ take count (drop first old)
+  part_kept first count within =
+      sym (drop-take first count new)
+      ∙ ap (drop first) (sym (take-take (first + count) (length old) new within) ∙ ap (take (first + count)) keeps)
+      ∙ drop-take first count old
+
+  packed_kept : (p : PackedStep) → IsPacked old p → IsPacked new p
+  packed_kept p is = let more = length_kept in let within = is.within in record { few = is.few; within = omega (arith, more, within) }
+
+  -- steps whose words are kept are still packed, and are the same steps
+  pub all_kept : (steps : List PackedStep) → All (IsPacked old) steps → All (IsPacked new) steps
+  all_kept steps all = λ k d below. packed_kept (get_or steps k d) (all k d below)
+
+  pub steps_kept : (steps : List PackedStep) → All (IsPacked old) steps → map (step_of new) steps ≡ map (step_of old) steps
+  steps_kept [] all = refl
+  steps_kept (p ∷ steps) all =
+      let first : IsPacked old p = All-head (IsPacked old) p steps all in
+      rw (part_kept p.first p.count first.within) (ap (λ ss. step_of old p ∷ ss) (steps_kept steps (All-tail (IsPacked old) p steps all)))
+
+-- all words are kept
+pub Keeps-same : (words : List ℕ) → Keeps words words
+Keeps-same words = take_all (length words) words (omega arith)
+
+-- and are kept with one more behind them
+pub Keeps-push : (old new : List ℕ) (word : ℕ) → Keeps old new → Keeps old (new ++ word ∷ [])
+Keeps-push old new word keeps = take-append-le (length old) new (word ∷ []) (length_kept old new keeps) ∙ keeps
+
+-- one step more
+pub adds : (agents : ℕ) (old new : List ℕ) (steps after : List PackedStep) (p : PackedStep) → Keeps old new → All (IsPacked old) steps → after ≡ steps ++ p ∷ [] → IsStepOf agents (step_of new p)
+    → AddsStepOf agents (map (step_of old) steps) (map (step_of new) after)
+adds agents old new steps after p keeps all pushed of_agent = record {
+  step = step_of new p;
+  of_agent = of_agent;
+  added = ap (map (step_of new)) pushed ∙ map-append (step_of new) steps (p ∷ []) ∙ ap (λ ss. ss ++ step_of new p ∷ []) (steps_kept old new keeps steps all);
+}
+
+-- the agents of one step more
+pub all_more : (agents : ℕ) (old new : List Step) → AddsStepOf agents old new → All (IsStepOf agents) old → All (IsStepOf agents) new
+all_more agents old new more all = rw more.added (All-push (IsStepOf agents) old more.step all more.of_agent)

@@ -1,0 +1,45 @@
+-- The steps of a script as they are kept.
+use Rattle.std.specs.Prelude.{◌≡◌, ℕ, ◌+◌, ◌≤◌, List, ◌∷◌, [], ◌++◌, length, take, drop}
+use Rattle.scmi_codec.specs.Header.{header_of}
+use Rattle.scmi_codec.specs.declared.payload.TheConstants.{PAYLOAD_WORDS}
+use Rattle.scmi_codec.specs.declared.message.Message.{Message}
+use Rattle.scmi_text.specs.declared.step.Call.{Call as CallOf}
+use Rattle.scmi_text.specs.declared.step.AgentStep.TheVariants as agent
+use Rattle.scmi_text.specs.declared.step.Step.{Step}
+use Rattle.scmi_text.specs.declared.step.Step.TheVariants as step
+use Rattle.scmi_text.specs.declared.packed_step.Head.{Head}
+use Rattle.scmi_text.specs.declared.packed_step.Head.TheVariants.{Do, Call, Raw, Malformed, Collect, P2a, Close, Platform, Advance}
+use Rattle.scmi_text.specs.declared.packed_step.PackedStep.{PackedStep}
+
+-- the command of a protocol, a message id and these payload words
+abbrev pub call_with : ℕ → ℕ → List ℕ → CallOf
+call_with protocol id words = record { protocol = protocol; message = id; payload = record { items = words } }
+
+-- the message of a header word and these payload words
+abbrev pub raw_with : ℕ → List ℕ → Message
+raw_with header words = record { header = header_of header; payload = record { items = words } }
+
+-- the step of a head and these payload words
+abbrev pub step_with : Head → List ℕ → Step
+step_with (Do a protocol id) words = step.Do a (call_with protocol id words)
+step_with (Call a protocol id) words = step.Agent a (agent.Call (call_with protocol id words))
+step_with (Raw a header) words = step.Agent a (agent.Raw (raw_with header words))
+step_with (Malformed a len header) words = step.Agent a (agent.Malformed len header)
+step_with (Collect a) words = step.Agent a agent.Collect
+step_with (P2a a) words = step.Agent a agent.P2a
+step_with (Close a) words = step.Agent a agent.Close
+step_with (Platform a call) words = step.Platform a call
+step_with Advance words = step.Advance
+
+-- the step that is kept, where these are the words
+abbrev pub step_of : List ℕ → PackedStep → Step
+step_of words packed = step_with packed.head (take packed.count (drop packed.first words))
+
+-- a step's payload stands in these words, and is none that is too long
+pub record IsPacked (words : List ℕ) (packed : PackedStep) : Type 0 where
+  pub few : packed.count ≤ PAYLOAD_WORDS
+  pub within : packed.first + packed.count ≤ length words
+
+-- the words are still the first of those that follow
+abbrev pub Keeps : List ℕ → List ℕ → Type 0
+Keeps old new = take (length old) new ≡ old
