@@ -1,5 +1,5 @@
-use Rattle.std.proofs.Common.{◌∙◌, ◌<◌, [], length, sym, subst, arith}
-use Rattle.scmi_draw.proofs.SoFar.{SoFar, no_step, step_more}
+use Rattle.std.proofs.Common.{◌∙◌, ◌<◌, ◌≤◌, [], length, sym, subst, arith}
+use Rattle.scmi_draw.proofs.SoFar.{SoFar, all_steps, no_step, step_more}
 use Rattle.scmi_draw.proofs.run.step_through.Goals as goal
 
 pub steps-init : goal.steps-init
@@ -11,3 +11,8 @@ steps-preserved g c =
       agents = c.step.ensures.agents ∙ c.steps.invariant.agents;
       so_far = step_more _ c.steps.i c.read_into.new.step _ _ _ below c.read_into.ensures c.steps.invariant.so_far c.in_ok-came.ensures.line c.in_ok-record.ensures.marks;
     }
+
+pub returns : goal.returns
+returns g c =
+    let all : length c.args.steps.now ≤ c.steps.i = omega (arith, c.steps-test.false, c.len-i-end.ensures) in
+    all_steps _ c.steps.i _ _ all c.steps.invariant.so_far c.in_ok-finish.ensures.marks
