@@ -72,13 +72,6 @@ abbrev pub reset_by : BaseCommand → Option ℕ
 reset_by (base.ResetAgent agent flags) = Some agent
 reset_by _ = None
 
--- whether a command changes no permission and ends no request
-abbrev pub changes_nothing : BaseCommand → Bool
-changes_nothing (base.Permit agent device flags) = false
-changes_nothing (base.PermitProtocol agent device protocol flags) = false
-changes_nothing (base.ResetAgent agent flags) = false
-changes_nothing _ = true
-
 -- what the tables say after a command that got this reply
 abbrev pub is_allowed_after : List ℕ → ℕ → ℕ → Scope → BaseCommand → Permissions → Bool
 is_allowed_after reply a d s command tables =

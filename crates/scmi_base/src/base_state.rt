@@ -8,7 +8,9 @@ ghost use Rattle.scmi_codec.specs.declared.base_command.BaseCommand.TheVariants.
 ghost use Rattle.scmi_plan.specs.declared.limits.TheConstants.{AGENTS, DEVICES};
 
 use crate::checks::{check_permit, check_permit_protocol, check_reset};
-use crate::discovery::discover;
+use crate::discovery::{
+    agent_of, attributes, implementation, message_attributes, named, protocols, version,
+};
 use crate::permission_table::PermissionTable;
 use crate::scope::Scope;
 use scmi_codec::{BaseCommand, Payload, SUCCESS, set_payload, set_refusal};
@@ -50,6 +52,7 @@ impl BaseState {
     /// skip past the protocols, for a protocol's word with more than its id, or for flag bits
     /// besides bit 0, then DENIED where a caller that is not trusted would change permissions or
     /// reset an agent (own). A command that is refused changes nothing.
+    #[tactic(auto, unfolding(crate::specs::BaseReply::base_reply))]
     pub fn execute(
         &mut self,
         plan: &Plan,
@@ -64,31 +67,30 @@ impl BaseState {
         ensures known { IfSome result (λ agent. (1 ≤ agent) × (agent ≤ AGENTS)) }
     {
         match command {
+            BaseCommand::Version => version(reply),
+            BaseCommand::Attributes => attributes(plan, reply),
+            BaseCommand::MessageAttributes { message } => message_attributes(message, reply),
+            BaseCommand::Vendor => named(plan.vendor(), reply),
+            BaseCommand::SubVendor => named(plan.sub_vendor(), reply),
+            BaseCommand::Implementation => implementation(plan, reply),
+            BaseCommand::Protocols { skip } => protocols(skip, reply),
+            BaseCommand::Agent { agent } => agent_of(plan, caller, agent, reply),
             BaseCommand::Permit {
                 agent,
                 device,
                 flags,
-            } => {
-                self.permit(plan, caller, agent, device, flags, reply);
-                None
-            }
+            } => self.permit(plan, caller, agent, device, flags, reply),
             BaseCommand::PermitProtocol {
                 agent,
                 device,
                 protocol,
                 flags,
-            } => {
-                self.permit_protocol(plan, caller, agent, device, protocol, flags, reply);
-                None
-            }
+            } => self.permit_protocol(plan, caller, agent, device, protocol, flags, reply),
             BaseCommand::ResetAgent { agent, flags } => {
-                self.reset_agent(plan, caller, agent, flags, reply)
-            }
-            _ => {
-                discover(plan, caller, command, reply);
-                None
+                return self.reset_agent(plan, caller, agent, flags, reply);
             }
         }
+        None
     }
 
     /// Whether an agent may change a resource: no device holds it, or on a device that holds it neither

@@ -26,7 +26,7 @@ pub(crate) fn check_permit(
     ensures allow { IfOk result (λ allow. allow ≡ bit_0 flags) }
     ensures agent { IfOk result (λ allow. (1 ≤ agent) × (agent ≤ AGENTS)) }
     ensures device { IfOk result (λ allow. device < DEVICES) }
-    ensures err { IfErr result (λ status. base_reply plan.now caller (Permit agent device flags)
+    ensures status { IfErr result (λ status. base_reply plan.now caller (Permit agent device flags)
         ≡ status_word status ∷ []) }
     ensures refused { IfErr result (λ status. status ≢ Success) }
 {
@@ -54,7 +54,7 @@ pub(crate) fn check_permit_protocol(
     ensures allow { IfOk result (λ r. r.1 ≡ bit_0 flags) }
     ensures agent { IfOk result (λ r. (1 ≤ agent) × (agent ≤ AGENTS)) }
     ensures device { IfOk result (λ r. device < DEVICES) }
-    ensures err { IfErr result (λ status.
+    ensures status { IfErr result (λ status.
         base_reply plan.now caller (PermitProtocol agent device protocol flags)
         ≡ status_word status ∷ []) }
     ensures refused { IfErr result (λ status. status ≢ Success) }
@@ -75,7 +75,7 @@ pub(crate) fn check_reset(plan: &Plan, caller: u32, agent: u32, flags: u32) -> R
     ensures ok { OnOk result (base_reply plan.now caller (ResetAgent agent flags) ≡ 0 ∷ []) }
     ensures permissions { IfOk result (λ permissions. permissions ≡ bit_0 flags) }
     ensures agent { IfOk result (λ permissions. (1 ≤ agent) × (agent ≤ AGENTS)) }
-    ensures err { IfErr result (λ status. base_reply plan.now caller (ResetAgent agent flags)
+    ensures status { IfErr result (λ status. base_reply plan.now caller (ResetAgent agent flags)
         ≡ status_word status ∷ []) }
     ensures refused { IfErr result (λ status. status ≢ Success) }
 {

@@ -1,14 +1,13 @@
 //! The replies to the commands of discovery, which change nothing.
-ghost use Rattle.std.specs.Prelude.{◌≡◌, ◌≤◌, ◌<◌, ◌+◌, ◌-◌, ◌*◌, ◌∷◌, [], length, true};
+ghost use Rattle.std.specs.Prelude.{◌≡◌, ◌≤◌, ◌<◌, ◌+◌, ◌-◌, ◌*◌, ◌∷◌, [], length};
 ghost use Rattle.byteorder.specs.Endian.{little_number};
-ghost use Rattle.scmi_base.specs.BaseReply.{base_reply, message_reply, protocols_reply, agent_reply, agent_name};
-ghost use Rattle.scmi_base.specs.Permission.{changes_nothing};
+ghost use Rattle.scmi_base.specs.BaseReply.{message_reply, protocols_reply, agent_reply, agent_name};
 ghost use Rattle.scmi_codec.specs.Name.{name_words};
 
 use byteorder::{ByteOrder, LittleEndian};
 use scmi_codec::{
-    BaseCommand, CLOCK_PROTOCOL, Name, POWER_PROTOCOL, Payload, SUCCESS, Status, name_words,
-    set_payload, set_refusal,
+    CLOCK_PROTOCOL, Name, POWER_PROTOCOL, Payload, SUCCESS, Status, name_words, set_payload,
+    set_refusal,
 };
 use scmi_plan::Plan;
 
@@ -27,30 +26,16 @@ const PLATFORM: u32 = 0;
 /// The platform's name, `platform`, as the words of a reply.
 const PLATFORM_NAME: [u32; 4] = [0x7461_6c70, 0x6d72_6f66, 0, 0];
 
-/// Writes the reply to a command that changes nothing, to a caller.
-#[tactic(auto, unfolding(crate::specs::BaseReply::base_reply))]
-pub(crate) fn discover(plan: &Plan, caller: u32, command: BaseCommand, reply: &mut Payload)
-    requires { changes_nothing command ≡ true }
-    ensures { reply.new.items ≡ base_reply plan.now caller command }
+/// 0x0: the version.
+pub(crate) fn version(reply: &mut Payload)
+    ensures { reply.new.items ≡ 0 ∷ 0x00020000 ∷ [] }
 {
-    match command {
-        BaseCommand::Version => set_payload(reply, &[SUCCESS, VERSION]),
-        BaseCommand::Attributes => attributes(plan, reply),
-        BaseCommand::MessageAttributes { message } => message_attributes(message, reply),
-        BaseCommand::Vendor => named(plan.vendor(), reply),
-        BaseCommand::SubVendor => named(plan.sub_vendor(), reply),
-        BaseCommand::Implementation => set_payload(reply, &[SUCCESS, plan.version()]),
-        BaseCommand::Protocols { skip } => protocols(skip, reply),
-        BaseCommand::Agent { agent } => agent_of(plan, caller, agent, reply),
-        BaseCommand::Permit { .. }
-        | BaseCommand::PermitProtocol { .. }
-        | BaseCommand::ResetAgent { .. } => unreachable!(),
-    }
+    set_payload(reply, &[SUCCESS, VERSION]);
 }
 
 /// 0x1: the number of agents in bits [15:8], the platform not counted (own), and the number of
 /// protocols in [7:0].
-fn attributes(plan: &Plan, reply: &mut Payload)
+pub(crate) fn attributes(plan: &Plan, reply: &mut Payload)
     ensures { reply.new.items ≡ 0 ∷ (length plan.now.agents * 0x100 + 2) ∷ [] }
 {
     set_payload(
@@ -60,7 +45,7 @@ fn attributes(plan: &Plan, reply: &mut Payload)
 }
 
 /// 0x2: no attributes; NOT_FOUND for an id that the protocol lacks.
-fn message_attributes(message: u32, reply: &mut Payload)
+pub(crate) fn message_attributes(message: u32, reply: &mut Payload)
     ensures { reply.new.items ≡ message_reply message }
 {
     match message {
@@ -70,16 +55,23 @@ fn message_attributes(message: u32, reply: &mut Payload)
 }
 
 /// 0x3 and 0x4: a name.
-fn named(name: &Name, reply: &mut Payload)
+pub(crate) fn named(name: &Name, reply: &mut Payload)
     ensures { reply.new.items ≡ 0 ∷ name_words name.now }
 {
     let [a, b, c, d] = name_words(name);
     set_payload(reply, &[SUCCESS, a, b, c, d]);
 }
 
+/// 0x5: the version of the implementation.
+pub(crate) fn implementation(plan: &Plan, reply: &mut Payload)
+    ensures { reply.new.items ≡ 0 ∷ plan.now.version ∷ [] }
+{
+    set_payload(reply, &[SUCCESS, plan.version()]);
+}
+
 /// 0x6: the number of protocols after the first `skip`, and their ids in one word, of which there is
 /// none where the number is 0; INVALID_PARAMETERS where there are fewer to skip.
-fn protocols(skip: u32, reply: &mut Payload)
+pub(crate) fn protocols(skip: u32, reply: &mut Payload)
     ensures { reply.new.items ≡ protocols_reply skip }
 {
     let Some(listed) = PROTOCOLS.get(skip as usize..) else {
@@ -104,7 +96,7 @@ fn packed(bytes: &[u8]) -> u32
 
 /// 0x7: the id and name of an agent, of the platform, or of the caller where it asks for itself
 /// (own); NOT_FOUND for another id.
-fn agent_of(plan: &Plan, caller: u32, asked: u32, reply: &mut Payload)
+pub(crate) fn agent_of(plan: &Plan, caller: u32, asked: u32, reply: &mut Payload)
     ensures { reply.new.items ≡ agent_reply plan.now caller asked }
 {
     let agent = if asked == THE_CALLER { caller } else { asked };

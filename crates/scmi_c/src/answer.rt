@@ -32,7 +32,7 @@ pub extern "C" fn scmi_answer(
     ensures no_platform { (result ≡ NO_PLATFORM) ↔ (platform.old.value ≡ None) }
     ensures free { result ≡ NOTHING → arrived area.old ≡ None }
     ensures no_agent { result ≡ NO_AGENT → IsSomeAnd platform.old.value (LacksAgent agent) }
-    ensures only { (result ≤ NO_AGENT) ⊎ (result ≡ NO_PLATFORM) }
+    ensures errors { (result ≤ NO_AGENT) ⊎ (result ≡ NO_PLATFORM) }
     ensures memory { result ≡ MEMORY → IsSomeAnd platform.old.value IsRecorded }
     ensures kept { result ≢ DONE →
         (platform.new.value ≡ platform.old.value) × (area.new ≡ area.old) }
@@ -55,7 +55,7 @@ pub extern "C" fn scmi_advance(alloc: Global, platform: &mut Handle) -> u32
     ensures nothing { result ≡ NOTHING →
         IsSomeAnd platform.old.value (λ p.
         (h : List Event) → StandsAt p h → pending (board_of p) (deeds (board_of p) h) ≡ []) }
-    ensures only { (result ≤ MEMORY) ⊎ (result ≡ NO_PLATFORM) }
+    ensures errors { (result ≤ MEMORY) ⊎ (result ≡ NO_PLATFORM) }
     ensures no_platform { (result ≡ NO_PLATFORM) ↔ (platform.old.value ≡ None) }
     ensures memory { result ≡ MEMORY → IsSomeAnd platform.old.value IsRecorded }
     ensures kept { result ≢ DONE → platform.new.value ≡ platform.old.value }

@@ -71,7 +71,7 @@ impl Held {
             option_copied message ≡ slice_get (outbox (board_of self.now) agent h) 0) }
         ensures no_agent { (result ≡ Err CoreError.NoAgent) ↔
             IsNoAgent (length (board_of self.now).agents) agent }
-        ensures err { IfErr result (λ e. e ≡ CoreError.NoAgent) }
+        ensures errors { IfErr result (λ e. e ≡ CoreError.NoAgent) }
     {
         if agent == 0 || agent > self.agents() {
             return Err(CoreError::NoAgent);

@@ -20,7 +20,7 @@ pub extern "C" fn scmi_history_length(alloc: Global, platform: &mut Handle, even
     ensures no_platform { (result ≡ NO_PLATFORM) ↔ (platform.old.value ≡ None) }
     ensures no_history { result ≡ NO_HISTORY →
         IsSomeAnd platform.old.value (λ p. ¬ (IsRecorded p)) }
-    ensures only { (result ≡ DONE) ⊎ (result ≡ NO_PLATFORM) ⊎ (result ≡ NO_HISTORY) }
+    ensures errors { (result ≡ DONE) ⊎ (result ≡ NO_PLATFORM) ⊎ (result ≡ NO_HISTORY) }
     ensures kept { result ≢ DONE → events.new ≡ events.old }
 {
     let Some(desk) = platform.take(alloc) else {

@@ -62,7 +62,7 @@ pub extern "C" fn scmi_platform_new_recorded(
 fn hold(alloc: Global, platform: &mut Handle, held: Held) -> u32
     requires { platform.old.value ≡ None }
     ensures done { result ≡ DONE → platform.new.value ≡ Some held }
-    ensures only { (result ≡ DONE) ⊎ (result ≡ MEMORY) }
+    ensures errors { (result ≡ DONE) ⊎ (result ≡ MEMORY) }
     ensures kept { result ≢ DONE → platform.new.value ≡ platform.old.value }
 {
     match Box::new(alloc, Desk::new(held)) {

@@ -34,7 +34,7 @@ pub extern "C" fn scmi_next(
         (h : List Event) → StandsAt p h → slice_get (outbox (board_of p) agent h) 0 ≡ None) }
     ensures no_agent { result ≡ NO_AGENT → IsSomeAnd platform.old.value (LacksAgent agent) }
     ensures not_free { result ≡ NOT_FREE → arrived area.old ≢ None }
-    ensures only { (result ≤ NO_PLATFORM) × (result ≢ MEMORY) }
+    ensures errors { (result ≤ NO_PLATFORM) × (result ≢ MEMORY) }
     ensures kept { result ≢ DONE → area.new ≡ area.old }
 {
     let Some(desk) = platform.take(alloc) else {
@@ -57,7 +57,7 @@ pub extern "C" fn scmi_sent(alloc: Global, platform: &mut Handle, agent: u32) ->
         IsSomeAnd platform.old.value (λ p.
         (h : List Event) → StandsAt p h → outbox (board_of p) agent h ≡ []) }
     ensures no_agent { result ≡ NO_AGENT → IsSomeAnd platform.old.value (LacksAgent agent) }
-    ensures only { (result ≤ NO_AGENT) ⊎ (result ≡ NO_PLATFORM) }
+    ensures errors { (result ≤ NO_AGENT) ⊎ (result ≡ NO_PLATFORM) }
     ensures no_platform { (result ≡ NO_PLATFORM) ↔ (platform.old.value ≡ None) }
     ensures memory { result ≡ MEMORY → IsSomeAnd platform.old.value IsRecorded }
     ensures kept { result ≢ DONE → platform.new.value ≡ platform.old.value }

@@ -42,7 +42,7 @@ pub(crate) fn check_set(
     ensures response_wanted { IfOk result (λ set. set.response_wanted ≡ is_response_wanted flags) }
     ensures clock { IfOk result (λ set. (clock < length plan.now.clocks) × (clock < CLOCKS)) }
     ensures room { IfOk result (λ set. is_asynchronous flags ≡ true → load.room ≡ true) }
-    ensures err { IfErr result (λ status.
+    ensures status { IfErr result (λ status.
         set_words plan.now base.now caller load flags clock rate ≡ status_word status ∷ []) }
     ensures refused { IfErr result (λ status. status ≢ Success) }
 {
@@ -74,7 +74,7 @@ pub(crate) fn check_config(
     ensures ok { OnOk result (config_words plan.now base.now caller clock attributes ≡ 0 ∷ []) }
     ensures enable { IfOk result (λ enable. enable ≡ bit_0 attributes) }
     ensures clock { IfOk result (λ enable. (clock < length plan.now.clocks) × (clock < CLOCKS)) }
-    ensures err { IfErr result (λ status.
+    ensures status { IfErr result (λ status.
         config_words plan.now base.now caller clock attributes ≡ status_word status ∷ []) }
     ensures refused { IfErr result (λ status. status ≢ Success) }
 {

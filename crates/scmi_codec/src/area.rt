@@ -88,8 +88,8 @@ pub fn is_free(area: &[u8]) -> Result<bool, AreaError>
 /// Refuses bytes that are no area for their number.
 fn check_size(area: &[u8]) -> Result<(), AreaError>
     ensures ok { OnOk result (length area.now ≡ AREA_BYTES) }
-    ensures err { OnErr result (length area.now ≢ AREA_BYTES) }
-    ensures wrong_size { IfErr result (λ e. e ≡ AreaError.WrongSize) }
+    ensures wrong_size { OnErr result (length area.now ≢ AREA_BYTES) }
+    ensures errors { IfErr result (λ e. e ≡ AreaError.WrongSize) }
 {
     if area.len() == AREA_BYTES {
         Ok(())
@@ -106,7 +106,7 @@ fn read_frame(area: &[u8], frame: &mut Frame)
     let length = read_word(area, LENGTH_AT);
     let header = read_word(area, HEADER_AT);
     if !is_well_formed(length) {
-        set_malformed(frame, length, header);
+        frame.set_malformed(length, header);
         return;
     }
     let count = ((length - 4) / 4) as usize;
@@ -126,14 +126,6 @@ fn read_anew(area: &[u8], header: u32, count: usize, frame: &mut Frame)
     let mut message = Message::default();
     read_message(area, header, count, &mut message);
     *frame = Frame::Good(message);
-}
-
-/// Makes a frame one of a length that is not well formed.
-#[inline(never)]
-fn set_malformed(frame: &mut Frame, length: u32, header: u32)
-    ensures { frame.new ≡ Malformed length header }
-{
-    *frame = Frame::Malformed { length, header };
 }
 
 /// Reads a message of this header word and so many payload words of an area into `message`.
@@ -206,10 +198,10 @@ pub fn write_answer(area: &mut [u8], answer: &Answer) -> Result<(), AreaError>
     ensures size { IsOk result ↔ (length area.old ≡ AREA_BYTES) }
     ensures written { OnOk result (area.new ≡ answered answer.now area.old) }
     ensures stands { OnOk result (StandsForAnswer area.new (frame_of area.old) answer.now) }
-    ensures kept { OnOk result
+    ensures rest { OnOk result
         ((i : ℕ) → IsKept answer.now i → slice_index area.new i ≡ slice_index area.old i) }
     ensures err { OnErr result (area.new ≡ area.old) }
-    ensures wrong_size { IfErr result (λ e. e ≡ AreaError.WrongSize) }
+    ensures errors { IfErr result (λ e. e ≡ AreaError.WrongSize) }
 {
     check_size(area)?;
     match answer {
@@ -229,10 +221,10 @@ pub fn write_reply(area: &mut [u8], message: &Message) -> Result<(), AreaError>
     ensures written { OnOk result (area.new ≡ answered (Reply message.now) area.old) }
     ensures stands { OnOk result
         (StandsForAnswer area.new (frame_of area.old) (Reply message.now)) }
-    ensures kept { OnOk result
+    ensures rest { OnOk result
         ((i : ℕ) → IsKept (Reply message.now) i → slice_index area.new i ≡ slice_index area.old i) }
     ensures err { OnErr result (area.new ≡ area.old) }
-    ensures wrong_size { IfErr result (λ e. e ≡ AreaError.WrongSize) }
+    ensures errors { IfErr result (λ e. e ≡ AreaError.WrongSize) }
 {
     check_size(area)?;
     write_with_status(area, message, ChannelStatus::FREE.bits());
@@ -247,11 +239,11 @@ pub fn write_response(area: &mut [u8], payload: &Payload) -> Result<(), AreaErro
         ≡ answered (Reply (message_of (header_at area.old) payload.now.items)) area.old) }
     ensures stands { OnOk result (StandsForAnswer area.new (frame_of area.old)
         (Reply (message_of (header_at area.old) payload.now.items))) }
-    ensures kept { OnOk result
+    ensures rest { OnOk result
         ((i : ℕ) → IsKept (Reply (message_of (header_at area.old) payload.now.items)) i
         → slice_index area.new i ≡ slice_index area.old i) }
     ensures err { OnErr result (area.new ≡ area.old) }
-    ensures wrong_size { IfErr result (λ e. e ≡ AreaError.WrongSize) }
+    ensures errors { IfErr result (λ e. e ≡ AreaError.WrongSize) }
 {
     check_size(area)?;
     // A word written back as it was read takes no access.
@@ -267,10 +259,10 @@ pub fn write_message(area: &mut [u8], message: &Message) -> Result<(), AreaError
     ensures size { IsOk result ↔ (length area.old ≡ AREA_BYTES) }
     ensures written { OnOk result (area.new ≡ posted message.now area.old) }
     ensures arrived { OnOk result (arrived area.new ≡ Some (Good message.now)) }
-    ensures kept { OnOk result
+    ensures rest { OnOk result
         ((i : ℕ) → IsOutside message.now i → slice_index area.new i ≡ slice_index area.old i) }
     ensures err { OnErr result (area.new ≡ area.old) }
-    ensures wrong_size { IfErr result (λ e. e ≡ AreaError.WrongSize) }
+    ensures errors { IfErr result (λ e. e ≡ AreaError.WrongSize) }
 {
     check_size(area)?;
     write_with_status(area, message, 0);
@@ -282,7 +274,7 @@ fn write_with_status(area: &mut [u8], message: &Message, status: u32)
     requires { length area.old ≡ AREA_BYTES }
     ensures written { area.new ≡ written status message.now area.old }
     ensures stands { StandsFor area.new status (Good message.now) }
-    ensures kept { (i : ℕ) → IsOutside message.now i →
+    ensures rest { (i : ℕ) → IsOutside message.now i →
         slice_index area.new i ≡ slice_index area.old i }
 {
     write_parts(area, message.header.pack(), &message.payload, status);
@@ -293,7 +285,7 @@ fn write_parts(area: &mut [u8], header: u32, payload: &Payload, status: u32)
     requires { length area.old ≡ AREA_BYTES }
     ensures written { area.new ≡ written status (message_of header payload.now.items) area.old }
     ensures stands { StandsFor area.new status (Good (message_of header payload.now.items)) }
-    ensures kept { (i : ℕ) → IsOutside (message_of header payload.now.items) i →
+    ensures rest { (i : ℕ) → IsOutside (message_of header payload.now.items) i →
         slice_index area.new i ≡ slice_index area.old i }
 {
     let words = payload.as_slice();

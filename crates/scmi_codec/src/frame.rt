@@ -1,5 +1,6 @@
 //! What a caller puts into a channel, and what the callee answers.
 ghost use Rattle.std.specs.Prelude.{◌≡◌};
+ghost use Rattle.scmi_codec.specs.declared.frame.Frame.TheVariants.{Malformed};
 
 use crate::message::Message;
 
@@ -45,13 +46,17 @@ impl Frame {
                 Frame::Good(own) => own.copy_from(message),
                 Frame::Malformed { .. } => *self = Frame::Good(message.copy()),
             },
-            Frame::Malformed { length, header } => {
-                *self = Frame::Malformed {
-                    length: *length,
-                    header: *header,
-                };
-            }
+            Frame::Malformed { length, header } => self.set_malformed(*length, *header),
         }
+    }
+
+    /// Becomes a frame whose length in bytes, as it stands, is not well formed. What it is made of
+    /// is none of the locals of the callers, which a function clears when it is entered.
+    #[inline(never)]
+    pub fn set_malformed(&mut self, length: u32, header: u32)
+        ensures { self.new ≡ Malformed length header }
+    {
+        *self = Frame::Malformed { length, header };
     }
 }
 
@@ -66,6 +71,7 @@ impl Answer {
             Answer::ChannelError => Answer::ChannelError,
         }
     }
+
     /// Becomes the same answer as another. Of a message only the words that are there are copied.
     pub fn copy_from(&mut self, answer: &Answer)
         ensures { self.new ≡ answer.now }

@@ -13,7 +13,7 @@ impl Tables {
     pub fn announce(&mut self, agents: u32, causer: u32, changed: Option<(u32, u32)>, before: u32)
         requires agents { agents ≤ AGENTS }
         requires domain { IfSome changed (λ set. set.0 < DOMAINS) }
-        ensures kept { SameButOutboxes self.old self.new }
+        ensures rest { SameButOutboxes self.old self.new }
         ensures told { (a : ℕ) → 1 ≤ a → a ≤ agents → Gets self.old.outboxes self.new.outboxes a
             (announced_at self.old a causer changed before) }
     {
@@ -28,7 +28,7 @@ impl Tables {
     fn notify(&mut self, agents: u32, causer: u32, domain: u32, state: u32)
         requires agents { agents ≤ AGENTS }
         requires domain { domain < DOMAINS }
-        ensures kept { SameButOutboxes self.old self.new }
+        ensures rest { SameButOutboxes self.old self.new }
         ensures told { (a : ℕ) → 1 ≤ a → a ≤ agents → Gets self.old.outboxes self.new.outboxes a
             (told_at self.old a causer domain state) }
     {
@@ -46,7 +46,7 @@ impl Tables {
             (told_at self.old agent causer domain state) }
         ensures others { (a : ℕ) → 1 ≤ a → a ≢ agent
             → Keeps self.old.outboxes self.new.outboxes a }
-        ensures kept { SameButOutboxes self.old self.new }
+        ensures rest { SameButOutboxes self.old self.new }
     {
         if self.load(agent) < OUTBOX_ROOM
             && (self.power.subscribers(domain) >> (agent - 1)) & 1 == 1

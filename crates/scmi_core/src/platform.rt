@@ -73,7 +73,7 @@ impl Platform {
         ensures board { self.new.board ≡ self.old.board }
         ensures no_agent { (result ≡ Err CoreError.NoAgent)
             ↔ IsNoAgent (length self.old.board.agents) agent }
-        ensures only { IfErr result (λ e. e ≡ CoreError.NoAgent) }
+        ensures errors { IfErr result (λ e. e ≡ CoreError.NoAgent) }
         ensures err { OnErr result (self.new ≡ self.old) }
         ensures kept { OnErr result (reply.new ≡ reply.old) }
     {
@@ -103,7 +103,7 @@ impl Platform {
             → IfOk result (λ message. message ≡ slice_get (outbox self.now.board agent h) 0) }
         ensures no_agent { (result ≡ Err CoreError.NoAgent)
             ↔ IsNoAgent (length self.now.board.agents) agent }
-        ensures err { IfErr result (λ e. e ≡ CoreError.NoAgent) }
+        ensures errors { IfErr result (λ e. e ≡ CoreError.NoAgent) }
     {
         self.check_agent(agent)?;
         match self.first(agent) {
@@ -201,7 +201,7 @@ impl Platform {
     pub(crate) fn check_agent(&self, agent: u32) -> Result<(), CoreError>
         ensures ok { OnOk result (IsAgent (length self.now.board.agents) agent) }
         ensures no_agent { OnErr result (IsNoAgent (length self.now.board.agents) agent) }
-        ensures err { IfErr result (λ e. e ≡ CoreError.NoAgent) }
+        ensures errors { IfErr result (λ e. e ≡ CoreError.NoAgent) }
         ensures lawful { IsLawful self.now.board }
     {
         if (1..=self.plan.agents()).contains(&agent) {

@@ -67,7 +67,7 @@ impl Core {
         ensures board { self.new.board ≡ self.old.board }
         ensures succeeds { 0 < self.old.room → IsOk result }
         ensures err { OnErr result (self.new ≡ self.old) }
-        ensures memory { IfErr result (λ e. e ≡ CoreError.Memory) }
+        ensures errors { IfErr result (λ e. e ≡ CoreError.Memory) }
     {
         self.trace.reserve()?;
         Ok(())
@@ -170,7 +170,7 @@ impl Core {
             message ≡ slice_get (outbox self.now.board agent self.now.history) 0) }
         ensures no_agent { (result ≡ Err CoreError.NoAgent)
             ↔ IsNoAgent (length self.now.board.agents) agent }
-        ensures err { IfErr result (λ e. e ≡ CoreError.NoAgent) }
+        ensures errors { IfErr result (λ e. e ≡ CoreError.NoAgent) }
     {
         self.platform.front(agent)
     }

@@ -248,7 +248,7 @@ impl Tables {
     /// Adds a domain's set that was accepted for later, if there is one.
     fn accept_state(&mut self, agent: u32, header: Header, later: Option<(u32, u32)>)
         requires { IfSome later (λ set. length self.now.pending < PENDING_SETS) }
-        ensures kept { SameButPending self.old self.new }
+        ensures rest { SameButPending self.old self.new }
         ensures pending { Accepts self.old self.new (option_map (state_set agent header) later) }
     {
         if let Some((domain, state)) = later {
@@ -264,7 +264,7 @@ impl Tables {
     /// Adds a clock's set that was accepted for later, if there is one.
     fn accept_rate(&mut self, agent: u32, header: Header, later: Option<(u32, u64, bool)>)
         requires { IfSome later (λ set. length self.now.pending < PENDING_SETS) }
-        ensures kept { SameButPending self.old self.new }
+        ensures rest { SameButPending self.old self.new }
         ensures pending { Accepts self.old self.new (option_map (rate_set agent header) later) }
     {
         if let Some((clock, rate, wanted)) = later {

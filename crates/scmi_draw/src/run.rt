@@ -10,7 +10,7 @@ use crate::kind::Kind;
 use scmi_board::{Lines, TextLine, read_board};
 use scmi_chart::Chart;
 use scmi_link::{Channel, RingChannel};
-use scmi_plan::{Plan, PlanError, RawPlan};
+use scmi_plan::{Plan, RawPlan};
 use scmi_record::Recorder;
 use scmi_session::Session;
 use scmi_text::{Step, StepList, read_steps};
@@ -27,7 +27,7 @@ pub fn chart_of(alloc: Global, kind: Kind, bytes: &[u8]) -> Result<Chart, DrawEr
 {
     let mut lines = Lines::new(bytes);
     let board = read_board(alloc, &mut lines)?;
-    let steps = read_steps(alloc, &mut lines, agents_of(&board)?)?;
+    let steps = read_steps(alloc, &mut lines, board.agent_count()?)?;
     if steps.len() > STEPS {
         return Err(DrawError::Size);
     }
@@ -37,13 +37,6 @@ pub fn chart_of(alloc: Global, kind: Kind, bytes: &[u8]) -> Result<Chart, DrawEr
         Kind::Rings => step_through::<RingChannel>(alloc, kind, plan, &board, &steps, &mut lines),
         Kind::Words => step_through::<WordChannel>(alloc, kind, plan, &board, &steps, &mut lines),
     }
-}
-
-/// How many agents a board names, before its rules are looked at.
-fn agents_of(board: &RawPlan) -> Result<u32, DrawError>
-    ensures agents { IfOk result (λ agents. agents ≡ length board.now.agents.items) }
-{
-    u32::try_from(board.agents.len()).map_err(|_| DrawError::from(PlanError::Count))
 }
 
 /// The lines of the script, which follow the last one of the board.

@@ -5,7 +5,7 @@ use Rattle.std.specs.Option.{option_or}
 use Rattle.std.proofs.lemmas.List.{length-append, length-map, length-set, map-append, set-get_or, take-append-le, take_all}
 use Rattle.std.proofs.lemmas.Bool.{false≢true}
 use Rattle.scmi_codec.specs.declared.frame.Frame.TheVariants.{Good}
-use Rattle.scmi_link.specs.View.{CallerView, CalleeView, Owes, is_callee_shut}
+use Rattle.scmi_link.specs.View.{CallerView, CalleeView, Owes, callee_knows_close}
 use Rattle.scmi_link.specs.Calls.{Collects}
 use Rattle.scmi_link.specs.declared.collected.Collected.{Collected}
 use Rattle.scmi_link.specs.declared.collected.Collected.TheVariants as collected
@@ -71,7 +71,7 @@ is_open None e = refl
 is_open (Some k) e = absurd (false≢true (sym e))
 
 -- an end that has not closed may have taken a frame
-open_before : (v : CalleeView) → is_callee_shut v ≡ false → v.closed ≡ false
+open_before : (v : CalleeView) → callee_knows_close v ≡ false → v.closed ≡ false
 open_before v e = neither v.closed v.told e where
   neither : (c t : Bool) → (c || t) ≡ false → c ≡ false
   neither false t e = refl
@@ -127,7 +127,7 @@ module _ {D : Type 0} (f : D → CalleeView) (board : Board) (a i : ℕ) (ds : L
   kept_serve h' served.Done legal s =
       let frame = s.frame in
       let mine = from_at (IsServed board h) f 1 i a ds x lt e is kept.served in
-      let none = no_place (open_before (f x) s.unshut) in
+      let none = no_place (open_before (f x) s.unclosed) in
       subst (λ k. Keeps board k (map f (set ds i d)) cs ps) (sym s.event) (record {
         legal = subst (λ k. IsLegal board k) s.event legal;
         callees_count = count_set f ds i d ∙ kept.callees_count;

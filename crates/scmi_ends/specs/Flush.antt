@@ -2,7 +2,7 @@
 use Rattle.std.specs.Prelude.{◌≡◌, ◌⊎◌, ℕ, ◌-◌, ◌<◌, Bool, true, false, List, [], ◌∷◌, ◌++◌, length, slice_set, slice_get, Some}
 use Rattle.scmi_codec.specs.declared.frame.Frame.TheVariants.{Good}
 use Rattle.scmi_codec.specs.declared.message.Message.{Message}
-use Rattle.scmi_link.specs.View.{CallerView, IsOutstanding, is_shut}
+use Rattle.scmi_link.specs.View.{CallerView, IsOutstanding, knows_close}
 use Rattle.scmi_link.specs.Calls.{IsRefused, Collects}
 use Rattle.scmi_link.specs.declared.collected.Collected.{Collected}
 use Rattle.scmi_plan.specs.Board.{Board}
@@ -17,7 +17,7 @@ use Rattle.scmi_ends.specs.ControllerView.{ControllerView, caller_of}
 pub record PostsFirst (board : Board) (a : ℕ) (h : List Event) (old : CallerView) (h' : List Event) (new : CallerView) : Type 0 where
   pub message : Message
   pub first : slice_get (outbox board a h) 0 ≡ Some message
-  pub unshut : is_shut old ≡ false
+  pub unclosed : knows_close old ≡ false
   pub event : h' ≡ h ++ Sent a ∷ []
   pub end : new ≡ record old { posted = old.posted ++ Good message ∷ [] }
 

@@ -2,7 +2,7 @@
 use Rattle.std.specs.Prelude.{◌≡◌, ℕ, ◌<◌, false, zero, suc, [], ◌∷◌, ◌++◌, Option, Some, None}
 use Rattle.scmi_codec.specs.declared.frame.Frame.{Frame}
 use Rattle.scmi_codec.specs.declared.frame.Answer.TheVariants.{Released}
-use Rattle.scmi_link.specs.View.{CallerView, CalleeView, is_callee_shut, one_more}
+use Rattle.scmi_link.specs.View.{CallerView, CalleeView, callee_knows_close, one_more}
 use Rattle.scmi_link.specs.Calls.{TakesNone, Collects}
 use Rattle.scmi_link.specs.declared.collected.Collected.{Collected}
 use Rattle.scmi_link.specs.declared.collected.Collected.TheVariants as collected
@@ -10,7 +10,7 @@ use Rattle.scmi_link.specs.declared.collected.Collected.TheVariants as collected
 -- one `take` on P2A; what it gives is released at once
 abbrev pub Receives : CalleeView → Option Frame → CalleeView → Type 0
 Receives old None new = TakesNone old new
-Receives old (Some frame) new = (is_callee_shut old ≡ false) × (new ≡ record old { taken = old.taken ++ frame ∷ []; answered = old.answered ++ Released ∷ []; takes = one_more old.takes })
+Receives old (Some frame) new = (callee_knows_close old ≡ false) × (new ≡ record old { taken = old.taken ++ frame ∷ []; answered = old.answered ++ Released ∷ []; takes = one_more old.takes })
 
 -- a count of calls of `collect`, after n more of them
 unfoldable pub more_collects : ℕ → ℕ → ℕ

@@ -1,7 +1,7 @@
 -- What serving an agent leaves.
 use Rattle.std.specs.Prelude.{◌≡◌, ℕ, ◌-◌, false, List, [], ◌∷◌, ◌++◌, slice_set}
 use Rattle.scmi_codec.specs.declared.frame.Frame.{Frame}
-use Rattle.scmi_link.specs.View.{CalleeView, is_callee_shut, one_more}
+use Rattle.scmi_link.specs.View.{CalleeView, callee_knows_close, one_more}
 use Rattle.scmi_link.specs.Calls.{TakesNone}
 use Rattle.scmi_plan.specs.Board.{Board}
 use Rattle.scmi_core.specs.History.{answer_to}
@@ -14,7 +14,7 @@ use Rattle.scmi_ends.specs.ControllerView.{ControllerView, callee_of}
 -- one `take` gave this frame, which is then in the history as a command of agent a, and answered as the history says
 pub record Executes (board : Board) (a : ℕ) (h : List Event) (old : CalleeView) (h' : List Event) (new : CalleeView) : Type 0 where
   pub frame : Frame
-  pub unshut : is_callee_shut old ≡ false
+  pub unclosed : callee_knows_close old ≡ false
   pub event : h' ≡ h ++ Command a frame ∷ []
   pub end : new ≡ record old { taken = old.taken ++ frame ∷ []; answered = old.answered ++ answer_to board a frame h ∷ []; takes = one_more old.takes }
 

@@ -5,7 +5,7 @@ ghost use Rattle.scmi_codec.specs.declared.frame.Frame.TheVariants.{Good, Malfor
 ghost use Rattle.scmi_codec.specs.declared.frame.Answer.TheVariants.{Released};
 ghost use Rattle.scmi_codec.specs.declared.message.Message.{Message};
 ghost use Rattle.scmi_codec.specs.Command.{protocol_header};
-ghost use Rattle.scmi_link.specs.View.{IsOutstanding, Owes, is_shut, new_caller, new_callee};
+ghost use Rattle.scmi_link.specs.View.{IsOutstanding, Owes, knows_close, new_caller, new_callee};
 ghost use Rattle.scmi_link.specs.Calls.{Posts, Collects, ClosesCaller, collected_by, frame_if};
 ghost use Rattle.scmi_ends.specs.Shut.{ShowsClose};
 
@@ -161,7 +161,7 @@ impl<C: Channel> AgentEnd<C> {
         requires { IsOfLink (C.name link.now.a2p) (C.name link.now.p2a) self.old }
         ensures same { self.new ≡ record self.old { caller = self.new.caller } }
         ensures collects { Collects self.old.caller result self.new.caller }
-        ensures shut { is_shut self.old.caller ≡ true → ¬ (IsOutstanding self.old.caller) →
+        ensures known { knows_close self.old.caller ≡ true → ¬ (IsOutstanding self.old.caller) →
             result ≡ Collected.Closed }
     {
         link.a2p.collect(&mut self.caller)
@@ -175,7 +175,7 @@ impl<C: Channel> AgentEnd<C> {
         ensures collects { Collects self.old.caller
             (collected_by result answer.new) self.new.caller }
         ensures stays { ¬ (result ≡ Looked.Got) → answer.new ≡ answer.old }
-        ensures shut { is_shut self.old.caller ≡ true → ¬ (IsOutstanding self.old.caller) →
+        ensures known { knows_close self.old.caller ≡ true → ¬ (IsOutstanding self.old.caller) →
             result ≡ Looked.Closed }
     {
         link.a2p.collect_into(&mut self.caller, answer)

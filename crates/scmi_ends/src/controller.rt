@@ -57,7 +57,7 @@ impl<C: Channel> Model for Controller<C> {
 }
 
 impl<C: Channel> Controller<C> {
-    ghost use Rattle.scmi_link.specs.View.{is_callee_shut};
+    ghost use Rattle.scmi_link.specs.View.{callee_knows_close};
     ghost use Rattle.scmi_ends.specs.ControllerView.{callee_of};
     ghost use Rattle.scmi_ends.specs.Links.{HasLinks};
     ghost use Rattle.scmi_ends.specs.Kept.{IsKept};
@@ -86,7 +86,7 @@ impl<C: Channel> Controller<C> {
         ensures agrees { IsKept self.new }
         ensures board { self.new.board ≡ self.old.board }
         ensures serves { IfOk result (λ served. Serves agent self.old served self.new) }
-        ensures closed { is_callee_shut (callee_of self.old agent) ≡ true →
+        ensures closed { callee_knows_close (callee_of self.old agent) ≡ true →
             result ≢ Ok Served.Done }
         ensures no_agent { (result ≡ Err ServeError.NoAgent) ↔
             IsNoAgent (length self.old.board.agents) agent }

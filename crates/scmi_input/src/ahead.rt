@@ -79,7 +79,7 @@ impl Ahead {
         ensures ok { OnOk result
             (Consumes (R.remaining reader.old) (R.remaining reader.new) self.new) }
         ensures end { OnOk result (self.new ≡ [] → IsAtEnd (R.remaining reader.new)) }
-        ensures err { OnErr result (Keeps (R.remaining reader.old) (R.remaining reader.new)) }
+        ensures kept { OnErr result (Keeps (R.remaining reader.old) (R.remaining reader.new)) }
         ensures none { OnErr result (self.new ≡ []) }
         ensures reads { R.reads reader.new ≤ R.reads reader.old + 1 }
         ensures failure { R.since_failure reader.old ≡ 0 →

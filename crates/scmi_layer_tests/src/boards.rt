@@ -80,7 +80,7 @@ fn add_clocks(alloc: Global, raw: &mut RawPlan) -> Result<(), AllocError> {
     let core = list(alloc, &[100, 200, 300])?;
     add_clock(alloc, raw, ("core", true, 100), core)?;
     add_clock(alloc, raw, ("bus", false, 1000), steps(1000, 4000, 500))?;
-    let pix = counted(alloc, 20)?;
+    let pix = rates_up_to(alloc, 20)?;
     add_clock(alloc, raw, ("pix", true, 1), pix)
 }
 
@@ -145,7 +145,7 @@ pub fn list(alloc: Global, rates: &[u64]) -> Result<Rates, AllocError> {
 }
 
 /// The list 1, 2 and so on up to `count`.
-pub fn counted(alloc: Global, count: u64) -> Result<Rates, AllocError> {
+pub fn rates_up_to(alloc: Global, count: u64) -> Result<Rates, AllocError> {
     let mut rates = Vec::new(alloc);
     for rate in 0..count {
         rates.push(rate.wrapping_add(1))?;

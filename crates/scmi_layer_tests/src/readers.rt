@@ -1,6 +1,6 @@
 //! A plan gives the values of its board.
 
-use crate::boards::{counted, list, reference_plan, steps};
+use crate::boards::{list, rates_up_to, reference_plan, steps};
 use scmi_codec::Name;
 use scmi_plan::{Clock, Device, Plan, RateList, Rates, Resource};
 use std::test::Fail;
@@ -76,7 +76,7 @@ fn a_lawful_board_is_read_back(rt: HostRuntime) -> Result<(), Fail> {
 fn clocks_are_read_back(rt: HostRuntime) -> Result<(), Fail> {
     let plan = reference_plan(rt.alloc())?;
     let core = list(rt.alloc(), &[100, 200, 300])?;
-    let pix = counted(rt.alloc(), 20)?;
+    let pix = rates_up_to(rt.alloc(), 20)?;
     let bus = steps(1000, 4000, 500);
     let holds = [
         is_clock(&plan, 0, ("core", true, 100), &core),

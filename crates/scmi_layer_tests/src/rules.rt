@@ -1,7 +1,7 @@
 //! The rules of a board, at their limits.
 
 use crate::boards::{
-    add_agent, add_clock, add_device, add_domain, counted, empty, list, reference, steps,
+    add_agent, add_clock, add_device, add_domain, empty, list, rates_up_to, reference, steps,
 };
 use scmi_plan::{Device, Plan, PlanError, RawPlan};
 use std::alloc::{AllocError, Global};
@@ -110,7 +110,7 @@ fn add_listed(
 }
 
 fn add_counted(alloc: Global, raw: &mut RawPlan, count: u64) -> Result<(), AllocError> {
-    let rates = counted(alloc, count)?;
+    let rates = rates_up_to(alloc, count)?;
     add_clock(alloc, raw, ("c", true, 1), rates)
 }
 

@@ -74,8 +74,8 @@ module _ (p : CallerSeat) (q : CalleeSeat) (es : List (Box Envelope Global)) (ms
     unread = omega (arith, p.counted);
   }
 
-  pub shut : Closed (caller_seat_view p) (callee_seat_view q)
-  shut = record {
+  pub closed_ends : Closed (caller_seat_view p) (callee_seat_view q)
+  closed_ends = record {
     left = λ l.
         let told = p.gone l in
         let none = ap said (nothing_more told) in

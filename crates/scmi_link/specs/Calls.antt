@@ -12,7 +12,7 @@ use Rattle.scmi_link.specs.declared.closing.Closing.{Closing}
 use Rattle.scmi_link.specs.declared.closing.Closing.TheVariants as closing
 use Rattle.scmi_link.specs.declared.close_error.CloseError.{CloseError}
 use Rattle.scmi_link.specs.declared.close_error.CloseError.TheVariants.{InService, ReplyWaiting}
-use Rattle.scmi_link.specs.View.{CallerView, CalleeView, IsOutstanding, Owes, is_shut, is_callee_shut, one_more}
+use Rattle.scmi_link.specs.View.{CallerView, CalleeView, IsOutstanding, Owes, knows_close, callee_knows_close, one_more}
 
 -- a caller that was answered `Closed`: where it had not closed, it was told that the callee has
 abbrev pub with_word : CallerView → CallerView
@@ -21,18 +21,18 @@ with_word v = record v { told = v.told || not v.closed }
 -- a caller's post is refused as `Closed`: it has closed, or was told that the callee has
 pub record IsRefused (old new : CallerView) : Type 0 where
   pub told : new ≡ with_word old
-  pub shut : is_shut new ≡ true
+  pub known : knows_close new ≡ true
 
 -- an open caller with nothing outstanding posts a frame
 pub record PostsFrame (old : CallerView) (frame : Frame) (new : CallerView) : Type 0 where
-  pub unshut : is_shut old ≡ false
+  pub unclosed : knows_close old ≡ false
   pub none_outstanding : ¬ (IsOutstanding old)
   pub posted : new ≡ record old { posted = old.posted ++ frame ∷ [] }
 
 -- a post finds no place, which only a channel that may be full answers
 pub record FindsNoPlace (may_be_full : Bool) (old new : CallerView) : Type 0 where
   pub may : may_be_full ≡ true
-  pub unshut : is_shut old ≡ false
+  pub unclosed : knows_close old ≡ false
   pub none_outstanding : ¬ (IsOutstanding old)
   pub same : new ≡ old
 
@@ -51,7 +51,7 @@ Posts may_be_full old frame (Err reason) new = RefusesPost may_be_full old reaso
 -- an end has closed and no answer stands: a post that was outstanding is given up
 pub record GivesUp (old new : CallerView) : Type 0 where
   pub told : new ≡ record (with_word old) { left = new.left; collects = one_more old.collects }
-  pub shut : is_shut new ≡ true
+  pub known : knows_close new ≡ true
   pub given_up : IsOutstanding old → new.left ≡ true
   pub idle : ¬ (IsOutstanding old) → new.left ≡ old.left
   pub none_outstanding : ¬ (IsOutstanding new)
@@ -85,7 +85,7 @@ ClosesCaller old (Err error) new = IsOutstanding old × (new ≡ old)
 
 -- an open callee that owed nothing takes a frame
 pub record TakesFrame (old : CalleeView) (frame : Frame) (new : CalleeView) : Type 0 where
-  pub open_before : is_callee_shut old ≡ false
+  pub open_before : callee_knows_close old ≡ false
   pub owed_nothing : length old.taken ≡ length old.answered
   pub taken : new ≡ record old { taken = old.taken ++ frame ∷ []; takes = one_more old.takes }
 

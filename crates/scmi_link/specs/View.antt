@@ -38,12 +38,12 @@ abbrev pub Owes : CalleeView → Type 0
 Owes v = length v.taken ≡ length v.answered + 1
 
 -- whether the caller has closed, or was told that the callee has
-abbrev pub is_shut : CallerView → Bool
-is_shut v = v.closed || v.told
+abbrev pub knows_close : CallerView → Bool
+knows_close v = v.closed || v.told
 
 -- whether the callee has closed, or was told that the caller has
-abbrev pub is_callee_shut : CalleeView → Bool
-is_callee_shut v = v.closed || v.told
+abbrev pub callee_knows_close : CalleeView → Bool
+callee_knows_close v = v.closed || v.told
 
 -- one more call, modulo 2^64
 abbrev pub one_more : ℕ → ℕ

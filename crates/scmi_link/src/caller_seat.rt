@@ -8,7 +8,7 @@ ghost use Rattle.scmi_link.specs.Bit.{bit};
 use crate::close_error::CloseError;
 use crate::closing::Closing;
 use crate::drop_first::drop_first;
-use crate::envelope::{Envelope, set_malformed, set_message};
+use crate::envelope::{Envelope, set_message};
 use crate::looked::Looked;
 use crate::note::Note;
 use crate::post_error::PostError;
@@ -44,7 +44,7 @@ impl CallerSeat {
     ghost use Rattle.std.specs.Prelude.{◌≡◌, ◌<◌, true, false, OnOk, IfErr};
     ghost use Rattle.scmi_codec.specs.declared.frame.Frame.TheVariants.{Good, Malformed};
     ghost use Rattle.scmi_codec.specs.declared.message.Message.{Message};
-    ghost use Rattle.scmi_link.specs.View.{IsOutstanding, is_shut};
+    ghost use Rattle.scmi_link.specs.View.{IsOutstanding, knows_close};
     ghost use Rattle.scmi_link.specs.Calls.{Posts, RefusesPost, Collects, ClosesCaller, collected_by};
     ghost use Rattle.scmi_link.specs.CallerSeat.{caller_seat_view, SameCallerRings, IsIdleOrInService};
 
@@ -70,7 +70,7 @@ impl CallerSeat {
     {
         self.may_post()?;
         let mut envelope = self.envelope.take().unwrap();
-        set_malformed(&mut envelope.frame, length, header);
+        envelope.frame.set_malformed(length, header);
         push_envelope(&mut self.frames, envelope);
         self.waiting = true;
         Ok(())
@@ -82,7 +82,7 @@ impl CallerSeat {
         ensures same { OnOk result (caller_seat_view self.new ≡ caller_seat_view self.old) }
         ensures room { OnOk result (0 < known_free self.new.frames) }
         ensures idle { OnOk result (self.new.waiting ≡ false) }
-        ensures unshut { OnOk result (is_shut (caller_seat_view self.new) ≡ false) }
+        ensures unclosed { OnOk result (knows_close (caller_seat_view self.new) ≡ false) }
         ensures none_outstanding { OnOk result (¬ (IsOutstanding (caller_seat_view self.old))) }
         ensures refused { IfErr result (λ reason.
             RefusesPost true (caller_seat_view self.old) reason (caller_seat_view self.new)) }
@@ -106,7 +106,7 @@ impl CallerSeat {
         ensures collects { Collects (caller_seat_view self.old) (collected_by result answer.new)
             (caller_seat_view self.new) }
         ensures stays { ¬ (result ≡ Looked.Got) → answer.new ≡ answer.old }
-        ensures shut { is_shut (caller_seat_view self.old) ≡ true →
+        ensures known { knows_close (caller_seat_view self.old) ≡ true →
             ¬ IsOutstanding (caller_seat_view self.old) → result ≡ Looked.Closed }
     {
         self.collects = self.collects.wrapping_add(1);
@@ -143,7 +143,7 @@ impl CallerSeat {
         ensures rings { SameCallerRings self.old self.new }
         ensures view { caller_seat_view self.new ≡
             record (caller_seat_view self.old) { told = result } }
-        ensures kept { self.old.told ≡ true → result ≡ true }
+        ensures told { self.old.told ≡ true → result ≡ true }
     {
         if self.told || self.answers.is_empty() {
             return self.told;

@@ -4,7 +4,7 @@ ghost use Rattle.scmi_codec.specs.Area.{is_well_formed};
 ghost use Rattle.scmi_codec.specs.declared.frame.Frame.TheVariants.{Good, Malformed};
 ghost use Rattle.scmi_codec.specs.declared.frame.Answer.TheVariants.{Reply};
 ghost use Rattle.scmi_codec.specs.declared.message.Message.{Message};
-ghost use Rattle.scmi_link.specs.View.{CallerView, CalleeView, IsOutstanding, Owes, new_caller, new_callee, is_shut};
+ghost use Rattle.scmi_link.specs.View.{CallerView, CalleeView, IsOutstanding, Owes, new_caller, new_callee, knows_close};
 ghost use Rattle.scmi_link.specs.Calls.{Posts, Collects, Takes, ClosesCaller, ClosesCallee, frame_if, collected_by};
 ghost use Rattle.scmi_link.specs.Gathered.{Agree, Closed};
 
@@ -122,7 +122,7 @@ pub trait Channel: Sync + Drop {
         requires { caller_name caller.old ≡ name self.now }
         ensures name { caller_name caller.new ≡ caller_name caller.old }
         ensures collects { Collects (caller_view caller.old) result (caller_view caller.new) }
-        ensures shut { is_shut (caller_view caller.old) ≡ true →
+        ensures known { knows_close (caller_view caller.old) ≡ true →
             ¬ IsOutstanding (caller_view caller.old) → result ≡ Collected.Closed }
     {
         let mut answer = Answer::Released;
@@ -141,7 +141,7 @@ pub trait Channel: Sync + Drop {
         ensures collects { Collects (caller_view caller.old) (collected_by result answer.new)
             (caller_view caller.new) }
         ensures stays { ¬ (result ≡ Looked.Got) → answer.new ≡ answer.old }
-        ensures shut { is_shut (caller_view caller.old) ≡ true →
+        ensures known { knows_close (caller_view caller.old) ≡ true →
             ¬ IsOutstanding (caller_view caller.old) → result ≡ Looked.Closed };
 
     /// The frame that is posted. `None` where nothing is posted, an end has closed, or the callee

@@ -1,6 +1,6 @@
 //! What goes round between the ends of a ring channel.
 ghost use Rattle.std.specs.Prelude.{◌≡◌};
-ghost use Rattle.scmi_codec.specs.declared.frame.Frame.TheVariants.{Good, Malformed};
+ghost use Rattle.scmi_codec.specs.declared.frame.Frame.TheVariants.{Good};
 ghost use Rattle.scmi_codec.specs.declared.frame.Answer.TheVariants.{Reply};
 
 use scmi_codec::{Answer, Frame, Header, Message, Payload, set_payload};
@@ -48,14 +48,6 @@ fn set_new_message(frame: &mut Frame, header: Header, payload: &Payload)
     message.header = header;
     set_payload(&mut message.payload, payload.as_slice());
     *frame = Frame::Good(message);
-}
-
-/// Makes a frame one that is malformed, where it stands.
-#[inline(never)]
-pub(crate) fn set_malformed(frame: &mut Frame, length: u32, header: u32)
-    ensures { frame.new ≡ Malformed length header }
-{
-    *frame = Frame::Malformed { length, header };
 }
 
 /// Makes an answer a reply of this message, where it stands.

@@ -1,6 +1,8 @@
 //! A board as it was written down, before any rule was looked at.
+ghost use Rattle.std.specs.Prelude.{◌≡◌, ◌≤◌, ◌↔◌, ◌^◌, length, Err, IfOk, IfErr};
 
 use crate::device::Device;
+use crate::plan_error::PlanError;
 use crate::rates::Rates;
 
 /// A power domain as it was written down.
@@ -33,4 +35,15 @@ pub struct RawPlan {
     pub domains: Vec<RawDomain>,
     pub clocks: Vec<RawClock>,
     pub devices: Vec<Device>,
+}
+
+impl RawPlan {
+    /// How many agents it names. `Count` for 2^32 or more, the only error.
+    pub fn agent_count(&self) -> Result<u32, PlanError>
+        ensures agents { IfOk result (λ agents. agents ≡ length self.now.agents.items) }
+        ensures count { (result ≡ Err PlanError.Count) ↔ (2 ^ 32 ≤ length self.now.agents.items) }
+        ensures errors { IfErr result (λ e. e ≡ PlanError.Count) }
+    {
+        u32::try_from(self.agents.len()).map_err(|_| PlanError::Count)
+    }
 }

@@ -31,7 +31,7 @@ pub(crate) fn check_set(
     ensures known { IfOk result (λ asynchronous. domain < length plan.now.domains) }
     ensures domain { IfOk result (λ asynchronous. domain < DOMAINS) }
     ensures room { IfOk result (λ asynchronous. asynchronous ≡ true → load.room ≡ true) }
-    ensures err { IfErr result (λ status.
+    ensures status { IfErr result (λ status.
         set_words plan.now base.now caller load flags domain state ≡ status_word status ∷ []) }
     ensures refused { IfErr result (λ status. status ≢ Success) }
 {
@@ -59,7 +59,7 @@ pub(crate) fn check_notify(
     ensures enabled { IfOk result (λ enabled. enabled ≡ bit_0 enable) }
     ensures domain { IfOk result (λ enabled. domain < DOMAINS) }
     ensures agent { IfOk result (λ enabled. caller ≤ AGENTS) }
-    ensures err { IfErr result (λ status.
+    ensures status { IfErr result (λ status.
         notify_words plan.now base.now caller domain enable ≡ status_word status ∷ []) }
     ensures refused { IfErr result (λ status. status ≢ Success) }
 {

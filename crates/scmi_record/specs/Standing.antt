@@ -1,5 +1,6 @@
 -- Where the platform's domains, clocks and outboxes stand after its history.
-use Rattle.std.specs.Prelude.{◌≡◌, ℕ, ◌==◌, if◌then◌else◌, Bool, false, List, length, min}
+use Rattle.std.specs.Prelude.{◌≡◌, ◌≤◌, ℕ, ◌==◌, if◌then◌else◌, Bool, false, List, length, min}
+use Rattle.scmi_plan.specs.Agent.{IsNoAgent}
 use Rattle.scmi_plan.specs.Board.{Board}
 use Rattle.scmi_plan.specs.declared.resource.Resource.TheVariants as resource
 use Rattle.scmi_core.specs.History.{deeds, outbox}
@@ -22,6 +23,12 @@ IsStateOf (subject.Domain d) b h s = s ≡ power_state (value b (slot.State d) (
 IsStateOf (subject.Clock c) b h (state.Rate hertz enabled) = (hertz ≡ value b (slot.Rate c) (deeds b h)) × (bit_value enabled ≡ value b (slot.Enabled c) (deeds b h))
 IsStateOf (subject.Clock c) b h _ = ⊥
 IsStateOf (subject.Outbox a) b h s = s ≡ state.Waiting (min (length (outbox b a h)) 255)
+
+-- the board lacks this domain or clock, or the agent of this outbox
+abbrev pub IsLacking : Subject → Board → Type 0
+IsLacking (subject.Domain d) b = length b.domains ≤ d
+IsLacking (subject.Clock c) b = length b.clocks ≤ c
+IsLacking (subject.Outbox a) b = IsNoAgent (length b.agents) a
 
 -- whether a set of it is pending then
 abbrev pub is_set_pending : Subject → Board → List Event → Bool

@@ -14,6 +14,7 @@ mod marks;
 mod parties;
 mod recorder;
 mod reply_label;
+mod sign;
 mod subject;
 mod words;
 

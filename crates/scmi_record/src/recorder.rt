@@ -9,15 +9,18 @@ use crate::label::named;
 use crate::levels::Levels;
 use crate::marks::Marks;
 use crate::parties::{Outstanding, Parties};
-use crate::reply_label::{plain_label, posted_label, reply_label};
+use crate::reply_label::{answer_label, posted_label};
+use crate::sign::{
+    answered_slot, lane, outcome_of, raw_token, refusal_words, reply_token, told_mark,
+};
 use scmi_board::TextLine;
-use scmi_chart::{Chart, Label, Lifeline, Mark, Message, Outcome, Side, Step as Row};
-use scmi_codec::{Answer, Frame, is_success};
+use scmi_chart::{Chart, Lifeline, Mark, Message, Side, Step as Row};
+use scmi_codec::{Answer, Frame};
 use scmi_core::Core;
 use scmi_ends::{Flushed, Served, ShutError};
 use scmi_link::{CloseError, Closing, Collected, PostError};
 use scmi_plan::RawPlan;
-use scmi_text::{AgentStep, Step, StepLine};
+use scmi_text::{Step, StepLine};
 use std::alloc::{AllocError, Global};
 use std::marker::Model;
 
@@ -232,7 +235,7 @@ impl<'a> Recorder<'a> {
     {
         let command = self.parties.settle(agent);
         let outcome = outcome_of(answer, command);
-        let label = self.answer_label(answer, outcome)?;
+        let label = answer_label(self.alloc, self.board, answer, outcome)?;
         let message = Message {
             agent,
             slot: answered_slot(command, slot),
@@ -240,17 +243,6 @@ impl<'a> Recorder<'a> {
             label,
         };
         self.marks.add(Mark::Reply { message, outcome })
-    }
-
-    fn answer_label(&self, answer: &Answer, outcome: Outcome) -> Result<Label, AllocError> {
-        match answer {
-            Answer::Reply(message) => {
-                let is_later = matches!(outcome, Outcome::Pending);
-                reply_label(self.alloc, self.board, message, is_later)
-            }
-            Answer::Released => plain_label(self.alloc, "released, no reply"),
-            Answer::ChannelError => plain_label(self.alloc, "channel error"),
-        }
     }
 
     /// The platform was to complete a pending set.
@@ -397,89 +389,5 @@ impl<'a> Recorder<'a> {
             marks: self.marks.into_vec(),
             columns: self.levels.columns(self.alloc, self.board, end)?,
         })
-    }
-}
-
-/// The lifeline of an agent.
-fn lane(agent: u32) -> u8
-    ensures { result ≡ lane agent }
-{
-    agent.min(255) as u8
-}
-
-/// The token of a message that is posted as it is.
-fn raw_token(step: &Step) -> Option<u16>
-    ensures { result ≡ raw_token step.now }
-{
-    match step {
-        Step::Agent {
-            step: AgentStep::Raw(message),
-            ..
-        } => Some(message.header.token),
-        _ => None,
-    }
-}
-
-/// The token of the reply that was collected.
-fn reply_token(collected: &Collected) -> Option<u16>
-    ensures { result ≡ reply_token collected.now }
-{
-    match collected {
-        Collected::Got(Answer::Reply(message)) => Some(message.header.token),
-        _ => None,
-    }
-}
-
-/// How a command was answered.
-fn outcome_of(answer: &Answer, command: Option<Outstanding>) -> Outcome
-    ensures { succeeds result ≡ is_success answer.now }
-{
-    match answer {
-        Answer::Reply(message) if is_success(&message.payload) => match command {
-            Some(
-                Outstanding {
-                    sets_later: true,
-                    ..
-                },
-            ) => Outcome::Pending,
-            _ => Outcome::Success,
-        },
-        _ => Outcome::Refusal,
-    }
-}
-
-/// The slot in which a command was answered.
-fn answered_slot(command: Option<Outstanding>, slot: u16) -> u16 {
-    match command {
-        Some(
-            Outstanding {
-                answered: Some(answered),
-                ..
-            },
-        ) => answered,
-        _ => slot,
-    }
-}
-
-/// The mark of a message that the platform sent of its own accord.
-fn told_mark(message: Message, header: &scmi_codec::Header) -> Mark
-    ensures { sign_of result ≡ posted_sign message.agent header.now }
-{
-    if header.kind == 3 {
-        Mark::Notification { message }
-    } else {
-        Mark::Delayed {
-            message,
-            token: header.token,
-        }
-    }
-}
-
-fn refusal_words(refusal: PostError) -> &'static str {
-    match refusal {
-        PostError::Outstanding => "not posted: outstanding",
-        PostError::Closed => "not posted: closed",
-        PostError::Full => "not posted: full",
-        PostError::WellFormed => "not posted: well formed",
     }
 }

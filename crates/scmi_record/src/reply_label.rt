@@ -1,14 +1,31 @@
 //! What the platform's messages say, in words.
 use crate::label::{add_field, name_of, named};
 use crate::words::{hex_words, payload_words};
-use scmi_chart::Label;
-use scmi_codec::{CLOCK_PROTOCOL, Message, POWER_PROTOCOL, Status, rate_of};
+use scmi_chart::{Label, Outcome};
+use scmi_codec::{Answer, CLOCK_PROTOCOL, Message, POWER_PROTOCOL, Status, rate_of};
 use scmi_plan::RawPlan;
 use scmi_say::{Field, notification_name, reply_fields, status_name};
 use std::alloc::{AllocError, Global};
 
+/// What an answer says.
+pub(crate) fn answer_label(
+    alloc: Global,
+    board: &RawPlan,
+    answer: &Answer,
+    outcome: Outcome,
+) -> Result<Label, AllocError> {
+    match answer {
+        Answer::Reply(message) => {
+            let is_later = matches!(outcome, Outcome::Pending);
+            reply_label(alloc, board, message, is_later)
+        }
+        Answer::Released => plain_label(alloc, "released, no reply"),
+        Answer::ChannelError => plain_label(alloc, "channel error"),
+    }
+}
+
 /// What a reply says: its status, and what follows it. `is_later` is a set that takes effect later.
-pub(crate) fn reply_label(
+fn reply_label(
     alloc: Global,
     board: &RawPlan,
     message: &Message,
@@ -64,7 +81,7 @@ fn add_list(
 }
 
 /// What an answer without a status says.
-pub(crate) fn plain_label(alloc: Global, words: &str) -> Result<Label, AllocError> {
+fn plain_label(alloc: Global, words: &str) -> Result<Label, AllocError> {
     Ok(named(alloc, Vec::from_slice(alloc, words.as_bytes())?))
 }
 

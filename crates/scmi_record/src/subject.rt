@@ -1,6 +1,6 @@
 //! What a column of a chart is about.
-ghost use Rattle.std.specs.Prelude.{◌≡◌, IfSome};
-ghost use Rattle.scmi_record.specs.Standing.{IsStateOf, is_set_pending, power_state};
+ghost use Rattle.std.specs.Prelude.{◌≡◌, ◌↔◌, None, IfSome};
+ghost use Rattle.scmi_record.specs.Standing.{IsLacking, IsStateOf, is_set_pending, power_state};
 
 use scmi_chart::{Kind, State};
 use scmi_core::Core;
@@ -25,7 +25,8 @@ impl Subject {
 
     /// Its state as the platform has it; `None` where the board lacks it.
     pub fn state(self, core: &Core) -> Option<State>
-        ensures { IfSome result (IsStateOf self core.now.board core.now.history) }
+        ensures value { IfSome result (IsStateOf self core.now.board core.now.history) }
+        ensures none { (result ≡ None) ↔ IsLacking self core.now.board }
     {
         match self {
             Subject::Domain(domain) => Some(power_state(core.power_state(domain)?)),

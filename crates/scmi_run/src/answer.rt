@@ -16,7 +16,7 @@ use std::alloc::Global;
 pub fn answer_area(alloc: Global, area: &mut [u8; AREA_BYTES]) -> Result<(), RunError>
     ensures ok { OnOk result (area.new ≡ answered_area area.old) }
     ensures err { OnErr result (area.new ≡ area.old) }
-    ensures memory { IfErr result (λ e. e ≡ RunError.Memory) }
+    ensures errors { IfErr result (λ e. e ≡ RunError.Memory) }
 {
     let Ok(Some(frame)) = read_area(area) else {
         return Ok(());
@@ -32,7 +32,7 @@ pub fn answer_area(alloc: Global, area: &mut [u8; AREA_BYTES]) -> Result<(), Run
 /// The plan of the reference board, which is lawful, so that the only error is `Memory`.
 fn reference_plan(alloc: Global) -> Result<Plan, RunError>
     ensures plan { IfOk result (λ plan. plan ≡ board_b) }
-    ensures memory { IfErr result (λ e. e ≡ RunError.Memory) }
+    ensures errors { IfErr result (λ e. e ≡ RunError.Memory) }
 {
     Plan::check(alloc, &reference_board(alloc)?).map_err(|_| RunError::Memory)
 }

@@ -6,7 +6,6 @@
 #![tactic(auto)]
 
 mod answer;
-mod board_agents;
 mod kind;
 mod lines;
 mod mode;

@@ -62,7 +62,7 @@ fn read_area_line(input: &[u8]) -> Result<[u8; AREA_BYTES], RunError>
 fn write_area_line<W: Write>(area: &[u8; AREA_BYTES], writer: &mut W) -> Result<(), RunError>
     ensures ok { OnOk result (Appends (W.contents writer.old) (W.contents writer.new)
         (area_text area.now)) }
-    ensures err { IfErr result (λ e. e ≡ RunError.Write) }
+    ensures errors { IfErr result (λ e. e ≡ RunError.Write) }
 {
     let mut digits = [0u8; 2 * AREA_BYTES];
     if hex::encode_to_slice(area, &mut digits).is_err() {

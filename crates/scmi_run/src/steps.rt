@@ -9,7 +9,6 @@ ghost use Rattle.scmi_run.specs.RunError.{status_of};
 ghost use Rattle.scmi_run.specs.Steps.{AreStepLines, IsTextOfSteps};
 ghost use Rattle.scmi_input.specs.declared.input.TheConstants.{INPUT_BYTES};
 
-use crate::board_agents::agents_of;
 use crate::kind::Kind;
 use crate::run_error::RunError;
 use scmi_board::{Lines, read_board};
@@ -44,7 +43,7 @@ pub fn run_steps<R: CountedRead, W: Write>(
     let bytes = read_rest(alloc, reader)?;
     let mut lines = Lines::new(&bytes);
     let board = read_board(alloc, &mut lines)?;
-    let steps = read_steps(alloc, &mut lines, agents_of(&board)?)?;
+    let steps = read_steps(alloc, &mut lines, board.agent_count()?)?;
     let plan = Plan::check(alloc, &board)?;
     match kind {
         Kind::Rings => step_through::<RingChannel, W>(alloc, plan, &steps, writer),

@@ -9,7 +9,6 @@ ghost use Rattle.scmi_run.specs.RunError.{status_of};
 ghost use Rattle.scmi_run.specs.Runs.{IsTextOfRun, IsTextOfStoppedRun, logs_text, may_be_full};
 ghost use Rattle.scmi_input.specs.declared.input.TheConstants.{INPUT_BYTES};
 
-use crate::board_agents::agents_of;
 use crate::kind::Kind;
 use crate::run_error::RunError;
 use scmi_board::{Lines, read_board};
@@ -52,7 +51,7 @@ pub fn run_threads<T: Threads + Wait + Sync, G: Gate, R: CountedRead, W: Write>(
     let bytes = read_rest(alloc, reader)?;
     let mut lines = Lines::new(&bytes);
     let board = read_board(alloc, &mut lines)?;
-    let scripts = read_scripts(alloc, &mut lines, agents_of(&board)?)?;
+    let scripts = read_scripts(alloc, &mut lines, board.agent_count()?)?;
     let plan = Plan::check(alloc, &board)?;
     match kind {
         Kind::Rings => write_run::<RingChannel, T, G, W>(rt, alloc, gate, plan, &scripts, writer),
@@ -78,7 +77,7 @@ fn write_run<C: Channel, T: Threads + Wait + Sync, G: Gate, W: Write>(
     ensures memory { IsErrOf result RunError.Memory →
         (writer.new ≡ writer.old) ⊎
         IsTextOfStoppedRun C.FULL (W.contents writer.old) (W.contents writer.new) }
-    ensures err { IfErr result (λ e. ¬ (status_of e ≡ 2)) }
+    ensures errors { IfErr result (λ e. ¬ (status_of e ≡ 2)) }
 {
     let agents = plan.agents();
     let Ok(outcome) = run_agents::<C, G, T>(rt, alloc, gate, plan, scripts) else {
@@ -93,7 +92,7 @@ fn write_logs<W: Write>(writer: &mut W, agents: u32, logs: &[AgentLog]) -> Resul
     requires { length logs.now ≡ agents }
     ensures text { OnOk result (Appends (W.contents writer.old) (W.contents writer.new)
         (logs_text 1 logs.now)) }
-    ensures err { IfErr result (λ e. e ≡ RunError.Write) }
+    ensures errors { IfErr result (λ e. e ≡ RunError.Write) }
 {
     'logs: for i in 0..agents {
         let Ok(()) = write_script_lines(writer, i + 1, &logs[i as usize].lines) else {
@@ -106,7 +105,7 @@ fn write_logs<W: Write>(writer: &mut W, agents: u32, logs: &[AgentLog]) -> Resul
 /// What is to be said in the end: that memory was refused, or else that a limit was met.
 fn verdict(outcome: &Outcome) -> Result<(), RunError>
     ensures ok { OnOk result (All (λ log. log.stopped ≡ None) outcome.now.logs.items) }
-    ensures err { IfErr result (λ e. ¬ (status_of e ≡ 2)) }
+    ensures errors { IfErr result (λ e. ¬ (status_of e ≡ 2)) }
 {
     if outcome.memory || any_stopped(&outcome.logs, Stop::Memory) {
         return Err(RunError::Memory);

@@ -1,13 +1,14 @@
 -- What a session holds.
-use Rattle.std.specs.Prelude.{◌≡◌, ℕ, List, length, map}
+use Rattle.std.specs.Prelude.{◌≡◌, ℕ, List, length}
+use Rattle.scmi_ends.specs.declared.link.Link.{Link}
 use Rattle.scmi_ends.specs.AgentView.{AgentView}
-use Rattle.scmi_ends.specs.ControllerView.{ControllerView, IsOfLinks}
+use Rattle.scmi_ends.specs.ControllerView.{ControllerView}
+use Rattle.scmi_ends.specs.Links.{HasLinks, AreEndsOf}
 
--- the platform's ends and the agents' ends are those of the channels with these names, in order, and each agent of the board has its ends
-pub record BelongTogether (a2p_names p2a_names : List (List ℕ)) (platform : ControllerView) (agents : List AgentView) : Type 0 where
-  pub platform_ends : IsOfLinks a2p_names p2a_names platform
-  pub a2p : map (λ agent. agent.a2p_name) agents ≡ a2p_names
-  pub p2a : map (λ agent. agent.p2a_name) agents ≡ p2a_names
+-- the platform's ends and the agents' are those of the links, in order, and each agent of the board has its ends
+pub record BelongTogether {C Caller Callee Rest : Type 0} (name : C → List ℕ) (links : List (Link C Caller Callee Rest)) (platform : ControllerView) (agents : List AgentView) : Type 0 where
+  pub platform_ends : HasLinks name links platform
+  pub agents_ends : AreEndsOf name links agents
   pub count : length agents ≡ length platform.board.agents
 
 -- an agent's end is still of the same channels

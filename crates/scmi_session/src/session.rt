@@ -20,18 +20,14 @@ pub struct Session<C: Channel> {
 }
 
 impl<C: Channel> Model for Session<C> {
-    ghost use Rattle.std.specs.Prelude.{ℕ, length, map};
+    ghost use Rattle.std.specs.Prelude.{ℕ, length};
     ghost use Rattle.scmi_session.specs.Session.{BelongTogether};
 
     ghost Value = { ℕ };
 
     ghost view = { λ s. length s.agents.items };
 
-    ghost invariant = { λ s. BelongTogether
-        (map (λ l. C.name l.a2p) s.links.items)
-        (map (λ l. C.name l.p2a) s.links.items)
-        s.controller
-        s.agents.items };
+    ghost invariant = { λ s. BelongTogether C.name s.links.items s.controller s.agents.items };
 }
 
 impl<C: Channel> Session<C> {

@@ -1,6 +1,6 @@
 //! The order to call.
 ghost use Rattle.std.specs.Prelude.{◌≡◌, ◌<◌, ◌++◌, ◌∷◌, [], false, length, vec_len, vec_capacity, IfOk, IfErr, OnOk, OnErr};
-ghost use Rattle.scmi_link.specs.View.{is_shut};
+ghost use Rattle.scmi_link.specs.View.{knows_close};
 ghost use Rattle.scmi_threads.specs.Lines.{IsOfCall, answer_line};
 ghost use Rattle.scmi_threads.specs.Orders.{ending};
 
@@ -36,7 +36,7 @@ fn ending_of(line: &Line) -> Result<(), Stop>
 
 impl<'a, C: Channel> Seat<'a, C> {
     ghost use Rattle.std.specs.Prelude.{◌≡◌, ◌<◌, ◌++◌, ◌∷◌, [], false, length, vec_len, vec_capacity, IfOk, IfErr, OnOk, OnErr};
-    ghost use Rattle.scmi_link.specs.View.{is_shut};
+    ghost use Rattle.scmi_link.specs.View.{knows_close};
     ghost use Rattle.scmi_threads.specs.Lines.{IsOfCall};
     ghost use Rattle.scmi_threads.specs.Logs.{IsSameLog};
     ghost use Rattle.scmi_threads.specs.Orders.{HasAsked, HasAwaited, HasDone, IsAtRest, IsUndisturbed, LeavesRest, stop_of};
@@ -99,7 +99,7 @@ impl<'a, C: Channel> Seat<'a, C> {
     fn post_command(&mut self, protocol: u8, id: u8, payload: &Payload) -> Result<(), PostError>
         requires { vec_len self.old.log.posted < vec_capacity self.old.log.posted }
         ensures ran { HasRun self.old self.new }
-        ensures unshut { OnOk result (self.new.end.caller.closed ≡ false) }
+        ensures unclosed { OnOk result (self.new.end.caller.closed ≡ false) }
         ensures same { (self.new.log.read ≡ self.old.log.read) ×
             (self.new.log.lines ≡ self.old.log.lines) }
         ensures posted { OnOk result
@@ -130,7 +130,7 @@ impl<'a, C: Channel> Seat<'a, C> {
     #[tactic(auto, using(crate::proofs::ClosesLemmas::has_waited))]
     fn await_reply<R: Wait>(&mut self, rt: &R) -> Line
         requires room { vec_len self.old.log.read < vec_capacity self.old.log.read }
-        requires unshut { self.old.end.caller.closed ≡ false }
+        requires unclosed { self.old.end.caller.closed ≡ false }
         ensures ran { HasRun self.old self.new }
         ensures lines { self.new.log.lines ≡ self.old.log.lines }
         ensures of_call { IsOfCall result }

@@ -18,7 +18,7 @@ use Rattle.scmi_words.specs.Area.{Begins, IsLawful, IsLawfulAnswer, frame_words,
 use Rattle.scmi_words.specs.StatusWord.{Mark, status_word, answer_mark, settled_mark}
 use Rattle.scmi_words.specs.Mailbox.{Rule, Kept, Stage, IsTaken, idle, posted, taken, answered, withdrawn}
 use Rattle.scmi_words.specs.View.{with_callee, callee_or}
-use Rattle.scmi_words.specs.CalleeSteps.{callee_answered, callee_closed, IsOwing, answers, shuts}
+use Rattle.scmi_words.specs.CalleeSteps.{callee_answered, callee_closed, IsOwing, answers, closes}
 use Rattle.scmi_words.proofs.TableWords.{begins_after_status, narrow_status}
 use Rattle.scmi_words.proofs.Status.{or_closed}
 use Rattle.scmi_words.specs.declared.status_word.TheConstants.{CLOSED, TAKEN}
@@ -150,8 +150,8 @@ module _ (words : List ℕ) (c : CallerState) (k : CalleeState) (wide : length w
     lawful = x.lawful;
   }
 
-pub shuts_allowed : (slots id : ℕ) (me : M) (h : CalleeHalf) → me.0.callee ≡ Some h → (IsOwing h → ⊥) → Allows Kept slots id me 0 (λ n. bit_or n CLOSED) (shuts (step slots 0 CLOSED 0 none) me)
-shuts_allowed slots id me h is done s r _ at _ =
+pub closes_allowed : (slots id : ℕ) (me : M) (h : CalleeHalf) → me.0.callee ≡ Some h → (IsOwing h → ⊥) → Allows Kept slots id me 0 (λ n. bit_or n CLOSED) (closes (step slots 0 CLOSED 0 none) me)
+closes_allowed slots id me h is done s r _ at _ =
     let c = r.caller in let rule = callee_known s r id me.0 h at is in let n : ℕ = get_or s.words 0 0 in let a : ℕ = bit_or n CLOSED in let h' = callee_closed h (length c.state.posted) in (
       with_callee me.0 h',
       keeps,

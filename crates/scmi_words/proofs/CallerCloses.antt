@@ -15,7 +15,7 @@ use Rattle.scmi_words.specs.Area.{frame_words}
 use Rattle.scmi_words.specs.StatusWord.{Mark, status_word, settled_mark}
 use Rattle.scmi_words.specs.Mailbox.{Rule, Kept, Stage, IsPosted, IsTaken, IsAnswered, idle, posted, taken, answered, withdrawn}
 use Rattle.scmi_words.specs.View.{with_caller, caller_or}
-use Rattle.scmi_words.specs.CallerSteps.{caller_closed, caller_withdrew, caller_saw_taken, caller_saw_answered, caller_stranded, Refuses, withdraws, shuts}
+use Rattle.scmi_words.specs.CallerSteps.{caller_closed, caller_withdrew, caller_saw_taken, caller_saw_answered, caller_stranded, Refuses, withdraws, closes}
 use Rattle.scmi_words.proofs.TableWords.{begins_after_status, narrow_status}
 use Rattle.scmi_words.proofs.Status.{or_closed, answer_odd, not_taken_zero, not_settled_zero}
 use Rattle.scmi_words.specs.declared.status_word.TheConstants.{CLOSED, FREE, TAKEN}
@@ -67,9 +67,9 @@ close_stage words c k wide (withdrawn x) p = let a : ℕ = bit_or (get_or words 
   lawful = x.lawful;
 }
 
-pub plain_shuts : (slots id : ℕ) (me : M) (h : CallerHalf) → me.0.caller ≡ Some h → (h.state.phase ≡ Waiting → ⊥)
-    → Allows Kept slots id me 0 (λ n. bit_or n CLOSED) (shuts (step slots 0 CLOSED 0 none) me)
-plain_shuts slots id me h is p s r _ at _ =
+pub plain_closes : (slots id : ℕ) (me : M) (h : CallerHalf) → me.0.caller ≡ Some h → (h.state.phase ≡ Waiting → ⊥)
+    → Allows Kept slots id me 0 (λ n. bit_or n CLOSED) (closes (step slots 0 CLOSED 0 none) me)
+plain_closes slots id me h is p s r _ at _ =
     let k = r.callee in let rule = caller_known s r id me.0 h at is in let n : ℕ = get_or s.words 0 0 in let a : ℕ = bit_or n CLOSED in let h' = caller_closed h (length k.state.taken) in (
       with_caller me.0 h',
       keeps,
@@ -121,9 +121,9 @@ withdraw_keeps words h k r x = let wide = r.wide in record {
   shown = r.shown;
 }
 
-pub freeing_shuts : (slots id : ℕ) (me : M) (h : CallerHalf) → me.0.caller ≡ Some h → h.state.phase ≡ Stranded
-    → Allows Kept slots id me 0 (λ n. bit_or n (CLOSED + FREE)) (shuts (step slots 0 (CLOSED + FREE) 0 none) me)
-freeing_shuts slots id me h is p s r _ at _ =
+pub freeing_closes : (slots id : ℕ) (me : M) (h : CallerHalf) → me.0.caller ≡ Some h → h.state.phase ≡ Stranded
+    → Allows Kept slots id me 0 (λ n. bit_or n (CLOSED + FREE)) (closes (step slots 0 (CLOSED + FREE) 0 none) me)
+freeing_closes slots id me h is p s r _ at _ =
     let k = r.callee in let rule = caller_known s r id me.0 h at is in let n : ℕ = get_or s.words 0 0 in let x = strands s.words h.state k.state rule.stage p in let h' = caller_withdrew h (length k.state.taken) in
     let found : n ≡ CLOSED = x.status ∙ ap (status_word Mark.posted) (x.gone (λ w. let f : Stranded ≡ Waiting = sym p ∙ w in cc)) in
     let bits : bit_or n (CLOSED + FREE) ≡ (CLOSED + FREE) = ap (λ (z : ℕ). bit_or z (CLOSED + FREE)) found in (
@@ -134,11 +134,11 @@ freeing_shuts slots id me h is p s r _ at _ =
       λ g e. (h', refl, (length k.state.taken, ap (λ (z : CallerHalf). caller_withdrew z (length k.state.taken)) (ap caller_or (sym is ∙ e)))),
     )
 
-pub shuts_allowed : (slots id : ℕ) (me : M) (h : CallerHalf) (bits : ℕ) → me.0.caller ≡ Some h → ((bits ≡ CLOSED) × (h.state.phase ≢ Waiting)) ⊎ ((bits ≡ (CLOSED + FREE)) × (h.state.phase ≡ Stranded))
-    → Allows Kept slots id me 0 (λ n. bit_or n bits) (shuts (step slots 0 bits 0 none) me)
-shuts_allowed slots id me h bits is why = ⊎_elim
-    (λ (t : (bits ≡ CLOSED) × (h.state.phase ≢ Waiting)). subst (λ (b : ℕ). Allows Kept slots id me 0 (λ n. bit_or n b) (shuts (step slots 0 b 0 none) me)) (sym t.0) (plain_shuts slots id me h is t.1))
-    (λ (t : (bits ≡ (CLOSED + FREE)) × (h.state.phase ≡ Stranded)). subst (λ (b : ℕ). Allows Kept slots id me 0 (λ n. bit_or n b) (shuts (step slots 0 b 0 none) me)) (sym t.0) (freeing_shuts slots id me h is t.1)) why
+pub closes_allowed : (slots id : ℕ) (me : M) (h : CallerHalf) (bits : ℕ) → me.0.caller ≡ Some h → ((bits ≡ CLOSED) × (h.state.phase ≢ Waiting)) ⊎ ((bits ≡ (CLOSED + FREE)) × (h.state.phase ≡ Stranded))
+    → Allows Kept slots id me 0 (λ n. bit_or n bits) (closes (step slots 0 bits 0 none) me)
+closes_allowed slots id me h bits is why = ⊎_elim
+    (λ (t : (bits ≡ CLOSED) × (h.state.phase ≢ Waiting)). subst (λ (b : ℕ). Allows Kept slots id me 0 (λ n. bit_or n b) (closes (step slots 0 b 0 none) me)) (sym t.0) (plain_closes slots id me h is t.1))
+    (λ (t : (bits ≡ (CLOSED + FREE)) × (h.state.phase ≡ Stranded)). subst (λ (b : ℕ). Allows Kept slots id me 0 (λ n. bit_or n b) (closes (step slots 0 b 0 none) me)) (sym t.0) (freeing_closes slots id me h is t.1)) why
 
 -- an exchange that withdraws
 module _ (words : List ℕ) (h : CallerHalf) (k : CalleeHalf) (waits : h.state.phase ≡ Waiting) where

@@ -41,14 +41,14 @@ not_left : (p q : Phase) → p ≡ q → is_left q ≡ false → is_left p ≡ t
 not_left p q e f l = false≢true (sym f ∙ (ap is_left (sym e) ∙ l))
 
 module _ (words : List ℕ) (h : CallerHalf) (k : CalleeHalf) (n m : ℕ) (rule : Rule words h k) (settled : is_stranded h.state.phase ≡ false) where
-  pub shuts : Stage words h.state k.state → Closed (seen_caller h h.state.phase n) (seen_callee k m)
-  shuts (idle x) = record {
+  pub closed_stage : Stage words h.state k.state → Closed (seen_caller h h.state.phase n) (seen_callee k m)
+  closed_stage (idle x) = record {
     left = λ l. absurd (not_left _ Idle x.phase refl l);
     idle = λ _ _. (x.taken, x.read);
     caller_told = rule.caller_told;
     callee_told = rule.callee_told;
   }
-  shuts (posted x) = record {
+  closed_stage (posted x) = record {
     left = λ _. ((x.frame, x.taken), x.read);
     idle = λ c l. absurd (⊎_elim
         (λ (e : h.state.phase ≡ Waiting). true≢false (sym c ∙ x.unclosed e))
@@ -56,19 +56,19 @@ module _ (words : List ℕ) (h : CallerHalf) (k : CalleeHalf) (n m : ℕ) (rule 
     caller_told = rule.caller_told;
     callee_told = rule.callee_told;
   }
-  shuts (taken x) = record {
+  closed_stage (taken x) = record {
     left = λ l. absurd (not_left _ Waiting x.phase refl l);
     idle = λ c _. absurd (true≢false (sym c ∙ x.unclosed.0));
     caller_told = rule.caller_told;
     callee_told = rule.callee_told;
   }
-  shuts (answered x) = record {
+  closed_stage (answered x) = record {
     left = λ l. absurd (not_left _ Waiting x.phase refl l);
     idle = λ c _. absurd (true≢false (sym c ∙ x.unclosed));
     caller_told = rule.caller_told;
     callee_told = rule.callee_told;
   }
-  shuts (withdrawn x) = record {
+  closed_stage (withdrawn x) = record {
     left = λ _. ((x.frame, x.taken), x.read);
     idle = λ _ l. absurd (true≢false (sym (ap is_left x.phase) ∙ l));
     caller_told = rule.caller_told;
@@ -96,5 +96,5 @@ module _ (words : List ℕ) (h : CallerHalf) (k : CalleeHalf) (now : Phase) (fre
   pub agree : Agree caller callee
   agree = subst (λ (z : CallerView × CalleeView). Agree z.0 z.1) (λ i. (caller_is i, callee_is i)) (agrees words h k n m few rule.stage)
 
-  pub shut : Closed caller callee
-  shut = subst (λ (z : CallerView × CalleeView). Closed z.0 z.1) (λ i. (caller_is i, callee_is i)) (shuts words h k n m rule (ap is_stranded (sym mine.phase) ∙ mine.settled) rule.stage)
+  pub closed_ends : Closed caller callee
+  closed_ends = subst (λ (z : CallerView × CalleeView). Closed z.0 z.1) (λ i. (caller_is i, callee_is i)) (closed_stage words h k n m rule (ap is_stranded (sym mine.phase) ∙ mine.settled) rule.stage)

@@ -78,5 +78,5 @@ abbrev pub answers : At → Sat → ℕ → Sat → Type 0
 answers step before found after = Turns before after (λ half half'. half' ≡ callee_answered half (answer_of step.second half.state.draft))
 
 -- a close by an or of the closed mark
-abbrev pub shuts : At → Sat → ℕ → Sat → Type 0
-shuts step before found after = Turns before after (λ half half'. (p : ℕ) × (half' ≡ callee_closed half p))
+abbrev pub closes : At → Sat → ℕ → Sat → Type 0
+closes step before found after = Turns before after (λ half half'. (p : ℕ) × (half' ≡ callee_closed half p))

@@ -70,8 +70,8 @@ abbrev pub caller_withdrew : CallerHalf → ℕ → CallerHalf
 caller_withdrew half t = record half { state = record half.state { phase = Withdrawn; closed = true }; final_posted = length half.state.posted; final_taken = t; steps = half.steps + 1 }
 
 -- the half after a close by an or of these bits: with the free bit it withdraws
-abbrev pub shut_by : CallerHalf → ℕ → ℕ → CallerHalf
-shut_by half bits t = cond (bits == CLOSED) (caller_closed half t) (caller_withdrew half t)
+abbrev pub closed_by : CallerHalf → ℕ → ℕ → CallerHalf
+closed_by half bits t = cond (bits == CLOSED) (caller_closed half t) (caller_withdrew half t)
 
 -- the half after a close that was refused as the last post was taken
 abbrev pub caller_saw_taken : CallerHalf → CallerHalf
@@ -125,8 +125,8 @@ reads step before found after = Turns before after (λ half half'. (half' ≡ ca
     × ((i : ℕ) → step.word ≡ LENGTH + i → i < length (answer_area half) → found ≡ slice_index (answer_area half) i))
 
 -- a close by an or of bits
-abbrev pub shuts : At → Sat → ℕ → Sat → Type 0
-shuts step before found after = Turns before after (λ half half'. (t : ℕ) × (half' ≡ shut_by half step.first t))
+abbrev pub closes : At → Sat → ℕ → Sat → Type 0
+closes step before found after = Turns before after (λ half half'. (t : ℕ) × (half' ≡ closed_by half step.first t))
 
 -- an exchange that withdraws the post where it finds it posted
 abbrev pub withdraws : At → Sat → ℕ → Sat → Type 0

@@ -9,9 +9,9 @@ use Rattle.scmi_words.specs.Phase.{is_left, is_stranded, unread}
 use Rattle.scmi_words.specs.StatusWord.{status_word, settled_mark}
 
 -- what the caller's end remembers: its phase, the status of the last answer, whether it closed and whether it was told
-pub record CallerRemembers (h : CallerHalf) (now : Phase) (status : ℕ) (shut known : Bool) : Type 0 where
+pub record CallerRemembers (h : CallerHalf) (now : Phase) (status : ℕ) (own known : Bool) : Type 0 where
   pub phase : now ≡ h.state.phase
-  pub closed : shut ≡ h.state.closed
+  pub closed : own ≡ h.state.closed
   pub told : known ≡ h.told
   pub free : status ≡ status_word (settled_mark (last_or None h.state.read)) false
   -- a draft is left by a refused post alone
@@ -20,11 +20,11 @@ pub record CallerRemembers (h : CallerHalf) (now : Phase) (status : ℕ) (shut k
   pub settled : is_stranded now ≡ false
   pub counted : length h.state.posted ≡ length h.state.read + unread now
   -- a post is withdrawn or given up by a close, or where the callee's is known
-  pub gone : is_left now ≡ true → (shut || known) ≡ true
+  pub gone : is_left now ≡ true → (own || known) ≡ true
 
 -- what the callee's end remembers: whether it owes, whether it closed and whether it was told
-pub record CalleeRemembers (h : CalleeHalf) (owing shut known : Bool) : Type 0 where
+pub record CalleeRemembers (h : CalleeHalf) (owing own known : Bool) : Type 0 where
   pub owes : owing ≡ true → IsOwing h × (h.state.draft ≡ [])
   pub done : owing ≡ false → (length h.state.taken ≡ length h.state.answered) × (h.state.draft ≡ [])
-  pub closed : shut ≡ h.state.closed
+  pub closed : own ≡ h.state.closed
   pub told : known ≡ h.told

@@ -1,7 +1,7 @@
 -- What a contract sees of the callee's end of a word channel.
 use Rattle.std.specs.Prelude.{◌≡◌, ◌≢◌, ◌⊎◌, ℕ, ◌+◌, true, List, Option, Some, None}
 use Rattle.scmi_codec.specs.declared.frame.Frame.{Frame}
-use Rattle.scmi_link.specs.View.{CalleeView, Owes, is_callee_shut}
+use Rattle.scmi_link.specs.View.{CalleeView, Owes, callee_knows_close}
 use Rattle.scmi_words.specs.declared.status_word.TheConstants.{POSTED}
 use Rattle.scmi_words.specs.declared.view.CalleeHalf.{CalleeHalf}
 use Rattle.scmi_words.specs.declared.word_callee.WordCallee.{WordCallee}
@@ -44,4 +44,4 @@ pub record SawUnposted (old new : CalleeHalf) : Type 0 where
 -- why a take gives nothing: before it an answer was owed, or the end had closed or knew of the caller's close; or one look of it saw another status than posted
 abbrev pub WhyNone : WordCallee → Option Frame → WordCallee → Type 0
 WhyNone old (Some f) new = Unit {0}
-WhyNone old None new = Owes (word_callee_view old) ⊎ ((is_callee_shut (word_callee_view old) ≡ true) ⊎ SawUnposted (callee_half old) (callee_half new))
+WhyNone old None new = Owes (word_callee_view old) ⊎ ((callee_knows_close (word_callee_view old) ≡ true) ⊎ SawUnposted (callee_half old) (callee_half new))

@@ -156,7 +156,7 @@ pub fn read_frame(table: &SharedTable, seat: &mut TableSeat, frame: &mut Frame)
     let length = load_frame_word(table, seat, LENGTH);
     let header = load_frame_word(table, seat, HEADER);
     if !is_well_formed(length) {
-        set_malformed(frame, length, header);
+        frame.set_malformed(length, header);
         return;
     }
     let count = (length / 4 - 1) as usize;
@@ -164,14 +164,6 @@ pub fn read_frame(table: &SharedTable, seat: &mut TableSeat, frame: &mut Frame)
         Frame::Good(message) => read_message(table, seat, header, count, message),
         Frame::Malformed { .. } => read_new_message(table, seat, header, count, frame),
     }
-}
-
-/// Makes a frame one that is malformed, which is not a local of `read_frame`.
-#[inline(never)]
-fn set_malformed(frame: &mut Frame, length: u32, header: u32)
-    ensures { frame.new ≡ Malformed length header }
-{
-    *frame = Frame::Malformed { length, header };
 }
 
 /// Loads the payload of the frame that the callee took, into a new message of this header word, which is

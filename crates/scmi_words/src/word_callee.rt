@@ -4,7 +4,7 @@ ghost use Rattle.scmi_words.specs.View.{HasCallee, callee_of};
 ghost use Rattle.scmi_words.specs.Remembers.{CalleeRemembers};
 
 use crate::frames::{read_frame, write_response};
-use crate::shared_table::callee_steps::{hand_back, shut_callee, take_over};
+use crate::shared_table::callee_steps::{hand_back, set_callee_closed, take_over};
 use crate::shared_table::{SharedTable, TableSeat};
 use crate::status_word::{CHANNEL_ERROR, FREE, POSTED, RELEASED, told_after};
 use scmi_codec::{Answer, Frame, Message};
@@ -112,7 +112,7 @@ impl WordCallee {
             return Err(CloseError::InService);
         }
         if !self.closed {
-            shut_callee(table, &mut self.seat);
+            set_callee_closed(table, &mut self.seat);
             self.closed = true;
         }
         Ok(())

@@ -5,7 +5,9 @@ ghost use Rattle.scmi_words.specs.Remembers.{CallerRemembers};
 use crate::frames::{read_answer, write_command};
 use crate::layout::{HEADER, LENGTH};
 use crate::phase::Phase;
-use crate::shared_table::caller_steps::{hand_over, look, shut_caller, store_frame_word, withdraw};
+use crate::shared_table::caller_steps::{
+    hand_over, look, set_caller_closed, store_frame_word, withdraw,
+};
 use crate::shared_table::{SharedTable, TableSeat};
 use crate::status_word::{CLOSED, FREE, POSTED, TAKEN, is_free, told_after, without_closed};
 use scmi_codec::{Answer, Header, Payload, is_well_formed};
@@ -30,7 +32,7 @@ impl WordCaller {
     ghost use Rattle.scmi_codec.specs.Area.{is_well_formed};
     ghost use Rattle.scmi_codec.specs.declared.frame.Frame.TheVariants.{Good, Malformed};
     ghost use Rattle.scmi_codec.specs.declared.message.Message.{Message};
-    ghost use Rattle.scmi_link.specs.View.{IsOutstanding, is_shut};
+    ghost use Rattle.scmi_link.specs.View.{IsOutstanding, knows_close};
     ghost use Rattle.scmi_link.specs.Calls.{Posts, Collects, ClosesCaller, collected_by};
     ghost use Rattle.scmi_words.specs.declared.phase.Phase.TheVariants.{Idle, Waiting};
     ghost use Rattle.scmi_words.specs.SharedTable.{IsSeatAt};
@@ -50,7 +52,7 @@ impl WordCaller {
         ensures never_full { result ≢ Err PostError.Full }
         ensures withdrawn_stays { IsWithdrawn self.old → IsWithdrawn self.new }
         ensures draft { HasNoDraft self.old →
-            (result ≡ Err PostError.Closed → is_shut (word_caller_view self.old) ≡ true) →
+            (result ≡ Err PostError.Closed → knows_close (word_caller_view self.old) ≡ true) →
             HasNoDraft self.new }
         ensures steps { (caller_half self.new).steps ≤ (caller_half self.old).steps +
             (length payload.now.items + 4) }
@@ -83,7 +85,7 @@ impl WordCaller {
         ensures never_full { result ≢ Err PostError.Full }
         ensures withdrawn_stays { IsWithdrawn self.old → IsWithdrawn self.new }
         ensures draft { HasNoDraft self.old →
-            (result ≡ Err PostError.Closed → is_shut (word_caller_view self.old) ≡ true) →
+            (result ≡ Err PostError.Closed → knows_close (word_caller_view self.old) ≡ true) →
             HasNoDraft self.new }
         ensures steps { (caller_half self.new).steps ≤ (caller_half self.old).steps + 4 }
     {
@@ -109,7 +111,7 @@ impl WordCaller {
         ensures outstanding { (result ≡ Err PostError.Outstanding) ↔
             IsOutstanding (word_caller_view self.now) }
         ensures closed { result ≡ Err PostError.Closed →
-            is_shut (word_caller_view self.now) ≡ true }
+            knows_close (word_caller_view self.now) ≡ true }
         ensures never { (result ≢ Err PostError.Full) × (result ≢ Err PostError.WellFormed) }
     {
         match self.phase {
@@ -137,7 +139,7 @@ impl WordCaller {
         ensures collects { Collects (word_caller_view self.old) (collected_by result answer.new)
             (word_caller_view self.new) }
         ensures stays { ¬ (result ≡ Looked.Got) → answer.new ≡ answer.old }
-        ensures shut { is_shut (word_caller_view self.old) ≡ true →
+        ensures known { knows_close (word_caller_view self.old) ≡ true →
             ¬ IsOutstanding (word_caller_view self.old) → result ≡ Looked.Closed }
         ensures nothing { WhyNothing self.old (collected_by result answer.new) self.new }
         ensures withdrawn_stays { IsWithdrawn self.old → IsWithdrawn self.new }
@@ -176,7 +178,7 @@ impl WordCaller {
         ensures seat { IsSameCaller self.old self.new }
         ensures collects { Collects (word_caller_view self.old)
             (cond result Collected.Closed Collected.Nothing) (word_caller_view self.new) }
-        ensures shut { is_shut (word_caller_view self.old) ≡ true → result ≡ true }
+        ensures known { knows_close (word_caller_view self.old) ≡ true → result ≡ true }
         ensures nothing { WhyNothing self.old
             (cond result Collected.Closed Collected.Nothing) self.new }
         ensures withdrawn_stays { IsWithdrawn self.old → IsWithdrawn self.new }
@@ -205,7 +207,7 @@ impl WordCaller {
     {
         let Phase::Waiting = self.phase else {
             if !self.closed {
-                shut_caller(table, &mut self.seat, CLOSED);
+                set_caller_closed(table, &mut self.seat, CLOSED);
                 self.closed = true;
             }
             return Ok(Closing::Idle);
@@ -218,7 +220,7 @@ impl WordCaller {
             return Err(CloseError::ReplyWaiting);
         }
         if found != POSTED {
-            shut_caller(table, &mut self.seat, CLOSED + FREE);
+            set_caller_closed(table, &mut self.seat, CLOSED + FREE);
         }
         self.phase = Phase::Withdrawn;
         self.closed = true;

@@ -66,7 +66,7 @@ impl Channel for WordChannel {
     ghost use Rattle.scmi_codec.specs.declared.frame.Frame.TheVariants.{Good, Malformed};
     ghost use Rattle.scmi_codec.specs.declared.frame.Answer.TheVariants.{Reply};
     ghost use Rattle.scmi_codec.specs.declared.message.Message.{Message};
-    ghost use Rattle.scmi_link.specs.View.{IsOutstanding, Owes, is_shut, new_caller, new_callee};
+    ghost use Rattle.scmi_link.specs.View.{IsOutstanding, Owes, knows_close, new_caller, new_callee};
     ghost use Rattle.scmi_link.specs.Calls.{Posts, Collects, Takes, ClosesCaller, ClosesCallee, frame_if, collected_by};
     ghost use Rattle.scmi_link.specs.Gathered.{Agree, Closed};
     ghost use Rattle.scmi_words.specs.Area.{answer_size};
@@ -138,7 +138,7 @@ impl Channel for WordChannel {
         ensures never_full { result ≢ Err PostError.Full }
         ensures withdrawn_stays { IsWithdrawn caller.old → IsWithdrawn caller.new }
         ensures draft { HasNoDraft caller.old →
-            (result ≡ Err PostError.Closed → is_shut (word_caller_view caller.old) ≡ true) →
+            (result ≡ Err PostError.Closed → knows_close (word_caller_view caller.old) ≡ true) →
             HasNoDraft caller.new }
         ensures steps { (caller_half caller.new).steps ≤ (caller_half caller.old).steps +
             (length payload.now.items + 4) }
@@ -162,7 +162,7 @@ impl Channel for WordChannel {
         ensures never_full { result ≢ Err PostError.Full }
         ensures withdrawn_stays { IsWithdrawn caller.old → IsWithdrawn caller.new }
         ensures draft { HasNoDraft caller.old →
-            (result ≡ Err PostError.Closed → is_shut (word_caller_view caller.old) ≡ true) →
+            (result ≡ Err PostError.Closed → knows_close (word_caller_view caller.old) ≡ true) →
             HasNoDraft caller.new }
         ensures steps { (caller_half caller.new).steps ≤ (caller_half caller.old).steps + 4 }
     {
@@ -179,7 +179,7 @@ impl Channel for WordChannel {
         ensures collects { Collects (word_caller_view caller.old) (collected_by result answer.new)
             (word_caller_view caller.new) }
         ensures stays { ¬ (result ≡ Looked.Got) → answer.new ≡ answer.old }
-        ensures shut { is_shut (word_caller_view caller.old) ≡ true →
+        ensures known { knows_close (word_caller_view caller.old) ≡ true →
             ¬ IsOutstanding (word_caller_view caller.old) → result ≡ Looked.Closed }
         ensures nothing { WhyNothing caller.old (collected_by result answer.new) caller.new }
         ensures withdrawn_stays { IsWithdrawn caller.old → IsWithdrawn caller.new }

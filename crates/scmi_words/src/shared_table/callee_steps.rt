@@ -104,13 +104,13 @@ pub fn hand_back(table: &SharedTable, seat: &mut TableSeat, status: u64)
 struct Shuts;
 
 impl Play<(), View> for Shuts {
-    ghost use Rattle.scmi_words.specs.CalleeSteps.{shuts};
+    ghost use Rattle.scmi_words.specs.CalleeSteps.{closes};
 
-    ghost then = { shuts };
+    ghost then = { closes };
 }
 
 /// The callee closes, by an or of the closed mark: nothing is learnt.
-pub fn shut_callee(table: &SharedTable, seat: &mut TableSeat) -> u64
+pub fn set_callee_closed(table: &SharedTable, seat: &mut TableSeat) -> u64
     requires table { IsSeatAt table.now seat.old }
     requires half { HasCallee seat.old × ¬ IsOwing (callee_of seat.old) }
     ensures { (p : ℕ) × CalleeBecomes seat.old (callee_closed (callee_of seat.old) p) seat.new }

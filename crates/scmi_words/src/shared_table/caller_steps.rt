@@ -10,7 +10,7 @@ ghost use Rattle.scmi_words.specs.Area.{IsLawful, frame_words};
 ghost use Rattle.scmi_words.specs.StatusWord.{status_word, settled_mark};
 ghost use Rattle.scmi_words.specs.View.{HasCaller, CallerBecomes, caller_of};
 ghost use Rattle.scmi_words.specs.SharedTable.{IsSeatAt};
-ghost use Rattle.scmi_words.specs.CallerSteps.{caller_after, caller_stored, caller_posted, caller_refused, caller_looked, caller_withdrew, shut_by, Refuses, Sees, answer_area};
+ghost use Rattle.scmi_words.specs.CallerSteps.{caller_after, caller_stored, caller_posted, caller_refused, caller_looked, caller_withdrew, closed_by, Refuses, Sees, answer_area};
 
 use crate::layout::STATUS;
 use crate::shared_table::{SharedTable, TableSeat};
@@ -111,19 +111,19 @@ pub fn load_answer_word(table: &SharedTable, seat: &mut TableSeat, word: usize) 
 struct Shuts;
 
 impl Play<(), View> for Shuts {
-    ghost use Rattle.scmi_words.specs.CallerSteps.{shuts};
+    ghost use Rattle.scmi_words.specs.CallerSteps.{closes};
 
-    ghost then = { shuts };
+    ghost then = { closes };
 }
 
 /// The caller closes, by an or of the closed mark; of the free bit too, where its post is outstanding
 /// and the callee has closed, which withdraws the post.
-pub fn shut_caller(table: &SharedTable, seat: &mut TableSeat, bits: u64) -> u64
+pub fn set_caller_closed(table: &SharedTable, seat: &mut TableSeat, bits: u64) -> u64
     requires table { IsSeatAt table.now seat.old }
     requires half { HasCaller seat.old }
     requires bits { ((bits ≡ CLOSED) × ((caller_of seat.old).state.phase ≢ Waiting)) ⊎
         ((bits ≡ CLOSED + FREE) × ((caller_of seat.old).state.phase ≡ Stranded)) }
-    ensures { (t : ℕ) × CallerBecomes seat.old (shut_by (caller_of seat.old) bits t) seat.new }
+    ensures { (t : ℕ) × CallerBecomes seat.old (closed_by (caller_of seat.old) bits t) seat.new }
 {
     let words = &table.words.shared;
     words.fetch_or::<Shuts>(seat, STATUS, bits)

@@ -24,8 +24,8 @@ returns-clause-stands c =
     (rw c.as_slice-words.ensures.value at c.as_slice-words.ensures.fits) (rw c.as_slice-words.ensures.value at c.write_payload.ensures.words)
     c.ranges.status.fits c.ranges.header.fits refl)
 
-pub returns-clause-kept : goal.returns-clause-kept
-returns-clause-kept c =
+pub returns-clause-rest : goal.returns-clause-rest
+returns-clause-rest c =
     let words = c.args.payload.now.items in
     let e : c.write_word-3.new.bytes ≡ replied c.args.area.now c.args.status c.args.header words =
     rw (c.write_word-3.ensures, c.write_payload.ensures.written, c.write_word-2.ensures, c.write_word.ensures, c.as_slice-words.ensures.value) refl in

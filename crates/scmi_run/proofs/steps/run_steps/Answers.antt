@@ -6,12 +6,12 @@ use Rattle.scmi_run.proofs.steps.run_steps.Goals as goal
 
 pub step_through-requires-after_bounds : goal.step_through-requires-after_bounds
 step_through-requires-after_bounds g c κs within =
-    let same : length c.in_ok-plan.plan.agents ≡ c.in_ok-agents_of.field-0 = ap (λ b. length b.agents) c.in_ok-plan.ensures.ok ∙ length-map c.in_ok-board.board.agents.items string_bytes ∙ sym c.in_ok-agents_of.ensures.agents in
+    let same : length c.in_ok-plan.plan.agents ≡ c.in_ok-agent_count.field-0 = ap (λ b. length b.agents) c.in_ok-plan.ensures.ok ∙ length-map c.in_ok-board.board.agents.items string_bytes ∙ sym c.in_ok-agent_count.ensures.agents in
     rw same c.in_ok-steps.ensures.agents
 
 pub step_through-requires-in-Words-after_bounds : goal.step_through-requires-in-Words-after_bounds
 step_through-requires-in-Words-after_bounds g c κs within =
-    let same : length c.in_ok-plan.plan.agents ≡ c.in_ok-agents_of.field-0 = ap (λ b. length b.agents) c.in_ok-plan.ensures.ok ∙ length-map c.in_ok-board.board.agents.items string_bytes ∙ sym c.in_ok-agents_of.ensures.agents in
+    let same : length c.in_ok-plan.plan.agents ≡ c.in_ok-agent_count.field-0 = ap (λ b. length b.agents) c.in_ok-plan.ensures.ok ∙ length-map c.in_ok-board.board.agents.items string_bytes ∙ sym c.in_ok-agent_count.ensures.agents in
     rw same c.in_ok-steps.ensures.agents
 
 pub returns-in_err-bytes-clause-memory : goal.returns-in_err-bytes-clause-memory

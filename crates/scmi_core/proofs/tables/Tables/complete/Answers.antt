@@ -26,7 +26,7 @@ returns-in-State c =
           c.complete.ensures.states c.complete.ensures.subscribed c.state-before.ensures
           (record { base = refl; power = refl; clocks = refl; pending = refl })
           c.respond.ensures
-          c.announce.ensures.kept
+          c.announce.ensures.rest
           (λ x lo hi. c.announce.ensures.told x lo (let count = c.agents-agents.ensures.count in omega arith));
     }
 

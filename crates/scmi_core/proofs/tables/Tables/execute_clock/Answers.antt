@@ -18,4 +18,4 @@ returns-clause-stepped c =
     law.few_clocks c.requires.first c.requires.last
     c.execute-later.ensures.later c.execute-later.ensures.rates c.execute-later.ensures.enabled
     c.execute-later.ensures.known_later (c.execute-later.ensures.known_now, c.execute-later.ensures.known_enabled)
-    c.accept_rate.ensures.kept c.accept_rate.ensures.pending
+    c.accept_rate.ensures.rest c.accept_rate.ensures.pending

@@ -20,5 +20,5 @@ returns-clause-stepped c =
     c.execute-done.ensures.changed c.execute-done.ensures.later c.execute-done.ensures.states c.execute-done.ensures.subscribed
     c.execute-done.ensures.known_now c.execute-done.ensures.known_later
     c.state_before-before.ensures
-    c.accept_state.ensures.kept c.accept_state.ensures.pending c.announce.ensures.kept
+    c.accept_state.ensures.rest c.accept_state.ensures.pending c.announce.ensures.rest
     (λ x lo hi. c.announce.ensures.told x lo (omega (arith, count)))

@@ -67,7 +67,7 @@ returns-in-Closing-clause-collects c =
     let outstanding : IsOutstanding (caller_seat_view p) = record { unread = omega (arith, p.counted, ap bit waited, ap bit stays); stays = stays } in
     record {
       told = λ i. record (caller_seat_view p) { read = read i; told = told i; left = true; collects = one_more p.collects };
-      shut = or_true p.closed;
+      known = or_true p.closed;
       given_up = λ _. refl;
       idle = λ not_outstanding. absurd (not_outstanding outstanding);
       none_outstanding = λ still. absurd (false≢true (sym still.stays));

@@ -1,6 +1,6 @@
 use Rattle.std.proofs.Common.{sym, ◌∙◌}
 use Rattle.rtrb.specs.Ring.{known_items}
-use Rattle.scmi_link.proofs.RingsAgree.{agree, shut, at_start}
+use Rattle.scmi_link.proofs.RingsAgree.{agree, closed_ends, at_start}
 use Rattle.scmi_link.proofs.RingNames.{are_beside}
 use Rattle.scmi_link.proofs.ring_channel.RingChannelChannel.gather.Goals as goal
 
@@ -24,6 +24,6 @@ returns-clause-agree c =
 
 pub returns-clause-closed : goal.returns-clause-closed
 returns-clause-closed c =
-    shut c.args.caller.seat c.args.callee.seat (known_items c.slots_beside.new.self) (known_items c.slots_beside-2.new.self)
+    closed_ends c.args.caller.seat c.args.callee.seat (known_items c.slots_beside.new.self) (known_items c.slots_beside-2.new.self)
     (at_start _ _ _ _ _ c.slots_beside.ensures.looked.1 c.slots_beside.ensures.producer.1 c.slots_beside.ensures.fifo)
     (at_start _ _ _ _ _ c.slots_beside-2.ensures.looked.1 c.slots_beside-2.ensures.producer.1 c.slots_beside-2.ensures.fifo)

@@ -10,4 +10,4 @@ returns c =
     let words = c.read_step.new.words.items in
     let steps = c.push.new.self.items in
     subst (λ before. AddsStepOf c.args.agents before (map (step_of words) steps)) c.self.view_is
-    (adds c.args.agents c.self.inside.words.items words c.self.inside.steps.items steps c.in_ok-step.step c.in_ok-step.ensures.kept c.self.invariant c.in-Ok.ensures.items c.in_ok-step.ensures.agent)
+    (adds c.args.agents c.self.inside.words.items words c.self.inside.steps.items steps c.in_ok-step.step c.in_ok-step.ensures.rest c.self.invariant c.in-Ok.ensures.items c.in_ok-step.ensures.agent)
