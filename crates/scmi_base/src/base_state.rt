@@ -1,5 +1,6 @@
 //! Which agent is allowed on which device, and for which protocol.
 ghost use Rattle.std.specs.Prelude.{◌≡◌, ◌≤◌, ◌<◌, ◌==◌, ◌&&◌, ℕ, true, if◌then◌else◌, length, IfSome};
+ghost use Rattle.scmi_plan.specs.Agent.{IsAgent};
 ghost use Rattle.scmi_plan.specs.Board.{IsOnBoard};
 ghost use Rattle.scmi_base.specs.BaseReply.{base_reply};
 ghost use Rattle.scmi_base.specs.Permission.{may, allows, protocol_of, is_scope, is_allowed, reset_after, HasPermitted};
@@ -64,7 +65,7 @@ impl BaseState {
         ensures allowed { HasPermitted (base_reply plan.now caller command) command
             self.old self.new }
         ensures reset { result ≡ reset_after (base_reply plan.now caller command) command }
-        ensures known { IfSome result (λ agent. (1 ≤ agent) × (agent ≤ AGENTS)) }
+        ensures known { IfSome result (IsAgent AGENTS) }
     {
         match command {
             BaseCommand::Version => version(reply),
@@ -188,7 +189,7 @@ impl BaseState {
             (ResetAgent agent flags) self.old self.new }
         ensures reset { result ≡ reset_after (base_reply plan.now caller (ResetAgent agent flags))
             (ResetAgent agent flags) }
-        ensures known { IfSome result (λ agent. (1 ≤ agent) × (agent ≤ AGENTS)) }
+        ensures known { IfSome result (IsAgent AGENTS) }
     {
         match check_reset(plan, caller, agent, flags) {
             Ok(permissions) => {

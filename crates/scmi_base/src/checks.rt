@@ -6,6 +6,7 @@ ghost use Rattle.scmi_base.specs.BaseReply.{base_reply, no_agent, no_device, no_
 ghost use Rattle.scmi_codec.specs.declared.base_command.BaseCommand.TheVariants.{Permit, PermitProtocol, ResetAgent};
 ghost use Rattle.scmi_codec.specs.Status.{status_word};
 ghost use Rattle.scmi_base.specs.Permission.{protocol_named};
+ghost use Rattle.scmi_plan.specs.Agent.{IsAgent};
 ghost use Rattle.scmi_plan.specs.declared.limits.TheConstants.{AGENTS, DEVICES};
 
 use crate::scope::Scope;
@@ -24,7 +25,7 @@ pub(crate) fn check_permit(
 ) -> Result<bool, Status>
     ensures ok { OnOk result (base_reply plan.now caller (Permit agent device flags) ≡ 0 ∷ []) }
     ensures allow { IfOk result (λ allow. allow ≡ bit_0 flags) }
-    ensures agent { IfOk result (λ allow. (1 ≤ agent) × (agent ≤ AGENTS)) }
+    ensures agent { IfOk result (λ allow. IsAgent AGENTS agent) }
     ensures device { IfOk result (λ allow. device < DEVICES) }
     ensures status { IfErr result (λ status. base_reply plan.now caller (Permit agent device flags)
         ≡ status_word status ∷ []) }
@@ -52,7 +53,7 @@ pub(crate) fn check_permit_protocol(
         (base_reply plan.now caller (PermitProtocol agent device protocol flags) ≡ 0 ∷ []) }
     ensures scope { IfOk result (λ r. r.0 ≡ protocol_named protocol) }
     ensures allow { IfOk result (λ r. r.1 ≡ bit_0 flags) }
-    ensures agent { IfOk result (λ r. (1 ≤ agent) × (agent ≤ AGENTS)) }
+    ensures agent { IfOk result (λ r. IsAgent AGENTS agent) }
     ensures device { IfOk result (λ r. device < DEVICES) }
     ensures status { IfErr result (λ status.
         base_reply plan.now caller (PermitProtocol agent device protocol flags)
@@ -74,7 +75,7 @@ pub(crate) fn check_permit_protocol(
 pub(crate) fn check_reset(plan: &Plan, caller: u32, agent: u32, flags: u32) -> Result<bool, Status>
     ensures ok { OnOk result (base_reply plan.now caller (ResetAgent agent flags) ≡ 0 ∷ []) }
     ensures permissions { IfOk result (λ permissions. permissions ≡ bit_0 flags) }
-    ensures agent { IfOk result (λ permissions. (1 ≤ agent) × (agent ≤ AGENTS)) }
+    ensures agent { IfOk result (λ permissions. IsAgent AGENTS agent) }
     ensures status { IfErr result (λ status. base_reply plan.now caller (ResetAgent agent flags)
         ≡ status_word status ∷ []) }
     ensures refused { IfErr result (λ status. status ≢ Success) }
@@ -88,7 +89,7 @@ pub(crate) fn check_reset(plan: &Plan, caller: u32, agent: u32, flags: u32) -> R
 /// NOT_FOUND where the board has no such agent.
 fn check_agent(plan: &Plan, agent: u32) -> Result<(), Status>
     ensures first { result ≡ (if no_agent plan.now agent then Err NotFound else Ok tt) }
-    ensures agent { IfOk result (λ u. (1 ≤ agent) × (agent ≤ AGENTS)) }
+    ensures agent { IfOk result (λ u. IsAgent AGENTS agent) }
 {
     if agent == 0 || agent > plan.agents() {
         return Err(Status::NotFound);

@@ -1,5 +1,6 @@
 //! Commands of all protocols, and the messages that carry them.
 ghost use Rattle.std.specs.Prelude.{◌≡◌, ◌<◌, IfOk};
+ghost use Rattle.scmi_codec.specs.declared.header.TheConstants.{TOKENS};
 ghost use Rattle.scmi_codec.specs.Command.{command_of, command_header, command_words};
 
 use crate::base_command::{BASE_PROTOCOL, BaseCommand};
@@ -40,7 +41,7 @@ impl Command {
 
     /// The message of the command with this token, with reserved bits 0.
     pub fn pack(&self, token: u16) -> Message
-        requires { token < 1024 }
+        requires { token < TOKENS }
         ensures header { result.header ≡ command_header self.now token }
         ensures words { result.payload.items ≡ command_words self.now }
         ensures back { command_of result ≡ Ok self.now }

@@ -4,6 +4,9 @@ ghost use Rattle.scmi_codec.specs.Header.{header_of, header_word};
 
 use std::marker::Model;
 
+/// How many tokens a header tells apart: 10 bits (DEN0056B, message header).
+pub const TOKENS: u16 = 1024;
+
 /// The fields of a message header (DEN0056B, message header), each within its width in bits:
 /// reserved 4, token 10, protocol 8, kind (the message type) 2, id 8.
 ///

@@ -33,7 +33,7 @@ pub use clock_command::{CLOCK_PROTOCOL, ClockCommand};
 pub use command::Command;
 pub use flag_word::single_flag;
 pub use frame::{Answer, Frame};
-pub use header::Header;
+pub use header::{Header, TOKENS};
 pub use message::Message;
 pub use name::{NAME_BYTES, Name, name_words};
 pub use payload::{

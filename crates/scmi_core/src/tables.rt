@@ -6,6 +6,7 @@ ghost use Rattle.scmi_base.specs.declared.scope.Scope.{Scope};
 ghost use Rattle.scmi_codec.specs.Command.{command_of};
 ghost use Rattle.scmi_codec.specs.declared.command.Command.TheVariants.{Base, Power, Clock};
 ghost use Rattle.scmi_power.specs.PowerTable.{state_at, is_subscribed};
+ghost use Rattle.scmi_plan.specs.Agent.{IsAgent};
 ghost use Rattle.scmi_plan.specs.Plan.{IsLawful};
 ghost use Rattle.scmi_plan.specs.declared.limits.TheConstants.{AGENTS, DOMAINS};
 ghost use Rattle.scmi_core.specs.History.{answer_with};
@@ -230,7 +231,7 @@ impl Tables {
 
     /// Ends the requests of an agent that was reset, if one was.
     fn end_requests(&mut self, reset: Option<u32>)
-        requires { IfSome reset (λ agent. (1 ≤ agent) × (agent ≤ AGENTS)) }
+        requires { IfSome reset (IsAgent AGENTS) }
         ensures subscriptions { (a d : ℕ) → 1 ≤ a → a ≤ AGENTS → d < DOMAINS
             → is_subscribed self.new.power a d
             ≡ unwrap_or (ended a reset) (is_subscribed self.old.power a d) }

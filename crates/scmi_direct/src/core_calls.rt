@@ -1,5 +1,6 @@
 //! The calls of a core, each made again where memory is refused.
 ghost use Rattle.std.specs.Prelude.{◌<◌, ◌≤◌, length};
+ghost use Rattle.scmi_codec.specs.declared.header.TheConstants.{TOKENS};
 ghost use Rattle.scmi_codec.specs.declared.payload.TheConstants.{PAYLOAD_WORDS};
 
 use crate::lines::Lines;
@@ -56,7 +57,7 @@ pub fn call_core<W: Write>(alloc: Global, lines: &mut Lines<'_, W>) {
 
 /// A set of a power domain's state, its completion, and a posting.
 fn set_state<W: Write>(lines: &mut Lines<'_, W>, core: &mut Core, token: u16, state: u32)
-    requires token { token < 1024 }
+    requires token { token < TOKENS }
 {
     execute(lines, core, token, STATE_SET, &[1, 0, state]);
     complete(lines, core);
@@ -71,7 +72,7 @@ fn read_states<W: Write>(lines: &mut Lines<'_, W>, core: &mut Core, count: u16) 
 }
 
 fn execute<W: Write>(lines: &mut Lines<'_, W>, core: &mut Core, token: u16, id: u8, words: &[u32])
-    requires token { token < 1024 }
+    requires token { token < TOKENS }
     requires words { length words.now ≤ PAYLOAD_WORDS }
 {
     let header = Header {

@@ -4,18 +4,16 @@ ghost use Rattle.scmi_codec.specs.Area.{is_well_formed};
 ghost use Rattle.scmi_codec.specs.declared.frame.Frame.TheVariants.{Good, Malformed};
 ghost use Rattle.scmi_codec.specs.declared.frame.Answer.TheVariants.{Released};
 ghost use Rattle.scmi_codec.specs.declared.message.Message.{Message};
+ghost use Rattle.scmi_codec.specs.declared.header.TheConstants.{TOKENS};
 ghost use Rattle.scmi_codec.specs.Command.{protocol_header};
 ghost use Rattle.scmi_link.specs.View.{IsOutstanding, Owes, knows_close, new_caller, new_callee};
 ghost use Rattle.scmi_link.specs.Calls.{Posts, Collects, ClosesCaller, collected_by, frame_if};
 ghost use Rattle.scmi_ends.specs.Shut.{ShowsClose};
 
 use crate::link::Link;
-use scmi_codec::{Answer, Frame, Header, Message, Payload};
+use scmi_codec::{Answer, Frame, Header, Message, Payload, TOKENS};
 use scmi_link::{Channel, CloseError, Closing, Collected, Looked, PostError};
 use std::marker::Model;
-
-/// The tokens of a message header: 10 bits (DEN0056B, message header).
-const TOKENS: u16 = 1024;
 
 /// What one agent holds: its ends of its two channels, its number, and the token of its next
 /// command.
@@ -32,6 +30,7 @@ pub struct AgentEnd<C: Channel> {
 
 impl<C: Channel> Model for AgentEnd<C> {
     ghost use Rattle.std.specs.Prelude.{◌≡◌, ◌<◌, length};
+    ghost use Rattle.scmi_codec.specs.declared.header.TheConstants.{TOKENS};
     ghost use Rattle.scmi_ends.specs.AgentView.{AgentView};
 
     ghost Value = { AgentView };
@@ -46,7 +45,7 @@ impl<C: Channel> Model for AgentEnd<C> {
     } };
 
     // It owes no release.
-    ghost invariant = { λ agent. (agent.token < 1024) ×
+    ghost invariant = { λ agent. (agent.token < TOKENS) ×
         (length (C.callee_view agent.callee).taken ≡ length
         (C.callee_view agent.callee).answered) };
 }
@@ -103,7 +102,7 @@ impl<C: Channel> AgentEnd<C> {
     ) -> Result<u16, PostError>
         requires { IsOfLink (C.name link.now.a2p) (C.name link.now.p2a) self.old }
         ensures token { IfOk result (λ token. token ≡ self.old.token) }
-        ensures ok { let token = (self.old.token + 1) % 1024 in
+        ensures ok { let token = (self.old.token + 1) % TOKENS in
             OnOk result (self.new ≡ record self.old { token = token; caller = self.new.caller }) }
         ensures err { OnErr result (self.new ≡ record self.old { caller = self.new.caller }) }
         ensures posts { let header = protocol_header protocol self.old.token id in

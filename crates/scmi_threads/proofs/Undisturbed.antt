@@ -5,6 +5,7 @@ use Rattle.std.proofs.lemmas.List.Elements.{All-head, All-tail, All-cons, All-ni
 use Rattle.scmi_codec.specs.declared.frame.Frame.{Frame}
 use Rattle.scmi_codec.specs.declared.frame.Frame.TheVariants.{Good, Malformed}
 use Rattle.scmi_codec.specs.declared.frame.Answer.{Answer}
+use Rattle.scmi_codec.specs.declared.header.TheConstants.{TOKENS}
 use Rattle.scmi_link.specs.View.{CallerView, CalleeView}
 use Rattle.scmi_plan.specs.Board.{Board}
 use Rattle.scmi_core.specs.declared.event.Event.{Event}
@@ -30,7 +31,7 @@ HasToken None = ⊥
 
 all_have_tokens : (n : ℕ) → All HasToken (first_tokens n)
 all_have_tokens zero = All-nil HasToken
-all_have_tokens (suc n) = All-push HasToken (first_tokens n) (Some (n % 1024)) (all_have_tokens n) tt
+all_have_tokens (suc n) = All-push HasToken (first_tokens n) (Some (n % TOKENS)) (all_have_tokens n) tt
 
 is_good : (f : Frame) → HasToken (command_token f) → IsGood f
 is_good (Good m) h = tt

@@ -7,6 +7,7 @@ use Rattle.scmi_codec.specs.declared.frame.Frame.{Frame}
 use Rattle.scmi_codec.specs.declared.frame.Frame.TheVariants.{Good}
 use Rattle.scmi_codec.specs.declared.frame.Answer.{Answer}
 use Rattle.scmi_codec.specs.declared.frame.Answer.TheVariants.{Reply}
+use Rattle.scmi_codec.specs.declared.header.TheConstants.{TOKENS}
 use Rattle.scmi_link.specs.declared.closing.Closing.TheVariants.{Idle}
 use Rattle.scmi_link.specs.declared.post_error.PostError.{PostError}
 use Rattle.scmi_link.specs.declared.post_error.PostError.TheVariants as post
@@ -26,7 +27,7 @@ pub record Part : Type 0 where
 
 -- the command that an agent posts after n others: its token is n modulo 1,024, its type and its reserved bits are 0
 abbrev pub command : ℕ → ℕ → ℕ → ArrayVec ℕ → Frame
-command n protocol id payload = Good (record { header = record { reserved = 0; token = n % 1024; protocol = protocol; kind = 0; id = id }; payload = payload })
+command n protocol id payload = Good (record { header = record { reserved = 0; token = n % TOKENS; protocol = protocol; kind = 0; id = id }; payload = payload })
 
 -- k commands, after n others, that ask for the state of a power domain (DEN0056B, POWER_STATE_GET)
 abbrev pub state_commands : ℕ → ℕ → ℕ → List Frame

@@ -1,5 +1,6 @@
 //! What an agent's script did.
 ghost use Rattle.std.specs.Prelude.{◌≡◌, ◌<◌, ◌%◌, ◌∷◌, ◌++◌, [], None, Some, length, map, vec_len, vec_capacity, IfErr, OnOk};
+ghost use Rattle.scmi_codec.specs.declared.header.TheConstants.{TOKENS};
 ghost use Rattle.scmi_threads.specs.Lines.{message_of, closing_of, messages_of, first_closing};
 ghost use Rattle.scmi_threads.specs.Tokens.{command_token, first_tokens};
 
@@ -34,6 +35,7 @@ impl AgentLog {
     ghost use Rattle.std.specs.Prelude.{◌≡◌, ◌<◌, ◌%◌, ◌∷◌, ◌++◌, [], Some, length, vec_len, vec_capacity, IfErr, OnOk};
     ghost use Rattle.scmi_threads.specs.Tokens.{command_token};
     ghost use Rattle.std.specs.Option.{option_or};
+    ghost use Rattle.scmi_codec.specs.declared.header.TheConstants.{TOKENS};
     ghost use Rattle.scmi_threads.specs.Lines.{IsOfCall};
     ghost use Rattle.scmi_threads.specs.Logs.{IsEmptyLog, IsSameLog};
     ghost use Rattle.scmi_threads.specs.declared.line.Line.TheVariants as line;
@@ -90,7 +92,7 @@ impl AgentLog {
     #[tactic(auto, using(crate::proofs::TokenLemmas::tokens_push))]
     pub(crate) fn note_posted(&mut self, frame: Frame)
         requires room { vec_len self.old.posted < vec_capacity self.old.posted }
-        requires token { command_token frame ≡ Some (length self.old.posted.items % 1024) }
+        requires token { command_token frame ≡ Some (length self.old.posted.items % TOKENS) }
         ensures posted { self.new.posted.items ≡ self.old.posted.items ++ frame ∷ [] }
         ensures same { (self.new.read ≡ self.old.read) × (self.new.p2a ≡ self.old.p2a) ×
             (self.new.lines ≡ self.old.lines) × (self.new.closing ≡ self.old.closing) ×

@@ -1,5 +1,6 @@
 //! An agent at its script.
 ghost use Rattle.std.specs.Prelude.{◌≡◌, ◌%◌, length};
+ghost use Rattle.scmi_codec.specs.declared.header.TheConstants.{TOKENS};
 ghost use Rattle.scmi_link.specs.View.{new_caller, new_callee};
 ghost use Rattle.scmi_threads.specs.Closes.{IsClosedAs, IsClosedAs-prop};
 
@@ -24,7 +25,7 @@ pub struct Seat<'a, C: Channel> {
     ghost posted_is: { log.posted.items ≡ end.caller.posted },
     ghost read_is: { log.read.items ≡ end.caller.read },
     ghost p2a_is: { log.p2a.items ≡ end.callee.taken },
-    ghost token_is: { end.token ≡ length log.posted.items % 1024 },
+    ghost token_is: { end.token ≡ length log.posted.items % TOKENS },
     ghost closing_is: { IsClosedAs log.closing end.caller } by { IsClosedAs-prop log.closing end.caller },
 }
 

@@ -94,7 +94,7 @@ impl Channel for WordChannel {
     ghost close_shows = { CloseShows };
 
     fn make(alloc: Global) -> Result<(WordChannel, WordCaller, WordCallee), LinkError>
-        ensures name { IfOk result (λ r.
+        ensures made { IfOk result (λ r.
             (word_caller_name r.1 ≡ word_channel_name r.0) ×
             (word_callee_name r.2 ≡ word_channel_name r.0)) }
         ensures fresh { IfOk result (λ r.
