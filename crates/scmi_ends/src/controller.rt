@@ -6,11 +6,13 @@ ghost use Rattle.scmi_core.specs.Pending.{pending};
 ghost use Rattle.scmi_core.specs.declared.event.Event.TheVariants as event;
 
 use crate::buffers::Buffers;
+use crate::flush::flush_one;
 use crate::flushed::Flushed;
 use crate::link::Link;
-use crate::one_agent::{flush_one, serve_one, shut_one};
+use crate::serve::serve_one;
 use crate::serve_error::ServeError;
 use crate::served::Served;
+use crate::shut::shut_one;
 use crate::shut_error::ShutError;
 use scmi_core::Core;
 use scmi_link::Channel;

@@ -9,21 +9,23 @@
 
 mod agent_end;
 mod buffers;
+mod connecting;
 mod controller;
-mod ends;
+mod flush;
 mod flushed;
 mod link;
-mod one_agent;
 mod pause;
 mod retire;
+mod serve;
 mod serve_error;
 mod served;
+mod shut;
 mod shut_error;
 mod wait_reply;
 
 pub use agent_end::AgentEnd;
+pub use connecting::connect;
 pub use controller::Controller;
-pub use ends::connect;
 pub use flushed::Flushed;
 pub use link::Link;
 pub use pause::Pause;

@@ -5,8 +5,8 @@ use Rattle.scmi_ends.specs.Kept.{Keeps}
 use Rattle.scmi_ends.proofs.Turns.{from_push}
 use Rattle.scmi_ends.proofs.Lists.{maps_push, new_push, same_push}
 use Rattle.scmi_ends.proofs.Made.{kept_new}
-use Rattle.scmi_ends.proofs.ends.connect.Goals as goal
-use Rattle.scmi_ends.proofs.ends.connect.Goals.{After-loop-index}
+use Rattle.scmi_ends.proofs.connecting.connect.Goals as goal
+use Rattle.scmi_ends.proofs.connecting.connect.Goals.{After-loop-index}
 
 pub loop-index-preserved : goal.loop-index-preserved
 loop-index-preserved g c =

@@ -2,7 +2,7 @@ use Rattle.std.proofs.Common.{◌≡◌, vec_len, map, replicate, None}
 use Rattle.scmi_link.specs.View.{new_caller, new_callee}
 use Rattle.scmi_ends.specs.Each.{AllFrom}
 use Rattle.scmi_ends.specs.AgentView.{IsNewAgent}
-use Rattle.scmi_ends.proofs.ends.connect.Given as goal
+use Rattle.scmi_ends.proofs.connecting.connect.Given as goal
 
 -- what was made so far goes together, and is new
 abbrev pub invariant-loop-index : goal.invariant-loop-index
