@@ -2,7 +2,7 @@
 use Rattle.std.specs.Prelude.{ℕ, ◌+◌, ◌/◌, List, [], ◌∷◌, ◌++◌, length, codes, min, max}
 use Rattle.scmi_chart.specs.Piece.{fixed, number, outside, parts_text}
 use Rattle.scmi_chart.specs.declared.mark.Label.{Label}
-use Rattle.scmi_chart.specs.declared.route.Seat.{Seat}
+use Rattle.scmi_chart.specs.declared.route.Spot.{Spot}
 use Rattle.scmi_chart.specs.declared.route.Turn.{Turn}
 use Rattle.scmi_chart.specs.declared.route.Turn.TheVariants as turn
 
@@ -40,30 +40,30 @@ unfoldable pub back_text : Label → List ℕ
 back_text l = value_text l.value.items ++ tag_text l.tag.items
 
 -- where words stand, and their size
-unfoldable pub place_text : Seat → ℕ → List ℕ
-place_text seat size =
-    parts_text (fixed (codes "<text x=\"") ∷ number seat.x ∷ fixed (codes "\" y=\"") ∷ number seat.y ∷ fixed (codes "\" font-size=\"") ∷ number size ∷
+unfoldable pub place_text : Spot → ℕ → List ℕ
+place_text spot size =
+    parts_text (fixed (codes "<text x=\"") ∷ number spot.x ∷ fixed (codes "\" y=\"") ∷ number spot.y ∷ fixed (codes "\" font-size=\"") ∷ number size ∷
     fixed (codes "\"") ∷ [])
 
 -- words that are turned
-unfoldable pub turned_text : List ℕ → ℕ → Seat → List ℕ
-turned_text start hundredths seat =
-    parts_text (fixed start ∷ number hundredths ∷ fixed (codes "e-2 ") ∷ number seat.x ∷ fixed (codes " ") ∷ number seat.y ∷ fixed (codes ")\">") ∷ [])
+unfoldable pub turned_text : List ℕ → ℕ → Spot → List ℕ
+turned_text start hundredths spot =
+    parts_text (fixed start ∷ number hundredths ∷ fixed (codes "e-2 ") ∷ number spot.x ∷ fixed (codes " ") ∷ number spot.y ∷ fixed (codes ")\">") ∷ [])
 
 -- how words are turned, by the turn
-abbrev pub turn_by : Turn → Seat → List ℕ
-turn_by turn.Level seat = parts_text (fixed (codes ">") ∷ [])
-turn_by (turn.Down hundredths) seat = turned_text (codes " transform=\"rotate(") hundredths seat
-turn_by (turn.Up hundredths) seat = turned_text (codes " transform=\"rotate(-") hundredths seat
+abbrev pub turn_by : Turn → Spot → List ℕ
+turn_by turn.Level spot = parts_text (fixed (codes ">") ∷ [])
+turn_by (turn.Down hundredths) spot = turned_text (codes " transform=\"rotate(") hundredths spot
+turn_by (turn.Up hundredths) spot = turned_text (codes " transform=\"rotate(-") hundredths spot
 
 -- how words are turned
-abbrev pub turn_text : Seat → List ℕ
-turn_text seat = turn_by seat.turn seat
+abbrev pub turn_text : Spot → List ℕ
+turn_text spot = turn_by spot.turn spot
 
 -- where words stand, their size, and how they are turned
-unfoldable pub start_text : Seat → ℕ → List ℕ
-start_text seat size = place_text seat size ++ turn_text seat
+unfoldable pub start_text : Spot → ℕ → List ℕ
+start_text spot size = place_text spot size ++ turn_text spot
 
 -- what a message says
-unfoldable pub label_text : Seat → Label → List ℕ
-label_text seat l = start_text seat (font_size (letters l)) ++ front_text l ++ back_text l ++ parts_text (fixed (codes "</text>\n") ∷ [])
+unfoldable pub label_text : Spot → Label → List ℕ
+label_text spot l = start_text spot (font_size (letters l)) ++ front_text l ++ back_text l ++ parts_text (fixed (codes "</text>\n") ∷ [])

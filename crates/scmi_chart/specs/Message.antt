@@ -3,7 +3,7 @@ use Rattle.std.specs.Prelude.{ℕ, ◌+◌, nat_lt, if◌then◌else◌, List, [
 use Rattle.scmi_chart.specs.Piece.{fixed, number, parts_text}
 use Rattle.scmi_chart.specs.Layout.{agent_x, beside_agent, platform_x, line_y}
 use Rattle.scmi_chart.specs.Shape.{line_text, cross_text, ring_text}
-use Rattle.scmi_chart.specs.Route.{to_platform, to_agent, route_text, seat_of}
+use Rattle.scmi_chart.specs.Route.{to_platform, to_agent, route_text, spot_of}
 use Rattle.scmi_chart.specs.Label.{label_text}
 use Rattle.scmi_chart.specs.declared.layout.Layout.{Layout}
 use Rattle.scmi_chart.specs.declared.shape.Point.{Point}
@@ -37,7 +37,7 @@ token_text l agent slot (Some token) = given_token_text (record { x = agent_x l 
 
 -- the way of a message, and what it says
 unfoldable pub way_text : Route → Message → List ℕ
-way_text r m = route_text r ++ label_text (seat_of r) m.label
+way_text r m = route_text r ++ label_text (spot_of r) m.label
 
 -- a command that was executed
 unfoldable pub command_text : Layout → Message → Option ℕ → List ℕ
@@ -54,7 +54,7 @@ cut_way l agent slot way =
 
 -- a way from an agent that ends in a cross, and what the message says
 unfoldable pub cut_text : Layout → Message → ℕ → List ℕ
-cut_text l m way = cut_way l m.agent m.slot way ++ label_text (seat_of (to_platform l m.agent m.slot m.slot)) m.label
+cut_text l m way = cut_way l m.agent m.slot way ++ label_text (spot_of (to_platform l m.agent m.slot m.slot)) m.label
 
 -- a command that never was executed
 unfoldable pub withdrawn_text : Layout → Message → Option ℕ → List ℕ

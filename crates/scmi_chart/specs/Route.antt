@@ -6,7 +6,7 @@ use Rattle.scmi_chart.specs.declared.layout.TheConstants.{SLOT}
 use Rattle.scmi_chart.specs.declared.layout.Layout.{Layout}
 use Rattle.scmi_chart.specs.declared.shape.Point.{Point}
 use Rattle.scmi_chart.specs.declared.route.Route.{Route}
-use Rattle.scmi_chart.specs.declared.route.Seat.{Seat}
+use Rattle.scmi_chart.specs.declared.route.Spot.{Spot}
 use Rattle.scmi_chart.specs.declared.route.Turn.{Turn}
 use Rattle.scmi_chart.specs.declared.route.Turn.TheVariants as turn
 
@@ -47,10 +47,10 @@ abbrev pub turn_of : Route → ℕ → Turn
 turn_of r way = if nat_lt r.from r.to then turn.Down (5730 * SLOT / way) else turn.Up (5730 * SLOT / way)
 
 -- where words stand over a way that goes down by a slot
-unfoldable pub slanted_seat : Route → Seat
-slanted_seat r =
+unfoldable pub slanted_spot : Route → Spot
+slanted_spot r =
     record { x = r.words; y = line_y r.slot - 6 + SLOT * min (distance r.from r.words) 4096 / max (distance r.from r.to) 1; turn = turn_of r (max (distance r.from r.to) 1) }
 
 -- where the words of a way stand: over it, in the gap beside the platform
-unfoldable pub seat_of : Route → Seat
-seat_of r = if r.taken == r.slot + 1 then slanted_seat r else record { x = r.words; y = line_y r.slot - 6; turn = turn.Level }
+unfoldable pub spot_of : Route → Spot
+spot_of r = if r.taken == r.slot + 1 then slanted_spot r else record { x = r.words; y = line_y r.slot - 6; turn = turn.Level }

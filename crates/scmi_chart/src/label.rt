@@ -5,17 +5,17 @@ ghost use Rattle.scmi_chart.specs.Label.{label_text, front_text, back_text, valu
 
 use crate::mark::Label;
 use crate::piece::{Piece, write_pieces};
-use crate::route::{Seat, Turn};
+use crate::route::{Spot, Turn};
 use std::io;
 use std::io::Write;
 
 /// Writes what a message says.
 #[tactic(auto, unfolding(crate::specs::Label::label_text))]
-pub(crate) fn write_label<W: Write>(writer: &mut W, seat: &Seat, label: &Label) -> io::Result<()>
+pub(crate) fn write_label<W: Write>(writer: &mut W, spot: &Spot, label: &Label) -> io::Result<()>
     ensures { OnOk result (Appends (W.contents writer.old) (W.contents writer.new)
-        (label_text seat.now label.now)) }
+        (label_text spot.now label.now)) }
 {
-    write_start(writer, seat, font_size(letters(label)))?;
+    write_start(writer, spot, font_size(letters(label)))?;
     write_front(writer, label)?;
     write_back(writer, label)?;
     write_pieces(writer, &[Piece::Fixed("</text>\n")])
@@ -100,26 +100,26 @@ fn write_part<'a, W: Write>(writer: &mut W, start: &'a str, text: &'a [u8]) -> i
 }
 
 #[tactic(auto, unfolding(crate::specs::Label::start_text))]
-fn write_start<W: Write>(writer: &mut W, seat: &Seat, size: u32) -> io::Result<()>
+fn write_start<W: Write>(writer: &mut W, spot: &Spot, size: u32) -> io::Result<()>
     ensures { OnOk result (Appends (W.contents writer.old) (W.contents writer.new)
-        (start_text seat.now size)) }
+        (start_text spot.now size)) }
 {
-    write_place(writer, seat, size)?;
-    write_turn(writer, seat)
+    write_place(writer, spot, size)?;
+    write_turn(writer, spot)
 }
 
 #[tactic(auto, unfolding(crate::specs::Label::place_text))]
-fn write_place<W: Write>(writer: &mut W, seat: &Seat, size: u32) -> io::Result<()>
+fn write_place<W: Write>(writer: &mut W, spot: &Spot, size: u32) -> io::Result<()>
     ensures { OnOk result (Appends (W.contents writer.old) (W.contents writer.new)
-        (place_text seat.now size)) }
+        (place_text spot.now size)) }
 {
     write_pieces(
         writer,
         &[
             Piece::Fixed("<text x=\""),
-            Piece::Number(seat.x),
+            Piece::Number(spot.x),
             Piece::Fixed("\" y=\""),
-            Piece::Number(seat.y),
+            Piece::Number(spot.y),
             Piece::Fixed("\" font-size=\""),
             Piece::Number(size),
             Piece::Fixed("\""),
@@ -128,14 +128,14 @@ fn write_place<W: Write>(writer: &mut W, seat: &Seat, size: u32) -> io::Result<(
 }
 
 /// Writes how words are turned.
-fn write_turn<W: Write>(writer: &mut W, seat: &Seat) -> io::Result<()>
+fn write_turn<W: Write>(writer: &mut W, spot: &Spot) -> io::Result<()>
     ensures { OnOk result (Appends (W.contents writer.old) (W.contents writer.new)
-        (turn_text seat.now)) }
+        (turn_text spot.now)) }
 {
-    match seat.turn {
+    match spot.turn {
         Turn::Level => write_pieces(writer, &[Piece::Fixed(">")]),
-        Turn::Down(hundredths) => write_turned(writer, " transform=\"rotate(", hundredths, seat),
-        Turn::Up(hundredths) => write_turned(writer, " transform=\"rotate(-", hundredths, seat),
+        Turn::Down(hundredths) => write_turned(writer, " transform=\"rotate(", hundredths, spot),
+        Turn::Up(hundredths) => write_turned(writer, " transform=\"rotate(-", hundredths, spot),
     }
 }
 
@@ -144,10 +144,10 @@ fn write_turned<W: Write>(
     writer: &mut W,
     start: &str,
     hundredths: u32,
-    seat: &Seat,
+    spot: &Spot,
 ) -> io::Result<()>
     ensures { OnOk result (Appends (W.contents writer.old) (W.contents writer.new)
-        (turned_text start.now hundredths seat.now)) }
+        (turned_text start.now hundredths spot.now)) }
 {
     write_pieces(
         writer,
@@ -155,9 +155,9 @@ fn write_turned<W: Write>(
             Piece::Fixed(start),
             Piece::Number(hundredths),
             Piece::Fixed("e-2 "),
-            Piece::Number(seat.x),
+            Piece::Number(spot.x),
             Piece::Fixed(" "),
-            Piece::Number(seat.y),
+            Piece::Number(spot.y),
             Piece::Fixed(")\">"),
         ],
     )

@@ -7,7 +7,7 @@ use crate::label::write_label;
 use crate::layout::{Layout, line_y};
 use crate::mark::Message;
 use crate::piece::{Piece, write_pieces};
-use crate::route::{Route, seat_of, to_agent, to_platform, write_route};
+use crate::route::{Route, spot_of, to_agent, to_platform, write_route};
 use crate::shape::{Point, write_cross, write_line, write_ring};
 use std::io;
 use std::io::Write;
@@ -35,7 +35,7 @@ fn write_way<W: Write>(writer: &mut W, route: &Route, message: &Message) -> io::
         (way_text route.now message.now)) }
 {
     write_route(writer, route)?;
-    write_label(writer, &seat_of(route), &message.label)
+    write_label(writer, &spot_of(route), &message.label)
 }
 
 /// Writes a command that never was executed: it ends in a cross on its way.
@@ -78,7 +78,7 @@ fn write_cut<W: Write>(
 {
     write_cut_way(writer, layout, message.agent, message.slot, way)?;
     let route = to_platform(layout, message.agent, message.slot, message.slot);
-    write_label(writer, &seat_of(&route), &message.label)
+    write_label(writer, &spot_of(&route), &message.label)
 }
 
 #[tactic(auto, unfolding(crate::specs::Message::cut_way))]

@@ -1,7 +1,7 @@
 //! The ways of messages between two lifelines.
 ghost use Rattle.std.specs.Prelude.{◌≡◌, ◌<◌, OnOk};
 ghost use Rattle.std.specs.Io.KnownBytes.{Appends};
-ghost use Rattle.scmi_chart.specs.Route.{to_platform, to_agent, route_text, bent_text, seat_of, turn_of, distance, slanted_seat};
+ghost use Rattle.scmi_chart.specs.Route.{to_platform, to_agent, route_text, bent_text, spot_of, turn_of, distance, slanted_spot};
 
 use crate::layout::{Layout, SLOT, line_y};
 use crate::shape::{Point, write_line};
@@ -97,21 +97,21 @@ pub(crate) enum Turn {
 
 /// Where words stand, around their middle.
 #[derive(Clone, Copy)]
-pub(crate) struct Seat {
+pub(crate) struct Spot {
     pub x: u32,
     pub y: u32,
     pub turn: Turn,
 }
 
 /// Where the words of a route stand: over it, in the gap beside the platform.
-#[tactic(auto, unfolding(crate::specs::Route::seat_of))]
-pub(crate) fn seat_of(route: &Route) -> Seat
-    ensures { result ≡ seat_of route.now }
+#[tactic(auto, unfolding(crate::specs::Route::spot_of))]
+pub(crate) fn spot_of(route: &Route) -> Spot
+    ensures { result ≡ spot_of route.now }
 {
     if u32::from(route.taken) == u32::from(route.slot) + 1 {
-        slanted_seat(route)
+        slanted_spot(route)
     } else {
-        Seat {
+        Spot {
             x: route.words,
             y: line_y(route.slot).saturating_sub(6),
             turn: Turn::Level,
@@ -120,13 +120,13 @@ pub(crate) fn seat_of(route: &Route) -> Seat
 }
 
 /// Where words stand over a route that goes down by a slot.
-#[tactic(auto, unfolding(crate::specs::Route::slanted_seat))]
-fn slanted_seat(route: &Route) -> Seat
-    ensures { result ≡ slanted_seat route.now }
+#[tactic(auto, unfolding(crate::specs::Route::slanted_spot))]
+fn slanted_spot(route: &Route) -> Spot
+    ensures { result ≡ slanted_spot route.now }
 {
     let way = distance(route.from, route.to).max(1);
     let part = distance(route.from, route.words).min(4_096);
-    Seat {
+    Spot {
         x: route.words,
         y: line_y(route.slot).saturating_sub(6) + SLOT * part / way,
         turn: turn_of(route, way),

@@ -8,10 +8,10 @@ use Rattle.rtrb.specs.declared.producer.Producer.{Producer}
 use Rattle.rtrb.specs.declared.consumer.Consumer.{Consumer}
 use Rattle.rtrb.specs.declared.end.End.{End}
 use base.Stored.{Gv, gnil, gnum, gcons}
-use Rattle.scmi_link.specs.declared.caller_seat.CallerSeat.{CallerSeat}
-use Rattle.scmi_link.specs.declared.callee_seat.CalleeSeat.{CalleeSeat}
-use Rattle.scmi_link.specs.CallerSeat.{IsCallerOf, SameCallerRings}
-use Rattle.scmi_link.specs.CalleeSeat.{IsCalleeOf, SameCalleeRings}
+use Rattle.scmi_link.specs.declared.caller_rings.CallerRings.{CallerRings}
+use Rattle.scmi_link.specs.declared.callee_rings.CalleeRings.{CalleeRings}
+use Rattle.scmi_link.specs.CallerRings.{IsCallerOf, SameCallerRings}
+use Rattle.scmi_link.specs.CalleeRings.{IsCalleeOf, SameCalleeRings}
 use Rattle.scmi_link.specs.Rings.{numbers_of, rings_name}
 use Rattle.scmi_link.specs.declared.rings.Rings.{Rings}
 use Rattle.scmi_link.specs.contracts.rings.Rings.{the_row}
@@ -53,7 +53,7 @@ module _ {T A P : Type 0} (a b c : End T A P) where
   pub beside : SameRing a b → SameRing a c → SameRing b c
   beside p q = (q.0 ∙ sym p.0, q.1 ∙ sym p.1, q.2 ∙ sym p.2, q.3 ∙ sym p.3)
 
-pub caller_stays : (name : List ℕ) (c d : CallerSeat) → ∥ IsCallerOf name c ∥₁ → SameCallerRings c d → ∥ IsCallerOf name d ∥₁
+pub caller_stays : (name : List ℕ) (c d : CallerRings) → ∥ IsCallerOf name c ∥₁ → SameCallerRings c d → ∥ IsCallerOf name d ∥₁
 caller_stays name c d named same = ∥∥₁_map named (λ n. record {
   rings = n.rings;
   name_is = n.name_is;
@@ -61,7 +61,7 @@ caller_stays name c d named same = ∥∥₁_map named (λ n. record {
   reads_from = stays n.rings.answers.value.end c.answers.end d.answers.end n.reads_from same.1.0;
 })
 
-pub callee_stays : (name : List ℕ) (c d : CalleeSeat) → ∥ IsCalleeOf name c ∥₁ → SameCalleeRings c d → ∥ IsCalleeOf name d ∥₁
+pub callee_stays : (name : List ℕ) (c d : CalleeRings) → ∥ IsCalleeOf name c ∥₁ → SameCalleeRings c d → ∥ IsCalleeOf name d ∥₁
 callee_stays name c d named same = ∥∥₁_map named (λ n. record {
   rings = n.rings;
   name_is = n.name_is;
@@ -70,11 +70,11 @@ callee_stays name c d named same = ∥∥₁_map named (λ n. record {
 })
 
 -- the ends of one name are ends of the same two rings
-pub record AreBeside (c : CallerSeat) (d : CalleeSeat) : Type 0 where
+pub record AreBeside (c : CallerRings) (d : CalleeRings) : Type 0 where
   pub frames : IsPair c.frames d.frames
   pub answers : IsPair d.answers c.answers
 
-both_beside : (c : CallerSeat) (d : CalleeSeat) (name : List ℕ) → IsCallerOf name c → IsCalleeOf name d → AreBeside c d
+both_beside : (c : CallerRings) (d : CalleeRings) (name : List ℕ) → IsCallerOf name c → IsCalleeOf name d → AreBeside c d
 both_beside c d name n m =
     let one = same_rings n.rings m.rings (n.name_is ∙ sym m.name_is) in
     record {
@@ -82,7 +82,7 @@ both_beside c d name n m =
       answers = beside m.rings.answers.value.end d.answers.end c.answers.end m.answers_into.0 (subst (λ (r : Rings). SameRing r.answers.value.end c.answers.end) one n.reads_from);
     }
 
-pub are_beside : (c : CallerSeat) (d : CalleeSeat) (x y : List ℕ) → ∥ IsCallerOf x c ∥₁ → ∥ IsCalleeOf y d ∥₁ → x ≡ y → AreBeside c d
+pub are_beside : (c : CallerRings) (d : CalleeRings) (x y : List ℕ) → ∥ IsCallerOf x c ∥₁ → ∥ IsCalleeOf y d ∥₁ → x ≡ y → AreBeside c d
 are_beside c d x y n m e =
     let n' : ∥ IsCallerOf y c ∥₁ = subst (λ (z : List ℕ). ∥ IsCallerOf z c ∥₁) e n in
     ∥∥₁_elim n' (hlevel props) (λ a. ∥∥₁_elim m (hlevel props) (λ b. both_beside c d y a b))

@@ -6,7 +6,7 @@ use Rattle.rtrb.specs.Ring.{sent, received}
 use Rattle.std.specs.declared.alloc.Global.{Global}
 use Rattle.scmi_link.specs.declared.envelope.Envelope.{Envelope}
 use Rattle.scmi_link.specs.Envelope.{frames_in}
-use Rattle.scmi_link.specs.declared.callee_seat.CalleeSeat.{CalleeSeat}
+use Rattle.scmi_link.specs.declared.callee_rings.CalleeRings.{CalleeRings}
 use Rattle.scmi_link.specs.declared.note.Note.{Note}
 use Rattle.scmi_link.specs.declared.note.Note.TheVariants.{Said, Closing}
 use Rattle.scmi_link.specs.Note.{said, has_closing, ends_well}
@@ -22,7 +22,7 @@ not_true true h = absurd (h refl)
 not_true false h = refl
 
 -- an owed answer goes in
-module _ (d : CalleeSeat) (ns' : List Note) (a : Box Envelope Global) (owes : length (frames_in (received d.frames)) ≡ length (said (sent d.answers)) + 1) (e : ns' ≡ sent d.answers ++ Said a ∷ []) where
+module _ (d : CalleeRings) (ns' : List Note) (a : Box Envelope Global) (owes : length (frames_in (received d.frames)) ≡ length (said (sent d.answers)) + 1) (e : ns' ≡ sent d.answers ++ Said a ∷ []) where
   no_closing : has_closing (sent d.answers) ≡ false
   no_closing = not_true _ (λ h. false≢true (sym (d.done (d.noted h)) ∙ is_set d.owing _ (length (said (sent d.answers))) d.counted owes))
 

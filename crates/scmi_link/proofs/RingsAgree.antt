@@ -6,13 +6,13 @@ use Rattle.rtrb.specs.Ring.{sent, received}
 use Rattle.std.specs.declared.alloc.Global.{Global}
 use Rattle.scmi_link.specs.declared.envelope.Envelope.{Envelope}
 use Rattle.scmi_link.specs.declared.note.Note.{Note}
-use Rattle.scmi_link.specs.declared.caller_seat.CallerSeat.{CallerSeat}
-use Rattle.scmi_link.specs.declared.callee_seat.CalleeSeat.{CalleeSeat}
+use Rattle.scmi_link.specs.declared.caller_rings.CallerRings.{CallerRings}
+use Rattle.scmi_link.specs.declared.callee_rings.CalleeRings.{CalleeRings}
 use Rattle.scmi_link.specs.Envelope.{frames_in}
 use Rattle.scmi_link.specs.Note.{said, has_closing, ends_well}
 use Rattle.scmi_link.specs.Bit.{bit}
-use Rattle.scmi_link.specs.CallerSeat.{caller_seat_view}
-use Rattle.scmi_link.specs.CalleeSeat.{callee_seat_view}
+use Rattle.scmi_link.specs.CallerRings.{caller_rings_view}
+use Rattle.scmi_link.specs.CalleeRings.{callee_rings_view}
 use Rattle.scmi_link.specs.Gathered.{IsAllButLast, Agree, Closed}
 use Rattle.scmi_link.proofs.NoteLemmas.{frames_in-append, said-append, has_closing-front, all_seen}
 
@@ -46,7 +46,7 @@ small_bit true = inr refl
 small_bit false = inl refl
 
 -- what was pushed into each ring is what was popped and what stands in it
-module _ (p : CallerSeat) (q : CalleeSeat) (es : List (Box Envelope Global)) (ms : List Note) (envelopes : received q.frames ++ es ≡ sent p.frames) (notes : received p.answers ++ ms ≡ sent q.answers) where
+module _ (p : CallerRings) (q : CalleeRings) (es : List (Box Envelope Global)) (ms : List Note) (envelopes : received q.frames ++ es ≡ sent p.frames) (notes : received p.answers ++ ms ≡ sent q.answers) where
   said_all : said (received p.answers) ++ said ms ≡ said (sent q.answers)
   said_all = sym (said-append (received p.answers) ms) ∙ ap said notes
 
@@ -66,7 +66,7 @@ module _ (p : CallerSeat) (q : CalleeSeat) (es : List (Box Envelope Global)) (ms
   nothing_more : p.told ≡ true → ms ≡ []
   nothing_more t = all_seen (received p.answers) ms (ap ends_well notes ∙ q.last) (sym p.heard ∙ t)
 
-  pub agree : Agree (caller_seat_view p) (callee_seat_view q)
+  pub agree : Agree (caller_rings_view p) (callee_rings_view q)
   agree = let few = one_bit p.waiting p.left p.one in record {
     taken = at_most_one (frames_in (received q.frames)) (frames_in es) (frames_in (sent p.frames)) frames (omega (arith, note_lengths, frame_lengths, p.counted, q.counted));
     answered = elim (small_bit q.owing) [ inl z ↦ inl (omega (arith, q.counted, z)) | inr z ↦ inr (omega (arith, q.counted, z)) ];
@@ -74,7 +74,7 @@ module _ (p : CallerSeat) (q : CalleeSeat) (es : List (Box Envelope Global)) (ms
     unread = omega (arith, p.counted);
   }
 
-  pub closed_ends : Closed (caller_seat_view p) (callee_seat_view q)
+  pub closed_ends : Closed (caller_rings_view p) (callee_rings_view q)
   closed_ends = record {
     left = λ l.
         let told = p.gone l in

@@ -5,8 +5,8 @@ pub mod Bit
 pub mod Envelope
 pub mod Note
 pub mod Rings
-pub mod CallerSeat
-pub mod CalleeSeat
+pub mod CallerRings
+pub mod CalleeRings
 pub mod RingChannel
 pub mod RingCaller
 pub mod RingCallee

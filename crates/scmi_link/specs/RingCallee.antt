@@ -1,12 +1,12 @@
 -- What a contract sees of the callee's end of a ring channel.
 use Rattle.std.specs.Prelude.{ℕ, List}
 use Rattle.scmi_link.specs.View.{CalleeView}
-use Rattle.scmi_link.specs.CalleeSeat.{callee_seat_view}
+use Rattle.scmi_link.specs.CalleeRings.{callee_rings_view}
 use Rattle.scmi_link.specs.declared.ring_callee.RingCallee.{RingCallee}
 
 -- what the callee has done
 abbrev pub ring_callee_view : RingCallee → CalleeView
-ring_callee_view c = callee_seat_view c.seat
+ring_callee_view c = callee_rings_view c.rings
 
 -- the name of the channel that made it
 abbrev pub ring_callee_name : RingCallee → List ℕ

@@ -1,14 +1,14 @@
 -- What a contract sees of the caller's end of a ring channel.
 use Rattle.std.specs.Prelude.{ℕ, List, Result}
 use Rattle.scmi_link.specs.View.{CallerView}
-use Rattle.scmi_link.specs.CallerSeat.{caller_seat_view, IsIdleOrInService}
+use Rattle.scmi_link.specs.CallerRings.{caller_rings_view, IsIdleOrInService}
 use Rattle.scmi_link.specs.declared.closing.Closing.{Closing}
 use Rattle.scmi_link.specs.declared.close_error.CloseError.{CloseError}
 use Rattle.scmi_link.specs.declared.ring_caller.RingCaller.{RingCaller}
 
 -- what the caller has done
 abbrev pub ring_caller_view : RingCaller → CallerView
-ring_caller_view c = caller_seat_view c.seat
+ring_caller_view c = caller_rings_view c.rings
 
 -- the name of the channel that made it
 abbrev pub ring_caller_name : RingCaller → List ℕ

@@ -6,8 +6,8 @@
 //! what was answered, and a close holds. `RingChannel` meets it over `rtrb`.
 #![tactic(auto)]
 
-mod callee_seat;
-mod caller_seat;
+mod callee_rings;
+mod caller_rings;
 mod channel;
 mod close_error;
 mod closing;

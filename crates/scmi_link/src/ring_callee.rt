@@ -1,7 +1,7 @@
 //! The callee's end of a ring channel.
-ghost use Rattle.scmi_link.specs.CalleeSeat.{IsCalleeOf};
+ghost use Rattle.scmi_link.specs.CalleeRings.{IsCalleeOf};
 
-use crate::callee_seat::CalleeSeat;
+use crate::callee_rings::CalleeRings;
 use boxcar::tag::Tag;
 
 /// The end of a `RingChannel` that takes frames and answers them.
@@ -9,6 +9,6 @@ use boxcar::tag::Tag;
 pub struct RingCallee {
     // The name of the channel that made this end. It has no bytes.
     pub(crate) name: Tag,
-    pub(crate) seat: CalleeSeat,
-    ghost named: { ∥ IsCalleeOf name.numbers seat ∥₁ },
+    pub(crate) rings: CalleeRings,
+    ghost named: { ∥ IsCalleeOf name.numbers rings ∥₁ },
 }

@@ -1,7 +1,7 @@
 //! The caller's end of a ring channel.
-ghost use Rattle.scmi_link.specs.CallerSeat.{IsCallerOf};
+ghost use Rattle.scmi_link.specs.CallerRings.{IsCallerOf};
 
-use crate::caller_seat::CallerSeat;
+use crate::caller_rings::CallerRings;
 use boxcar::tag::Tag;
 
 /// The end of a `RingChannel` that posts frames and collects their answers.
@@ -9,6 +9,6 @@ use boxcar::tag::Tag;
 pub struct RingCaller {
     // The name of the channel that made this end. It has no bytes.
     pub(crate) name: Tag,
-    pub(crate) seat: CallerSeat,
-    ghost named: { ∥ IsCallerOf name.numbers seat ∥₁ },
+    pub(crate) rings: CallerRings,
+    ghost named: { ∥ IsCallerOf name.numbers rings ∥₁ },
 }

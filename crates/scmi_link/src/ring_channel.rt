@@ -1,8 +1,8 @@
 //! A channel of two rings.
 ghost use Rattle.std.specs.Prelude.{true};
 
-use crate::callee_seat::CalleeSeat;
-use crate::caller_seat::CallerSeat;
+use crate::callee_rings::CalleeRings;
+use crate::caller_rings::CallerRings;
 use crate::channel::Channel;
 use crate::close_error::CloseError;
 use crate::closing::Closing;
@@ -84,7 +84,7 @@ impl Channel for RingChannel {
         };
         let caller = RingCaller {
             name: Tag::of::<Rings, RingNames>(&rings),
-            seat: CallerSeat {
+            rings: CallerRings {
                 frames,
                 answers,
                 closed: false,
@@ -97,7 +97,7 @@ impl Channel for RingChannel {
         };
         let callee = RingCallee {
             name: Tag::of::<Rings, RingNames>(&rings),
-            seat: CalleeSeat {
+            rings: CalleeRings {
                 frames: posted,
                 answers: notes,
                 closed: false,
@@ -115,7 +115,7 @@ impl Channel for RingChannel {
         header: Header,
         payload: &Payload,
     ) -> Result<(), PostError> {
-        caller.seat.post_parts(header, payload)
+        caller.rings.post_parts(header, payload)
     }
 
     fn post_malformed(
@@ -127,49 +127,49 @@ impl Channel for RingChannel {
         if is_well_formed(length) {
             return Err(PostError::WellFormed);
         }
-        caller.seat.post_malformed(length, header)
+        caller.rings.post_malformed(length, header)
     }
 
     fn outstanding(caller: &RingCaller) -> bool {
-        caller.seat.waiting
+        caller.rings.waiting
     }
 
     fn collect_into(&self, caller: &mut RingCaller, answer: &mut Answer) -> Looked {
-        caller.seat.collect_into(answer)
+        caller.rings.collect_into(answer)
     }
 
     fn take_into(&self, callee: &mut RingCallee, frame: &mut Frame) -> bool {
-        callee.seat.take_into(frame)
+        callee.rings.take_into(frame)
     }
 
     fn owes(callee: &RingCallee) -> bool {
-        callee.seat.owing
+        callee.rings.owing
     }
 
     fn answer(&self, callee: &mut RingCallee, answer: &Answer) {
-        callee.seat.answer(answer);
+        callee.rings.answer(answer);
     }
 
     fn reply(&self, callee: &mut RingCallee, message: &Message) {
-        callee.seat.reply(message);
+        callee.rings.reply(message);
     }
 
     fn close_caller(&self, caller: &mut RingCaller) -> Result<Closing, CloseError> {
-        caller.seat.close()
+        caller.rings.close()
     }
 
     fn close_callee(&self, callee: &mut RingCallee) -> Result<(), CloseError> {
-        callee.seat.close()
+        callee.rings.close()
     }
 
     fn gather(self, caller: RingCaller, callee: RingCallee) {
         let RingCaller {
             name: _,
-            seat: mut caller,
+            rings: mut caller,
         } = caller;
         let RingCallee {
             name: _,
-            seat: mut callee,
+            rings: mut callee,
         } = callee;
         let _ = callee.frames.slots_beside(&mut caller.frames);
         let _ = caller.answers.slots_beside(&mut callee.answers);

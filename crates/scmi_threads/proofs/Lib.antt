@@ -1,7 +1,7 @@
 pub mod TokenLemmas
 pub mod LineLemmas
 pub mod ClosesLemmas
-pub mod SeatLemmas
+pub mod ScriptRunLemmas
 pub mod OrderLemmas
 pub mod ScriptLemmas
 pub mod EachLemmas
@@ -10,4 +10,4 @@ pub mod LogLemmas
 pub mod Ready
 pub mod Opened
 pub mod Undisturbed
-pub mod Seated
+pub mod Started

@@ -6,5 +6,5 @@ pub mod Logs
 pub mod Parts
 pub mod ScriptLogs
 pub mod Orders
-pub mod Seats
+pub mod ScriptRuns
 pub mod Rounds

@@ -6,7 +6,7 @@ ghost use Rattle.scmi_threads.specs.Orders.{ending};
 
 use crate::limits::TURNS;
 use crate::line::Line;
-use crate::seat::Seat;
+use crate::script_run::ScriptRun;
 use crate::stop::Stop;
 use scmi_codec::{Answer, Frame, Header, Message, Payload, payload_of};
 use scmi_link::{Channel, Collected, PostError};
@@ -34,14 +34,14 @@ fn ending_of(line: &Line) -> Result<(), Stop>
     }
 }
 
-impl<'a, C: Channel> Seat<'a, C> {
+impl<'a, C: Channel> ScriptRun<'a, C> {
     ghost use Rattle.std.specs.Prelude.{◌≡◌, ◌<◌, ◌++◌, ◌∷◌, [], false, length, vec_len, vec_capacity, IfOk, IfErr, OnOk, OnErr};
     ghost use Rattle.scmi_link.specs.View.{knows_close};
     ghost use Rattle.scmi_threads.specs.Lines.{IsOfCall};
     ghost use Rattle.scmi_threads.specs.Logs.{IsSameLog};
     ghost use Rattle.scmi_threads.specs.Orders.{HasAsked, HasAwaited, HasDone, IsAtRest, IsUndisturbed, LeavesRest, stop_of};
     ghost use Rattle.scmi_threads.specs.Parts.{IsRefusal, command};
-    ghost use Rattle.scmi_threads.specs.Seats.{HasRun};
+    ghost use Rattle.scmi_threads.specs.ScriptRuns.{HasRun};
     ghost use Rattle.scmi_threads.specs.declared.order.Order.TheVariants as order;
     ghost use Rattle.scmi_threads.specs.declared.stop.Stop.TheVariants as stop;
 

@@ -1,14 +1,14 @@
 //! The order to close.
 
 use crate::line::Line;
-use crate::seat::Seat;
+use crate::script_run::ScriptRun;
 use crate::stop::Stop;
 use scmi_link::Channel;
 
-impl<'a, C: Channel> Seat<'a, C> {
+impl<'a, C: Channel> ScriptRun<'a, C> {
     ghost use Rattle.std.specs.Prelude.{◌≡◌};
     ghost use Rattle.scmi_threads.specs.Orders.{HasDone, IsAtRest, IsUndisturbed, stop_of};
-    ghost use Rattle.scmi_threads.specs.Seats.{HasRun};
+    ghost use Rattle.scmi_threads.specs.ScriptRuns.{HasRun};
     ghost use Rattle.scmi_threads.specs.declared.order.Order.TheVariants as order;
 
     /// Closes the agent's end, and notes how, or that it was refused.

@@ -2,17 +2,17 @@
 
 use crate::limits::TURNS;
 use crate::line::Line;
-use crate::seat::Seat;
+use crate::script_run::ScriptRun;
 use crate::stop::Stop;
 use scmi_ends::Pause;
 use scmi_link::Channel;
 use std::sync::Wait;
 
-impl<'a, C: Channel> Seat<'a, C> {
+impl<'a, C: Channel> ScriptRun<'a, C> {
     ghost use Rattle.std.specs.Prelude.{◌≡◌, ◌<◌, vec_len, vec_capacity, IsTrue};
     ghost use Rattle.scmi_threads.specs.Logs.{IsSameLog};
     ghost use Rattle.scmi_threads.specs.Orders.{HasDone, HasTaken, IsUnmoved, stop_of};
-    ghost use Rattle.scmi_threads.specs.Seats.{HasRun};
+    ghost use Rattle.scmi_threads.specs.ScriptRuns.{HasRun};
     ghost use Rattle.scmi_threads.specs.declared.order.Order.TheVariants as order;
 
     /// Takes so many P2A messages, and notes each.

@@ -11,7 +11,7 @@ ghost use Rattle.scmi_threads.specs.Rounds.{AllOpen, GoesOn};
 ghost use Rattle.scmi_threads.specs.Orders.{IsUndisturbed};
 ghost use Rattle.scmi_threads.specs.ScriptLogs.{IsScriptLog, orders_of};
 ghost use Rattle.scmi_threads.specs.Scripts.{AreScriptsOf};
-ghost use Rattle.scmi_threads.specs.Seats.{HasPlayed};
+ghost use Rattle.scmi_threads.specs.ScriptRuns.{HasPlayed};
 
 use crate::agent_log::AgentLog;
 use crate::agents_side::run_scripts;
@@ -19,8 +19,8 @@ use crate::gate::Gate;
 use crate::outcome::Outcome;
 use crate::platform_side::run_rounds;
 use crate::script::Script;
-use crate::seat::Seat;
-use crate::seating::{rise, seat_agents};
+use crate::script_run::ScriptRun;
+use crate::starting::{end_runs, start_runs};
 use scmi_core::Core;
 use scmi_ends::{AgentEnd, Controller, Link, connect};
 use scmi_link::Channel;
@@ -69,28 +69,35 @@ pub fn run_agents<C: Channel, G: Gate, R: Threads + Wait + Sync>(
     let Ok((controller, links, ends)) = connect::<C>(alloc, core) else {
         return Err(AllocError);
     };
-    let seats = seat_agents(alloc, &links, scripts, ends)?;
+    let script_runs = start_runs(alloc, &links, scripts, ends)?;
     // What gives the ends and the logs back takes no memory, so that it cannot be refused.
-    let room = Vec::with_capacity(alloc, seats.len())?;
-    let logs = Vec::with_capacity(alloc, seats.len())?;
-    let ((controller, memory), seats) = run_beside(rt, gate, &links, controller, seats, agents);
-    let (ends, logs) = rise(seats, room, logs);
+    let room = Vec::with_capacity(alloc, script_runs.len())?;
+    let logs = Vec::with_capacity(alloc, script_runs.len())?;
+    let ((controller, memory), script_runs) = run_beside(
+        rt,
+        gate,
+        &links,
+        controller,
+        script_runs,
+        agents,
+    );
+    let (ends, logs) = end_runs(script_runs, room, logs);
     Ok(conclude(controller, links, ends, logs, memory))
 }
 
-// Runs the scripts of all seats beside the controller's rounds.
+// Runs the scripts of all agents beside the controller's rounds.
 fn run_beside<'a, C: Channel, G: Gate, R: Threads + Wait + Sync>(
     rt: &R,
     gate: &G,
     links: &[Link<C>],
     controller: Controller<C>,
-    seats: Vec<Seat<'a, C>>,
+    script_runs: Vec<ScriptRun<'a, C>>,
     agents: u32,
-) -> ((Controller<C>, bool), Vec<Seat<'a, C>>)
+) -> ((Controller<C>, bool), Vec<ScriptRun<'a, C>>)
     requires links { HasLinks C.name links.now controller }
     requires open_ends { AllOpen controller }
     ensures goes_on { GoesOn C.name links.now controller result.0.0 }
-    ensures ran { AllZip (HasPlayed C.FULL) seats.entry.items result.1.items }
+    ensures ran { AllZip (HasPlayed C.FULL) script_runs.entry.items result.1.items }
 {
     let ended = AtomicUsize::new(0);
     join(
@@ -100,9 +107,9 @@ fn run_beside<'a, C: Channel, G: Gate, R: Threads + Wait + Sync>(
             requires open_ends { AllOpen controller }
             ensures { GoesOn C.name links.entry.now controller result.0 }
         { run_rounds(rt, links, &ended, controller, agents) },
-        || -> Vec<Seat<C>>
-            ensures { AllZip (HasPlayed C.FULL) seats.entry.items result.items }
-        { run_scripts(rt, gate, &ended, seats) },
+        || -> Vec<ScriptRun<C>>
+            ensures { AllZip (HasPlayed C.FULL) script_runs.entry.items result.items }
+        { run_scripts(rt, gate, &ended, script_runs) },
     )
 }
 

@@ -4,7 +4,7 @@ ghost use Rattle.scmi_threads.specs.Orders.{IsGot, ShowsState};
 
 use crate::limits::CALLS;
 use crate::line::Line;
-use crate::seat::Seat;
+use crate::script_run::ScriptRun;
 use crate::stop::Stop;
 use scmi_codec::{Command, PowerCommand, SUCCESS};
 use scmi_link::Channel;
@@ -27,13 +27,13 @@ fn shows_state(line: &Line, state: u32) -> bool
     }
 }
 
-impl<'a, C: Channel> Seat<'a, C> {
+impl<'a, C: Channel> ScriptRun<'a, C> {
     ghost use Rattle.std.specs.Prelude.{◌≡◌, ◌∷◌, [], length, IfOk, IfErr, OnErr};
     ghost use Rattle.scmi_threads.specs.Logs.{IsSameLog};
     ghost use Rattle.scmi_threads.specs.Parts.{command};
     ghost use Rattle.scmi_threads.specs.declared.stop.Stop.TheVariants as stop;
     ghost use Rattle.scmi_threads.specs.Orders.{HasAsked, HasDone, HasLooked, IsAtRest, IsUndisturbed, LeavesRest, stop_of};
-    ghost use Rattle.scmi_threads.specs.Seats.{HasRun};
+    ghost use Rattle.scmi_threads.specs.ScriptRuns.{HasRun};
     ghost use Rattle.scmi_threads.specs.declared.order.Order.TheVariants as order;
 
     /// Asks for the state of a power domain until it is this one, and notes whether it came to be.

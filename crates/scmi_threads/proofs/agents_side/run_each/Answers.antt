@@ -1,4 +1,4 @@
-use Rattle.scmi_threads.specs.Seats.{HasPlayed}
+use Rattle.scmi_threads.specs.ScriptRuns.{HasPlayed}
 use Rattle.scmi_threads.proofs.EachLemmas.{along}
 use Rattle.scmi_threads.proofs.agents_side.run_each.Goals as goal
 

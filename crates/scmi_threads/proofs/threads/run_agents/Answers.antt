@@ -2,47 +2,47 @@ use Rattle.std.proofs.Common.{◌≡◌, ◌∙◌, List, length, map, arith, sy
 use Rattle.std.proofs.lemmas.List.{length-map}
 use Rattle.std.proofs.lemmas.Slice.Zip.{AllZip-long}
 use Rattle.scmi_threads.specs.Logs.{IsLogOf}
-use Rattle.scmi_threads.specs.Seats.{HasPlayed}
+use Rattle.scmi_threads.specs.ScriptRuns.{HasPlayed}
 use Rattle.std.specs.List.{All}
 use Rattle.scmi_ends.specs.Each.{AllFrom}
 use Rattle.scmi_ends.specs.Links.{names_of_a2p, names_of_p2a}
 use Rattle.scmi_threads.specs.Orders.{IsUndisturbed}
 use Rattle.scmi_threads.specs.ScriptLogs.{IsScriptLog, orders_of}
 use Rattle.scmi_threads.specs.declared.agent_log.AgentLog.{AgentLog}
-use Rattle.scmi_threads.proofs.Seated.{all_follow}
+use Rattle.scmi_threads.proofs.Started.{all_follow}
 use Rattle.scmi_threads.proofs.Moves.{zip_maps}
 use Rattle.scmi_threads.proofs.threads.run_agents.Goals as goal
-use Rattle.scmi_threads.proofs.threads.run_agents.Goals.{After-rise-ends}
+use Rattle.scmi_threads.proofs.threads.run_agents.Goals.{After-end_runs-ends}
 
-a2p_names : (g : _) (c : After-rise-ends g) → map (λ agent. agent.a2p_name) c.rise-ends.result.0.items ≡ names_of_a2p g.C.Channel.name c.in-Ok.links.items
-a2p_names g c = c.rise-ends.ensures.a2p ∙ zip_maps (HasPlayed g.C.Channel.FULL) (λ seat. seat.end.a2p_name) (λ a b r. r.ran.a2p) c.in_ok-seats.seats.items c.run_beside-controller.result.1.items c.run_beside-controller.ensures.ran ∙ c.in_ok-seats.ensures.a2p ∙ ap (names_of_a2p g.C.Channel.name) c.deref.ensures.value
+a2p_names : (g : _) (c : After-end_runs-ends g) → map (λ agent. agent.a2p_name) c.end_runs-ends.result.0.items ≡ names_of_a2p g.C.Channel.name c.in-Ok.links.items
+a2p_names g c = c.end_runs-ends.ensures.a2p ∙ zip_maps (HasPlayed g.C.Channel.FULL) (λ script_run. script_run.end.a2p_name) (λ a b r. r.ran.a2p) c.in_ok-script_runs.script_runs.items c.run_beside-controller.result.1.items c.run_beside-controller.ensures.ran ∙ c.in_ok-script_runs.ensures.a2p ∙ ap (names_of_a2p g.C.Channel.name) c.deref.ensures.value
 
-p2a_names : (g : _) (c : After-rise-ends g) → map (λ agent. agent.p2a_name) c.rise-ends.result.0.items ≡ names_of_p2a g.C.Channel.name c.in-Ok.links.items
-p2a_names g c = c.rise-ends.ensures.p2a ∙ zip_maps (HasPlayed g.C.Channel.FULL) (λ seat. seat.end.p2a_name) (λ a b r. r.ran.p2a) c.in_ok-seats.seats.items c.run_beside-controller.result.1.items c.run_beside-controller.ensures.ran ∙ c.in_ok-seats.ensures.p2a ∙ ap (names_of_p2a g.C.Channel.name) c.deref.ensures.value
+p2a_names : (g : _) (c : After-end_runs-ends g) → map (λ agent. agent.p2a_name) c.end_runs-ends.result.0.items ≡ names_of_p2a g.C.Channel.name c.in-Ok.links.items
+p2a_names g c = c.end_runs-ends.ensures.p2a ∙ zip_maps (HasPlayed g.C.Channel.FULL) (λ script_run. script_run.end.p2a_name) (λ a b r. r.ran.p2a) c.in_ok-script_runs.script_runs.items c.run_beside-controller.result.1.items c.run_beside-controller.ensures.ran ∙ c.in_ok-script_runs.ensures.p2a ∙ ap (names_of_p2a g.C.Channel.name) c.deref.ensures.value
 
-pub seat_agents-requires-clause-ends : goal.seat_agents-requires-clause-ends
-seat_agents-requires-clause-ends g c κs within = rw c.deref.ensures.value c.in-Ok.ensures.ends
+pub start_runs-requires-clause-ends : goal.start_runs-requires-clause-ends
+start_runs-requires-clause-ends g c κs within = rw c.deref.ensures.value c.in-Ok.ensures.ends
 
 pub run_beside-controller-requires-clause-links : goal.run_beside-controller-requires-clause-links
 run_beside-controller-requires-clause-links g c κs within = rw c.deref-2.ensures.value c.in-Ok.ensures.links
 
-pub rise-ends-requires-clause-ends : goal.rise-ends-requires-clause-ends
-rise-ends-requires-clause-ends g c κs within = omega (arith, AllZip-long (HasPlayed g.C.Channel.FULL) c.in_ok-seats.seats.items c.run_beside-controller.result.1.items c.run_beside-controller.ensures.ran, c.in_ok-seats.seats.ok.0, c.run_beside-controller.result.1.ok.0, c.in_ok-room.ensures.exact, c.len.ensures)
+pub end_runs-ends-requires-clause-ends : goal.end_runs-ends-requires-clause-ends
+end_runs-ends-requires-clause-ends g c κs within = omega (arith, AllZip-long (HasPlayed g.C.Channel.FULL) c.in_ok-script_runs.script_runs.items c.run_beside-controller.result.1.items c.run_beside-controller.ensures.ran, c.in_ok-script_runs.script_runs.ok.0, c.run_beside-controller.result.1.ok.0, c.in_ok-room.ensures.exact, c.len.ensures)
 
-pub rise-ends-requires-clause-logs : goal.rise-ends-requires-clause-logs
-rise-ends-requires-clause-logs g c κs within = omega (arith, AllZip-long (HasPlayed g.C.Channel.FULL) c.in_ok-seats.seats.items c.run_beside-controller.result.1.items c.run_beside-controller.ensures.ran, c.in_ok-seats.seats.ok.0, c.run_beside-controller.result.1.ok.0, c.in_ok-logs.ensures.exact, c.len-2.ensures)
+pub end_runs-ends-requires-clause-logs : goal.end_runs-ends-requires-clause-logs
+end_runs-ends-requires-clause-logs g c κs within = omega (arith, AllZip-long (HasPlayed g.C.Channel.FULL) c.in_ok-script_runs.script_runs.items c.run_beside-controller.result.1.items c.run_beside-controller.ensures.ran, c.in_ok-script_runs.script_runs.ok.0, c.run_beside-controller.result.1.ok.0, c.in_ok-logs.ensures.exact, c.len-2.ensures)
 
 pub conclude-requires-clause-links : goal.conclude-requires-clause-links
 conclude-requires-clause-links g c κs within = rw (← c.deref-2.ensures.value) c.run_beside-controller.ensures.goes_on.has_links
 
 pub conclude-requires-clause-ends : goal.conclude-requires-clause-ends
-conclude-requires-clause-ends g c κs within = let at = (goal.at.conclude-requires-clause-ends g c).After-rise-ends in (a2p_names g at, p2a_names g at)
+conclude-requires-clause-ends g c κs within = let at = (goal.at.conclude-requires-clause-ends g c).After-end_runs-ends in (a2p_names g at, p2a_names g at)
 
 pub returns-clause-count : goal.returns-clause-count
 returns-clause-count g c =
-    let names = a2p_names g (goal.at.returns-clause-count g c).After-rise-ends in
+    let names = a2p_names g (goal.at.returns-clause-count g c).After-end_runs-ends in
     ap (λ logs. logs.len) c.conclude.ensures.logs
-    ∙ omega (arith, c.rise-ends.result.1.ok.0, AllZip-long IsLogOf c.rise-ends.result.0.items c.rise-ends.result.1.items c.rise-ends.ensures.logs, length-map c.rise-ends.result.0.items (λ agent. agent.a2p_name), ap length names, length-map c.in-Ok.links.items (λ link. g.C.Channel.name link.a2p), c.in-Ok.links.ok.0, c.in-Ok.ensures.count.0)
+    ∙ omega (arith, c.end_runs-ends.result.1.ok.0, AllZip-long IsLogOf c.end_runs-ends.result.0.items c.end_runs-ends.result.1.items c.end_runs-ends.ensures.logs, length-map c.end_runs-ends.result.0.items (λ agent. agent.a2p_name), ap length names, length-map c.in-Ok.links.items (λ link. g.C.Channel.name link.a2p), c.in-Ok.links.ok.0, c.in-Ok.ensures.count.0)
     ∙ ap (λ board. length board.agents) c.new-core.ensures.board
 
 pub returns-clause-headline : goal.returns-clause-headline
@@ -52,6 +52,6 @@ pub returns-clause-scripts : goal.returns-clause-scripts
 returns-clause-scripts g c =
     let follows = λ (logs : List AgentLog). AllFrom (λ a log. IsScriptLog g.C.Channel.FULL (orders_of c.args.scripts.now a) log) 1 logs in
     subst (λ logs. follows logs.items) (sym c.conclude.ensures.logs)
-    (subst follows (sym c.rise-ends.ensures.same.1)
-    (all_follow g.C.Channel.FULL c.args.scripts.now 1 c.in_ok-seats.seats.items c.run_beside-controller.result.1.items c.in_ok-seats.ensures.seated c.run_beside-controller.ensures.ran
-    (subst (All (λ agent. IsUndisturbed agent.caller)) c.rise-ends.ensures.same.0 c.conclude.ensures.undisturbed)))
+    (subst follows (sym c.end_runs-ends.ensures.same.1)
+    (all_follow g.C.Channel.FULL c.args.scripts.now 1 c.in_ok-script_runs.script_runs.items c.run_beside-controller.result.1.items c.in_ok-script_runs.ensures.started c.run_beside-controller.ensures.ran
+    (subst (All (λ agent. IsUndisturbed agent.caller)) c.end_runs-ends.ensures.same.0 c.conclude.ensures.undisturbed)))
