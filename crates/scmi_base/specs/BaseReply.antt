@@ -15,8 +15,8 @@ abbrev pub protocols : List ℕ
 protocols = 0x11 ∷ 0x14 ∷ []
 
 -- up to four bytes in one word, and no word where there is none
-abbrev pub packed : List ℕ → List ℕ
-packed bytes = if length bytes == 0 then [] else little_number 4 bytes ∷ []
+abbrev pub packed_words : List ℕ → List ℕ
+packed_words bytes = if length bytes == 0 then [] else little_number 4 bytes ∷ []
 
 -- the board has no such agent; they are numbered from 1
 abbrev pub no_agent : Board → ℕ → Bool
@@ -63,7 +63,7 @@ message_reply message = reply_unless ((not (is_listed base_table message), NotFo
 -- the reply to 0x6: how many protocols follow the skipped ones, and their ids
 abbrev pub protocols_reply : ℕ → List ℕ
 protocols_reply skip =
-    reply_unless ((nat_lt (length protocols) skip, InvalidParameters) ∷ []) (0 ∷ length (drop skip protocols) ∷ packed (drop skip protocols))
+    reply_unless ((nat_lt (length protocols) skip, InvalidParameters) ∷ []) (0 ∷ length (drop skip protocols) ∷ packed_words (drop skip protocols))
 
 -- the reply to 0x7: the agent's id and name, the caller's own where it asks so (own)
 abbrev pub agent_reply : Board → ℕ → ℕ → List ℕ

@@ -10,7 +10,7 @@ ghost use Rattle.scmi_plan.specs.declared.limits.TheConstants.{AGENTS, DEVICES};
 
 use crate::checks::{check_permit, check_permit_protocol, check_reset};
 use crate::discovery::{
-    agent_of, attributes, implementation, message_attributes, named, protocols, version,
+    agent_of, attributes, implementation, message_attributes, protocols, set_name, version,
 };
 use crate::permission_table::PermissionTable;
 use crate::scope::Scope;
@@ -71,8 +71,8 @@ impl BaseState {
             BaseCommand::Version => version(reply),
             BaseCommand::Attributes => attributes(plan, reply),
             BaseCommand::MessageAttributes { message } => message_attributes(message, reply),
-            BaseCommand::Vendor => named(plan.vendor(), reply),
-            BaseCommand::SubVendor => named(plan.sub_vendor(), reply),
+            BaseCommand::Vendor => set_name(plan.vendor(), reply),
+            BaseCommand::SubVendor => set_name(plan.sub_vendor(), reply),
             BaseCommand::Implementation => implementation(plan, reply),
             BaseCommand::Protocols { skip } => protocols(skip, reply),
             BaseCommand::Agent { agent } => agent_of(plan, caller, agent, reply),

@@ -55,7 +55,7 @@ pub(crate) fn message_attributes(message: u32, reply: &mut Payload)
 }
 
 /// 0x3 and 0x4: a name.
-pub(crate) fn named(name: &Name, reply: &mut Payload)
+pub(crate) fn set_name(name: &Name, reply: &mut Payload)
     ensures { reply.new.items ≡ 0 ∷ name_words name.now }
 {
     let [a, b, c, d] = name_words(name);
@@ -80,12 +80,12 @@ pub(crate) fn protocols(skip: u32, reply: &mut Payload)
     };
     match listed {
         [] => set_payload(reply, &[SUCCESS, 0]),
-        _ => set_payload(reply, &[SUCCESS, listed.len() as u32, packed(listed)]),
+        _ => set_payload(reply, &[SUCCESS, listed.len() as u32, packed_word(listed)]),
     }
 }
 
 /// Up to four bytes in one word, the first lowest.
-fn packed(bytes: &[u8]) -> u32
+fn packed_word(bytes: &[u8]) -> u32
     requires { length bytes.now ≤ 4 }
     ensures { result ≡ little_number 4 bytes.now }
 {

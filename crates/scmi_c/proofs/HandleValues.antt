@@ -23,7 +23,7 @@ use Rattle.std.proofs.GlobalToken.{dealloc_token-Testable}
 use Rattle.std_alloc.specs.Box.Ownership.{box_owns}
 use Rattle.std.specs.contracts.impls.GlobalAllocator.TheImpl.{ghosts}
 use Rattle.std.proofs.Handle.{handle as heap}
-use Rattle.scmi_c.specs.Handle.{held}
+use Rattle.scmi_c.specs.Handle.{holds_value}
 use Rattle.scmi_c.specs.contracts.desk.Desk as platform
 use Rattle.scmi_c.specs.contracts.handle.Handle as handle
 
@@ -52,7 +52,7 @@ tested {𝓤 = 𝓤} 𝓛 a p x =
 
 module _ {M : Type 1} {𝓤 : Ura M} {𝓛 : Logic 𝓤} {K : Type 0} {Γ : List (Item 𝓤)} {G : Goal 𝓤 𝓛.H} where
   pub handle_in : K → (p : Ptr) (x : Option (platform.the_row).Denot)
-      → Step K 𝓛 (‵ ((handle.the_row).own_val (record { at = p; value = x }) (word p ∷ [])) ∷ Γ) G (‵ (held ghosts.dealloc_token platform.the_row p x) ∷ Γ) G
+      → Step K 𝓛 (‵ ((handle.the_row).own_val (record { at = p; value = x }) (word p ∷ [])) ∷ Γ) G (‵ (holds_value ghosts.dealloc_token platform.the_row p x) ∷ Γ) G
   handle_in t p x = step (λ s.
       nothing t $ feq_i t (List Val) (ptr_val p ∷ []) (ptr_val p ∷ []) refl $ fjoin t $ feq_i t (List Val) (word p ∷ []) (word p ∷ []) refl $ fjoin t $
       fpack t (Valss (RawPtr ∷ [])) (within (shape handle.the_type) (p, tt) (word p ∷ [])) (ptr_val p ∷ [], tt) $ fjoin t $ s)

@@ -1,6 +1,6 @@
 -- What calls leave.
 use Rattle.std.specs.Prelude.{◌≡◌, ℕ, List, [], ◌∷◌, ◌++◌, Some, slice_get}
-use Rattle.scmi_codec.specs.Area.{answered, posted}
+use Rattle.scmi_codec.specs.Area.{area_after_answer, area_after_post}
 use Rattle.scmi_codec.specs.declared.frame.Frame.{Frame}
 use Rattle.scmi_codec.specs.declared.message.Message.{Message}
 use Rattle.scmi_core.specs.History.{answer_to, outbox}
@@ -16,11 +16,11 @@ pub record HasHappened (p k : Held) (event : Event) : Type 0 where
 
 -- an agent's frame was executed, and the area is the definition's answer to it at its place in the history
 pub record HasAnswered (p k : Held) (agent : ℕ) (frame : Frame) (before after : List ℕ) : Type 0 where
-  pub answer : (h : List Event) → StandsAt p h → after ≡ answered (answer_to (board_of p) agent frame h) before
+  pub answer : (h : List Event) → StandsAt p h → after ≡ area_after_answer (answer_to (board_of p) agent frame h) before
   pub event : HasHappened p k (Called agent frame)
 
 -- the first message of an agent's outbox stands in the area as posted
 pub record HasPosted (p : Held) (agent : ℕ) (before after : List ℕ) : Type 0 where
   pub message : Message
   pub first : (h : List Event) → StandsAt p h → slice_get (outbox (board_of p) agent h) 0 ≡ Some message
-  pub area : after ≡ posted message before
+  pub area : after ≡ area_after_post message before

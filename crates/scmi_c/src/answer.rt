@@ -1,7 +1,7 @@
 //! Commands and completions.
 ghost use Rattle.std.specs.Prelude.{◌≡◌, ◌≢◌, ◌↔◌, ◌⊎◌, ◌≤◌, [], None, IsSomeAnd, List};
-ghost use Rattle.scmi_codec.specs.Area.{arrived};
-ghost use Rattle.scmi_core.specs.Pending.{pending};
+ghost use Rattle.scmi_codec.specs.Area.{frame_waiting};
+ghost use Rattle.scmi_core.specs.Pending.{pending_sets};
 ghost use Rattle.scmi_core.specs.History.{deeds};
 ghost use Rattle.scmi_core.specs.declared.event.Event.{Event};
 ghost use Rattle.scmi_core.specs.declared.event.Event.TheVariants.{Advance};
@@ -28,9 +28,9 @@ pub extern "C" fn scmi_answer(
     ensures done { result ≡ DONE →
         IsSomeAnd platform.old.value (λ p.
         IsSomeAnd platform.new.value (λ k.
-        IsSomeAnd (arrived area.old) (λ frame. HasAnswered p k agent frame area.old area.new))) }
+        IsSomeAnd (frame_waiting area.old) (λ frame. HasAnswered p k agent frame area.old area.new))) }
     ensures no_platform { (result ≡ NO_PLATFORM) ↔ (platform.old.value ≡ None) }
-    ensures free { result ≡ NOTHING → arrived area.old ≡ None }
+    ensures free { result ≡ NOTHING → frame_waiting area.old ≡ None }
     ensures no_agent { result ≡ NO_AGENT → IsSomeAnd platform.old.value (LacksAgent agent) }
     ensures errors { (result ≤ NO_AGENT) ⊎ (result ≡ NO_PLATFORM) }
     ensures memory { result ≡ MEMORY → IsSomeAnd platform.old.value IsRecorded }
@@ -54,7 +54,7 @@ pub extern "C" fn scmi_advance(alloc: Global, platform: &mut Handle) -> u32
         IsSomeAnd platform.new.value (λ k. HasHappened p k Advance)) }
     ensures nothing { result ≡ NOTHING →
         IsSomeAnd platform.old.value (λ p.
-        (h : List Event) → StandsAt p h → pending (board_of p) (deeds (board_of p) h) ≡ []) }
+        (h : List Event) → StandsAt p h → pending_sets (board_of p) (deeds (board_of p) h) ≡ []) }
     ensures errors { (result ≤ MEMORY) ⊎ (result ≡ NO_PLATFORM) }
     ensures no_platform { (result ≡ NO_PLATFORM) ↔ (platform.old.value ≡ None) }
     ensures memory { result ≡ MEMORY → IsSomeAnd platform.old.value IsRecorded }

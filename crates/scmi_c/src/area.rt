@@ -1,6 +1,6 @@
 //! Areas that a platform answers and fills.
 ghost use Rattle.std.specs.Prelude.{◌≡◌, ◌≢◌, ◌↔◌, None, List, length, slice_get, IsSomeAnd, OnOk, OnErr, Err};
-ghost use Rattle.scmi_codec.specs.Area.{arrived};
+ghost use Rattle.scmi_codec.specs.Area.{frame_waiting};
 ghost use Rattle.scmi_plan.specs.Agent.{IsNoAgent};
 ghost use Rattle.scmi_core.specs.History.{outbox};
 ghost use Rattle.scmi_core.specs.declared.event.Event.{Event};
@@ -21,10 +21,10 @@ use scmi_core::Answered;
 pub fn answer(desk: &mut Desk, agent: u32, area: &mut [u8; AREA_BYTES]) -> Result<(), Refusal>
     ensures ok { OnOk result
         (IsSomeAnd
-        (arrived area.old) (λ frame. HasAnswered desk.old desk.new agent frame area.old area.new)) }
-    ensures free { (result ≡ Err Refusal.Nothing) ↔ (arrived area.old ≡ None) }
+        (frame_waiting area.old) (λ frame. HasAnswered desk.old desk.new agent frame area.old area.new)) }
+    ensures free { (result ≡ Err Refusal.Nothing) ↔ (frame_waiting area.old ≡ None) }
     ensures no_agent { (result ≡ Err Refusal.NoAgent) ↔
-        ((arrived area.old ≢ None) × (IsNoAgent (length (board_of desk.old).agents) agent)) }
+        ((frame_waiting area.old ≢ None) × (IsNoAgent (length (board_of desk.old).agents) agent)) }
     ensures memory { result ≡ Err Refusal.Memory → IsRecorded desk.old }
     ensures never { result ≢ Err Refusal.NotFree }
     ensures err { OnErr result (desk.new ≡ desk.old) }
@@ -50,8 +50,8 @@ pub fn post_next(held: &Held, agent: u32, area: &mut [u8; AREA_BYTES]) -> Result
         IsNoAgent (length (board_of held.now).agents) agent }
     ensures nothing { result ≡ Err Refusal.Nothing → (h : List Event) → StandsAt held.now h →
         slice_get (outbox (board_of held.now) agent h) 0 ≡ None }
-    ensures not_free { result ≡ Err Refusal.NotFree → arrived area.old ≢ None }
-    ensures free { OnOk result (arrived area.old ≡ None) }
+    ensures not_free { result ≡ Err Refusal.NotFree → frame_waiting area.old ≢ None }
+    ensures free { OnOk result (frame_waiting area.old ≡ None) }
     ensures never { result ≢ Err Refusal.Memory }
     ensures kept { OnErr result (area.new ≡ area.old) }
 {

@@ -18,11 +18,11 @@ pub struct Handle {
 }
 
 impl Model for Handle {
-    ghost use Rattle.scmi_c.specs.Handle.{held};
+    ghost use Rattle.scmi_c.specs.Handle.{holds_value};
     ghost use Rattle.scmi_c.specs.contracts.desk.Desk.{the_row};
     ghost use Rattle.std.specs.contracts.impls.GlobalAllocator.TheImpl.{ghosts};
 
-    ghost also_owns = { λ h. held ghosts.dealloc_token the_row h.at h.value };
+    ghost also_owns = { λ h. holds_value ghosts.dealloc_token the_row h.at h.value };
 }
 
 impl Handle {

@@ -2,7 +2,7 @@
 ghost use Rattle.std.specs.Prelude.{◌≡◌, ◌≢◌, ◌↔◌, ◌≤◌, [], List, length, true, false, slice_get, IfOk, OnOk, OnErr, IfErr, Ok, Err};
 ghost use Rattle.std.specs.Option.{option_copied};
 ghost use Rattle.scmi_plan.specs.Agent.{IsNoAgent};
-ghost use Rattle.scmi_core.specs.Pending.{pending};
+ghost use Rattle.scmi_core.specs.Pending.{pending_sets};
 ghost use Rattle.scmi_core.specs.History.{answer_to, answer_with, deeds, outbox};
 ghost use Rattle.scmi_core.specs.declared.event.Event.{Event};
 ghost use Rattle.scmi_core.specs.declared.event.Event.TheVariants.{Command as Called, Advance, Sent};
@@ -51,7 +51,7 @@ impl Held {
     pub fn advance(&mut self) -> Result<bool, CoreError>
         ensures waiting { (h : List Event) → StandsAt self.old h →
             IfOk result (λ did.
-            (did ≡ false) ↔ (pending (board_of self.old) (deeds (board_of self.old) h) ≡ [])) }
+            (did ≡ false) ↔ (pending_sets (board_of self.old) (deeds (board_of self.old) h) ≡ [])) }
         ensures event { IfOk result (λ did. did ≡ true → HasHappened self.old self.new Advance) }
         ensures same { IfOk result (λ did. did ≡ false → self.new ≡ self.old) }
         ensures memory { IfErr result (λ e. (e ≡ CoreError.Memory) × IsRecorded self.old) }

@@ -1,6 +1,6 @@
 //! Messages of the platform to agents.
 ghost use Rattle.std.specs.Prelude.{◌⊎◌, ◌≤◌, [], ◌≡◌, ◌≢◌, ◌↔◌, None, IsSomeAnd, List, slice_get};
-ghost use Rattle.scmi_codec.specs.Area.{arrived};
+ghost use Rattle.scmi_codec.specs.Area.{frame_waiting};
 ghost use Rattle.scmi_core.specs.History.{outbox};
 ghost use Rattle.scmi_core.specs.declared.event.Event.{Event};
 ghost use Rattle.scmi_core.specs.declared.event.Event.TheVariants.{Sent};
@@ -33,7 +33,7 @@ pub extern "C" fn scmi_next(
         IsSomeAnd platform.old.value (λ p.
         (h : List Event) → StandsAt p h → slice_get (outbox (board_of p) agent h) 0 ≡ None) }
     ensures no_agent { result ≡ NO_AGENT → IsSomeAnd platform.old.value (LacksAgent agent) }
-    ensures not_free { result ≡ NOT_FREE → arrived area.old ≢ None }
+    ensures not_free { result ≡ NOT_FREE → frame_waiting area.old ≢ None }
     ensures errors { (result ≤ NO_PLATFORM) × (result ≢ MEMORY) }
     ensures kept { result ≢ DONE → area.new ≡ area.old }
 {

@@ -6,11 +6,11 @@ use Rattle.scmi_ends.specs.ControllerView.{ControllerView}
 use Rattle.scmi_ends.specs.Links.{HasLinks, AreEndsOf}
 
 -- the platform's ends and the agents' are those of the links, in order
-pub record BelongTogether {C Caller Callee Rest : Type 0} (name : C → List ℕ) (links : List (Link C Caller Callee Rest)) (platform : ControllerView) (agents : List AgentView) : Type 0 where
-  pub platform_ends : HasLinks name links platform
-  pub agents_ends : AreEndsOf name links agents
+pub record BelongTogether {C Caller Callee Rest : Type 0} (identity : C → List ℕ) (links : List (Link C Caller Callee Rest)) (platform : ControllerView) (agents : List AgentView) : Type 0 where
+  pub platform_ends : HasLinks identity links platform
+  pub agents_ends : AreEndsOf identity links agents
 
 -- an agent's end is still of the same channels
-pub record HasSameNames (before after : AgentView) : Type 0 where
-  pub a2p : after.a2p_name ≡ before.a2p_name
-  pub p2a : after.p2a_name ≡ before.p2a_name
+pub record HasSameIdentities (before after : AgentView) : Type 0 where
+  pub a2p : after.a2p_identity ≡ before.a2p_identity
+  pub p2a : after.p2a_identity ≡ before.p2a_identity

@@ -12,8 +12,8 @@ pub struct Pair<C: Channel> {
     channel: C,
     caller: C::Caller,
     callee: C::Callee,
-    ghost of_caller: { C.caller_name caller ≡ C.name channel },
-    ghost of_callee: { C.callee_name callee ≡ C.name channel },
+    ghost of_caller: { C.caller_identity caller ≡ C.identity channel },
+    ghost of_callee: { C.callee_identity callee ≡ C.identity channel },
 }
 
 impl<C: Channel> Pair<C> {

@@ -2,7 +2,7 @@
 ghost use Rattle.std.specs.Prelude.{◌≡◌};
 ghost use Rattle.scmi_ends.specs.AgentView.{IsOfLink};
 ghost use Rattle.scmi_ends.specs.Links.{HasLinks, AreEndsOf};
-ghost use Rattle.scmi_channel_tests.specs.Session.{HasSameNames};
+ghost use Rattle.scmi_channel_tests.specs.Session.{HasSameIdentities};
 
 use crate::boards::plan_of_one;
 use crate::messages::{command, response};
@@ -58,10 +58,10 @@ fn run_beside<C: Channel, R: Threads + Wait + Sync>(
     controller: Controller<C>,
     agents: Vec<AgentEnd<C>>,
 ) -> (Controller<C>, (Vec<AgentEnd<C>>, Ended))
-    requires links { HasLinks C.name links.now controller }
-    requires agents { AreEndsOf C.name links.now agents.items }
-    ensures links { HasLinks C.name links.now result.0 }
-    ensures agents { AreEndsOf C.name links.now result.1.0.items }
+    requires links { HasLinks C.identity links.now controller }
+    requires agents { AreEndsOf C.identity links.now agents.items }
+    ensures links { HasLinks C.identity links.now result.0 }
+    ensures agents { AreEndsOf C.identity links.now result.1.0.items }
 {
     let flags = Flags {
         serving: AtomicBool::new(false),
@@ -70,12 +70,12 @@ fn run_beside<C: Channel, R: Threads + Wait + Sync>(
     join(
         rt,
         || -> Controller<C>
-            requires { HasLinks C.name links.now controller }
-            ensures { HasLinks C.name links.entry.now result }
+            requires { HasLinks C.identity links.now controller }
+            ensures { HasLinks C.identity links.entry.now result }
         { serve_until_done(links, &flags, controller) },
         || -> (Vec<AgentEnd<C>>, Ended)
-            requires { AreEndsOf C.name links.now agents.items }
-            ensures { AreEndsOf C.name links.entry.now result.0.items }
+            requires { AreEndsOf C.identity links.now agents.items }
+            ensures { AreEndsOf C.identity links.entry.now result.0.items }
         { have_round(rt, links, &flags, agents) },
     )
 }
@@ -86,8 +86,8 @@ fn serve_until_done<C: Channel>(
     flags: &Flags,
     mut controller: Controller<C>,
 ) -> Controller<C>
-    requires { HasLinks C.name links.now controller }
-    ensures { HasLinks C.name links.now result }
+    requires { HasLinks C.identity links.now controller }
+    ensures { HasLinks C.identity links.now result }
 {
     flags.serving.store(true, Ordering::SeqCst);
     'turns: for _ in 0..TURNS {
@@ -108,8 +108,8 @@ fn have_round<C: Channel, R: Wait>(
     flags: &Flags,
     mut agents: Vec<AgentEnd<C>>,
 ) -> (Vec<AgentEnd<C>>, Ended)
-    requires { AreEndsOf C.name links.now agents.items }
-    ensures { AreEndsOf C.name links.now result.0.items }
+    requires { AreEndsOf C.identity links.now agents.items }
+    ensures { AreEndsOf C.identity links.now result.0.items }
 {
     if agents.is_empty() {
         return (agents, Ended::Otherwise);
@@ -131,8 +131,8 @@ fn wait_for(flag: &AtomicBool) {
 
 /// Posts, and closes at once; where that is refused, reads the response and closes.
 fn post_and_close<C: Channel, R: Wait>(rt: &R, end: &mut AgentEnd<C>, link: &Link<C>) -> Ended
-    requires { IsOfLink (C.name link.now.a2p) (C.name link.now.p2a) end.old }
-    ensures { HasSameNames end.old end.new }
+    requires { IsOfLink (C.identity link.now.a2p) (C.identity link.now.p2a) end.old }
+    ensures { HasSameIdentities end.old end.new }
 {
     if end.post(link, &command()).is_err() {
         return Ended::Otherwise;
@@ -145,8 +145,8 @@ fn post_and_close<C: Channel, R: Wait>(rt: &R, end: &mut AgentEnd<C>, link: &Lin
 }
 
 fn read_and_close<C: Channel, R: Wait>(rt: &R, end: &mut AgentEnd<C>, link: &Link<C>) -> Ended
-    requires { IsOfLink (C.name link.now.a2p) (C.name link.now.p2a) end.old }
-    ensures { HasSameNames end.old end.new }
+    requires { IsOfLink (C.identity link.now.a2p) (C.identity link.now.p2a) end.old }
+    ensures { HasSameIdentities end.old end.new }
 {
     let got = match end.wait_reply(rt, link, TURNS) {
         Collected::Got(answer) => answer == response(),

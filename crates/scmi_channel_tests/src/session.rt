@@ -1,7 +1,7 @@
 //! Both sides of the reference board on one thread, the agents' looks into buffers.
 ghost use Rattle.std.specs.Prelude.{◌≡◌};
 ghost use Rattle.scmi_ends.specs.AgentView.{IsOfLink};
-ghost use Rattle.scmi_channel_tests.specs.Session.{HasSameNames};
+ghost use Rattle.scmi_channel_tests.specs.Session.{HasSameIdentities};
 
 use crate::boards::reference_plan;
 use crate::messages::message;
@@ -30,7 +30,7 @@ impl<C: Channel> Model for Session<C> {
 
     ghost view = { λ s. length s.agents.items };
 
-    ghost invariant = { λ s. BelongTogether C.name s.links.items s.controller s.agents.items };
+    ghost invariant = { λ s. BelongTogether C.identity s.links.items s.controller s.agents.items };
 }
 
 /// What an agent does at its end.
@@ -94,8 +94,8 @@ fn make_call<C: Channel>(
     answer: &mut Answer,
     frame: &mut Frame,
 ) -> bool
-    requires { IsOfLink (C.name link.now.a2p) (C.name link.now.p2a) end.old }
-    ensures { HasSameNames end.old end.new }
+    requires { IsOfLink (C.identity link.now.a2p) (C.identity link.now.p2a) end.old }
+    ensures { HasSameIdentities end.old end.new }
 {
     match call {
         Call::Command(protocol, id, payload) => end.call(link, protocol, id, payload).is_ok(),

@@ -4,7 +4,7 @@ use Rattle.std.specs.List.{list_all}
 use Rattle.std.proofs.lemmas.Bool.{eqb-true, and_from}
 use Rattle.std.proofs.lemmas.List.Folds.{list_all-append}
 use Rattle.scmi_chart.specs.Escape.{is_plain, shown_byte, read_text}
-use Rattle.scmi_chart.specs.Piece.{escaped, escaped_byte}
+use Rattle.scmi_chart.specs.Piece.{escaped_text, escaped_byte}
 
 plain-byte : (byte : ℕ) → list_all is_plain (escaped_byte byte) ≡ true
 unfolding escaped_byte
@@ -18,10 +18,10 @@ plain-byte byte = by (byte == 60) (byte == 62) (byte == 38) (byte == 34) (nat_le
   by false false false false true l g q = rw l (rw g (rw q refl))
   by false false false false false l g q = refl
 
-pub plain : (bytes : List ℕ) → list_all is_plain (escaped bytes) ≡ true
+pub plain : (bytes : List ℕ) → list_all is_plain (escaped_text bytes) ≡ true
 plain [] = refl
 plain (byte ∷ bytes) =
-    list_all-append is_plain (escaped_byte byte) (escaped bytes) ∙ and_from _ _ (plain-byte byte) (plain bytes)
+    list_all-append is_plain (escaped_byte byte) (escaped_text bytes) ∙ and_from _ _ (plain-byte byte) (plain bytes)
 
 read-byte : (byte : ℕ) (rest : List ℕ) → read_text false (escaped_byte byte ++ rest) ≡ shown_byte byte ∷ read_text false rest
 unfolding escaped_byte
@@ -38,6 +38,6 @@ read-byte byte rest = by (byte == 60) (byte == 62) (byte == 38) (byte == 34) (na
   by false false false false true l g a q p = rw a (rw p refl)
   by false false false false false l g a q p = rw p refl
 
-pub read_escaped : (bytes : List ℕ) → read_text false (escaped bytes) ≡ map shown_byte bytes
+pub read_escaped : (bytes : List ℕ) → read_text false (escaped_text bytes) ≡ map shown_byte bytes
 read_escaped [] = refl
-read_escaped (byte ∷ bytes) = read-byte byte (escaped bytes) ∙ ap (λ more. shown_byte byte ∷ more) (read_escaped bytes)
+read_escaped (byte ∷ bytes) = read-byte byte (escaped_text bytes) ∙ ap (λ more. shown_byte byte ∷ more) (read_escaped bytes)

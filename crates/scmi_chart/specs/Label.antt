@@ -7,12 +7,12 @@ use Rattle.scmi_chart.specs.declared.route.Turn.{Turn}
 use Rattle.scmi_chart.specs.declared.route.Turn.TheVariants as turn
 
 -- the letters of a part of a label, as far as they matter for its size
-abbrev pub shown : List ℕ → ℕ
-shown text = min (length text) 99
+abbrev pub part_letters : List ℕ → ℕ
+part_letters text = min (length text) 99
 
 -- the letters of a label
 abbrev pub letters : Label → ℕ
-letters l = shown l.name.items + shown l.object.items + shown l.value.items + shown l.tag.items
+letters l = part_letters l.name.items + part_letters l.object.items + part_letters l.value.items + part_letters l.tag.items
 
 -- the size of words of so many letters: 12 pixels, or as many as there is room for, but no less than 9
 abbrev pub font_size : ℕ → ℕ

@@ -10,15 +10,15 @@ escaped_byte byte =
     else if nat_le 32 byte && nat_le byte 126 then byte ∷ [] else codes "?"
 
 -- a text from outside
-abbrev pub escaped : List ℕ → List ℕ
-escaped bytes = flat_map escaped_byte bytes
+abbrev pub escaped_text : List ℕ → List ℕ
+escaped_text bytes = flat_map escaped_byte bytes
 
 -- a piece, as it is written
 abbrev pub piece_text : Piece → List ℕ
 piece_text (piece.Fixed text) = text.now
 piece_text (piece.Number n) = decimal n
 piece_text (piece.Long n) = decimal n
-piece_text (piece.Outside bytes) = escaped bytes.now
+piece_text (piece.Outside bytes) = escaped_text bytes.now
 
 -- pieces, one behind the other
 abbrev pub pieces_text : List Piece → List ℕ
@@ -34,7 +34,7 @@ pub data Part : Type 0 where
 abbrev pub part_text : Part → List ℕ
 part_text (fixed text) = text
 part_text (number n) = decimal n
-part_text (outside bytes) = escaped bytes
+part_text (outside bytes) = escaped_text bytes
 
 -- parts, one behind the other
 abbrev pub parts_text : List Part → List ℕ

@@ -1,7 +1,7 @@
 //! What messages say, as words.
 ghost use Rattle.std.specs.Prelude.{◌≡◌, OnOk};
 ghost use Rattle.std.specs.Io.KnownBytes.{Appends};
-ghost use Rattle.scmi_chart.specs.Label.{label_text, front_text, back_text, value_text, tag_text, letters, shown, font_size, if_any_text, start_text, place_text, turn_text, turned_text};
+ghost use Rattle.scmi_chart.specs.Label.{label_text, front_text, back_text, value_text, tag_text, letters, part_letters, font_size, if_any_text, start_text, place_text, turn_text, turned_text};
 
 use crate::mark::Label;
 use crate::piece::{Piece, write_pieces};
@@ -61,13 +61,13 @@ fn write_tag<W: Write>(writer: &mut W, tag: &[u8]) -> io::Result<()>
 fn letters(label: &Label) -> u16
     ensures { result ≡ letters label.now }
 {
-    let front = u16::from(shown(&label.name)) + u16::from(shown(&label.object));
-    front + u16::from(shown(&label.value)) + u16::from(shown(&label.tag))
+    let front = u16::from(part_letters(&label.name)) + u16::from(part_letters(&label.object));
+    front + u16::from(part_letters(&label.value)) + u16::from(part_letters(&label.tag))
 }
 
 /// The letters of a part of a label, as far as they matter for its size.
-fn shown(text: &[u8]) -> u8
-    ensures { result ≡ shown text.now }
+fn part_letters(text: &[u8]) -> u8
+    ensures { result ≡ part_letters text.now }
 {
     text.len().min(99) as u8
 }

@@ -3,7 +3,7 @@ ghost use Rattle.std.specs.Prelude.{◌≡◌, IsTrue, OnOk, false, map};
 ghost use Rattle.std.specs.List.{list_all};
 ghost use Rattle.std.specs.Io.KnownBytes.{Appends};
 ghost use Rattle.scmi_chart.specs.Escape.{is_plain, read_text, shown_byte};
-ghost use Rattle.scmi_chart.specs.Piece.{escaped, escaped_byte, piece_text, pieces_text};
+ghost use Rattle.scmi_chart.specs.Piece.{escaped_text, escaped_byte, piece_text, pieces_text};
 
 use std::io;
 use std::io::Write;
@@ -48,10 +48,10 @@ fn write_piece<W: Write>(writer: &mut W, piece: &Piece) -> io::Result<()>
 #[tactic(auto, using(crate::proofs::EscapeLemmas::plain, crate::proofs::EscapeLemmas::read_escaped))]
 pub fn write_escaped<W: Write>(writer: &mut W, bytes: &[u8]) -> io::Result<()>
     ensures text { OnOk result (Appends (W.contents writer.old) (W.contents writer.new)
-        (escaped bytes.now)) }
+        (escaped_text bytes.now)) }
     // None of its bytes ends what it stands in, be it between tags or in quotes.
-    ensures plain { IsTrue (list_all is_plain (escaped bytes.now)) }
-    ensures read { read_text false (escaped bytes.now) ≡ map shown_byte bytes.now }
+    ensures plain { IsTrue (list_all is_plain (escaped_text bytes.now)) }
+    ensures read { read_text false (escaped_text bytes.now) ≡ map shown_byte bytes.now }
 {
     'bytes: for byte in bytes {
         write_byte(writer, *byte)?;

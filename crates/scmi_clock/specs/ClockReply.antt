@@ -31,8 +31,8 @@ abbrev pub no_clock : Board → ℕ → Bool
 no_clock board c = nat_le (length board.clocks) c
 
 -- the supported rate that a set's flags ask for, if there is one
-abbrev pub rounded : Rates → ℕ → ℕ → Option ℕ
-rounded rates flags asked = round_to (rounding_of flags) rates asked
+abbrev pub rounded_rate : Rates → ℕ → ℕ → Option ℕ
+rounded_rate rates flags asked = round_to (rounding_of flags) rates asked
 
 -- the index is past the end of a list of rates; a triplet is described whatever the index (own)
 abbrev pub past_end : Rates → ℕ → Bool
@@ -52,12 +52,12 @@ abbrev pub triplet_word : ℕ
 triplet_word = 2 ^ 12 + 3
 
 -- the flags word of a description, and its rates in Hz: those of a list from an index on, or the lowest, the highest and the step
-abbrev pub described : Rates → ℕ → List ℕ
-described (rates.List list) index =
+abbrev pub rates_words : Rates → ℕ → List ℕ
+rates_words (rates.List list) index =
     let left = length list - index in
     let count = min most_rates left in
     rates_word (left - count) count ∷ flat_map rate_words (take count (drop index list))
-described (rates.Steps low high step) index = triplet_word ∷ flat_map rate_words (low ∷ high ∷ step ∷ [])
+rates_words (rates.Steps low high step) index = triplet_word ∷ flat_map rate_words (low ∷ high ∷ step ∷ [])
 
 -- the reply to 0x1: in bits 23 to 16 the most pending sets, in bits 15 to 0 the number of clocks
 abbrev pub attributes_reply : Board → List ℕ
@@ -76,13 +76,13 @@ clock_attributes_reply board enabled c =
 abbrev pub describe_reply : Board → ℕ → ℕ → List ℕ
 describe_reply board c index =
     reply_unless ((no_clock board c, NotFound) ∷ (past_end (clock_at board c).rates index, OutOfRange) ∷ [])
-    (0 ∷ described (clock_at board c).rates index)
+    (0 ∷ rates_words (clock_at board c).rates index)
 
 -- the checks of 0x5, in order (own): clock, flags and rate, permission, pending sets
 abbrev pub set_checks : Board → Bool → Bool → Bool → ℕ → ℕ → ℕ → List Check
 set_checks board may busy room flags c rate =
     (no_clock board c, NotFound)
-    ∷ (has_unknown_flags flags || is_none (rounded (clock_at board c).rates flags rate), InvalidParameters)
+    ∷ (has_unknown_flags flags || is_none (rounded_rate (clock_at board c).rates flags rate), InvalidParameters)
     ∷ (not may, Denied)
     ∷ (busy || (is_asynchronous flags && not room), Busy)
     ∷ []

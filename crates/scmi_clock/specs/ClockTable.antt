@@ -9,7 +9,7 @@ use Rattle.scmi_plan.specs.declared.limits.TheConstants.{CLOCKS}
 use Rattle.scmi_plan.specs.declared.load.Load.{Load}
 use Rattle.scmi_plan.specs.declared.resource.Resource.TheVariants as resource
 use Rattle.scmi_base.specs.Permission.{Permissions, may, is_allowed}
-use Rattle.scmi_clock.specs.ClockReply.{ClockView, rounded, set_checks, config_checks}
+use Rattle.scmi_clock.specs.ClockReply.{ClockView, rounded_rate, set_checks, config_checks}
 use Rattle.scmi_clock.specs.SetFlags.{is_asynchronous, is_response_wanted}
 
 -- the rate of each clock in Hz, and whether it is enabled
@@ -51,7 +51,7 @@ view_of board permissions table load caller =
 
 -- the supported rate that a set asks for
 abbrev pub set_rate : Board → ℕ → ℕ → ℕ → ℕ
-set_rate board flags c rate = unwrap_or (rounded (clock_at board c).rates flags rate) 0
+set_rate board flags c rate = unwrap_or (rounded_rate (clock_at board c).rates flags rate) 0
 
 -- the clock and rate that a successful command sets at once
 abbrev pub rate_now : Board → ClockCommand → Option (ℕ × ℕ)

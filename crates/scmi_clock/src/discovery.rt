@@ -3,7 +3,7 @@ ghost use Rattle.std.specs.Prelude.{◌≡◌, ◌<◌, ◌≤◌, ◌^◌, ◌�
 ghost use Rattle.scmi_plan.specs.Rates.{HasLawfulRates};
 ghost use Rattle.scmi_plan.specs.declared.limits.TheConstants.{RATES};
 ghost use Rattle.scmi_plan.specs.declared.rates.Rates.TheVariants.{List, Steps};
-ghost use Rattle.scmi_clock.specs.ClockReply.{attributes_reply, message_reply, clock_attributes_reply, describe_reply, rate_reply, past_end, described, rates_word};
+ghost use Rattle.scmi_clock.specs.ClockReply.{attributes_reply, message_reply, clock_attributes_reply, describe_reply, rate_reply, past_end, rates_words, rates_word};
 ghost use Rattle.scmi_clock.specs.ClockTable.{rate_at, enabled_at};
 
 use crate::checks::{check_clock, check_index};
@@ -81,7 +81,7 @@ pub(crate) fn describe(plan: &Plan, clock: u32, index: u32, reply: &mut Payload)
         set_refusal(reply, status);
         return;
     }
-    described(rates, index, reply);
+    set_rates(rates, index, reply);
 }
 
 /// 0x6: the rate.
@@ -96,22 +96,22 @@ pub(crate) fn current_rate(plan: &Plan, state: &ClockState, clock: u32, reply: &
     set_payload(reply, &[SUCCESS, low, high]);
 }
 
-fn described(rates: &Rates, index: u32, reply: &mut Payload)
+fn set_rates(rates: &Rates, index: u32, reply: &mut Payload)
     requires lawful { HasLawfulRates rates.now }
     requires index { past_end rates.now index ≡ false }
-    ensures { reply.new.items ≡ 0 ∷ described rates.now index }
+    ensures { reply.new.items ≡ 0 ∷ rates_words rates.now index }
 {
     match rates {
-        Rates::List(list) => listed(list.as_slice(), index as usize, reply),
-        Rates::Steps { low, high, step } => triplet(*low, *high, *step, reply),
+        Rates::List(list) => set_rate_list(list.as_slice(), index as usize, reply),
+        Rates::Steps { low, high, step } => set_triplet(*low, *high, *step, reply),
     }
 }
 
 /// As many rates from an index on as a reply holds, and how many remain.
-fn listed(list: &[u64], index: usize, reply: &mut Payload)
+fn set_rate_list(list: &[u64], index: usize, reply: &mut Payload)
     requires few { length list.now ≤ RATES }
     requires index { index < length list.now }
-    ensures { reply.new.items ≡ 0 ∷ described (List list.now) index }
+    ensures { reply.new.items ≡ 0 ∷ rates_words (List list.now) index }
 {
     let left = list.len() - index;
     let count = left.min(MOST_RATES);
@@ -138,8 +138,8 @@ fn rates_word(remaining: usize, returned: usize) -> u32
     (remaining as u32) << 16 | returned as u32
 }
 
-fn triplet(low: u64, high: u64, step: u64, reply: &mut Payload)
-    ensures { reply.new.items ≡ 0 ∷ described (Steps low high step) 0 }
+fn set_triplet(low: u64, high: u64, step: u64, reply: &mut Payload)
+    ensures { reply.new.items ≡ 0 ∷ rates_words (Steps low high step) 0 }
 {
     let [a, b] = rate_words(low);
     let [c, d] = rate_words(high);

@@ -25,12 +25,12 @@ frame_of-good area header words few el eh ew =
     rw (el, is_well_formed-true (length words) few, quarter (length words), eh, ew) refl
 
 -- an area after a message of this header word and these payload words, and then a status word
-abbrev pub replied : List ℕ → ℕ → ℕ → List ℕ → List ℕ
-replied area status word words = put_word 0x04 status (put_words 0x1C words (put_word 0x18 word (put_word 0x14 (4 + 4 * length words) area)))
+abbrev pub area_after_reply : List ℕ → ℕ → ℕ → List ℕ → List ℕ
+area_after_reply area status word words = put_word 0x04 status (put_words 0x1C words (put_word 0x18 word (put_word 0x14 (4 + 4 * length words) area)))
 
 pub StandsFor-replied : (area : List ℕ) (header : HeaderFields) (status word : ℕ) (words : List ℕ) → length area ≡ AREA_BYTES → length words ≤ PAYLOAD_WORDS
     → AllByRecursion (λ w. w < 2 ^ 32) words → status < 2 ^ 32 → word < 2 ^ 32 → header_of word ≡ header
-    → StandsFor (replied area status word words) status (Good (record { header = header; payload = record { items = words } }))
+    → StandsFor (area_after_reply area status word words) status (Good (record { header = header; payload = record { items = words } }))
 StandsFor-replied area header status word words size few small low narrow unpacked =
     let a : List ℕ = put_word 0x14 (4 + 4 * length words) area in
     let b : List ℕ = put_word 0x18 word a in
@@ -57,7 +57,7 @@ StandsFor-replied area header status word words size few small low narrow unpack
 
 pub kept-replied : (area : List ℕ) (status word : ℕ) (words : List ℕ) (i : ℕ) → length area ≡ AREA_BYTES → length words ≤ PAYLOAD_WORDS
     → (i < 0x04) ⊎ ((0x08 ≤ i) × (i < 0x14)) ⊎ (0x1C + 4 * length words ≤ i)
-    → get_or (replied area status word words) i 0 ≡ get_or area i 0
+    → get_or (area_after_reply area status word words) i 0 ≡ get_or area i 0
 kept-replied area status word words i size few apart =
     let a : List ℕ = put_word 0x14 (4 + 4 * length words) area in
     let b : List ℕ = put_word 0x18 word a in

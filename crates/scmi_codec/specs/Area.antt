@@ -40,8 +40,8 @@ abbrev pub message_of : ℕ → List ℕ → Message
 message_of word words = record { header = header_of word; payload = record { items = words } }
 
 -- what a callee finds: nothing while the channel is free
-abbrev pub arrived : List ℕ → Option Frame
-arrived area = if status_at area % 2 == 1 then None else Some (frame_of area)
+abbrev pub frame_waiting : List ℕ → Option Frame
+frame_waiting area = if status_at area % 2 == 1 then None else Some (frame_of area)
 
 -- an area stands for a status and a frame
 pub record StandsFor (area : List ℕ) (s : ℕ) (f : Frame) : Type 0 where
@@ -59,22 +59,22 @@ abbrev pub IsOutside : Message → ℕ → Type 0
 IsOutside m i = (i < 0x04) ⊎ ((0x08 ≤ i) × (i < 0x14)) ⊎ (0x1C + 4 * length m.payload.items ≤ i)
 
 -- a byte that an answer doesn't touch
-abbrev pub IsKept : Answer → ℕ → Type 0
-IsKept (Reply m) i = IsOutside m i
-IsKept Released i = (i < 0x04) ⊎ (0x08 ≤ i)
-IsKept ChannelError i = (i < 0x04) ⊎ (0x08 ≤ i)
+abbrev pub IsUntouched : Answer → ℕ → Type 0
+IsUntouched (Reply m) i = IsOutside m i
+IsUntouched Released i = (i < 0x04) ⊎ (0x08 ≤ i)
+IsUntouched ChannelError i = (i < 0x04) ⊎ (0x08 ≤ i)
 
 -- an area after a message was written into it, and then its status word
-abbrev pub written : ℕ → Message → List ℕ → List ℕ
-written status m area =
+abbrev pub area_after_write : ℕ → Message → List ℕ → List ℕ
+area_after_write status m area =
     put_word 0x04 status (put_words 0x1C m.payload.items (put_word 0x18 (header_word m.header) (put_word 0x14 (4 + 4 * length m.payload.items) area)))
 
 -- an area after a caller posted a message: the channel is no longer free
-abbrev pub posted : Message → List ℕ → List ℕ
-posted m area = written 0 m area
+abbrev pub area_after_post : Message → List ℕ → List ℕ
+area_after_post m area = area_after_write 0 m area
 
 -- an area after an answer
-abbrev pub answered : Answer → List ℕ → List ℕ
-answered (Reply m) area = written 1 m area
-answered Released area = put_word 0x04 1 area
-answered ChannelError area = put_word 0x04 3 area
+abbrev pub area_after_answer : Answer → List ℕ → List ℕ
+area_after_answer (Reply m) area = area_after_write 1 m area
+area_after_answer Released area = put_word 0x04 1 area
+area_after_answer ChannelError area = put_word 0x04 3 area

@@ -3,7 +3,7 @@ ghost use Rattle.std.specs.Prelude.{◌≡◌, ◌+◌, ◌*◌, ◌^◌, ◌<�
 ghost use Rattle.std.specs.List.{AllByRecursion};
 ghost use Rattle.scmi_codec.specs.Header.{header_of};
 ghost use Rattle.scmi_codec.specs.Word.{words_at, put_words};
-ghost use Rattle.scmi_codec.specs.Area.{frame_of, arrived, header_at, message_of, answered, posted, written, is_well_formed, StandsFor, StandsForAnswer, IsKept, IsOutside};
+ghost use Rattle.scmi_codec.specs.Area.{frame_of, frame_waiting, header_at, message_of, area_after_answer, area_after_post, area_after_write, is_well_formed, StandsFor, StandsForAnswer, IsUntouched, IsOutside};
 ghost use Rattle.scmi_codec.specs.declared.frame.Frame.TheVariants.{Good, Malformed};
 ghost use Rattle.scmi_codec.specs.declared.frame.Answer.TheVariants.{Reply};
 ghost use Rattle.scmi_codec.specs.declared.area.TheConstants.{AREA_BYTES};
@@ -49,7 +49,7 @@ pub fn is_well_formed(length: u32) -> bool
 /// The frame that a caller has posted, or `None` for a free channel: of the status word, bit 0 alone
 /// decides (own). `WrongSize` where there are not `AREA_BYTES` bytes.
 pub fn read_area(area: &[u8]) -> Result<Option<Frame>, AreaError>
-    ensures ok { length area.now ≡ AREA_BYTES → result ≡ Ok (arrived area.now) }
+    ensures ok { length area.now ≡ AREA_BYTES → result ≡ Ok (frame_waiting area.now) }
     ensures wrong_size { length area.now ≢ AREA_BYTES → result ≡ Err AreaError.WrongSize }
 {
     let mut frame = Frame::Good(Message::default());
@@ -63,8 +63,8 @@ pub fn read_area(area: &[u8]) -> Result<Option<Frame>, AreaError>
 /// Reads the frame that a caller has posted, as `read_area`, into `frame`, and says whether there is
 /// one. Only the words that are there are written.
 pub fn read_area_into(area: &[u8], frame: &mut Frame) -> Result<bool, AreaError>
-    ensures ok { length area.now ≡ AREA_BYTES → result ≡ Ok (is_some (arrived area.now)) }
-    ensures frame { result ≡ Ok true → arrived area.now ≡ Some frame.new }
+    ensures ok { length area.now ≡ AREA_BYTES → result ≡ Ok (is_some (frame_waiting area.now)) }
+    ensures frame { result ≡ Ok true → frame_waiting area.now ≡ Some frame.new }
     ensures stays { result ≢ Ok true → frame.new ≡ frame.old }
     ensures wrong_size { length area.now ≢ AREA_BYTES → result ≡ Err AreaError.WrongSize }
 {
@@ -77,7 +77,7 @@ pub fn read_area_into(area: &[u8], frame: &mut Frame) -> Result<bool, AreaError>
 
 /// Whether a channel is free, as `read_area` says it.
 pub fn is_free(area: &[u8]) -> Result<bool, AreaError>
-    ensures ok { length area.now ≡ AREA_BYTES → result ≡ Ok (is_none (arrived area.now)) }
+    ensures ok { length area.now ≡ AREA_BYTES → result ≡ Ok (is_none (frame_waiting area.now)) }
     ensures wrong_size { length area.now ≢ AREA_BYTES → result ≡ Err AreaError.WrongSize }
 {
     check_size(area)?;
@@ -196,10 +196,10 @@ fn read_many(area: &[u8], words: &mut [u32])
 /// `AREA_BYTES` bytes, and then nothing is written.
 pub fn write_answer(area: &mut [u8], answer: &Answer) -> Result<(), AreaError>
     ensures size { IsOk result ↔ (length area.old ≡ AREA_BYTES) }
-    ensures written { OnOk result (area.new ≡ answered answer.now area.old) }
+    ensures written { OnOk result (area.new ≡ area_after_answer answer.now area.old) }
     ensures stands { OnOk result (StandsForAnswer area.new (frame_of area.old) answer.now) }
     ensures rest { OnOk result
-        ((i : ℕ) → IsKept answer.now i → slice_index area.new i ≡ slice_index area.old i) }
+        ((i : ℕ) → IsUntouched answer.now i → slice_index area.new i ≡ slice_index area.old i) }
     ensures err { OnErr result (area.new ≡ area.old) }
     ensures errors { IfErr result (λ e. e ≡ AreaError.WrongSize) }
 {
@@ -218,11 +218,11 @@ pub fn write_answer(area: &mut [u8], answer: &Answer) -> Result<(), AreaError>
 /// Writes a response, as `write_answer` writes a reply, from where it stands.
 pub fn write_reply(area: &mut [u8], message: &Message) -> Result<(), AreaError>
     ensures size { IsOk result ↔ (length area.old ≡ AREA_BYTES) }
-    ensures written { OnOk result (area.new ≡ answered (Reply message.now) area.old) }
+    ensures written { OnOk result (area.new ≡ area_after_answer (Reply message.now) area.old) }
     ensures stands { OnOk result
         (StandsForAnswer area.new (frame_of area.old) (Reply message.now)) }
     ensures rest { OnOk result
-        ((i : ℕ) → IsKept (Reply message.now) i → slice_index area.new i ≡ slice_index area.old i) }
+        ((i : ℕ) → IsUntouched (Reply message.now) i → slice_index area.new i ≡ slice_index area.old i) }
     ensures err { OnErr result (area.new ≡ area.old) }
     ensures errors { IfErr result (λ e. e ≡ AreaError.WrongSize) }
 {
@@ -236,11 +236,11 @@ pub fn write_reply(area: &mut [u8], message: &Message) -> Result<(), AreaError>
 pub fn write_response(area: &mut [u8], payload: &Payload) -> Result<(), AreaError>
     ensures size { IsOk result ↔ (length area.old ≡ AREA_BYTES) }
     ensures written { OnOk result (area.new
-        ≡ answered (Reply (message_of (header_at area.old) payload.now.items)) area.old) }
+        ≡ area_after_answer (Reply (message_of (header_at area.old) payload.now.items)) area.old) }
     ensures stands { OnOk result (StandsForAnswer area.new (frame_of area.old)
         (Reply (message_of (header_at area.old) payload.now.items))) }
     ensures rest { OnOk result
-        ((i : ℕ) → IsKept (Reply (message_of (header_at area.old) payload.now.items)) i
+        ((i : ℕ) → IsUntouched (Reply (message_of (header_at area.old) payload.now.items)) i
         → slice_index area.new i ≡ slice_index area.old i) }
     ensures err { OnErr result (area.new ≡ area.old) }
     ensures errors { IfErr result (λ e. e ≡ AreaError.WrongSize) }
@@ -257,8 +257,8 @@ pub fn write_response(area: &mut [u8], payload: &Payload) -> Result<(), AreaErro
 /// are not `AREA_BYTES` bytes, and then nothing is written.
 pub fn write_message(area: &mut [u8], message: &Message) -> Result<(), AreaError>
     ensures size { IsOk result ↔ (length area.old ≡ AREA_BYTES) }
-    ensures written { OnOk result (area.new ≡ posted message.now area.old) }
-    ensures arrived { OnOk result (arrived area.new ≡ Some (Good message.now)) }
+    ensures written { OnOk result (area.new ≡ area_after_post message.now area.old) }
+    ensures arrived { OnOk result (frame_waiting area.new ≡ Some (Good message.now)) }
     ensures rest { OnOk result
         ((i : ℕ) → IsOutside message.now i → slice_index area.new i ≡ slice_index area.old i) }
     ensures err { OnErr result (area.new ≡ area.old) }
@@ -272,7 +272,7 @@ pub fn write_message(area: &mut [u8], message: &Message) -> Result<(), AreaError
 /// Writes a message, and then the status word.
 fn write_with_status(area: &mut [u8], message: &Message, status: u32)
     requires { length area.old ≡ AREA_BYTES }
-    ensures written { area.new ≡ written status message.now area.old }
+    ensures written { area.new ≡ area_after_write status message.now area.old }
     ensures stands { StandsFor area.new status (Good message.now) }
     ensures rest { (i : ℕ) → IsOutside message.now i →
         slice_index area.new i ≡ slice_index area.old i }
@@ -283,7 +283,7 @@ fn write_with_status(area: &mut [u8], message: &Message, status: u32)
 /// Writes a message of this header word, and then the status word.
 fn write_parts(area: &mut [u8], header: u32, payload: &Payload, status: u32)
     requires { length area.old ≡ AREA_BYTES }
-    ensures written { area.new ≡ written status (message_of header payload.now.items) area.old }
+    ensures written { area.new ≡ area_after_write status (message_of header payload.now.items) area.old }
     ensures stands { StandsFor area.new status (Good (message_of header payload.now.items)) }
     ensures rest { (i : ℕ) → IsOutside (message_of header payload.now.items) i →
         slice_index area.new i ≡ slice_index area.old i }

@@ -62,7 +62,7 @@ impl Name {
 pub fn name_words(name: &Name) -> [u32; 4]
     ensures { result ≡ name_words name.now }
 {
-    let bytes = padded(name);
+    let bytes = padded_bytes(name);
     [
         read_word(&bytes, 0),
         read_word(&bytes, 4),
@@ -72,7 +72,7 @@ pub fn name_words(name: &Name) -> [u32; 4]
 }
 
 /// The bytes of a name, and zeros after them.
-fn padded(name: &Name) -> [u8; 16]
+fn padded_bytes(name: &Name) -> [u8; 16]
     ensures { result ≡ name.now ++ replicate (16 - length name.now) 0 }
 {
     let mut bytes = [0u8; 16];

@@ -7,7 +7,7 @@ use Rattle.scmi_codec.specs.declared.frame.Answer.{Answer}
 use Rattle.scmi_plan.specs.Board.{Board}
 use Rattle.scmi_core.specs.declared.event.Event.{Event}
 use Rattle.scmi_core.specs.declared.event.Event.TheVariants.{Command, Advance, Sent}
-use Rattle.scmi_core.specs.Deed.{over}
+use Rattle.scmi_core.specs.Deed.{fold_with_prefix}
 use Rattle.scmi_core.specs.History.{answer_to}
 use Rattle.scmi_core.specs.Agents.{frame_from, frames_of, answer_for, answers_to}
 
@@ -22,8 +22,8 @@ module _ (board : Board) (a : ℕ) where
   one before (Sent b) fs = omega arith
 
   from : (before : List Event) (so_far : List Answer) (h : List Event)
-      → length (over (λ b xs e. xs ++ answer_for board a b e) before so_far h) ≡ length so_far + length (filter_map (frame_from a) h)
-  unfolding over
+      → length (fold_with_prefix (λ b xs e. xs ++ answer_for board a b e) before so_far h) ≡ length so_far + length (filter_map (frame_from a) h)
+  unfolding fold_with_prefix
   from before so_far [] = omega arith
   from before so_far (e ∷ h) =
       let each = one before e (filter_map (frame_from a) h) in

@@ -29,10 +29,10 @@ use Rattle.scmi_core.specs.declared.event.Event.{Event}
 use Rattle.scmi_core.specs.declared.event.Event.TheVariants.{Command, Advance, Sent}
 use Rattle.scmi_core.specs.declared.tables.Tables.{Tables}
 use Rattle.std.specs.Option.{option_to_list, option_and_then}
-use Rattle.scmi_core.specs.Deed.{Deed, success_with, over}
-use Rattle.scmi_core.specs.Value.{Change, Thing, State, Rate, Enabled, completed, change_by}
-use Rattle.scmi_core.specs.Pending.{acceptance, accepted, advances, pending, pending_of, sets_by, is_advance}
-use Rattle.scmi_core.specs.Outbox.{made, made_by, outbox_after, sent, is_sent_by, response_for, response_to, notice_in, situation_after}
+use Rattle.scmi_core.specs.Deed.{Deed, success_with, fold_with_prefix}
+use Rattle.scmi_core.specs.Value.{Change, Thing, State, Rate, Enabled, completed_set, change_by}
+use Rattle.scmi_core.specs.Pending.{acceptance, accepted_sets, advances, pending_sets, pending_of, sets_by, is_advance}
+use Rattle.scmi_core.specs.Outbox.{messages_made, made_by, outbox_after, sent_count, is_sent_by, response_for, response_to, notice_in, situation_after}
 use Rattle.scmi_core.specs.History.{deeds, deed_after, outbox}
 use Rattle.scmi_core.specs.Legal.{IsLegal}
 use Rattle.scmi_core.specs.Reply.{reply_words}
@@ -40,9 +40,9 @@ use Rattle.scmi_core.specs.Situation.{Situation, has_room, power_view, clock_vie
 use Rattle.scmi_core.specs.Tables.{load_at}
 use Rattle.scmi_core.specs.Bounds.{HasBounds}
 use Rattle.scmi_core.specs.Agreement.{Agrees}
-use Rattle.scmi_core.proofs.Deeds.{added, pending-push, pending-advance, outbox-push, sent-push}
+use Rattle.scmi_core.proofs.Deeds.{added_success, pending_sets-push, pending_sets-advance, outbox-push, sent_count-push}
 use Rattle.scmi_core.proofs.Legal.{Grown, empty, grow, grown, deeds-push, IsLegal-front, advances_le-accepted, sent_le-made}
-use Rattle.scmi_core.proofs.Situations.{made-sent}
+use Rattle.scmi_core.proofs.Situations.{messages_made-sent}
 
 -- a set that is accepted for later met room
 room_of : (c1 c2 c3 c4 busy later room : Bool)
@@ -119,10 +119,10 @@ both_true true false e = absurd (cc)
 both_true false b e = absurd (cc)
 
 -- what room says
-room_says : (board : Board) (a : ℕ) (h : List Deed) → has_room a (situation_after board a h) ≡ true → (length (pending board h) < 8) × (length (outbox_after board a h) + length (pending_of board a h) < 16)
+room_says : (board : Board) (a : ℕ) (h : List Deed) → has_room a (situation_after board a h) ≡ true → (length (pending_sets board h) < 8) × (length (outbox_after board a h) + length (pending_of board a h) < 16)
 room_says board a h e =
     let two = both_true _ _ e in
-    (leb-true (suc (length (pending board h))) 8 two.0, leb-true (suc (length (outbox_after board a h) + length (pending_of board a h))) 16 two.1)
+    (leb-true (suc (length (pending_sets board h))) 8 two.0, leb-true (suc (length (outbox_after board a h) + length (pending_of board a h))) 16 two.1)
 
 -- at most one notification
 one_notice : (s : Situation) (change : Option Change) → length (option_map_or (notice_in s) change []) ≤ 1
@@ -147,27 +147,27 @@ length_if : (b : Bool) (xs : List Message) → length (if b then xs else []) ≡
 length_if true xs = refl
 length_if false xs = refl
 
-made-within : (board : Board) (a : ℕ) (h : List Deed) (deed : Deed)
-    → length (outbox_after board a h) + length (option_map_or (response_for a) (completed board h deed.event) []) + length (pending_of board a (h ++ deed ∷ [])) ≤ 16
-    → length (outbox_after board a h) + length (made_by board a h (made board a h) deed) + length (pending_of board a (h ++ deed ∷ [])) ≤ 16
-made-within board a h deed base =
-    let responses = option_map_or (response_for a) (completed board h deed.event) [] in
+messages_made-within : (board : Board) (a : ℕ) (h : List Deed) (deed : Deed)
+    → length (outbox_after board a h) + length (option_map_or (response_for a) (completed_set board h deed.event) []) + length (pending_of board a (h ++ deed ∷ [])) ≤ 16
+    → length (outbox_after board a h) + length (made_by board a h (messages_made board a h) deed) + length (pending_of board a (h ++ deed ∷ [])) ≤ 16
+messages_made-within board a h deed base =
+    let responses = option_map_or (response_for a) (completed_set board h deed.event) [] in
     let notices = option_map_or (notice_in (situation_after board a h)) (change_by board h deed) [] in
     let left = length (pending_of board a (h ++ deed ∷ [])) in
     let load = length (outbox_after board a h) + length responses + left in
-    let size : length (made_by board a h (made board a h) deed) ≡ length responses + (if nat_lt load 16 then length notices else 0)
+    let size : length (made_by board a h (messages_made board a h) deed) ≡ length responses + (if nat_lt load 16 then length notices else 0)
     = length-append responses (if nat_lt load 16 then notices else []) ∙ ap (λ n. length responses + n) (length_if (nat_lt load 16) notices) in
     rw size (within (length (outbox_after board a h)) (length responses) (length notices) left (one_notice (situation_after board a h) (change_by board h deed)) base (nat_lt load 16) refl)
 
 -- what is pending after a deed that accepts at most one set
 record Fits (board : Board) (h : List Deed) (more : Option PendingSet) : Type 0 where
-  pub few : length (pending board h ++ option_to_list more) ≤ 8
-  pub loads : (a : ℕ) → length (outbox_after board a h) + length (sets_by a (pending board h ++ option_to_list more)) ≤ 16
+  pub few : length (pending_sets board h ++ option_to_list more) ≤ 8
+  pub loads : (a : ℕ) → length (outbox_after board a h) + length (sets_by a (pending_sets board h ++ option_to_list more)) ≤ 16
 
 fits-none : (board : Board) (h : List Deed) → HasBounds board h → Fits board h None
 fits-none board h had = record {
-  few = rw (append-nil (pending board h)) had.pending_sets;
-  loads = λ a. rw (append-nil (pending board h)) (had.loads a);
+  few = rw (append-nil (pending_sets board h)) had.pending;
+  loads = λ a. rw (append-nil (pending_sets board h)) (had.loads a);
 }
 
 fits-some : (board : Board) (h : List Deed) (b : ℕ) (p : PendingSet) → HasBounds board h → p.agent ≡ b → has_room b (situation_after board b h) ≡ true → Fits board h (Some p)
@@ -175,11 +175,11 @@ fits-some board h b p had by room =
     let says = room_says board b h room in
     let less = says.0 in
     record {
-      few = omega (arith, length-append (pending board h) (p ∷ []));
-      loads = λ a. rw (filter-append (λ q. q.agent == a) (pending board h) (p ∷ []), length-append (sets_by a (pending board h)) (sets_by a (p ∷ []))) (by_agent a (eqb_tells p.agent a));
+      few = omega (arith, length-append (pending_sets board h) (p ∷ []));
+      loads = λ a. rw (filter-append (λ q. q.agent == a) (pending_sets board h) (p ∷ []), length-append (sets_by a (pending_sets board h)) (sets_by a (p ∷ []))) (by_agent a (eqb_tells p.agent a));
     } where
       by_agent : (a : ℕ) → (((p.agent == a) ≡ true) × (p.agent ≡ a)) ⊎ (((p.agent == a) ≡ false) × (p.agent ≢ a))
-          → length (outbox_after board a h) + (length (sets_by a (pending board h)) + length (sets_by a (p ∷ []))) ≤ 16
+          → length (outbox_after board a h) + (length (sets_by a (pending_sets board h)) + length (sets_by a (p ∷ []))) ≤ 16
       by_agent a (inl same) =
           let less : length (outbox_after board a h) + length (pending_of board a h) < 16 = subst (λ x. length (outbox_after board x h) + length (pending_of board x h) < 16) (sym by ∙ same.1) (room_says board b h room).1 in
           rw same.0 (omega arith)
@@ -191,18 +191,18 @@ fits board h b header r had None e = fits-none board h had
 fits board h b header r had (Some p) e = let two = accept-room board b h header r p e in fits-some board h b p had two.0 two.1
 
 -- a deed that completes and posts nothing
-settled : (board : Board) (h : List Deed) (deed : Deed) → is_advance deed.event ≡ false → ((a : ℕ) → is_sent_by a deed.event ≡ false) → completed board h deed.event ≡ None
-    → advances h ≤ length (accepted board h) → ((a : ℕ) → sent a h ≤ length (made board a h)) → Fits board h (option_and_then (acceptance board) (added deed)) → HasBounds board (h ++ deed ∷ [])
+settled : (board : Board) (h : List Deed) (deed : Deed) → is_advance deed.event ≡ false → ((a : ℕ) → is_sent_by a deed.event ≡ false) → completed_set board h deed.event ≡ None
+    → advances h ≤ length (accepted_sets board h) → ((a : ℕ) → sent_count a h ≤ length (messages_made board a h)) → Fits board h (option_and_then (acceptance board) (added_success deed)) → HasBounds board (h ++ deed ∷ [])
 settled board h deed stays unsent none enough enough_sent fit =
-    let pend = pending-push board h deed stays enough in
+    let pend = pending_sets-push board h deed stays enough in
     record {
-      pending_sets = rw pend fit.few;
+      pending = rw pend fit.few;
       loads = λ a.
           let zero_more : length (outbox_after board a h) + 0 ≡ length (outbox_after board a h) = omega arith in
-          let base : length (outbox_after board a h) + length (option_map_or (response_for a) (completed board h deed.event) []) + length (pending_of board a (h ++ deed ∷ [])) ≤ 16
+          let base : length (outbox_after board a h) + length (option_map_or (response_for a) (completed_set board h deed.event) []) + length (pending_of board a (h ++ deed ∷ [])) ≤ 16
           = rw (none, pend, zero_more) (fit.loads a) in
-          let all = made-within board a h deed base in
-          rw (outbox-push board a h deed (unsent a) (enough_sent a), length-append (outbox_after board a h) (made_by board a h (made board a h) deed)) all;
+          let all = messages_made-within board a h deed base in
+          rw (outbox-push board a h deed (unsent a) (enough_sent a), length-append (outbox_after board a h) (made_by board a h (messages_made board a h) deed)) all;
     }
 
 -- a completed set leaves room for its delayed response
@@ -214,35 +214,35 @@ first-left a (p ∷ ps) = by (p.agent == a) p.wanted where
   by true false = omega arith
   by false wanted = omega arith
 
-bounds-advance : (board : Board) (h : List Deed) → ((a : ℕ) → sent a h ≤ length (made board a h)) → HasBounds board h → HasBounds board (h ++ record { event = Advance; reply = [] } ∷ [])
+bounds-advance : (board : Board) (h : List Deed) → ((a : ℕ) → sent_count a h ≤ length (messages_made board a h)) → HasBounds board h → HasBounds board (h ++ record { event = Advance; reply = [] } ∷ [])
 bounds-advance board h enough_sent had =
     let deed : Deed = record { event = Advance; reply = [] } in
-    let old = had.pending_sets in
+    let old = had.pending in
     record {
-      pending_sets = rw (pending-advance board h, length-drop 1 (pending board h)) (omega arith);
+      pending = rw (pending_sets-advance board h, length-drop 1 (pending_sets board h)) (omega arith);
       loads = λ a.
           let before = had.loads a in
-          let step = first-left a (pending board h) in
-          let base : length (outbox_after board a h) + length (option_map_or (response_for a) (slice_get (pending board h) 0) []) + length (pending_of board a (h ++ deed ∷ [])) ≤ 16
-          = rw (pending-advance board h) (omega arith) in
-          rw (outbox-push board a h deed refl (enough_sent a), length-append (outbox_after board a h) (made_by board a h (made board a h) deed)) (made-within board a h deed base);
+          let step = first-left a (pending_sets board h) in
+          let base : length (outbox_after board a h) + length (option_map_or (response_for a) (slice_get (pending_sets board h) 0) []) + length (pending_of board a (h ++ deed ∷ [])) ≤ 16
+          = rw (pending_sets-advance board h) (omega arith) in
+          rw (outbox-push board a h deed refl (enough_sent a), length-append (outbox_after board a h) (made_by board a h (messages_made board a h) deed)) (messages_made-within board a h deed base);
     }
 
-bounds-sent : (board : Board) (h : List Deed) (b : ℕ) → advances h ≤ length (accepted board h) → HasBounds board h → HasBounds board (h ++ record { event = Sent b; reply = [] } ∷ [])
+bounds-sent : (board : Board) (h : List Deed) (b : ℕ) → advances h ≤ length (accepted_sets board h) → HasBounds board h → HasBounds board (h ++ record { event = Sent b; reply = [] } ∷ [])
 bounds-sent board h b enough had =
     let deed : Deed = record { event = Sent b; reply = [] } in
-    let pend = pending-push board h deed refl enough ∙ append-nil (pending board h) in
+    let pend = pending_sets-push board h deed refl enough ∙ append-nil (pending_sets board h) in
     record {
-      pending_sets = rw pend had.pending_sets;
+      pending = rw pend had.pending;
       loads = λ a.
           let old = had.loads a in
-          let size = length-drop (sent a (h ++ deed ∷ [])) (made board a h) in
-          let size' = length-drop (sent a h) (made board a h) in
-          let more = sent-push a h deed in
-          rw (pend, made-sent board a h b) (omega arith);
+          let size = length-drop (sent_count a (h ++ deed ∷ [])) (messages_made board a h) in
+          let size' = length-drop (sent_count a h) (messages_made board a h) in
+          let more = sent_count-push a h deed in
+          rw (pend, messages_made-sent board a h b) (omega arith);
     }
 
-bounds-more : (board : Board) (h : List Deed) (e : Event) → advances h ≤ length (accepted board h) → ((a : ℕ) → sent a h ≤ length (made board a h)) → HasBounds board h → HasBounds board (h ++ deed_after board h e ∷ [])
+bounds-more : (board : Board) (h : List Deed) (e : Event) → advances h ≤ length (accepted_sets board h) → ((a : ℕ) → sent_count a h ≤ length (messages_made board a h)) → HasBounds board h → HasBounds board (h ++ deed_after board h e ∷ [])
 bounds-more board h (Command b (Good m)) enough enough_sent had =
     settled board h (deed_after board h (Command b (Good m))) refl (λ a. refl) refl enough enough_sent (fits board h b m.header (command_of m) had _ refl)
 bounds-more board h (Command b (Malformed len header)) enough enough_sent had =
@@ -251,8 +251,8 @@ bounds-more board h Advance enough enough_sent had = bounds-advance board h enou
 bounds-more board h (Sent b) enough enough_sent had = bounds-sent board h b enough had
 
 bounds_of : (board : Board) {h : List Event} → Grown h → IsLegal board h → HasBounds board (deeds board h)
-unfolding deeds over
-bounds_of board empty legal = record { pending_sets = omega arith; loads = λ a. omega arith }
+unfolding deeds fold_with_prefix
+bounds_of board empty legal = record { pending = omega arith; loads = λ a. omega arith }
 bounds_of board (grow {xs} g e) legal =
     let front = IsLegal-front board xs e legal in
     rw (deeds-push board xs e) (bounds-more board (deeds board xs) e (advances_le-accepted board xs front) (sent_le-made board xs front) (bounds_of board g front))
@@ -262,4 +262,4 @@ bounds board h legal = bounds_of board (grown h) legal
 
 pub load-bound : (board : Board) (t : Tables) (h : List Event) → Agrees board t h → (a : ℕ) → 1 ≤ a → a ≤ length board.agents → load_at t a ≤ 16
 unfolding outbox
-load-bound board t h agrees a lo hi = rw (agrees.outboxes a lo hi, agrees.pending_sets) ((bounds board h agrees.legal).loads a)
+load-bound board t h agrees a lo hi = rw (agrees.outboxes a lo hi, agrees.pending) ((bounds board h agrees.legal).loads a)

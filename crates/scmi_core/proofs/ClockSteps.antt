@@ -22,7 +22,7 @@ use Rattle.scmi_core.specs.declared.tables.Tables.{Tables}
 use Rattle.std.specs.Option.{option_or, option_and_then, option_to_list}
 use Rattle.scmi_core.specs.Deed.{Success, success_with, success_of}
 use Rattle.scmi_core.specs.Permissions.{permission_in}
-use Rattle.scmi_core.specs.Subscriptions.{subscription, ended}
+use Rattle.scmi_core.specs.Subscriptions.{subscription, subscription_after_reset}
 use Rattle.scmi_core.specs.Pending.{acceptance, rate_set}
 use Rattle.scmi_core.specs.Value.{Change, change_now, Thing, State, Rate, Enabled, bit_value, value_in, change_of}
 use Rattle.scmi_core.specs.Tables.{outbox_at, value_at, IsThing, IsOfBoard, situation_in}
@@ -51,9 +51,9 @@ change-clock board a header c reply = by (begins_with_success reply) where
   by true = refl
   by false = refl
 
-pending-clock : (board : Board) (a : ℕ) (header : HeaderFields) (c : ClockCommand) (reply : List ℕ)
+pending_sets-clock : (board : Board) (a : ℕ) (header : HeaderFields) (c : ClockCommand) (reply : List ℕ)
     → option_and_then (acceptance board) (success_of a header (Ok (Clock c)) reply) ≡ option_map (rate_set a header) (if_success reply (rate_later board c))
-pending-clock board a header c reply = by (begins_with_success reply) where
+pending_sets-clock board a header c reply = by (begins_with_success reply) where
   by : (b : Bool) → option_and_then (acceptance board) (if b then success_with a header (Ok (Clock c)) else None) ≡ option_map (rate_set a header) (if b then rate_later board c else None)
   by true = refl
   by false = refl
@@ -140,7 +140,7 @@ clock-stepped board t new clocks' a header c reply later few lo hi is_later rate
       subscriptions = λ x d lo' hi' small. ap (λ p. is_subscribed p x d) kept.power ∙ sym (says_nothing a header (Ok (Clock c)) reply (subscription x d) (is_subscribed t.power x d) refl);
       values = λ x within. values x within ∙ ap (λ o. unwrap_or (option_and_then (value_in x) o) (value_at t x)) (sym change);
       known = subst (λ o. IfSome o (λ ch. IsThing board ch.thing)) (sym change) (either-known board a (if_success reply (rate_now board c)) (if_success reply (enabled_now c)) known.0 known.1);
-      pending_sets = pend ∙ ap (λ o. t.pending ++ option_to_list o) (ap (option_map (rate_set a header)) is_later ∙ sym (pending-clock board a header c reply));
+      pending = pend ∙ ap (λ o. t.pending ++ option_to_list o) (ap (option_map (rate_set a header)) is_later ∙ sym (pending_sets-clock board a header c reply));
       known_sets = λ all. subst (All (IsOfBoard board)) (sym pend) (All-append (IsOfBoard board) t.pending (option_to_list (option_map (rate_set a header) later)) all (later-known board a header later lo hi known_later));
       outboxes = λ x lo' hi'.
           same_box t new x kept.outboxes
@@ -163,15 +163,15 @@ change-base board a header c reply = by (begins_with_success reply) where
   by true = refl
   by false = refl
 
-pending-base : (board : Board) (a : ℕ) (header : HeaderFields) (c : BaseCommand) (reply : List ℕ) → option_and_then (acceptance board) (success_of a header (Ok (Base c)) reply) ≡ None
-pending-base board a header c reply = by (begins_with_success reply) where
+pending_sets-base : (board : Board) (a : ℕ) (header : HeaderFields) (c : BaseCommand) (reply : List ℕ) → option_and_then (acceptance board) (success_of a header (Ok (Base c)) reply) ≡ None
+pending_sets-base board a header c reply = by (begins_with_success reply) where
   by : (b : Bool) → option_and_then (acceptance board) (if b then success_with a header (Ok (Base c)) else None) ≡ None
   by true = refl
   by false = refl
 
 pub base-stepped : (board : Board) (t new : Tables) (base' : Permissions) (a : ℕ) (header : HeaderFields) (c : BaseCommand) (reply : List ℕ)
     → ((x d : ℕ) (scope : Scope) → 1 ≤ x → d < 32 → is_allowed base' x d scope ≡ is_allowed_after reply x d scope c t.base)
-    → ((x d : ℕ) → 1 ≤ x → x ≤ 8 → d < 32 → is_subscribed new.power x d ≡ unwrap_or (ended x (reset_after reply c)) (is_subscribed t.power x d))
+    → ((x d : ℕ) → 1 ≤ x → x ≤ 8 → d < 32 → is_subscribed new.power x d ≡ unwrap_or (subscription_after_reset x (reset_after reply c)) (is_subscribed t.power x d))
     → new.power.states ≡ t.power.states → new.base ≡ base' → new.clocks ≡ t.clocks → new.pending ≡ t.pending → new.outboxes ≡ t.outboxes
     → HasStepped board t (success_of a header (Ok (Base c)) reply) None new
 base-stepped board t new base' a header c reply permits ends states bases clocks pend boxes =
@@ -181,7 +181,7 @@ base-stepped board t new base' a header c reply permits ends states bases clocks
       subscriptions = λ x d lo' hi' small. ends x d lo' hi' small ∙ unsubscribed (begins_with_success reply) x d (is_subscribed t.power x d);
       values = λ x within. values x ∙ ap (λ o. unwrap_or (option_and_then (value_in x) o) (value_at t x)) (sym change);
       known = subst (λ o. IfSome o (λ ch. IsThing board ch.thing)) (sym change) tt;
-      pending_sets = pend ∙ sym (append-nil t.pending) ∙ ap (λ o. t.pending ++ option_to_list o) (sym (pending-base board a header c reply));
+      pending = pend ∙ sym (append-nil t.pending) ∙ ap (λ o. t.pending ++ option_to_list o) (sym (pending_sets-base board a header c reply));
       known_sets = λ all. subst (All (IsOfBoard board)) (sym pend) all;
       outboxes = λ x lo' hi'.
           same_box t new x boxes
@@ -194,7 +194,7 @@ base-stepped board t new base' a header c reply permits ends states bases clocks
       permitted true x d scope old = refl
       permitted false x d scope old = refl
 
-      unsubscribed : (b : Bool) (x d : ℕ) (old : Bool) → unwrap_or (ended x (if b then reset_by c else None)) old ≡ unwrap_or (option_and_then (subscription x d) (if b then success_with a header (Ok (Base c)) else None)) old
+      unsubscribed : (b : Bool) (x d : ℕ) (old : Bool) → unwrap_or (subscription_after_reset x (if b then reset_by c else None)) old ≡ unwrap_or (option_and_then (subscription x d) (if b then success_with a header (Ok (Base c)) else None)) old
       unsubscribed true x d old = refl
       unsubscribed false x d old = refl
 

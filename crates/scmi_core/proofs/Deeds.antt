@@ -9,21 +9,21 @@ use Rattle.scmi_plan.specs.Board.{Board}
 use Rattle.scmi_core.specs.declared.event.Event.{Event}
 use Rattle.scmi_core.specs.declared.event.Event.TheVariants.{Advance}
 use Rattle.std.specs.Option.{option_to_list, option_and_then}
-use Rattle.scmi_core.specs.Deed.{Deed, Success, over, latest, successes, success_at}
+use Rattle.scmi_core.specs.Deed.{Deed, Success, fold_with_prefix, latest, successes, success_at}
 use Rattle.scmi_core.specs.Value.{Thing, changes, change_by, value, value_at_start, value_in}
 use Rattle.scmi_base.specs.declared.scope.Scope.{Scope}
-use Rattle.scmi_core.specs.Permissions.{allowed, permission_in}
-use Rattle.scmi_core.specs.Subscriptions.{subscription, subscribed}
-use Rattle.scmi_core.specs.Pending.{acceptance, accepted, advances, is_advance, pending}
-use Rattle.scmi_core.specs.Outbox.{made, made_by, outbox_after, sent, is_sent_by}
+use Rattle.scmi_core.specs.Permissions.{has_permission, permission_in}
+use Rattle.scmi_core.specs.Subscriptions.{subscription, is_subscriber}
+use Rattle.scmi_core.specs.Pending.{acceptance, accepted_sets, advances, is_advance, pending_sets}
+use Rattle.scmi_core.specs.Outbox.{messages_made, made_by, outbox_after, sent_count, is_sent_by}
 use Rattle.scmi_core.specs.Legal.{IsLegal, CanFollow}
 
-pub over-push : {X S : Type 0} (step : List X → S → X → S) (before : List X) (s : S) (xs : List X) (x : X) → over step before s (xs ++ x ∷ []) ≡ step (before ++ xs) (over step before s xs) x
-unfolding over
-over-push step before s [] x = ap (λ b. step b s x) (sym (append-nil before))
-over-push step before s (y ∷ ys) x =
-    over-push step (before ++ y ∷ []) (step before s y) ys x
-    ∙ ap (λ b. step b (over step (before ++ y ∷ []) (step before s y) ys) x) (append_assoc before (y ∷ []) ys)
+pub fold_with_prefix-push : {X S : Type 0} (step : List X → S → X → S) (before : List X) (s : S) (xs : List X) (x : X) → fold_with_prefix step before s (xs ++ x ∷ []) ≡ step (before ++ xs) (fold_with_prefix step before s xs) x
+unfolding fold_with_prefix
+fold_with_prefix-push step before s [] x = ap (λ b. step b s x) (sym (append-nil before))
+fold_with_prefix-push step before s (y ∷ ys) x =
+    fold_with_prefix-push step (before ++ y ∷ []) (step before s y) ys x
+    ∙ ap (λ b. step b (fold_with_prefix step (before ++ y ∷ []) (step before s y) ys) x) (append_assoc before (y ∷ []) ys)
 
 pub latest-append : {A : Type 0} (d : A) (xs : List A) (o : Option A) → latest d (xs ++ option_to_list o) ≡ unwrap_or o (latest d xs)
 latest-append d [] None = refl
@@ -46,22 +46,22 @@ latest-filter_map f d xs o =
     ∙ latest-append d (filter_map f xs) (option_and_then f o)
 
 -- what a deed adds to the successes
-abbrev pub added : Deed → Option Success
-added deed = success_at deed.event deed.reply
+abbrev pub added_success : Deed → Option Success
+added_success deed = success_at deed.event deed.reply
 
-pub successes-push : (h : List Deed) (deed : Deed) → successes (h ++ deed ∷ []) ≡ successes h ++ option_to_list (added deed)
+pub successes-push : (h : List Deed) (deed : Deed) → successes (h ++ deed ∷ []) ≡ successes h ++ option_to_list (added_success deed)
 successes-push h deed =
     filter_map-append (λ e. success_at e.event e.reply) h (deed ∷ [])
-    ∙ ap (λ ys. successes h ++ ys) (cons-to_list (added deed))
+    ∙ ap (λ ys. successes h ++ ys) (cons-to_list (added_success deed))
 
-pub allowed-push : (a d : ℕ) (scope : Scope) (h : List Deed) (deed : Deed)
-    → allowed a d scope (h ++ deed ∷ []) ≡ unwrap_or (option_and_then (λ s. permission_in a d scope s.command) (added deed)) (allowed a d scope h)
-allowed-push a d scope h deed =
+pub has_permission-push : (a d : ℕ) (scope : Scope) (h : List Deed) (deed : Deed)
+    → has_permission a d scope (h ++ deed ∷ []) ≡ unwrap_or (option_and_then (λ s. permission_in a d scope s.command) (added_success deed)) (has_permission a d scope h)
+has_permission-push a d scope h deed =
     ap (λ ss. latest true (filter_map (λ s. permission_in a d scope s.command) ss)) (successes-push h deed)
-    ∙ latest-filter_map (λ s. permission_in a d scope s.command) true (successes h) (added deed)
+    ∙ latest-filter_map (λ s. permission_in a d scope s.command) true (successes h) (added_success deed)
 
 changes-push : (board : Board) (h : List Deed) (deed : Deed) → changes board (h ++ deed ∷ []) ≡ changes board h ++ option_to_list (change_by board h deed)
-changes-push board h deed = over-push (λ before so_far x. so_far ++ option_to_list (change_by board before x)) [] [] h deed
+changes-push board h deed = fold_with_prefix-push (λ before so_far x. so_far ++ option_to_list (change_by board before x)) [] [] h deed
 
 pub value-push : (board : Board) (t : Thing) (h : List Deed) (deed : Deed)
     → value board t (h ++ deed ∷ []) ≡ unwrap_or (option_and_then (value_in t) (change_by board h deed)) (value board t h)
@@ -69,65 +69,65 @@ value-push board t h deed =
     ap (λ cs. latest (value_at_start board t) (filter_map (value_in t) cs)) (changes-push board h deed)
     ∙ latest-filter_map (value_in t) (value_at_start board t) (changes board h) (change_by board h deed)
 
-pub subscribed-push : (a d : ℕ) (h : List Deed) (deed : Deed) → subscribed a d (h ++ deed ∷ []) ≡ unwrap_or (option_and_then (subscription a d) (added deed)) (subscribed a d h)
-subscribed-push a d h deed =
+pub is_subscriber-push : (a d : ℕ) (h : List Deed) (deed : Deed) → is_subscriber a d (h ++ deed ∷ []) ≡ unwrap_or (option_and_then (subscription a d) (added_success deed)) (is_subscriber a d h)
+is_subscriber-push a d h deed =
     ap (λ ss. latest false (filter_map (subscription a d) ss)) (successes-push h deed)
-    ∙ latest-filter_map (subscription a d) false (successes h) (added deed)
+    ∙ latest-filter_map (subscription a d) false (successes h) (added_success deed)
 
-pub accepted-push : (board : Board) (h : List Deed) (deed : Deed) → accepted board (h ++ deed ∷ []) ≡ accepted board h ++ option_to_list (option_and_then (acceptance board) (added deed))
-accepted-push board h deed =
+pub accepted_sets-push : (board : Board) (h : List Deed) (deed : Deed) → accepted_sets board (h ++ deed ∷ []) ≡ accepted_sets board h ++ option_to_list (option_and_then (acceptance board) (added_success deed))
+accepted_sets-push board h deed =
     ap (filter_map (acceptance board)) (successes-push h deed)
-    ∙ filter_map-append (acceptance board) (successes h) (option_to_list (added deed))
-    ∙ ap (λ ys. accepted board h ++ ys) (filter_map-to_list (acceptance board) (added deed))
+    ∙ filter_map-append (acceptance board) (successes h) (option_to_list (added_success deed))
+    ∙ ap (λ ys. accepted_sets board h ++ ys) (filter_map-to_list (acceptance board) (added_success deed))
 
-pub made-push : (board : Board) (a : ℕ) (h : List Deed) (deed : Deed) → made board a (h ++ deed ∷ []) ≡ made board a h ++ made_by board a h (made board a h) deed
-made-push board a h deed = over-push (λ before so_far x. so_far ++ made_by board a before so_far x) [] [] h deed
+pub messages_made-push : (board : Board) (a : ℕ) (h : List Deed) (deed : Deed) → messages_made board a (h ++ deed ∷ []) ≡ messages_made board a h ++ made_by board a h (messages_made board a h) deed
+messages_made-push board a h deed = fold_with_prefix-push (λ before so_far x. so_far ++ made_by board a before so_far x) [] [] h deed
 
 pub advances-push : (h : List Deed) (deed : Deed) → advances (h ++ deed ∷ []) ≡ advances h + (if is_advance deed.event then 1 else 0)
 advances-push h deed = fold-append (λ n e. n + (if is_advance e.event then 1 else 0)) 0 h (deed ∷ [])
 
 -- an event that is no Advance leaves the pending sets, and may add one
-pub pending-push : (board : Board) (h : List Deed) (deed : Deed) → is_advance deed.event ≡ false → advances h ≤ length (accepted board h)
-    → pending board (h ++ deed ∷ []) ≡ pending board h ++ option_to_list (option_and_then (acceptance board) (added deed))
-pending-push board h deed other enough =
+pub pending_sets-push : (board : Board) (h : List Deed) (deed : Deed) → is_advance deed.event ≡ false → advances h ≤ length (accepted_sets board h)
+    → pending_sets board (h ++ deed ∷ []) ≡ pending_sets board h ++ option_to_list (option_and_then (acceptance board) (added_success deed))
+pending_sets-push board h deed other enough =
     let zero_more : advances h + 0 ≡ advances h = omega arith in
     let same : advances (h ++ deed ∷ []) ≡ advances h = advances-push h deed ∙ ap (λ b. advances h + (if b then 1 else 0)) other ∙ zero_more in
-    ap (λ n. drop n (accepted board (h ++ deed ∷ []))) same
-    ∙ ap (drop (advances h)) (accepted-push board h deed)
-    ∙ drop-append-le (advances h) (accepted board h) (option_to_list (option_and_then (acceptance board) (added deed))) enough
+    ap (λ n. drop n (accepted_sets board (h ++ deed ∷ []))) same
+    ∙ ap (drop (advances h)) (accepted_sets-push board h deed)
+    ∙ drop-append-le (advances h) (accepted_sets board h) (option_to_list (option_and_then (acceptance board) (added_success deed))) enough
 
 abbrev advance : Deed
 advance = record { event = Advance; reply = [] }
 
 -- an Advance takes the first
-pub pending-advance : (board : Board) (h : List Deed) → pending board (h ++ advance ∷ []) ≡ drop 1 (pending board h)
-pending-advance board h =
-    ap (λ n. drop n (accepted board (h ++ advance ∷ []))) (advances-push h advance)
-    ∙ ap (drop (advances h + 1)) (accepted-push board h advance ∙ append-nil (accepted board h))
-    ∙ sym (drop-drop 1 (advances h) (accepted board h))
+pub pending_sets-advance : (board : Board) (h : List Deed) → pending_sets board (h ++ advance ∷ []) ≡ drop 1 (pending_sets board h)
+pending_sets-advance board h =
+    ap (λ n. drop n (accepted_sets board (h ++ advance ∷ []))) (advances-push h advance)
+    ∙ ap (drop (advances h + 1)) (accepted_sets-push board h advance ∙ append-nil (accepted_sets board h))
+    ∙ sym (drop-drop 1 (advances h) (accepted_sets board h))
 
-pub sent-push : (a : ℕ) (h : List Deed) (deed : Deed) → sent a (h ++ deed ∷ []) ≡ sent a h + (if is_sent_by a deed.event then 1 else 0)
-sent-push a h deed = fold-append (λ n e. n + (if is_sent_by a e.event then 1 else 0)) 0 h (deed ∷ [])
+pub sent_count-push : (a : ℕ) (h : List Deed) (deed : Deed) → sent_count a (h ++ deed ∷ []) ≡ sent_count a h + (if is_sent_by a deed.event then 1 else 0)
+sent_count-push a h deed = fold-append (λ n e. n + (if is_sent_by a e.event then 1 else 0)) 0 h (deed ∷ [])
 
 -- an event that is no Sent of a adds to a's outbox what it makes
-pub outbox-push : (board : Board) (a : ℕ) (h : List Deed) (deed : Deed) → is_sent_by a deed.event ≡ false → sent a h ≤ length (made board a h)
-    → outbox_after board a (h ++ deed ∷ []) ≡ outbox_after board a h ++ made_by board a h (made board a h) deed
+pub outbox-push : (board : Board) (a : ℕ) (h : List Deed) (deed : Deed) → is_sent_by a deed.event ≡ false → sent_count a h ≤ length (messages_made board a h)
+    → outbox_after board a (h ++ deed ∷ []) ≡ outbox_after board a h ++ made_by board a h (messages_made board a h) deed
 outbox-push board a h deed other enough =
-    let zero_more : sent a h + 0 ≡ sent a h = omega arith in
-    let same : sent a (h ++ deed ∷ []) ≡ sent a h = sent-push a h deed ∙ ap (λ b. sent a h + (if b then 1 else 0)) other ∙ zero_more in
-    ap (λ n. drop n (made board a (h ++ deed ∷ []))) same
-    ∙ ap (drop (sent a h)) (made-push board a h deed)
-    ∙ drop-append-le (sent a h) (made board a h) (made_by board a h (made board a h) deed) enough
+    let zero_more : sent_count a h + 0 ≡ sent_count a h = omega arith in
+    let same : sent_count a (h ++ deed ∷ []) ≡ sent_count a h = sent_count-push a h deed ∙ ap (λ b. sent_count a h + (if b then 1 else 0)) other ∙ zero_more in
+    ap (λ n. drop n (messages_made board a (h ++ deed ∷ []))) same
+    ∙ ap (drop (sent_count a h)) (messages_made-push board a h deed)
+    ∙ drop-append-le (sent_count a h) (messages_made board a h) (made_by board a h (messages_made board a h) deed) enough
 
 -- and leaves what was posted to a
-pub posted-kept : (board : Board) (a : ℕ) (h : List Deed) (deed : Deed) → is_sent_by a deed.event ≡ false → sent a h ≤ length (made board a h)
-    → take (sent a (h ++ deed ∷ [])) (made board a (h ++ deed ∷ [])) ≡ take (sent a h) (made board a h)
+pub posted-kept : (board : Board) (a : ℕ) (h : List Deed) (deed : Deed) → is_sent_by a deed.event ≡ false → sent_count a h ≤ length (messages_made board a h)
+    → take (sent_count a (h ++ deed ∷ [])) (messages_made board a (h ++ deed ∷ [])) ≡ take (sent_count a h) (messages_made board a h)
 posted-kept board a h deed other enough =
-    let zero_more : sent a h + 0 ≡ sent a h = omega arith in
-    let same : sent a (h ++ deed ∷ []) ≡ sent a h = sent-push a h deed ∙ ap (λ b. sent a h + (if b then 1 else 0)) other ∙ zero_more in
-    ap (λ n. take n (made board a (h ++ deed ∷ []))) same
-    ∙ ap (take (sent a h)) (made-push board a h deed)
-    ∙ take-append-le (sent a h) (made board a h) (made_by board a h (made board a h) deed) enough
+    let zero_more : sent_count a h + 0 ≡ sent_count a h = omega arith in
+    let same : sent_count a (h ++ deed ∷ []) ≡ sent_count a h = sent_count-push a h deed ∙ ap (λ b. sent_count a h + (if b then 1 else 0)) other ∙ zero_more in
+    ap (λ n. take n (messages_made board a (h ++ deed ∷ []))) same
+    ∙ ap (take (sent_count a h)) (messages_made-push board a h deed)
+    ∙ take-append-le (sent_count a h) (messages_made board a h) (made_by board a h (messages_made board a h) deed) enough
 
 take_first : {X : Type 0} (n : ℕ) (xs ys : List X) (x : X) → slice_get (drop n xs) 0 ≡ Some x → take (n + 1) (xs ++ ys) ≡ take n xs ++ x ∷ []
 take_first zero [] ys x first = absurd (cc)
@@ -137,11 +137,11 @@ take_first (suc n) (z ∷ zs) ys x first = let on : suc n + 1 ≡ suc (n + 1) = 
 
 -- a Sent of a posts the first message of a's outbox
 pub posted-front : (board : Board) (a : ℕ) (h : List Deed) (deed : Deed) (m : Message) → is_sent_by a deed.event ≡ true → slice_get (outbox_after board a h) 0 ≡ Some m
-    → take (sent a (h ++ deed ∷ [])) (made board a (h ++ deed ∷ [])) ≡ take (sent a h) (made board a h) ++ m ∷ []
+    → take (sent_count a (h ++ deed ∷ [])) (messages_made board a (h ++ deed ∷ [])) ≡ take (sent_count a h) (messages_made board a h) ++ m ∷ []
 posted-front board a h deed m own first =
-    ap (λ n. take n (made board a (h ++ deed ∷ []))) (sent-push a h deed ∙ ap (λ b. sent a h + (if b then 1 else 0)) own)
-    ∙ ap (take (sent a h + 1)) (made-push board a h deed)
-    ∙ take_first (sent a h) (made board a h) (made_by board a h (made board a h) deed) m first
+    ap (λ n. take n (messages_made board a (h ++ deed ∷ []))) (sent_count-push a h deed ∙ ap (λ b. sent_count a h + (if b then 1 else 0)) own)
+    ∙ ap (take (sent_count a h + 1)) (messages_made-push board a h deed)
+    ∙ take_first (sent_count a h) (messages_made board a h) (made_by board a h (messages_made board a h) deed) m first
 
 -- a list is empty or has a last item
 data Snoc {X : Type 0} : List X → Type 0 where

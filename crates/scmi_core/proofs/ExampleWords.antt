@@ -6,7 +6,7 @@ use Rattle.scmi_plan.specs.Board.{Board}
 use Rattle.scmi_core.specs.declared.event.Event.{Event}
 use Rattle.scmi_core.specs.declared.event.Event.TheVariants.{Command}
 use Rattle.scmi_core.specs.Deed.{Deed}
-use Rattle.scmi_core.specs.Outbox.{made}
+use Rattle.scmi_core.specs.Outbox.{messages_made}
 use Rattle.scmi_core.specs.History.{deeds}
 
 -- agent a posts a message of this header word and these payload words
@@ -30,5 +30,5 @@ abbrev pub replies : Board → List Event → List (List ℕ)
 replies board h = map reply_line (deeds board h)
 
 -- the header word and the payload words of each message that was made for agent a, in order
-abbrev pub told : Board → ℕ → List Event → List (List ℕ)
-told board a h = map (λ m. header_word m.header ∷ m.payload.items) (made board a (deeds board h))
+abbrev pub words_told : Board → ℕ → List Event → List (List ℕ)
+words_told board a h = map (λ m. header_word m.header ∷ m.payload.items) (messages_made board a (deeds board h))

@@ -9,12 +9,12 @@ use Rattle.scmi_codec.specs.declared.frame.Frame.{Frame}
 use Rattle.scmi_plan.specs.Board.{Board}
 use Rattle.scmi_core.specs.declared.event.Event.{Event}
 use Rattle.scmi_core.specs.declared.event.Event.TheVariants.{Command, Advance, Sent}
-use Rattle.scmi_core.specs.Deed.{over}
-use Rattle.scmi_core.specs.Outbox.{made, sent, is_sent_by}
-use Rattle.scmi_core.specs.History.{answer_to, deeds, deed_after, made_for, delivered, outbox}
+use Rattle.scmi_core.specs.Deed.{fold_with_prefix}
+use Rattle.scmi_core.specs.Outbox.{messages_made, sent_count, is_sent_by}
+use Rattle.scmi_core.specs.History.{answer_to, deeds, deed_after, made_for, delivered_messages, outbox}
 use Rattle.scmi_core.specs.Agents.{frame_from, frames_of, answer_for, answers_to}
 use Rattle.scmi_core.specs.Legal.{IsLegal}
-use Rattle.scmi_core.proofs.Deeds.{over-push, posted-kept, posted-front}
+use Rattle.scmi_core.proofs.Deeds.{fold_with_prefix-push, posted-kept, posted-front}
 use Rattle.scmi_core.proofs.Legal.{IsLegal-nil, deed-event, deeds-push, sent_le-made}
 use Rattle.scmi_core.proofs.Agents.{answers-length}
 
@@ -37,14 +37,14 @@ frames_other b a h f differ =
 pub answers_own : (board : Board) (a : ℕ) (h : List Event) (f : Frame) → answers_to board a (h ++ Command a f ∷ []) ≡ answers_to board a h ++ answer_to board a f h ∷ []
 unfolding answers_to
 answers_own board a h f =
-    over-push (λ before so_far event. so_far ++ answer_for board a before event) [] [] h (Command a f)
+    fold_with_prefix-push (λ before so_far event. so_far ++ answer_for board a before event) [] [] h (Command a f)
     ∙ ap (λ same. answers_to board a h ++ (if same then answer_to board a f h ∷ [] else [])) (eq-eqb a a refl)
 
 -- and none for another agent
 pub answers_other : (board : Board) (b a : ℕ) (h : List Event) (f : Frame) → b ≢ a → answers_to board b (h ++ Command a f ∷ []) ≡ answers_to board b h
 unfolding answers_to
 answers_other board b a h f differ =
-    over-push (λ before so_far event. so_far ++ answer_for board b before event) [] [] h (Command a f)
+    fold_with_prefix-push (λ before so_far event. so_far ++ answer_for board b before event) [] [] h (Command a f)
     ∙ ap (λ same. answers_to board b h ++ (if same then answer_to board a f h ∷ [] else [])) (ne_eqb b a differ)
     ∙ append-nil (answers_to board b h)
 
@@ -63,36 +63,36 @@ frames_quiet a h e (sent_to b) = filter_map-append (frame_from a) h (Sent b ∷ 
 pub answers_quiet : (board : Board) (a : ℕ) (h : List Event) (e : Event) → IsQuiet e → answers_to board a (h ++ e ∷ []) ≡ answers_to board a h
 unfolding answers_to
 answers_quiet board a h e advance =
-    over-push (λ before so_far event. so_far ++ answer_for board a before event) [] [] h Advance ∙ append-nil (answers_to board a h)
+    fold_with_prefix-push (λ before so_far event. so_far ++ answer_for board a before event) [] [] h Advance ∙ append-nil (answers_to board a h)
 answers_quiet board a h e (sent_to b) =
-    over-push (λ before so_far event. so_far ++ answer_for board a before event) [] [] h (Sent b) ∙ append-nil (answers_to board a h)
+    fold_with_prefix-push (λ before so_far event. so_far ++ answer_for board a before event) [] [] h (Sent b) ∙ append-nil (answers_to board a h)
 
 -- an agent has as many answers as frames
 pub as_many : (board : Board) (a : ℕ) (h : List Event) → length (answers_to board a h) ≡ length (frames_of a h)
 as_many board a h = answers-length board a h
 
 -- what is not posted to an agent leaves what was posted to it
-pub delivered_kept : (board : Board) (a : ℕ) (h : List Event) (e : Event) → IsLegal board h → is_sent_by a e ≡ false → delivered board a (h ++ e ∷ []) ≡ delivered board a h
-unfolding delivered
+pub delivered_kept : (board : Board) (a : ℕ) (h : List Event) (e : Event) → IsLegal board h → is_sent_by a e ≡ false → delivered_messages board a (h ++ e ∷ []) ≡ delivered_messages board a h
+unfolding delivered_messages
 delivered_kept board a h e legal other =
-    ap (λ ds. take (sent a ds) (made board a ds)) (deeds-push board h e)
+    ap (λ ds. take (sent_count a ds) (messages_made board a ds)) (deeds-push board h e)
     ∙ posted-kept board a (deeds board h) (deed_after board (deeds board h) e) (ap (is_sent_by a) (deed-event board (deeds board h) e) ∙ other) (sent_le-made board h legal a)
 
 -- a posting to an agent adds the first message of its outbox
-pub delivered_sent : (board : Board) (a : ℕ) (h : List Event) (m : Message) → slice_get (outbox board a h) 0 ≡ Some m → delivered board a (h ++ Sent a ∷ []) ≡ delivered board a h ++ m ∷ []
-unfolding delivered outbox
+pub delivered_sent : (board : Board) (a : ℕ) (h : List Event) (m : Message) → slice_get (outbox board a h) 0 ≡ Some m → delivered_messages board a (h ++ Sent a ∷ []) ≡ delivered_messages board a h ++ m ∷ []
+unfolding delivered_messages outbox
 delivered_sent board a h m first =
-    ap (λ ds. take (sent a ds) (made board a ds)) (deeds-push board h (Sent a))
+    ap (λ ds. take (sent_count a ds) (messages_made board a ds)) (deeds-push board h (Sent a))
     ∙ posted-front board a (deeds board h) (deed_after board (deeds board h) (Sent a)) m (eq-eqb a a refl) first
 
 -- and none to another agent
-pub delivered_other : (board : Board) (b a : ℕ) (h : List Event) → IsLegal board h → b ≢ a → delivered board b (h ++ Sent a ∷ []) ≡ delivered board b h
+pub delivered_other : (board : Board) (b a : ℕ) (h : List Event) → IsLegal board h → b ≢ a → delivered_messages board b (h ++ Sent a ∷ []) ≡ delivered_messages board b h
 delivered_other board b a h legal differ = delivered_kept board b h (Sent a) legal (ne_eqb b a differ)
 
 -- what was made for an agent is what was posted to it, and then its outbox
-pub made_is : (board : Board) (a : ℕ) (h : List Event) → delivered board a h ++ outbox board a h ≡ made_for board a h
-unfolding delivered outbox made_for
-made_is board a h = take-append-drop (sent a (deeds board h)) (made board a (deeds board h))
+pub made_is : (board : Board) (a : ℕ) (h : List Event) → delivered_messages board a h ++ outbox board a h ≡ made_for board a h
+unfolding delivered_messages outbox made_for
+made_is board a h = take-append-drop (sent_count a (deeds board h)) (messages_made board a (deeds board h))
 
 -- at the start no agent has a frame
 pub frames_empty : (a : ℕ) → frames_of a [] ≡ []
@@ -101,12 +101,12 @@ frames_empty a = refl
 
 -- nor an answer
 pub answers_empty : (board : Board) (a : ℕ) → answers_to board a [] ≡ []
-unfolding answers_to over
+unfolding answers_to fold_with_prefix
 answers_empty board a = refl
 
 -- and nothing was posted to it
-pub delivered_empty : (board : Board) (a : ℕ) → delivered board a [] ≡ []
-unfolding delivered deeds over
+pub delivered_empty : (board : Board) (a : ℕ) → delivered_messages board a [] ≡ []
+unfolding delivered_messages deeds fold_with_prefix
 delivered_empty board a = refl
 
 -- the empty history is legal

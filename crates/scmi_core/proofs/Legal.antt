@@ -9,11 +9,11 @@ use Rattle.scmi_core.specs.declared.event.Event.{Event}
 use Rattle.scmi_core.specs.declared.event.Event.TheVariants.{Command, Advance, Sent}
 use Rattle.std.specs.Option.{option_to_list, option_and_then}
 use Rattle.scmi_core.specs.Deed.{Deed}
-use Rattle.scmi_core.specs.Pending.{accepted, advances, is_advance, pending, acceptance}
-use Rattle.scmi_core.specs.Outbox.{sent, made, made_by, outbox_after, is_sent_by}
+use Rattle.scmi_core.specs.Pending.{accepted_sets, advances, is_advance, pending_sets, acceptance}
+use Rattle.scmi_core.specs.Outbox.{sent_count, messages_made, made_by, outbox_after, is_sent_by}
 use Rattle.scmi_core.specs.History.{deeds, deed_after, outbox}
 use Rattle.scmi_core.specs.Legal.{IsLegal, CanFollow}
-use Rattle.scmi_core.proofs.Deeds.{added, accepted-push, advances-push, sent-push, made-push}
+use Rattle.scmi_core.proofs.Deeds.{added_success, accepted_sets-push, advances-push, sent_count-push, messages_made-push}
 
 -- a list grown at its end
 pub data Grown {X : Type 0} : List X → Type 0 where
@@ -56,46 +56,46 @@ pub IsLegal-last : (board : Board) (h : List Event) (e : Event) → IsLegal boar
 IsLegal-last board h e legal = legal.each h [] e refl
 
 -- one event more
-one_more : (board : Board) (h : List Deed) (e : Event) → advances h ≤ length (accepted board h)
-    → (is_advance e ≡ true → 0 < length (pending board h))
-    → advances (h ++ deed_after board h e ∷ []) ≤ length (accepted board (h ++ deed_after board h e ∷ []))
+one_more : (board : Board) (h : List Deed) (e : Event) → advances h ≤ length (accepted_sets board h)
+    → (is_advance e ≡ true → 0 < length (pending_sets board h))
+    → advances (h ++ deed_after board h e ∷ []) ≤ length (accepted_sets board (h ++ deed_after board h e ∷ []))
 one_more board h (Command a (Good m)) enough waits =
-    rw (advances-push, accepted-push) (omega (arith, length-append (accepted board h) (option_to_list (option_and_then (acceptance board) (added (deed_after board h (Command a (Good m))))))))
+    rw (advances-push, accepted_sets-push) (omega (arith, length-append (accepted_sets board h) (option_to_list (option_and_then (acceptance board) (added_success (deed_after board h (Command a (Good m))))))))
 one_more board h (Command a (Malformed len header)) enough waits =
-    rw (advances-push, accepted-push) (omega (arith, length-append (accepted board h) []))
+    rw (advances-push, accepted_sets-push) (omega (arith, length-append (accepted_sets board h) []))
 one_more board h (Sent a) enough waits =
-    rw (advances-push, accepted-push) (omega (arith, length-append (accepted board h) []))
+    rw (advances-push, accepted_sets-push) (omega (arith, length-append (accepted_sets board h) []))
 one_more board h Advance enough waits =
-    rw (advances-push, accepted-push) (omega (arith, length-append (accepted board h) [], waits refl, length-drop (advances h) (accepted board h)))
+    rw (advances-push, accepted_sets-push) (omega (arith, length-append (accepted_sets board h) [], waits refl, length-drop (advances h) (accepted_sets board h)))
 
-waits_at : (board : Board) (h : List Event) (e : Event) → CanFollow board h e → is_advance e ≡ true → 0 < length (pending board (deeds board h))
+waits_at : (board : Board) (h : List Event) (e : Event) → CanFollow board h e → is_advance e ≡ true → 0 < length (pending_sets board (deeds board h))
 waits_at board h Advance follows is = follows
 waits_at board h (Command a frame) follows is = absurd (cc)
 waits_at board h (Sent a) follows is = absurd (cc)
 
-enough_of : (board : Board) {h : List Event} → Grown h → IsLegal board h → advances (deeds board h) ≤ length (accepted board (deeds board h))
+enough_of : (board : Board) {h : List Event} → Grown h → IsLegal board h → advances (deeds board h) ≤ length (accepted_sets board (deeds board h))
 unfolding deeds
 enough_of board empty legal = omega arith
 enough_of board (grow {xs} g e) legal =
     rw (deeds-push board xs e)
     (one_more board (deeds board xs) e (enough_of board g (IsLegal-front board xs e legal)) (waits_at board xs e (IsLegal-last board xs e legal)))
 
-pub advances_le-accepted : (board : Board) (h : List Event) → IsLegal board h → advances (deeds board h) ≤ length (accepted board (deeds board h))
+pub advances_le-accepted : (board : Board) (h : List Event) → IsLegal board h → advances (deeds board h) ≤ length (accepted_sets board (deeds board h))
 advances_le-accepted board h legal = enough_of board (grown h) legal
 
 -- and no more is sent than was made
-sent_more : (board : Board) (a : ℕ) (h : List Deed) (e : Event) → sent a h ≤ length (made board a h) → (is_sent_by a e ≡ true → 0 < length (outbox_after board a h))
-    → sent a (h ++ deed_after board h e ∷ []) ≤ length (made board a (h ++ deed_after board h e ∷ []))
+sent_more : (board : Board) (a : ℕ) (h : List Deed) (e : Event) → sent_count a h ≤ length (messages_made board a h) → (is_sent_by a e ≡ true → 0 < length (outbox_after board a h))
+    → sent_count a (h ++ deed_after board h e ∷ []) ≤ length (messages_made board a (h ++ deed_after board h e ∷ []))
 sent_more board a h (Command b (Good m)) enough waits =
-    rw (sent-push, made-push) (omega (arith, length-append (made board a h) (made_by board a h (made board a h) (deed_after board h (Command b (Good m))))))
+    rw (sent_count-push, messages_made-push) (omega (arith, length-append (messages_made board a h) (made_by board a h (messages_made board a h) (deed_after board h (Command b (Good m))))))
 sent_more board a h (Command b (Malformed len header)) enough waits =
-    rw (sent-push, made-push) (omega (arith, length-append (made board a h) (made_by board a h (made board a h) (deed_after board h (Command b (Malformed len header))))))
+    rw (sent_count-push, messages_made-push) (omega (arith, length-append (messages_made board a h) (made_by board a h (messages_made board a h) (deed_after board h (Command b (Malformed len header))))))
 sent_more board a h Advance enough waits =
-    rw (sent-push, made-push) (omega (arith, length-append (made board a h) (made_by board a h (made board a h) (deed_after board h Advance))))
+    rw (sent_count-push, messages_made-push) (omega (arith, length-append (messages_made board a h) (made_by board a h (messages_made board a h) (deed_after board h Advance))))
 sent_more board a h (Sent b) enough waits = by_case (cases_Bool (a == b)) where
-  by_case : ((a == b) ≡ true) ⊎ ((a == b) ≡ false) → sent a (h ++ deed_after board h (Sent b) ∷ []) ≤ length (made board a (h ++ deed_after board h (Sent b) ∷ []))
-  by_case (inl same) = rw (sent-push, made-push, same) (omega (arith, length-append (made board a h) (made_by board a h (made board a h) (deed_after board h (Sent b))), waits same, length-drop (sent a h) (made board a h)))
-  by_case (inr other) = rw (sent-push, made-push, other) (omega (arith, length-append (made board a h) (made_by board a h (made board a h) (deed_after board h (Sent b)))))
+  by_case : ((a == b) ≡ true) ⊎ ((a == b) ≡ false) → sent_count a (h ++ deed_after board h (Sent b) ∷ []) ≤ length (messages_made board a (h ++ deed_after board h (Sent b) ∷ []))
+  by_case (inl same) = rw (sent_count-push, messages_made-push, same) (omega (arith, length-append (messages_made board a h) (made_by board a h (messages_made board a h) (deed_after board h (Sent b))), waits same, length-drop (sent_count a h) (messages_made board a h)))
+  by_case (inr other) = rw (sent_count-push, messages_made-push, other) (omega (arith, length-append (messages_made board a h) (made_by board a h (messages_made board a h) (deed_after board h (Sent b)))))
 
 front_at : (board : Board) (a : ℕ) (h : List Event) (e : Event) → CanFollow board h e → is_sent_by a e ≡ true → 0 < length (outbox_after board a (deeds board h))
 unfolding outbox
@@ -103,12 +103,12 @@ front_at board a h (Sent b) follows is = subst (λ x. 0 < length (outbox_after b
 front_at board a h (Command b frame) follows is = absurd (cc)
 front_at board a h Advance follows is = absurd (cc)
 
-sent_of : (board : Board) (a : ℕ) {h : List Event} → Grown h → IsLegal board h → sent a (deeds board h) ≤ length (made board a (deeds board h))
+sent_of : (board : Board) (a : ℕ) {h : List Event} → Grown h → IsLegal board h → sent_count a (deeds board h) ≤ length (messages_made board a (deeds board h))
 unfolding deeds
 sent_of board a empty legal = omega arith
 sent_of board a (grow {xs} g e) legal =
     rw (deeds-push board xs e)
     (sent_more board a (deeds board xs) e (sent_of board a g (IsLegal-front board xs e legal)) (front_at board a xs e (IsLegal-last board xs e legal)))
 
-pub sent_le-made : (board : Board) (h : List Event) → IsLegal board h → (a : ℕ) → sent a (deeds board h) ≤ length (made board a (deeds board h))
+pub sent_le-made : (board : Board) (h : List Event) → IsLegal board h → (a : ℕ) → sent_count a (deeds board h) ≤ length (messages_made board a (deeds board h))
 sent_le-made board h legal a = sent_of board a (grown h) legal

@@ -28,12 +28,12 @@ use Rattle.scmi_core.specs.declared.pending_set.PendingSet.{PendingSet}
 use Rattle.scmi_core.specs.declared.event.Event.TheVariants.{Sent}
 use Rattle.scmi_core.specs.Deed.{Deed}
 use Rattle.scmi_core.specs.Value.{Change, Thing, State, Rate, Enabled, bit_value}
-use Rattle.scmi_core.specs.Pending.{has_set_of, pending, sets_by}
+use Rattle.scmi_core.specs.Pending.{has_set_of, pending_sets, sets_by}
 use Rattle.scmi_core.specs.Situation.{Situation, has_room, power_view, clock_view}
-use Rattle.scmi_core.specs.Outbox.{made, made_in, notice_in, response_for, situation_after, state_changed}
+use Rattle.scmi_core.specs.Outbox.{messages_made, made_in, notice_in, response_for, situation_after, state_changed}
 use Rattle.scmi_core.specs.Reply.{answer_in, reply_words}
 use Rattle.scmi_core.specs.Tables.{IsThing, situation_in}
-use Rattle.scmi_core.proofs.Deeds.{made-push}
+use Rattle.scmi_core.proofs.Deeds.{messages_made-push}
 
 -- two situations say the same of all that is on the board
 pub record SameSituation (board : Board) (s u : Situation) : Type 0 where
@@ -52,12 +52,12 @@ pub nothing-made : (a : ℕ) (s : Situation) (left : List PendingSet) → made_i
 nothing-made a s left = nothing_if (nat_lt (length s.outbox + 0 + length (sets_by a left)) 16)
 
 -- and so a posting
-pub made-sent : (board : Board) (a : ℕ) (h : List Deed) (b : ℕ) → made board a (h ++ record { event = Sent b; reply = [] } ∷ []) ≡ made board a h
-made-sent board a h b =
+pub messages_made-sent : (board : Board) (a : ℕ) (h : List Deed) (b : ℕ) → messages_made board a (h ++ record { event = Sent b; reply = [] } ∷ []) ≡ messages_made board a h
+messages_made-sent board a h b =
     let deed : Deed = record { event = Sent b; reply = [] } in
-    made-push board a h deed
-    ∙ ap (λ ys. made board a h ++ ys) (nothing-made a (situation_after board a h) (pending board (h ++ deed ∷ [])))
-    ∙ append-nil (made board a h)
+    messages_made-push board a h deed
+    ∙ ap (λ ys. messages_made board a h ++ ys) (nothing-made a (situation_after board a h) (pending_sets board (h ++ deed ∷ [])))
+    ∙ append-nil (messages_made board a h)
 
 module _ (board : Board) (a : ℕ) (s u : Situation) (same : SameSituation board s u) where
   room-same : has_room a s ≡ has_room a u
@@ -107,9 +107,9 @@ module _ (board : Board) (a : ℕ) (s u : Situation) (same : SameSituation board
   notices-same (Some change) known = notice-same change known
 
   -- the same messages of each event
-  pub made-same : (left : List PendingSet) (done : Option PendingSet) (change : Option Change) → IfSome change (λ ch. IsThing board ch.thing)
+  pub messages_made-same : (left : List PendingSet) (done : Option PendingSet) (change : Option Change) → IfSome change (λ ch. IsThing board ch.thing)
       → made_in a s left done change ≡ made_in a u left done change
-  made-same left done change known =
+  messages_made-same left done change known =
       let responses = option_map_or (response_for a) done [] in
       ap (λ b. responses ++ (if nat_lt (length b + length responses + length (sets_by a left)) 16 then option_map_or (notice_in s) change [] else [])) same.outbox
       ∙ ap (λ n. responses ++ (if nat_lt (length u.outbox + length responses + length (sets_by a left)) 16 then n else [])) (notices-same change known)

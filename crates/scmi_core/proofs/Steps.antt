@@ -70,9 +70,9 @@ change-power board a header c reply = by (begins_with_success reply) where
   by true = refl
   by false = refl
 
-pending-power : (board : Board) (a : ℕ) (header : HeaderFields) (c : PowerCommand) (reply : List ℕ)
+pending_sets-power : (board : Board) (a : ℕ) (header : HeaderFields) (c : PowerCommand) (reply : List ℕ)
     → option_and_then (acceptance board) (success_of a header (Ok (Power c)) reply) ≡ option_map (state_set a header) (if_success reply (set_later c))
-pending-power board a header c reply = by (begins_with_success reply) where
+pending_sets-power board a header c reply = by (begins_with_success reply) where
   by : (b : Bool) → option_and_then (acceptance board) (if b then success_with a header (Ok (Power c)) else None) ≡ option_map (state_set a header) (if b then set_later c else None)
   by true = refl
   by false = refl
@@ -188,7 +188,7 @@ power-stepped board t n new power' a header c reply changed later before few few
       subscriptions = λ x d lo' hi' small. ap (λ p. is_subscribed p x d) (kept2.power ∙ kept1.power) ∙ subs x d lo' hi' small ∙ sym (subscription-power a header c reply x d (is_subscribed t.power x d));
       values = λ x within. values x within ∙ ap (λ o. unwrap_or (option_and_then (value_in x) o) (value_at t x)) (sym change);
       known = subst (λ o. IfSome o (λ ch. IsThing board ch.thing)) (sym change) (changed-known board a changed known);
-      pending_sets = pend ∙ ap (λ o. t.pending ++ option_to_list o) (ap (option_map (state_set a header)) is_later ∙ sym (pending-power board a header c reply));
+      pending = pend ∙ ap (λ o. t.pending ++ option_to_list o) (ap (option_map (state_set a header)) is_later ∙ sym (pending_sets-power board a header c reply));
       known_sets = λ all. subst (All (IsOfBoard board)) (sym pend) (All-append (IsOfBoard board) t.pending (option_to_list (option_map (state_set a header) later)) all (later-known board a header later lo hi known_later));
       outboxes = λ x lo' hi'.
           told2 x lo' hi'
@@ -233,7 +233,7 @@ state-completed board t m new power' left a header wanted d s before few lo hi w
       subscriptions = λ x e lo' hi' small. ap (λ p. is_subscribed p x e) (kept2.power ∙ kept1.power) ∙ same_subs x e;
       values = values;
       known = within;
-      pending_sets = pend ∙ sym (append-nil (drop 1 t.pending));
+      pending = pend ∙ sym (append-nil (drop 1 t.pending));
       known_sets = λ all. subst (All (IsOfBoard board)) (sym pend) (All-drop (IsOfBoard board) 1 t.pending all);
       outboxes = λ x lo' hi'.
           told x lo' hi'
@@ -267,7 +267,7 @@ rate-completed board t new clocks' left a header wanted k rate few lo hi within 
       subscriptions = λ x e lo' hi' small. ap (λ p. is_subscribed p x e) kept.power;
       values = values;
       known = within;
-      pending_sets = pend ∙ sym (append-nil (drop 1 t.pending));
+      pending = pend ∙ sym (append-nil (drop 1 t.pending));
       known_sets = λ all. subst (All (IsOfBoard board)) (sym pend) (All-drop (IsOfBoard board) 1 t.pending all);
       outboxes = λ x lo' hi'.
           resp x lo' ∙ ap (λ ys. outbox_at t x ++ ys) (sym (append-nil (response_for x done))

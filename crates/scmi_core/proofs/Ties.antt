@@ -23,21 +23,21 @@ use Rattle.scmi_core.specs.declared.event.Event.{Event}
 use Rattle.scmi_core.specs.declared.event.Event.TheVariants.{Command, Advance, Sent}
 use Rattle.scmi_core.specs.declared.tables.Tables.{Tables}
 use Rattle.std.specs.Option.{option_to_list, option_and_then}
-use Rattle.scmi_core.specs.Deed.{Deed, success_with, over, success_of}
-use Rattle.scmi_core.specs.Permissions.{permission_in, allowed}
-use Rattle.scmi_core.specs.Subscriptions.{subscription, subscribed}
-use Rattle.scmi_core.specs.Value.{value, change_by, completed, Thing, State, Rate, Enabled, bit_value, value_in, value_at_start, change_of}
-use Rattle.scmi_core.specs.Pending.{acceptance, pending}
-use Rattle.scmi_core.specs.Outbox.{made, made_by, made_in, outbox_after, sent, is_sent_by, situation_after}
+use Rattle.scmi_core.specs.Deed.{Deed, success_with, fold_with_prefix, success_of}
+use Rattle.scmi_core.specs.Permissions.{permission_in, has_permission}
+use Rattle.scmi_core.specs.Subscriptions.{subscription, is_subscriber}
+use Rattle.scmi_core.specs.Value.{value, change_by, completed_set, Thing, State, Rate, Enabled, bit_value, value_in, value_at_start, change_of}
+use Rattle.scmi_core.specs.Pending.{acceptance, pending_sets}
+use Rattle.scmi_core.specs.Outbox.{messages_made, made_by, made_in, outbox_after, sent_count, is_sent_by, situation_after}
 use Rattle.scmi_core.specs.History.{answer_to, deeds, outbox}
 use Rattle.scmi_core.specs.Legal.{CanFollow}
 use Rattle.scmi_core.specs.Reply.{answer_in, reply_words}
 use Rattle.scmi_core.specs.Tables.{outbox_at, situation_in, value_at, IsThing, IsOfBoard}
 use Rattle.scmi_core.specs.Step.{HasAnswered, rest_of, HasStepped}
 use Rattle.scmi_core.specs.Agreement.{Agrees}
-use Rattle.scmi_core.proofs.Deeds.{added, allowed-push, subscribed-push, value-push, pending-push, pending-advance, outbox-push, IsLegal-push, sent-push}
+use Rattle.scmi_core.proofs.Deeds.{added_success, has_permission-push, is_subscriber-push, value-push, pending_sets-push, pending_sets-advance, outbox-push, IsLegal-push, sent_count-push}
 use Rattle.scmi_core.proofs.Legal.{IsLegal-nil, deeds-push, advances_le-accepted, sent_le-made}
-use Rattle.scmi_core.proofs.Situations.{SameSituation, answer-same, made-same, made-sent, nothing-made, reply-same}
+use Rattle.scmi_core.proofs.Situations.{SameSituation, answer-same, messages_made-same, messages_made-sent, nothing-made, reply-same}
 
 -- the tables say of each agent what the history says
 pub same-situation : (board : Board) (t : Tables) (h : List Event) (a : ℕ) → Agrees board t h → IsLawful board → 1 ≤ a → a ≤ length board.agents
@@ -49,7 +49,7 @@ same-situation board t h a agrees law lo hi =
       value = agrees.values;
       allowed = λ device scope within. agrees.permissions a device scope lo few (omega (arith, law.few_devices));
       subscribed = λ d within. agrees.subscriptions a d lo few (omega (arith, law.few_domains));
-      pending = agrees.pending_sets;
+      pending = agrees.pending;
       outbox = agrees.outboxes a lo hi;
     }
 
@@ -57,17 +57,17 @@ same-situation board t h a agrees law lo hi =
 
 -- a deed, and the tables that it leaves
 module _ (board : Board) (t new : Tables) (h : List Event) (deed : Deed) (agrees : Agrees board t h) (law : IsLawful board)
-    (stepped : HasStepped board t (added deed) (completed board (deeds board h) deed.event) new)
-    (pend : new.pending ≡ pending board (deeds board h ++ deed ∷ [])) where
-  made-tied : (a : ℕ) → 1 ≤ a → a ≤ length board.agents
-      → made_in a (situation_in a t) new.pending (completed board (deeds board h) deed.event) (change_of board (added deed) (completed board (deeds board h) deed.event))
-      ≡ made_by board a (deeds board h) (made board a (deeds board h)) deed
-  made-tied a lo hi =
-      let done = completed board (deeds board h) deed.event in
-      let change = change_of board (added deed) done in
+    (stepped : HasStepped board t (added_success deed) (completed_set board (deeds board h) deed.event) new)
+    (pend : new.pending ≡ pending_sets board (deeds board h ++ deed ∷ [])) where
+  messages_made-tied : (a : ℕ) → 1 ≤ a → a ≤ length board.agents
+      → made_in a (situation_in a t) new.pending (completed_set board (deeds board h) deed.event) (change_of board (added_success deed) (completed_set board (deeds board h) deed.event))
+      ≡ made_by board a (deeds board h) (messages_made board a (deeds board h)) deed
+  messages_made-tied a lo hi =
+      let done = completed_set board (deeds board h) deed.event in
+      let change = change_of board (added_success deed) done in
       ap (λ left. made_in a (situation_in a t) left done change) pend
-      ∙ made-same board a (situation_in a t) (situation_after board a (deeds board h)) (same-situation board t h a agrees law lo hi)
-      (pending board (deeds board h ++ deed ∷ [])) done change stepped.known
+      ∙ messages_made-same board a (situation_in a t) (situation_after board a (deeds board h)) (same-situation board t h a agrees law lo hi)
+      (pending_sets board (deeds board h ++ deed ∷ [])) done change stepped.known
 
   Agrees-deed : (e : Event) → deeds board (h ++ e ∷ []) ≡ deeds board h ++ deed ∷ [] → CanFollow board h e → ((a : ℕ) → is_sent_by a deed.event ≡ false) → Agrees board new (h ++ e ∷ [])
   unfolding outbox
@@ -75,22 +75,22 @@ module _ (board : Board) (t new : Tables) (h : List Event) (deed : Deed) (agrees
     legal = IsLegal-push board h e agrees.legal follows;
     permissions = λ a d scope lo hi small.
         stepped.permissions a d scope lo small
-        ∙ ap (unwrap_or (option_and_then (λ s. permission_in a d scope s.command) (added deed))) (agrees.permissions a d scope lo hi small)
-        ∙ sym (ap (allowed a d scope) more ∙ allowed-push a d scope (deeds board h) deed);
+        ∙ ap (unwrap_or (option_and_then (λ s. permission_in a d scope s.command) (added_success deed))) (agrees.permissions a d scope lo hi small)
+        ∙ sym (ap (has_permission a d scope) more ∙ has_permission-push a d scope (deeds board h) deed);
     subscriptions = λ a d lo hi small.
         stepped.subscriptions a d lo hi small
-        ∙ ap (unwrap_or (option_and_then (subscription a d) (added deed))) (agrees.subscriptions a d lo hi small)
-        ∙ sym (ap (subscribed a d) more ∙ subscribed-push a d (deeds board h) deed);
+        ∙ ap (unwrap_or (option_and_then (subscription a d) (added_success deed))) (agrees.subscriptions a d lo hi small)
+        ∙ sym (ap (is_subscriber a d) more ∙ is_subscriber-push a d (deeds board h) deed);
     values = λ x within.
         stepped.values x within
         ∙ ap (unwrap_or (option_and_then (value_in x) (change_by board (deeds board h) deed))) (agrees.values x within)
         ∙ sym (ap (value board x) more ∙ value-push board x (deeds board h) deed);
-    pending_sets = pend ∙ sym (ap (pending board) more);
+    pending = pend ∙ sym (ap (pending_sets board) more);
     known = stepped.known_sets agrees.known;
     outboxes = λ a lo hi.
         stepped.outboxes a lo hi
-        ∙ ap (λ b. b ++ made_in a (situation_in a t) new.pending (completed board (deeds board h) deed.event) (change_of board (added deed) (completed board (deeds board h) deed.event))) (agrees.outboxes a lo hi)
-        ∙ ap (λ b. outbox board a h ++ b) (made-tied a lo hi)
+        ∙ ap (λ b. b ++ made_in a (situation_in a t) new.pending (completed_set board (deeds board h) deed.event) (change_of board (added_success deed) (completed_set board (deeds board h) deed.event))) (agrees.outboxes a lo hi)
+        ∙ ap (λ b. outbox board a h ++ b) (messages_made-tied a lo hi)
         ∙ sym (ap (outbox_after board a) more ∙ outbox-push board a (deeds board h) deed (unsent a) (sent_le-made board h agrees.legal a));
   }
 
@@ -103,7 +103,7 @@ Agrees-command board t new h a m reply agrees law lo hi is stepped =
     let deed : Deed = record { event = Command a (Good m); reply = reply_words board a (situation_after board a (deeds board h)) (command_of m) } in
     let stepped' : HasStepped board t (success_of a m.header (command_of m) (reply_words board a (situation_after board a (deeds board h)) (command_of m))) None new = subst (λ r. HasStepped board t (success_of a m.header (command_of m) r) None new) words stepped in
     Agrees-deed board t new h deed agrees law stepped'
-    (stepped'.pending_sets ∙ ap (λ p. p ++ option_to_list (option_and_then (acceptance board) (added deed))) agrees.pending_sets ∙ sym (pending-push board (deeds board h) deed refl (advances_le-accepted board h agrees.legal)))
+    (stepped'.pending ∙ ap (λ p. p ++ option_to_list (option_and_then (acceptance board) (added_success deed))) agrees.pending ∙ sym (pending_sets-push board (deeds board h) deed refl (advances_le-accepted board h agrees.legal)))
     (Command a (Good m)) (deeds-push board h (Command a (Good m))) (lo, hi) (λ x. refl)
 
 -- an event that is neither a success nor a completion
@@ -113,7 +113,7 @@ nothing-stepped board t = record {
   subscriptions = λ a d lo hi small. refl;
   values = λ x within. refl;
   known = tt;
-  pending_sets = sym (append-nil t.pending);
+  pending = sym (append-nil t.pending);
   known_sets = λ all. all;
   outboxes = λ a lo hi. sym (append-nil (outbox_at t a)) ∙ ap (λ ys. outbox_at t a ++ ys) (sym (nothing-made a (situation_in a t) t.pending));
 }
@@ -131,7 +131,7 @@ pub Agrees-malformed : (board : Board) (t : Tables) (h : List Event) (a len head
 Agrees-malformed board t h a len header agrees law lo hi =
     let deed : Deed = record { event = Command a (Malformed len header); reply = [] } in
     Agrees-deed board t t h deed agrees law (nothing-stepped board t)
-    (sym (append-nil t.pending) ∙ ap (λ p. p ++ []) agrees.pending_sets ∙ sym (pending-push board (deeds board h) deed refl (advances_le-accepted board h agrees.legal)))
+    (sym (append-nil t.pending) ∙ ap (λ p. p ++ []) agrees.pending ∙ sym (pending_sets-push board (deeds board h) deed refl (advances_le-accepted board h agrees.legal)))
     (Command a (Malformed len header)) (deeds-push board h (Command a (Malformed len header))) (lo, hi) (λ x. refl)
 
 -- a frame that was answered
@@ -157,10 +157,10 @@ pub Agrees-advance : (board : Board) (t new : Tables) (h : List Event) → Agree
     → HasStepped board t None (slice_get t.pending 0) new → Agrees board new (h ++ Advance ∷ [])
 Agrees-advance board t new h agrees law waiting stepped =
     let deed : Deed = record { event = Advance; reply = [] } in
-    let follows : 0 < length (pending board (deeds board h)) = subst (λ p. 0 < length p) agrees.pending_sets waiting in
-    let stepped' : HasStepped board t None (completed board (deeds board h) Advance) new = subst (λ p. HasStepped board t None (slice_get p 0) new) agrees.pending_sets stepped in
+    let follows : 0 < length (pending_sets board (deeds board h)) = subst (λ p. 0 < length p) agrees.pending waiting in
+    let stepped' : HasStepped board t None (completed_set board (deeds board h) Advance) new = subst (λ p. HasStepped board t None (slice_get p 0) new) agrees.pending stepped in
     Agrees-deed board t new h deed agrees law stepped'
-    (stepped.pending_sets ∙ rest-drop t t.pending waiting ∙ ap (drop 1) agrees.pending_sets ∙ sym (pending-advance board (deeds board h)))
+    (stepped.pending ∙ rest-drop t t.pending waiting ∙ ap (drop 1) agrees.pending ∙ sym (pending_sets-advance board (deeds board h)))
     Advance (deeds-push board h Advance) follows (λ x. refl)
 
 -- a message that was posted
@@ -175,11 +175,11 @@ Agrees-sent board t new h a agrees law lo hi waiting bases powers clocks pends f
     let follows : 0 < length (outbox board a h) = subst (λ b. 0 < length b) (agrees.outboxes a lo hi) waiting in
     record {
       legal = IsLegal-push board h (Sent a) agrees.legal (lo, hi, follows);
-      permissions = λ x d scope lo' hi' small. ap (λ b. is_allowed b x d scope) bases ∙ agrees.permissions x d scope lo' hi' small ∙ sym (ap (allowed x d scope) more ∙ allowed-push x d scope (deeds board h) deed);
-      subscriptions = λ x d lo' hi' small. ap (λ p. is_subscribed p x d) powers ∙ agrees.subscriptions x d lo' hi' small ∙ sym (ap (subscribed x d) more ∙ subscribed-push x d (deeds board h) deed);
+      permissions = λ x d scope lo' hi' small. ap (λ b. is_allowed b x d scope) bases ∙ agrees.permissions x d scope lo' hi' small ∙ sym (ap (has_permission x d scope) more ∙ has_permission-push x d scope (deeds board h) deed);
+      subscriptions = λ x d lo' hi' small. ap (λ p. is_subscribed p x d) powers ∙ agrees.subscriptions x d lo' hi' small ∙ sym (ap (is_subscriber x d) more ∙ is_subscriber-push x d (deeds board h) deed);
       values = λ x within. same_value x ∙ agrees.values x within ∙ sym (ap (value board x) more ∙ value-push board x (deeds board h) deed);
-      pending_sets = pends ∙ agrees.pending_sets ∙ sym (append-nil (pending board (deeds board h)))
-          ∙ sym (ap (pending board) more ∙ pending-push board (deeds board h) deed refl (advances_le-accepted board h agrees.legal));
+      pending = pends ∙ agrees.pending ∙ sym (append-nil (pending_sets board (deeds board h)))
+          ∙ sym (ap (pending_sets board) more ∙ pending_sets-push board (deeds board h) deed refl (advances_le-accepted board h agrees.legal));
       known = subst (All (IsOfBoard board)) (sym pends) agrees.known;
       outboxes = λ x lo' hi'. by_agent x lo' hi' (eqb_tells x a);
     } where
@@ -192,26 +192,26 @@ Agrees-sent board t new h a agrees law lo hi waiting bases powers clocks pends f
       by_agent x lo' hi' (inl same) =
           let deed : Deed = record { event = Sent a; reply = [] } in
           rw same.1 (front ∙ ap (drop 1) (agrees.outboxes a lo hi)
-          ∙ drop-drop 1 (sent a (deeds board h)) (made board a (deeds board h))
-          ∙ sym (ap (outbox_after board a) (deeds-push board h (Sent a)) ∙ ap (drop (sent a (deeds board h ++ deed ∷ []))) (made-sent board a (deeds board h) a)
-          ∙ ap (λ n. drop n (made board a (deeds board h))) (sent-push a (deeds board h) deed ∙ ap (λ b. sent a (deeds board h) + (if b then 1 else 0)) (eq-eqb a a refl))))
+          ∙ drop-drop 1 (sent_count a (deeds board h)) (messages_made board a (deeds board h))
+          ∙ sym (ap (outbox_after board a) (deeds-push board h (Sent a)) ∙ ap (drop (sent_count a (deeds board h ++ deed ∷ []))) (messages_made-sent board a (deeds board h) a)
+          ∙ ap (λ n. drop n (messages_made board a (deeds board h))) (sent_count-push a (deeds board h) deed ∙ ap (λ b. sent_count a (deeds board h) + (if b then 1 else 0)) (eq-eqb a a refl))))
       by_agent x lo' hi' (inr other) =
           let deed : Deed = record { event = Sent a; reply = [] } in
-          let zero_more : sent x (deeds board h) + 0 ≡ sent x (deeds board h) = omega arith in
+          let zero_more : sent_count x (deeds board h) + 0 ≡ sent_count x (deeds board h) = omega arith in
           others x lo' other.1 ∙ agrees.outboxes x lo' hi'
-          ∙ sym (ap (outbox_after board x) (deeds-push board h (Sent a)) ∙ ap (drop (sent x (deeds board h ++ deed ∷ []))) (made-sent board x (deeds board h) a)
-          ∙ ap (λ n. drop n (made board x (deeds board h))) (sent-push x (deeds board h) deed ∙ ap (λ b. sent x (deeds board h) + (if b then 1 else 0)) other.0 ∙ zero_more))
+          ∙ sym (ap (outbox_after board x) (deeds-push board h (Sent a)) ∙ ap (drop (sent_count x (deeds board h ++ deed ∷ []))) (messages_made-sent board x (deeds board h) a)
+          ∙ ap (λ n. drop n (messages_made board x (deeds board h))) (sent_count-push x (deeds board h) deed ∙ ap (λ b. sent_count x (deeds board h) + (if b then 1 else 0)) other.0 ∙ zero_more))
 
 -- the tables of a new controller
 pub Agrees-new : (board : Board) (t : Tables) → ((a d : ℕ) (scope : Scope) → is_allowed t.base a d scope ≡ true) → ((a d : ℕ) → is_subscribed t.power a d ≡ false)
     → ((x : Thing) → IsThing board x → value_at t x ≡ value_at_start board x) → t.pending ≡ [] → ((a : ℕ) → outbox_at t a ≡ []) → Agrees board t []
-unfolding deeds over outbox
+unfolding deeds fold_with_prefix outbox
 Agrees-new board t all none values pends boxes = record {
   legal = IsLegal-nil board;
   permissions = λ a d scope lo hi small. all a d scope;
   subscriptions = λ a d lo hi small. none a d;
   values = values;
-  pending_sets = pends;
+  pending = pends;
   known = subst (All (IsOfBoard board)) (sym pends) (All-nil (IsOfBoard board));
   outboxes = λ a lo hi. boxes a;
 }

@@ -7,7 +7,7 @@ use Rattle.scmi_plan.specs.Board.{Board}
 use Rattle.scmi_core.specs.declared.event.Event.{Event}
 use Rattle.scmi_core.specs.declared.event.Event.TheVariants.{Command}
 use Rattle.scmi_core.specs.History.{answer_to}
-use Rattle.scmi_core.specs.Deed.{gathered}
+use Rattle.scmi_core.specs.Deed.{flat_map_with_prefix}
 
 -- the frame of an event, if it is a command of agent a
 abbrev pub frame_from : ℕ → Event → Option Frame
@@ -25,4 +25,4 @@ answer_for board a before _ = []
 
 -- the answers to the frames of agent a, in order
 unfoldable pub answers_to : Board → ℕ → List Event → List Answer
-answers_to board a h = gathered (answer_for board a) h
+answers_to board a h = flat_map_with_prefix (answer_for board a) h

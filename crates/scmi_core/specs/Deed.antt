@@ -21,13 +21,13 @@ latest d [] = d
 latest d (x ∷ xs) = latest x xs
 
 -- what `step` makes of s over the items of a list, each given the items before it
-unfoldable pub over : {X S : Type 0} → (List X → S → X → S) → List X → S → List X → S
-over step before s [] = s
-over step before s (x ∷ xs) = over step (before ++ x ∷ []) (step before s x) xs
+unfoldable pub fold_with_prefix : {X S : Type 0} → (List X → S → X → S) → List X → S → List X → S
+fold_with_prefix step before s [] = s
+fold_with_prefix step before s (x ∷ xs) = fold_with_prefix step (before ++ x ∷ []) (step before s x) xs
 
 -- what each item adds to a list, given the items before it
-abbrev pub gathered : {X A : Type 0} → (List X → X → List A) → List X → List A
-gathered adds xs = over (λ before so_far x. so_far ++ adds before x) [] [] xs
+abbrev pub flat_map_with_prefix : {X A : Type 0} → (List X → X → List A) → List X → List A
+flat_map_with_prefix adds xs = fold_with_prefix (λ before so_far x. so_far ++ adds before x) [] [] xs
 
 -- a command that was answered with status 0
 pub record Success : Type 0 where

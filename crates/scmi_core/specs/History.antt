@@ -16,8 +16,8 @@ use Rattle.scmi_plan.specs.declared.resource.Resource.{Resource}
 use Rattle.scmi_core.specs.declared.event.Event.{Event}
 use Rattle.scmi_core.specs.declared.event.Event.TheVariants.{Command}
 use Rattle.scmi_core.specs.Deed.{Deed}
-use Rattle.scmi_core.specs.Outbox.{made, outbox_after, sent, situation_after}
-use Rattle.scmi_core.specs.Pending.{is_pending, pending}
+use Rattle.scmi_core.specs.Outbox.{messages_made, outbox_after, sent_count, situation_after}
+use Rattle.scmi_core.specs.Pending.{is_pending, pending_sets}
 use Rattle.scmi_core.specs.Reply.{answer_in, reply_in, reply_words}
 use Rattle.scmi_core.specs.Value.{Thing, value}
 
@@ -54,11 +54,11 @@ answer_at board h n = option_and_then (answer_of_event board (take n h)) (slice_
 
 -- all messages made for agent a in a history, in order
 unfoldable pub made_for : Board → ℕ → List Event → List Message
-made_for board a h = made board a (deeds board h)
+made_for board a h = messages_made board a (deeds board h)
 
 -- the messages that were posted to agent a: the first of those made for it
-unfoldable pub delivered : Board → ℕ → List Event → List Message
-delivered board a h = take (sent a (deeds board h)) (made board a (deeds board h))
+unfoldable pub delivered_messages : Board → ℕ → List Event → List Message
+delivered_messages board a h = take (sent_count a (deeds board h)) (messages_made board a (deeds board h))
 
 -- the outbox of agent a after a history
 unfoldable pub outbox : Board → ℕ → List Event → List Message
@@ -66,7 +66,7 @@ outbox board a h = outbox_after board a (deeds board h)
 
 -- no set is pending after a history
 abbrev pub IsIdle : Board → List Event → Type 0
-IsIdle board h = pending board (deeds board h) ≡ []
+IsIdle board h = pending_sets board (deeds board h) ≡ []
 
 -- nothing waits for this agent of the board after a history
 abbrev pub HasNothingFor : Board → ℕ → List Event → Type 0

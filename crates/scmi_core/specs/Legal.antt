@@ -5,12 +5,12 @@ use Rattle.scmi_plan.specs.Board.{Board}
 use Rattle.scmi_core.specs.declared.event.Event.{Event}
 use Rattle.scmi_core.specs.declared.event.Event.TheVariants.{Command, Advance, Sent}
 use Rattle.scmi_core.specs.History.{deeds, outbox}
-use Rattle.scmi_core.specs.Pending.{pending}
+use Rattle.scmi_core.specs.Pending.{pending_sets}
 
 -- an event may come after a history: a command of an agent, an advance where a set is pending, a posting where the outbox has a message
 abbrev pub CanFollow : Board → List Event → Event → Type 0
 CanFollow board before (Command a frame) = IsAgent (length board.agents) a
-CanFollow board before Advance = 0 < length (pending board (deeds board before))
+CanFollow board before Advance = 0 < length (pending_sets board (deeds board before))
 CanFollow board before (Sent a) = (1 ≤ a) × (a ≤ length board.agents) × (0 < length (outbox board a before))
 
 -- each event may come after those before it

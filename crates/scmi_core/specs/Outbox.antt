@@ -9,12 +9,12 @@ use Rattle.scmi_core.specs.declared.pending_set.PendingSet.{PendingSet}
 use Rattle.scmi_core.specs.declared.pending_set.Setting.{Setting}
 use Rattle.scmi_core.specs.declared.event.Event.{Event}
 use Rattle.scmi_core.specs.declared.event.Event.TheVariants.{Sent}
-use Rattle.scmi_core.specs.Value.{Change, State, Thing, change_by, completed, value}
-use Rattle.scmi_core.specs.Deed.{Deed, over}
-use Rattle.scmi_core.specs.Pending.{pending, sets_by}
-use Rattle.scmi_core.specs.Permissions.{allowed}
+use Rattle.scmi_core.specs.Value.{Change, State, Thing, change_by, completed_set, value}
+use Rattle.scmi_core.specs.Deed.{Deed, fold_with_prefix}
+use Rattle.scmi_core.specs.Pending.{pending_sets, sets_by}
+use Rattle.scmi_core.specs.Permissions.{has_permission}
 use Rattle.scmi_core.specs.Situation.{Situation}
-use Rattle.scmi_core.specs.Subscriptions.{subscribed}
+use Rattle.scmi_core.specs.Subscriptions.{is_subscriber}
 use Rattle.scmi_core.specs.declared.pending_set.Setting.TheVariants as setting
 use Rattle.scmi_core.specs.declared.outboxes.TheConstants.{OUTBOX_ROOM}
 
@@ -62,8 +62,8 @@ is_sent_by a (Sent b) = a == b
 is_sent_by a _ = false
 
 -- how many messages were posted to agent a
-abbrev pub sent : ℕ → List Deed → ℕ
-sent a h = count_by (λ deed. is_sent_by a deed.event) h
+abbrev pub sent_count : ℕ → List Deed → ℕ
+sent_count a h = count_by (λ deed. is_sent_by a deed.event) h
 
 -- what an event makes for agent a, by the sets that it leaves pending, the set that it completes and the change that it makes: the delayed response, and then the notification if outbox and pending sets are below 16 (own)
 abbrev pub made_in : ℕ → Situation → List PendingSet → Option PendingSet → Option Change → List Message
@@ -78,26 +78,26 @@ abbrev pub situation_with : Board → ℕ → List Message → List Deed → Sit
 situation_with board a so_far h =
     record {
       value = λ x. value board x h;
-      allowed = λ device scope. allowed a device scope h;
-      subscribed = λ d. subscribed a d h;
-      pending = pending board h;
-      outbox = drop (sent a h) so_far;
+      allowed = λ device scope. has_permission a device scope h;
+      subscribed = λ d. is_subscriber a d h;
+      pending = pending_sets board h;
+      outbox = drop (sent_count a h) so_far;
     }
 
 -- what a deed makes for agent a, given the deeds before it and what they made
 abbrev pub made_by : Board → ℕ → List Deed → List Message → Deed → List Message
 made_by board a before so_far deed =
     made_in a (situation_with board a so_far before)
-    (pending board (before ++ deed ∷ [])) (completed board before deed.event) (change_by board before deed)
+    (pending_sets board (before ++ deed ∷ [])) (completed_set board before deed.event) (change_by board before deed)
 
 -- all messages made for agent a, in order
-abbrev pub made : Board → ℕ → List Deed → List Message
-made board a h = over (λ before so_far deed. so_far ++ made_by board a before so_far deed) [] [] h
+abbrev pub messages_made : Board → ℕ → List Deed → List Message
+messages_made board a h = fold_with_prefix (λ before so_far deed. so_far ++ made_by board a before so_far deed) [] [] h
 
 -- the messages made for agent a and not yet posted
 abbrev pub outbox_after : Board → ℕ → List Deed → List Message
-outbox_after board a h = drop (sent a h) (made board a h)
+outbox_after board a h = drop (sent_count a h) (messages_made board a h)
 
 -- the situation of agent a after some deeds
 abbrev pub situation_after : Board → ℕ → List Deed → Situation
-situation_after board a h = situation_with board a (made board a h) h
+situation_after board a h = situation_with board a (messages_made board a h) h

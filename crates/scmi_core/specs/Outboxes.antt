@@ -18,5 +18,5 @@ abbrev pub Gets : List (List Message) → List (List Message) → ℕ → List M
 Gets outboxes new a messages = outbox_in new a ≡ outbox_in outboxes a ++ messages
 
 -- an agent's outbox is what it was
-abbrev pub Keeps : List (List Message) → List (List Message) → ℕ → Type 0
-Keeps outboxes new a = outbox_in new a ≡ outbox_in outboxes a
+abbrev pub HasSameOutbox : List (List Message) → List (List Message) → ℕ → Type 0
+HasSameOutbox outboxes new a = outbox_in new a ≡ outbox_in outboxes a

@@ -35,8 +35,8 @@ acceptance board s = accepted_by s.command where
   accepted_by (Base c) = None
 
 -- the sets that were accepted for later, in order of acceptance
-abbrev pub accepted : Board → List Deed → List PendingSet
-accepted board h = filter_map (acceptance board) (successes h)
+abbrev pub accepted_sets : Board → List Deed → List PendingSet
+accepted_sets board h = filter_map (acceptance board) (successes h)
 
 -- whether an event completes a set
 abbrev pub is_advance : Event → Bool
@@ -48,8 +48,8 @@ abbrev pub advances : List Deed → ℕ
 advances h = count_by (λ deed. is_advance deed.event) h
 
 -- sets complete in order of acceptance, one per advance; the others are pending (own)
-abbrev pub pending : Board → List Deed → List PendingSet
-pending board h = drop (advances h) (accepted board h)
+abbrev pub pending_sets : Board → List Deed → List PendingSet
+pending_sets board h = drop (advances h) (accepted_sets board h)
 
 -- the sets of agent a
 abbrev pub sets_by : ℕ → List PendingSet → List PendingSet
@@ -57,7 +57,7 @@ sets_by a sets = filter (λ p. p.agent == a) sets
 
 -- the pending sets of agent a
 abbrev pub pending_of : Board → ℕ → List Deed → List PendingSet
-pending_of board a h = sets_by a (pending board h)
+pending_of board a h = sets_by a (pending_sets board h)
 
 -- whether a setting is one of this domain or clock
 abbrev pub is_set_by : Resource → Setting → Bool
@@ -71,7 +71,7 @@ has_set_of r sets = list_any (λ p. is_set_by r p.setting) sets
 
 -- whether a domain or clock has a pending set
 abbrev pub is_pending : Board → Resource → List Deed → Bool
-is_pending board r h = has_set_of r (pending board h)
+is_pending board r h = has_set_of r (pending_sets board h)
 
 -- the sets of agent a and the messages that wait in its outbox, together
 abbrev pub load_beside : ℕ → ℕ → List PendingSet → ℕ

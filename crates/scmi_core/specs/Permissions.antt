@@ -13,5 +13,5 @@ permission_in a d scope (Base c) = permission a d scope c
 permission_in a d scope _ = None
 
 -- agents are allowed on each device and every protocol on it, until a permission or a reset says otherwise; the latest counts (own)
-abbrev pub allowed : ℕ → ℕ → Scope → List Deed → Bool
-allowed a d scope h = latest true (filter_map (λ s. permission_in a d scope s.command) (successes h))
+abbrev pub has_permission : ℕ → ℕ → Scope → List Deed → Bool
+has_permission a d scope h = latest true (filter_map (λ s. permission_in a d scope s.command) (successes h))

@@ -40,7 +40,7 @@ pub record HasStepped (board : Board) (t : Tables) (success : Option Success) (d
   pub subscriptions : (a d : ℕ) → 1 ≤ a → a ≤ AGENTS → d < DOMAINS → is_subscribed new.power a d ≡ unwrap_or (option_and_then (subscription a d) success) (is_subscribed t.power a d)
   pub values : (x : Thing) → IsThing board x → value_at new x ≡ unwrap_or (option_and_then (value_in x) (change_of board success done)) (value_at t x)
   pub known : IfSome (change_of board success done) (λ change. IsThing board change.thing)
-  pub pending_sets : new.pending ≡ rest_of t done ++ option_to_list (option_and_then (acceptance board) success)
+  pub pending : new.pending ≡ rest_of t done ++ option_to_list (option_and_then (acceptance board) success)
   pub known_sets : All (IsOfBoard board) t.pending → All (IsOfBoard board) new.pending
   pub outboxes : (a : ℕ) → 1 ≤ a → a ≤ length board.agents → Gets t.outboxes new.outboxes a (made_in a (situation_in a t) new.pending done (change_of board success done))
 

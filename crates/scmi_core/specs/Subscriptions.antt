@@ -8,18 +8,18 @@ use Rattle.scmi_power.specs.PowerTable.{notification}
 use Rattle.scmi_core.specs.Deed.{Deed, Success, latest, successes}
 
 -- a reset ends the notification requests of its agent (own)
-abbrev pub ended : ℕ → Option ℕ → Option Bool
-ended a None = None
-ended a (Some agent) = if agent == a then Some false else None
+abbrev pub subscription_after_reset : ℕ → Option ℕ → Option Bool
+subscription_after_reset a None = None
+subscription_after_reset a (Some agent) = if agent == a then Some false else None
 
 -- what a success says of the subscription of agent a to domain d
 abbrev pub subscription : ℕ → ℕ → Success → Option Bool
-subscription a d s = said s.command where
-  said : codec.Command → Option Bool
-  said (Power c) = notification a d s.caller c
-  said (Base c) = ended a (reset_by c)
-  said (Clock c) = None
+subscription a d s = said_by s.command where
+  said_by : codec.Command → Option Bool
+  said_by (Power c) = notification a d s.caller c
+  said_by (Base c) = subscription_after_reset a (reset_by c)
+  said_by (Clock c) = None
 
 -- an agent is told of a domain if its latest request, or reset, says so (DEN0056B, power domain management protocol)
-abbrev pub subscribed : ℕ → ℕ → List Deed → Bool
-subscribed a d h = latest false (filter_map (subscription a d) (successes h))
+abbrev pub is_subscriber : ℕ → ℕ → List Deed → Bool
+is_subscriber a d h = latest false (filter_map (subscription a d) (successes h))

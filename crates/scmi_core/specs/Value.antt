@@ -12,8 +12,8 @@ use Rattle.scmi_core.specs.declared.pending_set.PendingSet.{PendingSet}
 use Rattle.scmi_core.specs.declared.pending_set.Setting.{Setting}
 use Rattle.scmi_core.specs.declared.event.Event.{Event}
 use Rattle.scmi_core.specs.declared.event.Event.TheVariants.{Advance}
-use Rattle.scmi_core.specs.Deed.{Deed, Success, gathered, latest, success_at}
-use Rattle.scmi_core.specs.Pending.{pending}
+use Rattle.scmi_core.specs.Deed.{Deed, Success, flat_map_with_prefix, latest, success_at}
+use Rattle.scmi_core.specs.Pending.{pending_sets}
 use Rattle.scmi_core.specs.declared.pending_set.Setting.TheVariants as setting
 
 -- what has a value: a domain's state, a clock's rate in Hz, a clock's enabled bit
@@ -59,9 +59,9 @@ change_now board s = changed_by s.command where
   changed_by (Base c) = None
 
 -- the set that an event completes: the first that is pending before it
-abbrev pub completed : Board → List Deed → Event → Option PendingSet
-completed board before Advance = slice_get (pending board before) 0
-completed board before _ = None
+abbrev pub completed_set : Board → List Deed → Event → Option PendingSet
+completed_set board before Advance = slice_get (pending_sets board before) 0
+completed_set board before _ = None
 
 -- the change that a success or a completed set makes
 abbrev pub change_of : Board → Option Success → Option PendingSet → Option Change
@@ -69,11 +69,11 @@ change_of board success done = option_or (option_map completion done) (option_an
 
 -- the change that a deed makes, given the deeds before it
 abbrev pub change_by : Board → List Deed → Deed → Option Change
-change_by board before deed = change_of board (success_at deed.event deed.reply) (completed board before deed.event)
+change_by board before deed = change_of board (success_at deed.event deed.reply) (completed_set board before deed.event)
 
 -- the changes of a history, in order
 abbrev pub changes : Board → List Deed → List Change
-changes board h = gathered (λ before deed. option_to_list (change_by board before deed)) h
+changes board h = flat_map_with_prefix (λ before deed. option_to_list (change_by board before deed)) h
 
 -- a thing's value on the board
 abbrev pub value_at_start : Board → Thing → ℕ

@@ -1,7 +1,7 @@
 //! What subscribers are told of a domain's state.
 ghost use Rattle.std.specs.Prelude.{◌≡◌, ◌≢◌, ◌≤◌, ◌<◌, ℕ, IfSome};
 ghost use Rattle.scmi_plan.specs.declared.limits.TheConstants.{AGENTS, DOMAINS};
-ghost use Rattle.scmi_core.specs.Outboxes.{Gets, Keeps};
+ghost use Rattle.scmi_core.specs.Outboxes.{Gets, HasSameOutbox};
 ghost use Rattle.scmi_core.specs.Step.{told_at, announced_at, SameButOutboxes};
 ghost use Rattle.scmi_core.specs.Tables.{load_at};
 
@@ -45,7 +45,7 @@ impl Tables {
         ensures told { Gets self.old.outboxes self.new.outboxes agent
             (told_at self.old agent causer domain state) }
         ensures others { (a : ℕ) → 1 ≤ a → a ≢ agent
-            → Keeps self.old.outboxes self.new.outboxes a }
+            → HasSameOutbox self.old.outboxes self.new.outboxes a }
         ensures rest { SameButOutboxes self.old self.new }
     {
         if self.load(agent) < OUTBOX_ROOM

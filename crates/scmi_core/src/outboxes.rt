@@ -4,7 +4,7 @@ ghost use Rattle.std.specs.Option.{option_copied};
 ghost use Rattle.scmi_codec.specs.declared.payload.TheConstants.{PAYLOAD_WORDS};
 ghost use Rattle.scmi_plan.specs.declared.limits.TheConstants.{AGENTS};
 ghost use Rattle.scmi_core.specs.Outbox.{message_with, response_for};
-ghost use Rattle.scmi_core.specs.Outboxes.{Gets, Keeps, outbox_in};
+ghost use Rattle.scmi_core.specs.Outboxes.{Gets, HasSameOutbox, outbox_in};
 ghost use Rattle.scmi_core.specs.declared.outboxes.TheConstants.{OUTBOX_ROOM};
 
 use crate::message_ring::MessageRing;
@@ -93,7 +93,7 @@ impl Outboxes {
         requires last { agent ≤ AGENTS }
         requires some { 0 < length (outbox_in self.old agent) }
         ensures taken { outbox_in self.new agent ≡ drop 1 (outbox_in self.old agent) }
-        ensures others { (a : ℕ) → 1 ≤ a → a ≢ agent → Keeps self.old self.new a }
+        ensures others { (a : ℕ) → 1 ≤ a → a ≢ agent → HasSameOutbox self.old self.new a }
     {
         self.each[agent as usize - 1].pop();
     }
@@ -123,7 +123,7 @@ impl Outboxes {
         requires room { length (outbox_in self.old agent) < OUTBOX_ROOM }
         requires few { length words.now ≤ PAYLOAD_WORDS }
         ensures put { Gets self.old self.new agent (message_with header words.now ∷ []) }
-        ensures others { (a : ℕ) → 1 ≤ a → a ≢ agent → Keeps self.old self.new a }
+        ensures others { (a : ℕ) → 1 ≤ a → a ≢ agent → HasSameOutbox self.old self.new a }
     {
         self.each[agent as usize - 1].push(header, words);
     }

@@ -2,7 +2,7 @@
 ghost use Rattle.std.specs.Prelude.{◌≢◌, ◌≤◌, ◌<◌, ◌∷◌, [], ℕ, length};
 ghost use Rattle.scmi_plan.specs.declared.limits.TheConstants.{AGENTS};
 ghost use Rattle.scmi_core.specs.Outbox.{state_changed, response_to};
-ghost use Rattle.scmi_core.specs.Outboxes.{Gets, Keeps, outbox_in};
+ghost use Rattle.scmi_core.specs.Outboxes.{Gets, HasSameOutbox, outbox_in};
 ghost use Rattle.scmi_core.specs.declared.outboxes.TheConstants.{OUTBOX_ROOM};
 
 use crate::outboxes::Outboxes;
@@ -21,7 +21,7 @@ impl Outboxes {
         requires last { agent ≤ AGENTS }
         requires room { length (outbox_in self.old agent) < OUTBOX_ROOM }
         ensures put { Gets self.old self.new agent (state_changed causer domain state ∷ []) }
-        ensures others { (a : ℕ) → 1 ≤ a → a ≢ agent → Keeps self.old self.new a }
+        ensures others { (a : ℕ) → 1 ≤ a → a ≢ agent → HasSameOutbox self.old self.new a }
     {
         let header = Header {
             reserved: 0,
@@ -39,7 +39,7 @@ impl Outboxes {
         requires last { agent ≤ AGENTS }
         requires room { length (outbox_in self.old agent) < OUTBOX_ROOM }
         ensures put { Gets self.old self.new agent (response_to header setting ∷ []) }
-        ensures others { (a : ℕ) → 1 ≤ a → a ≢ agent → Keeps self.old self.new a }
+        ensures others { (a : ℕ) → 1 ≤ a → a ≢ agent → HasSameOutbox self.old self.new a }
     {
         let header = Header {
             reserved: 0,

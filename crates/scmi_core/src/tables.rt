@@ -12,7 +12,7 @@ ghost use Rattle.scmi_plan.specs.declared.limits.TheConstants.{AGENTS, DOMAINS};
 ghost use Rattle.scmi_core.specs.History.{answer_with};
 ghost use Rattle.scmi_core.specs.Value.{Thing, value_at_start};
 ghost use Rattle.scmi_core.specs.Pending.{state_set, rate_set};
-ghost use Rattle.scmi_core.specs.Subscriptions.{ended};
+ghost use Rattle.scmi_core.specs.Subscriptions.{subscription_after_reset};
 ghost use Rattle.scmi_core.specs.Reply.{answer_in, reply_words};
 ghost use Rattle.scmi_core.specs.Tables.{outbox_at, load_at, value_at, situation_in, IsThing, IsOfBoard};
 ghost use Rattle.scmi_core.specs.Step.{Accepts, HasStepped, HasExecuted, HasAnswered, set_domain, SameButPending};
@@ -234,7 +234,7 @@ impl Tables {
         requires { IfSome reset (IsAgent AGENTS) }
         ensures subscriptions { (a d : ℕ) → 1 ≤ a → a ≤ AGENTS → d < DOMAINS
             → is_subscribed self.new.power a d
-            ≡ unwrap_or (ended a reset) (is_subscribed self.old.power a d) }
+            ≡ unwrap_or (subscription_after_reset a reset) (is_subscribed self.old.power a d) }
         ensures states { self.new.power.states ≡ self.old.power.states }
         ensures base { self.new.base ≡ self.old.base }
         ensures clocks { self.new.clocks ≡ self.old.clocks }

@@ -1,33 +1,33 @@
 -- The bytes of items, one item after another.
 use Rattle.std.proofs.Common.{◌≡◌, ℕ, ◌+◌, ◌<◌, List, [], ◌∷◌, ◌++◌, length, get_or, take, drop, map, Option, None, Some, sym, ◌∙◌, ap, refl}
 use Rattle.std.proofs.lemmas.List as list
-use Rattle.scmi_decode.specs.Dump.{item_bytes, items_bytes, joined}
+use Rattle.scmi_decode.specs.Dump.{item_bytes, items_bytes, both_bytes}
 
-joined_nothing : (o : Option (List ℕ)) → joined o (Some []) ≡ joined (Some []) o
+joined_nothing : (o : Option (List ℕ)) → both_bytes o (Some []) ≡ both_bytes (Some []) o
 joined_nothing None = refl
 joined_nothing (Some a) = ap Some (list.append-nil a)
 
-joined_in_turn : (a b c : Option (List ℕ)) → joined a (joined b c) ≡ joined (joined a b) c
+joined_in_turn : (a b c : Option (List ℕ)) → both_bytes a (both_bytes b c) ≡ both_bytes (both_bytes a b) c
 joined_in_turn None b c = refl
 joined_in_turn (Some a) None c = refl
 joined_in_turn (Some a) (Some b) None = refl
 joined_in_turn (Some a) (Some b) (Some c) = ap Some (sym (list.append_assoc a b c))
 
-items_one_more : (xs : List (List ℕ)) (x : List ℕ) → items_bytes (xs ++ x ∷ []) ≡ joined (items_bytes xs) (item_bytes x)
+items_one_more : (xs : List (List ℕ)) (x : List ℕ) → items_bytes (xs ++ x ∷ []) ≡ both_bytes (items_bytes xs) (item_bytes x)
 items_one_more [] x = joined_nothing (item_bytes x)
-items_one_more (y ∷ ys) x = ap (joined (item_bytes y)) (items_one_more ys x) ∙ joined_in_turn (item_bytes y) (items_bytes ys) (item_bytes x)
+items_one_more (y ∷ ys) x = ap (both_bytes (item_bytes y)) (items_one_more ys x) ∙ joined_in_turn (item_bytes y) (items_bytes ys) (item_bytes x)
 
-joined_none : (o : Option (List ℕ)) → joined o None ≡ None
+joined_none : (o : Option (List ℕ)) → both_bytes o None ≡ None
 joined_none None = refl
 joined_none (Some a) = refl
 
 items_bad : (xs : List (List ℕ)) (x : List ℕ) (ys : List (List ℕ)) → item_bytes x ≡ None → items_bytes (xs ++ x ∷ ys) ≡ None
-items_bad [] x ys bad = ap (λ o. joined o (items_bytes ys)) bad
-items_bad (y ∷ more) x ys bad = ap (joined (item_bytes y)) (items_bad more x ys bad) ∙ joined_none (item_bytes y)
+items_bad [] x ys bad = ap (λ o. both_bytes o (items_bytes ys)) bad
+items_bad (y ∷ more) x ys bad = ap (both_bytes (item_bytes y)) (items_bad more x ys bad) ∙ joined_none (item_bytes y)
 
 pub turn : {X : Type 0} (f : X → List ℕ) (xs : List X) (i : ℕ) (d : X) (all bytes : List ℕ) → i < length xs → items_bytes (map f (take i xs)) ≡ Some all → item_bytes (f (get_or xs i d)) ≡ Some bytes → items_bytes (map f (take (i + 1) xs)) ≡ Some (all ++ bytes)
 turn f xs i d all bytes more so_far here =
-    ap items_bytes (list.map_more f xs i d more) ∙ (items_one_more (map f (take i xs)) (f (get_or xs i d)) ∙ (ap (λ o. joined o (item_bytes (f (get_or xs i d)))) so_far ∙ ap (joined (Some all)) here))
+    ap items_bytes (list.map_more f xs i d more) ∙ (items_one_more (map f (take i xs)) (f (get_or xs i d)) ∙ (ap (λ o. both_bytes o (item_bytes (f (get_or xs i d)))) so_far ∙ ap (both_bytes (Some all)) here))
 
 pub stop : {X : Type 0} (f : X → List ℕ) (xs : List X) (i : ℕ) (d : X) → i < length xs → item_bytes (f (get_or xs i d)) ≡ None → items_bytes (map f xs) ≡ None
 stop f xs i d more bad =

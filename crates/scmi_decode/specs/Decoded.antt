@@ -4,7 +4,7 @@ use Rattle.std.specs.List.{slice_split}
 use Rattle.std.specs.Io.KnownBytes.{Appends}
 use Rattle.scmi_codec.specs.declared.area.TheConstants.{AREA_BYTES}
 use Rattle.scmi_input.specs.Lines.{is_line_feed}
-use Rattle.scmi_say.specs.Told.{told}
+use Rattle.scmi_say.specs.Told.{told_area}
 use Rattle.scmi_say.specs.Text.{told_text}
 use Rattle.scmi_decode.specs.Dump.{line_bytes}
 
@@ -18,7 +18,7 @@ other_size_text count = codes "no area: " ++ decimal count ++ codes " bytes, not
 
 -- what bytes are
 abbrev pub bytes_text : List ℕ → List ℕ
-bytes_text bytes = if length bytes == AREA_BYTES then told_text (told bytes) else other_size_text (length bytes)
+bytes_text bytes = if length bytes == AREA_BYTES then told_text (told_area bytes) else other_size_text (length bytes)
 
 -- what a line is, if it has bytes
 abbrev pub found_text : Option (List ℕ) → List ℕ
@@ -26,12 +26,12 @@ found_text None = codes "no area: not hexadecimal digits\n"
 found_text (Some bytes) = bytes_text bytes
 
 -- the number of a line, and what the line is
-unfoldable pub numbered : ℕ → Option (List ℕ) → List ℕ
-numbered number found = decimal number ++ codes " " ++ found_text found
+unfoldable pub numbered_text : ℕ → Option (List ℕ) → List ℕ
+numbered_text number found = decimal number ++ codes " " ++ found_text found
 
 -- what is written of a line
 abbrev pub line_text : ℕ → List ℕ → List ℕ
-line_text number line = if is_told line then numbered number (line_bytes line) else []
+line_text number line = if is_told line then numbered_text number (line_bytes line) else []
 
 -- what is written of lines that are numbered from n
 abbrev pub lines_text : ℕ → List (List ℕ) → List ℕ
@@ -39,9 +39,9 @@ lines_text n [] = []
 lines_text n (line ∷ lines) = line_text n line ++ lines_text (n + 1) lines
 
 -- what is written of an input, whose lines are numbered from 1
-abbrev pub decoded : List ℕ → List ℕ
-decoded input = lines_text 1 (slice_split is_line_feed input)
+abbrev pub decoded_text : List ℕ → List ℕ
+decoded_text input = lines_text 1 (slice_split is_line_feed input)
 
 -- what is written is that of an input, where its bytes are known
 abbrev pub IsDecoded : (input old new : Option (List ℕ)) → Type 0
-IsDecoded input old new = IfSome input (λ bytes. Appends old new (decoded bytes))
+IsDecoded input old new = IfSome input (λ bytes. Appends old new (decoded_text bytes))

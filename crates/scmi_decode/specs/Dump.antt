@@ -26,14 +26,14 @@ abbrev pub item_bytes : List ℕ → Option (List ℕ)
 item_bytes item = if has_mark item then number_bytes (drop 2 item) else if length item == 8 then number_bytes item else bytes_of item
 
 -- one after the other, where both are there
-abbrev pub joined : Option (List ℕ) → Option (List ℕ) → Option (List ℕ)
-joined (Some a) (Some b) = Some (a ++ b)
-joined _ _ = None
+abbrev pub both_bytes : Option (List ℕ) → Option (List ℕ) → Option (List ℕ)
+both_bytes (Some a) (Some b) = Some (a ++ b)
+both_bytes _ _ = None
 
 -- the bytes of items, one after the other
 abbrev pub items_bytes : List (List ℕ) → Option (List ℕ)
 items_bytes [] = Some []
-items_bytes (item ∷ items) = joined (item_bytes item) (items_bytes items)
+items_bytes (item ∷ items) = both_bytes (item_bytes item) (items_bytes items)
 
 -- the bytes of a line, where each of its items has some
 abbrev pub line_bytes : List ℕ → Option (List ℕ)

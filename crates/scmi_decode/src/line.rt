@@ -2,7 +2,7 @@
 ghost use Rattle.std.specs.Prelude.{◌≡◌, ◌⊎◌, OnOk, IfErr, codes};
 ghost use Rattle.std.specs.Option.{option_map};
 ghost use Rattle.std.specs.Io.KnownBytes.{Appends};
-ghost use Rattle.scmi_decode.specs.Decoded.{bytes_text, found_text, line_text, numbered, other_size_text};
+ghost use Rattle.scmi_decode.specs.Decoded.{bytes_text, found_text, line_text, numbered_text, other_size_text};
 
 use crate::decode_error::DecodeError;
 use crate::dump::line_bytes;
@@ -38,14 +38,14 @@ pub fn write_line<W: Write>(
 }
 
 /// Writes the number of a line, and what the line is.
-#[tactic(auto, unfolding(crate::specs::Decoded::numbered))]
+#[tactic(auto, unfolding(crate::specs::Decoded::numbered_text))]
 fn write_numbered<W: Write>(
     writer: &mut W,
     number: usize,
     found: &Option<Vec<u8>>,
 ) -> io::Result<()>
     ensures { OnOk result (Appends (W.contents writer.old) (W.contents writer.new) (
-        numbered number (option_map (λ bytes. bytes.items) found.now))) }
+        numbered_text number (option_map (λ bytes. bytes.items) found.now))) }
 {
     write!(writer, "{number} ")?;
     write_found(writer, found)

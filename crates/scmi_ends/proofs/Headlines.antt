@@ -6,19 +6,19 @@ use Rattle.scmi_codec.specs.declared.frame.Frame.TheVariants.{Good}
 use Rattle.scmi_link.specs.View.{CallerView, CalleeView}
 use Rattle.scmi_link.specs.Gathered.{IsAllButLast}
 use Rattle.scmi_plan.specs.Board.{Board}
-use Rattle.scmi_core.specs.History.{delivered, outbox, made_for}
+use Rattle.scmi_core.specs.History.{delivered_messages, outbox, made_for}
 use Rattle.scmi_core.proofs.Laws.{made_is}
 use Rattle.scmi_core.specs.declared.event.Event.{Event}
 use Rattle.scmi_ends.specs.Each.{AllFrom}
 use Rattle.scmi_ends.specs.AgentView.{AgentView}
-use Rattle.scmi_ends.specs.Kept.{IsServed, IsDelivered}
+use Rattle.scmi_ends.specs.Agreement.{IsServed, IsDelivered}
 use Rattle.scmi_ends.specs.Headline.{CommandsAgree, IsAllMade, MessagesAgree, Headlines, AreGathered, AllGathered}
 
 -- the frames posted are those taken, at most one more, and then the outbox makes up all that was made
-rest_made : (board : Board) (h : List Event) (a : ℕ) (taken posted : List Frame) → posted ≡ map Good (delivered board a h) → (taken ≡ posted) ⊎ IsAllButLast taken posted
+rest_made : (board : Board) (h : List Event) (a : ℕ) (taken posted : List Frame) → posted ≡ map Good (delivered_messages board a h) → (taken ≡ posted) ⊎ IsAllButLast taken posted
     → IsAllMade board h a taken
 rest_made board h a taken posted p g =
-    let all : map Good (delivered board a h) ++ map Good (outbox board a h) ≡ map Good (made_for board a h) = sym (map-append Good (delivered board a h) (outbox board a h)) ∙ ap (map Good) (made_is board a h) in
+    let all : map Good (delivered_messages board a h) ++ map Good (outbox board a h) ≡ map Good (made_for board a h) = sym (map-append Good (delivered_messages board a h) (outbox board a h)) ∙ ap (map Good) (made_is board a h) in
     elim g [
       | inl e ↦ ([], omega arith, ap (λ fs. fs ++ map Good (outbox board a h)) (e ∙ p) ∙ all)
       | inr w ↦ (w.0 ∷ [], omega arith, sym (append_assoc taken (w.0 ∷ []) (map Good (outbox board a h))) ∙ ap (λ fs. fs ++ map Good (outbox board a h)) (sym w.1 ∙ p) ∙ all)

@@ -8,7 +8,7 @@ use Rattle.scmi_plan.specs.Board.{Board}
 use Rattle.scmi_core.proofs.Laws.{frames_empty, answers_empty, delivered_empty, empty_is_legal}
 use Rattle.scmi_ends.specs.Each.{AllFrom}
 use Rattle.scmi_core.specs.declared.event.Event.{Event}
-use Rattle.scmi_ends.specs.Kept.{ExecutesNoneAfter, IsServed, IsDelivered, Keeps}
+use Rattle.scmi_ends.specs.Agreement.{ExecutesNoneAfter, IsServed, IsDelivered, EndsAgree}
 
 -- new ends of A2P
 served_new : (board : Board) (n k : ℕ) → AllFrom (IsServed board []) n (replicate k new_callee)
@@ -30,8 +30,8 @@ none_after_new h n zero = tt
 none_after_new h n (suc k) = (tt, none_after_new h (n + 1) k)
 
 -- the whole of them
-pub kept_new : (board : Board) (k : ℕ) → k ≡ length board.agents → Keeps board [] (replicate k new_callee) (replicate k new_caller) (replicate k None)
-kept_new board k e = record {
+pub agrees_new : (board : Board) (k : ℕ) → k ≡ length board.agents → EndsAgree board [] (replicate k new_callee) (replicate k new_caller) (replicate k None)
+agrees_new board k e = record {
   legal = empty_is_legal board;
   callees_count = length-replicate k new_callee ∙ e;
   callers_count = length-replicate k new_caller ∙ e;

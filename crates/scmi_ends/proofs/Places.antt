@@ -29,7 +29,7 @@ item_at ds i x d lt is = sym (get_or_read ds i x lt is d)
 
 -- the platform's side, field by field
 abbrev pub whole : Board → List Event → List CalleeView → List CallerView → List (Option ℕ) → List (List ℕ) → List (List ℕ) → ControllerView
-whole board h ds cs ps an pn = record { board = board; history = h; callees = ds; callers = cs; closed_at = ps; a2p_names = an; p2a_names = pn }
+whole board h ds cs ps an pn = record { board = board; history = h; callees = ds; callers = cs; closed_at = ps; a2p_identities = an; p2a_identities = pn }
 
 module _ {D : Type 0} (f : D → CalleeView) (ds : List D) (a : ℕ) (x d : D) (board board' : Board) (h h' : List Event) (cs : List CallerView) (ps : List (Option ℕ)) (an an' pn : List (List ℕ))
     (lt : a - 1 < length ds) (is : x ≡ get_or ds (a - 1) x) (eb : board' ≡ board) (ea : an' ≡ an) where
@@ -58,8 +58,8 @@ nothing_first (x ∷ xs) h = absurd (false≢true (ap is_some h))
 
 -- an agent's end goes with the link at its place
 pub of_link_at : {L : Type 0} (f k : L → List ℕ) (agents : List AgentView) (links : List L) (i : ℕ) (agent : AgentView) (link : L)
-    → map (λ e. e.a2p_name) agents ≡ map f links → map (λ e. e.p2a_name) agents ≡ map k links → i < length agents → agent ≡ get_or agents i agent → link ≡ get_or links i link → IsOfLink (f link) (k link) agent
+    → map (λ e. e.a2p_identity) agents ≡ map f links → map (λ e. e.p2a_identity) agents ≡ map k links → i < length agents → agent ≡ get_or agents i agent → link ≡ get_or links i link → IsOfLink (f link) (k link) agent
 of_link_at f k agents links i agent link a p lt is own = record {
-  of_a2p = name_at (λ e. e.a2p_name) f agents links i agent link a lt is ∙ sym (ap f own);
-  of_p2a = name_at (λ e. e.p2a_name) k agents links i agent link p lt is ∙ sym (ap k own);
+  of_a2p = name_at (λ e. e.a2p_identity) f agents links i agent link a lt is ∙ sym (ap f own);
+  of_p2a = name_at (λ e. e.p2a_identity) k agents links i agent link p lt is ∙ sym (ap k own);
 }

@@ -8,13 +8,13 @@ pub record AgentView : Type 0 where
   pub token : ℕ  -- of its next command
   pub caller : CallerView  -- its end of A2P
   pub callee : CalleeView  -- its end of P2A
-  pub a2p_name : List ℕ
-  pub p2a_name : List ℕ
+  pub a2p_identity : List ℕ
+  pub p2a_identity : List ℕ
 
 -- the agent's ends are those of the channels with these names
-pub record IsOfLink (a2p_name p2a_name : List ℕ) (agent : AgentView) : Type 0 where
-  pub of_a2p : agent.a2p_name ≡ a2p_name
-  pub of_p2a : agent.p2a_name ≡ p2a_name
+pub record IsOfLink (a2p_identity p2a_identity : List ℕ) (agent : AgentView) : Type 0 where
+  pub of_a2p : agent.a2p_identity ≡ a2p_identity
+  pub of_p2a : agent.p2a_identity ≡ p2a_identity
 
 -- agent n, which has done nothing yet
 pub record IsNewAgent (n : ℕ) (agent : AgentView) : Type 0 where

@@ -11,13 +11,13 @@ pub record ControllerView : Type 0 where
   pub callees : List CalleeView  -- its end of each agent's A2P
   pub callers : List CallerView  -- its end of each agent's P2A
   pub closed_at : List (Option ℕ)  -- after how many events it closed each agent's A2P, where it has
-  pub a2p_names : List (List ℕ)
-  pub p2a_names : List (List ℕ)
+  pub a2p_identities : List (List ℕ)
+  pub p2a_identities : List (List ℕ)
 
 -- the platform's ends are those of the channels with these names, in order
-pub record IsOfLinks (a2p_names p2a_names : List (List ℕ)) (platform : ControllerView) : Type 0 where
-  pub of_a2p : platform.a2p_names ≡ a2p_names
-  pub of_p2a : platform.p2a_names ≡ p2a_names
+pub record IsOfLinks (a2p_identities p2a_identities : List (List ℕ)) (platform : ControllerView) : Type 0 where
+  pub of_a2p : platform.a2p_identities ≡ a2p_identities
+  pub of_p2a : platform.p2a_identities ≡ p2a_identities
 
 -- the platform's end of agent a's A2P channel
 abbrev pub callee_of : ControllerView → ℕ → CalleeView

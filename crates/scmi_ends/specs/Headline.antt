@@ -6,7 +6,7 @@ use Rattle.scmi_link.specs.View.{CallerView, CalleeView}
 use Rattle.scmi_link.specs.Gathered.{IsAllButLast, IsPrefixOf, Agree, Closed}
 use Rattle.scmi_plan.specs.Board.{Board}
 use Rattle.scmi_core.specs.Agents.{frames_of, answers_to}
-use Rattle.scmi_core.specs.History.{delivered, outbox, made_for}
+use Rattle.scmi_core.specs.History.{delivered_messages, outbox, made_for}
 use Rattle.scmi_core.specs.declared.event.Event.{Event}
 use Rattle.scmi_ends.specs.AgentView.{AgentView}
 
@@ -32,13 +32,13 @@ IsAllMade board h a taken =
 -- the messages to agent a and the closes of its P2A channel, whose ends are the platform's `caller` and the agent's `callee`
 pub record MessagesAgree (board : Board) (h : List Event) (a : ℕ) (caller : CallerView) (callee : CalleeView) : Type 0 where
   -- the messages that the agent took are those delivered to it, at most the last left out
-  pub taken : (callee.taken ≡ map Good (delivered board a h)) ⊎ IsAllButLast callee.taken (map Good (delivered board a h))
+  pub taken : (callee.taken ≡ map Good (delivered_messages board a h)) ⊎ IsAllButLast callee.taken (map Good (delivered_messages board a h))
   -- what was made for the agent is what it took, then at most one message not taken, then its outbox
   pub made : IsAllMade board h a callee.taken
   -- a message that was withdrawn or given up was not taken
-  pub left : caller.left ≡ true → IsAllButLast callee.taken (map Good (delivered board a h))
+  pub left : caller.left ≡ true → IsAllButLast callee.taken (map Good (delivered_messages board a h))
   -- after the platform's close with nothing left, all that was delivered was taken
-  pub idle : caller.closed ≡ true → caller.left ≡ false → callee.taken ≡ map Good (delivered board a h)
+  pub idle : caller.closed ≡ true → caller.left ≡ false → callee.taken ≡ map Good (delivered_messages board a h)
   -- an end was told of a close only where the other end has closed
   pub agent_told : callee.told ≡ true → caller.closed ≡ true
   pub platform_told : caller.told ≡ true → callee.closed ≡ true

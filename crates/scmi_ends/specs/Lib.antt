@@ -2,7 +2,7 @@ pub mod Each
 pub mod AgentView
 pub mod ControllerView
 pub mod Links
-pub mod Kept
+pub mod Agreement
 pub mod Poll
 pub mod Serve
 pub mod Flush

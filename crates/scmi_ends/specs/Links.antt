@@ -4,20 +4,20 @@ use Rattle.scmi_ends.specs.declared.link.Link.{Link}
 use Rattle.scmi_ends.specs.AgentView.{AgentView}
 use Rattle.scmi_ends.specs.ControllerView.{ControllerView, IsOfLinks}
 
--- the links are of one kind of channel, and this is the name of a channel
-module _ {C Caller Callee Rest : Type 0} (name : C → List ℕ) (links : List (Link C Caller Callee Rest)) where
+-- the links are of one kind of channel, and this is the identity of a channel
+module _ {C Caller Callee Rest : Type 0} (identity : C → List ℕ) (links : List (Link C Caller Callee Rest)) where
   -- the names of their A2P channels, in order
-  abbrev pub names_of_a2p : List (List ℕ)
-  names_of_a2p = map (λ link. name link.a2p) links
+  abbrev pub identities_of_a2p : List (List ℕ)
+  identities_of_a2p = map (λ link. identity link.a2p) links
 
   -- the names of their P2A channels, in order
-  abbrev pub names_of_p2a : List (List ℕ)
-  names_of_p2a = map (λ link. name link.p2a) links
+  abbrev pub identities_of_p2a : List (List ℕ)
+  identities_of_p2a = map (λ link. identity link.p2a) links
 
   -- the platform's ends are those of the links, in order
   abbrev pub HasLinks : ControllerView → Type 0
-  HasLinks platform = IsOfLinks names_of_a2p names_of_p2a platform
+  HasLinks platform = IsOfLinks identities_of_a2p identities_of_p2a platform
 
   -- the agents' ends are those of the links, in order
   abbrev pub AreEndsOf : List AgentView → Type 0
-  AreEndsOf agents = (map (λ agent. agent.a2p_name) agents ≡ names_of_a2p) × (map (λ agent. agent.p2a_name) agents ≡ names_of_p2a)
+  AreEndsOf agents = (map (λ agent. agent.a2p_identity) agents ≡ identities_of_a2p) × (map (λ agent. agent.p2a_identity) agents ≡ identities_of_p2a)

@@ -40,8 +40,8 @@ impl<C: Channel> Model for AgentEnd<C> {
       token = agent.token;
       caller = C.caller_view agent.caller;
       callee = C.callee_view agent.callee;
-      a2p_name = C.caller_name agent.caller;
-      p2a_name = C.callee_name agent.callee;
+      a2p_identity = C.caller_identity agent.caller;
+      p2a_identity = C.callee_identity agent.callee;
     } };
 
     // It owes no release.
@@ -58,7 +58,7 @@ impl<C: Channel> AgentEnd<C> {
         requires caller { C.caller_view caller ≡ new_caller }
         requires callee { C.callee_view callee ≡ new_callee }
         ensures fresh { IsNewAgent id result }
-        ensures names { IsOfLink (C.caller_name caller) (C.callee_name callee) result }
+        ensures identities { IsOfLink (C.caller_identity caller) (C.callee_identity callee) result }
     {
         AgentEnd {
             caller,
@@ -72,8 +72,8 @@ impl<C: Channel> AgentEnd<C> {
     pub(crate) fn into_ends(self) -> (C::Caller, C::Callee)
         ensures views { (C.caller_view result.0 ≡ self.caller) ×
             (C.callee_view result.1 ≡ self.callee) }
-        ensures names { (C.caller_name result.0 ≡ self.a2p_name) ×
-            (C.callee_name result.1 ≡ self.p2a_name) }
+        ensures identities { (C.caller_identity result.0 ≡ self.a2p_identity) ×
+            (C.callee_identity result.1 ≡ self.p2a_identity) }
     {
         (self.caller, self.callee)
     }
@@ -100,7 +100,7 @@ impl<C: Channel> AgentEnd<C> {
         id: u8,
         payload: &Payload,
     ) -> Result<u16, PostError>
-        requires { IsOfLink (C.name link.now.a2p) (C.name link.now.p2a) self.old }
+        requires { IsOfLink (C.identity link.now.a2p) (C.identity link.now.p2a) self.old }
         ensures token { IfOk result (λ token. token ≡ self.old.token) }
         ensures ok { let token = (self.old.token + 1) % TOKENS in
             OnOk result (self.new ≡ record self.old { token = token; caller = self.new.caller }) }
@@ -125,7 +125,7 @@ impl<C: Channel> AgentEnd<C> {
     /// Posts a message on A2P as it stands, with its own token; that of the next `call` stays. It
     /// is refused as `call` is.
     pub fn post(&mut self, link: &Link<C>, message: &Message) -> Result<(), PostError>
-        requires { IsOfLink (C.name link.now.a2p) (C.name link.now.p2a) self.old }
+        requires { IsOfLink (C.identity link.now.a2p) (C.identity link.now.p2a) self.old }
         ensures same { self.new ≡ record self.old { caller = self.new.caller } }
         ensures posts { Posts C.FULL self.old.caller (Good message.now) result self.new.caller }
     {
@@ -142,7 +142,7 @@ impl<C: Channel> AgentEnd<C> {
         length: u32,
         header: u32,
     ) -> Result<(), PostError>
-        requires { IsOfLink (C.name link.now.a2p) (C.name link.now.p2a) self.old }
+        requires { IsOfLink (C.identity link.now.a2p) (C.identity link.now.p2a) self.old }
         ensures same { self.new ≡ record self.old { caller = self.new.caller } }
         ensures well_formed { (result ≡ Err PostError.WellFormed) ↔ (is_well_formed length ≡ true) }
         ensures unchanged { is_well_formed length ≡ true → self.new ≡ self.old }
@@ -157,7 +157,7 @@ impl<C: Channel> AgentEnd<C> {
     /// `Closed`: one of the two sides has closed and no answer stands; an outstanding command is
     /// then given up, and was not executed. After one `Closed` every later call gives `Closed`.
     pub fn collect(&mut self, link: &Link<C>) -> Collected
-        requires { IsOfLink (C.name link.now.a2p) (C.name link.now.p2a) self.old }
+        requires { IsOfLink (C.identity link.now.a2p) (C.identity link.now.p2a) self.old }
         ensures same { self.new ≡ record self.old { caller = self.new.caller } }
         ensures collects { Collects self.old.caller result self.new.caller }
         ensures known { knows_close self.old.caller ≡ true → ¬ (IsOutstanding self.old.caller) →
@@ -169,7 +169,7 @@ impl<C: Channel> AgentEnd<C> {
     /// Looks once for the answer to the post on A2P, as `collect`, and reads it into `answer`,
     /// which stays where there is none.
     pub fn collect_into(&mut self, link: &Link<C>, answer: &mut Answer) -> Looked
-        requires { IsOfLink (C.name link.now.a2p) (C.name link.now.p2a) self.old }
+        requires { IsOfLink (C.identity link.now.a2p) (C.identity link.now.p2a) self.old }
         ensures same { self.new ≡ record self.old { caller = self.new.caller } }
         ensures collects { Collects self.old.caller
             (collected_by result answer.new) self.new.caller }
@@ -183,7 +183,7 @@ impl<C: Channel> AgentEnd<C> {
     /// Takes the platform's message off P2A, if one is posted, and releases it at once. `None`
     /// where none is posted, or one of the two sides has closed.
     pub fn next_p2a(&mut self, link: &Link<C>) -> Option<Frame>
-        requires { IsOfLink (C.name link.now.a2p) (C.name link.now.p2a) self.old }
+        requires { IsOfLink (C.identity link.now.a2p) (C.identity link.now.p2a) self.old }
         ensures same { self.new ≡ record self.old { callee = self.new.callee } }
         ensures receives { Receives self.old.callee result self.new.callee }
     {
@@ -198,7 +198,7 @@ impl<C: Channel> AgentEnd<C> {
     /// Takes the platform's message off P2A, as `next_p2a`, into `frame`, and says whether there
     /// was one; where there was none, `frame` stays.
     pub fn next_p2a_into(&mut self, link: &Link<C>, frame: &mut Frame) -> bool
-        requires { IsOfLink (C.name link.now.a2p) (C.name link.now.p2a) self.old }
+        requires { IsOfLink (C.identity link.now.a2p) (C.identity link.now.p2a) self.old }
         ensures same { self.new ≡ record self.old { callee = self.new.callee } }
         ensures receives { Receives self.old.callee (frame_if result frame.new) self.new.callee }
         ensures stays { result ≡ false → frame.new ≡ frame.old }
@@ -217,7 +217,7 @@ impl<C: Channel> AgentEnd<C> {
     /// outstanding: it was taken or cannot be taken back, or its answer stands. After an error
     /// nothing changed.
     pub fn close(&mut self, link: &Link<C>) -> Result<Closing, CloseError>
-        requires { IsOfLink (C.name link.now.a2p) (C.name link.now.p2a) self.old }
+        requires { IsOfLink (C.identity link.now.a2p) (C.identity link.now.p2a) self.old }
         ensures closes { ClosesCaller self.old.caller result self.new.caller }
         ensures ok { let callee = record (self.old.callee) { closed = true } in
             OnOk result (self.new ≡ record self.old { caller = self.new.caller; callee = callee }) }
@@ -234,9 +234,9 @@ impl<C: Channel> AgentEnd<C> {
 // none of those of `next_p2a_into`, which mostly finds nothing.
 #[inline(never)]
 fn release<C: Channel>(p2a: &C, callee: &mut C::Callee)
-    requires name { C.callee_name callee.old ≡ C.name p2a.now }
+    requires identity { C.callee_identity callee.old ≡ C.identity p2a.now }
     requires owes { Owes (C.callee_view callee.old) }
-    ensures name { C.callee_name callee.new ≡ C.callee_name callee.old }
+    ensures identity { C.callee_identity callee.new ≡ C.callee_identity callee.old }
     ensures answered { C.callee_view callee.new ≡
         record (C.callee_view callee.old)
         { answered = (C.callee_view callee.old).answered ++ Released ∷ [] } }

@@ -4,7 +4,7 @@ ghost use Rattle.scmi_link.specs.View.{new_caller, new_callee};
 ghost use Rattle.scmi_ends.specs.Each.{AllFrom};
 ghost use Rattle.scmi_ends.specs.AgentView.{IsOfLink, IsNewAgent};
 ghost use Rattle.scmi_ends.specs.Links.{HasLinks, AreEndsOf};
-ghost use Rattle.scmi_ends.specs.Kept.{IsKept};
+ghost use Rattle.scmi_ends.specs.Agreement.{IsInStep};
 
 use crate::agent_end::AgentEnd;
 use crate::buffers::Buffers;
@@ -32,9 +32,9 @@ pub fn connect<C: Channel>(
         (r.0.callers ≡ replicate (length core.board.agents) new_caller)) }
     ensures closed_at { IfOk result (λ r.
         r.0.closed_at ≡ replicate (length core.board.agents) None) }
-    ensures agrees { IfOk result (λ r. IsKept r.0) }
-    ensures links { IfOk result (λ r. HasLinks C.name r.1.items r.0) }
-    ensures ends { IfOk result (λ r. AreEndsOf C.name r.1.items r.2.items) }
+    ensures agrees { IfOk result (λ r. IsInStep r.0) }
+    ensures links { IfOk result (λ r. HasLinks C.identity r.1.items r.0) }
+    ensures ends { IfOk result (λ r. AreEndsOf C.identity r.1.items r.2.items) }
     ensures agents { IfOk result (λ r. AllFrom IsNewAgent 1 r.2.items) }
     ensures err { IfErr result (λ c. c ≡ core) }
 {
@@ -82,8 +82,8 @@ fn make_one<C: Channel>(
     id: u32,
 ) -> Result<(Link<C>, AgentEnd<C>, C::Callee, C::Caller), LinkError>
     ensures platform { IfOk result (λ r.
-        (C.callee_name r.2 ≡ C.name r.0.a2p) × (C.caller_name r.3 ≡ C.name r.0.p2a)) }
-    ensures agent { IfOk result (λ r. IsOfLink (C.name r.0.a2p) (C.name r.0.p2a) r.1) }
+        (C.callee_identity r.2 ≡ C.identity r.0.a2p) × (C.caller_identity r.3 ≡ C.identity r.0.p2a)) }
+    ensures agent { IfOk result (λ r. IsOfLink (C.identity r.0.a2p) (C.identity r.0.p2a) r.1) }
     ensures new { IfOk result (λ r.
         IsNewAgent id r.1 × (C.callee_view r.2 ≡ new_callee) × (C.caller_view r.3 ≡ new_caller)) }
 {

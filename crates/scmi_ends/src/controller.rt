@@ -2,7 +2,7 @@
 ghost use Rattle.std.specs.Prelude.{◌≡◌, ◌≢◌, ◌<◌, ◌++◌, ◌∷◌, ◌↔◌, [], true, false, length, map, IfOk, OnOk, OnErr, IfErr, IsTrue};
 ghost use Rattle.scmi_plan.specs.Agent.{IsAgent, IsNoAgent};
 ghost use Rattle.scmi_core.specs.History.{deeds};
-ghost use Rattle.scmi_core.specs.Pending.{pending};
+ghost use Rattle.scmi_core.specs.Pending.{pending_sets};
 ghost use Rattle.scmi_core.specs.declared.event.Event.TheVariants as event;
 
 use crate::buffers::Buffers;
@@ -37,7 +37,7 @@ pub struct Controller<C: Channel> {
 impl<C: Channel> Model for Controller<C> {
     ghost use Rattle.std.specs.Prelude.{map};
     ghost use Rattle.scmi_ends.specs.ControllerView.{ControllerView};
-    ghost use Rattle.scmi_ends.specs.Kept.{Keeps};
+    ghost use Rattle.scmi_ends.specs.Agreement.{EndsAgree};
 
     ghost Value = { ControllerView };
 
@@ -49,12 +49,12 @@ impl<C: Channel> Model for Controller<C> {
               C.callee_view platform.callees.items;
           callers = map C.caller_view platform.callers.items;
           closed_at = platform.closed_at.items;
-          a2p_names = map C.callee_name platform.callees.items;
-          p2a_names = map C.caller_name platform.callers.items;
+          a2p_identities = map C.callee_identity platform.callees.items;
+          p2a_identities = map C.caller_identity platform.callers.items;
         } };
 
     ghost invariant = { λ platform.
-        Keeps platform.core.board platform.core.history (map C.callee_view platform.callees.items)
+        EndsAgree platform.core.board platform.core.history (map C.callee_view platform.callees.items)
         (map C.caller_view platform.callers.items) platform.closed_at.items };
 }
 
@@ -62,7 +62,7 @@ impl<C: Channel> Controller<C> {
     ghost use Rattle.scmi_link.specs.View.{callee_knows_close};
     ghost use Rattle.scmi_ends.specs.ControllerView.{callee_of};
     ghost use Rattle.scmi_ends.specs.Links.{HasLinks};
-    ghost use Rattle.scmi_ends.specs.Kept.{IsKept};
+    ghost use Rattle.scmi_ends.specs.Agreement.{IsInStep};
     ghost use Rattle.scmi_ends.specs.Serve.{Serves};
     ghost use Rattle.scmi_ends.specs.Flush.{Flushes};
     ghost use Rattle.scmi_ends.specs.Shut.{Shuts, ShowsClose};
@@ -83,9 +83,9 @@ impl<C: Channel> Controller<C> {
     /// where the board lacks the agent (own); `Memory` where the trace could not grow. After either
     /// nothing was taken, and nothing changed.
     pub fn serve(&mut self, links: &[Link<C>], agent: u32) -> Result<Served, ServeError>
-        requires { HasLinks C.name links.now self.old }
-        ensures links { HasLinks C.name links.now self.new }
-        ensures agrees { IsKept self.new }
+        requires { HasLinks C.identity links.now self.old }
+        ensures links { HasLinks C.identity links.now self.new }
+        ensures agrees { IsInStep self.new }
         ensures board { self.new.board ≡ self.old.board }
         ensures serves { IfOk result (λ served. Serves agent self.old served self.new) }
         ensures closed { callee_knows_close (callee_of self.old agent) ≡ true →
@@ -109,11 +109,11 @@ impl<C: Channel> Controller<C> {
     /// nothing is pending. `Memory` where a set is pending and the trace could not grow is the only
     /// refusal. After it, and after `Ok(false)`, nothing changed.
     pub fn advance(&mut self) -> Result<bool, ServeError>
-        ensures agrees { IsKept self.new }
+        ensures agrees { IsInStep self.new }
         ensures board { self.new.board ≡ self.old.board }
         ensures pending { IfOk result (λ did.
             IsTrue did ↔
-            (0 < length (pending self.old.board (deeds self.old.board self.old.history)))) }
+            (0 < length (pending_sets self.old.board (deeds self.old.board self.old.history)))) }
         ensures event { IfOk result (λ did.
             IsTrue did →
             self.new ≡ record self.old { history = self.old.history ++ event.Advance ∷ [] }) }
@@ -121,7 +121,7 @@ impl<C: Channel> Controller<C> {
         ensures err { OnErr result (self.new ≡ self.old) }
         ensures memory { IfErr result (λ error.
             (error ≡ ServeError.Memory) ×
-            (pending self.old.board (deeds self.old.board self.old.history) ≢ [])) }
+            (pending_sets self.old.board (deeds self.old.board self.old.history) ≢ [])) }
     {
         match self.core.advance() {
             Ok(did) => Ok(did),
@@ -137,9 +137,9 @@ impl<C: Channel> Controller<C> {
     /// `NoAgent`, looked at first, where the board lacks the agent (own); `Memory` where the trace
     /// could not grow. After either nothing was collected or posted, and nothing changed.
     pub fn flush(&mut self, links: &[Link<C>], agent: u32) -> Result<Flushed, ServeError>
-        requires { HasLinks C.name links.now self.old }
-        ensures links { HasLinks C.name links.now self.new }
-        ensures agrees { IsKept self.new }
+        requires { HasLinks C.identity links.now self.old }
+        ensures links { HasLinks C.identity links.now self.new }
+        ensures agrees { IsInStep self.new }
         ensures board { self.new.board ≡ self.old.board }
         ensures flushes { IfOk result (λ flushed. Flushes C.FULL agent self.old flushed self.new) }
         ensures no_agent { (result ≡ Err ServeError.NoAgent) ↔
@@ -164,9 +164,9 @@ impl<C: Channel> Controller<C> {
     /// `InService` and `ReplyWaiting` come only where a message is outstanding on P2A: A2P is
     /// closed then, P2A is not, and the call may be repeated.
     pub fn close(&mut self, links: &[Link<C>], agent: u32) -> Result<(), ShutError>
-        requires { HasLinks C.name links.now self.old }
-        ensures links { HasLinks C.name links.now self.new }
-        ensures agrees { IsKept self.new }
+        requires { HasLinks C.identity links.now self.old }
+        ensures links { HasLinks C.identity links.now self.new }
+        ensures agrees { IsInStep self.new }
         ensures board { self.new.board ≡ self.old.board }
         ensures shuts { result ≢ Err ShutError.NoAgent →
             Shuts (ShowsClose C.caller_view C.close_shows) agent self.old result self.new }

@@ -19,11 +19,11 @@ pub(crate) fn flush_one<C: Channel>(
     agent: u32,
     buffers: &mut Buffers,
 ) -> Flushed
-    requires name { C.caller_name caller.old ≡ C.name p2a.now }
+    requires identity { C.caller_identity caller.old ≡ C.identity p2a.now }
     requires room { 0 < core.old.room }
     requires agent { IsAgent (length core.old.board.agents) agent }
     requires legal { IsLegal core.old.board core.old.history }
-    ensures name { C.caller_name caller.new ≡ C.caller_name caller.old }
+    ensures identity { C.caller_identity caller.new ≡ C.caller_identity caller.old }
     ensures board { core.new.board ≡ core.old.board }
     ensures legal { IsLegal core.new.board core.new.history }
     ensures step { CollectsAndFlushes C.FULL core.old.board agent core.old.history

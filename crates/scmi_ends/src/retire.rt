@@ -7,7 +7,7 @@ ghost use Rattle.scmi_core.specs.Legal.{IsLegal};
 ghost use Rattle.scmi_ends.specs.AgentView.{IsOfLink};
 ghost use Rattle.scmi_ends.specs.Links.{HasLinks, AreEndsOf};
 ghost use Rattle.scmi_ends.specs.Headline.{Headlines, AllGathered};
-ghost use Rattle.scmi_ends.specs.Kept.{StayShut};
+ghost use Rattle.scmi_ends.specs.Agreement.{StayShut};
 
 use crate::agent_end::AgentEnd;
 use crate::controller::Controller;
@@ -27,8 +27,8 @@ impl<C: Channel> Controller<C> {
     /// left out. With its outbox they are all that was made for it, where no delayed response is
     /// lost.
     pub fn retire(self, links: Vec<Link<C>>, agents: Vec<AgentEnd<C>>) -> Trace
-        requires links { HasLinks C.name links.items self }
-        requires ends { AreEndsOf C.name links.items agents.items }
+        requires links { HasLinks C.identity links.items self }
+        requires ends { AreEndsOf C.identity links.items agents.items }
         ensures history { result.events ≡ self.history }
         ensures legal { IsLegal self.board result.events }
         ensures bounds { HasBounds self.board (deeds self.board result.events) }
@@ -42,8 +42,8 @@ impl<C: Channel> Controller<C> {
 
     // Gathers all channels, which leaves the core.
     fn gather_ends(self, links: Vec<Link<C>>, agents: Vec<AgentEnd<C>>) -> Core
-        requires links { HasLinks C.name links.items self }
-        requires ends { AreEndsOf C.name links.items agents.items }
+        requires links { HasLinks C.identity links.items self }
+        requires ends { AreEndsOf C.identity links.items agents.items }
         ensures board { result.board ≡ self.board }
         ensures history { result.history ≡ self.history }
         ensures headline { Headlines self.board self.history 1 agents.items self.callees
@@ -69,11 +69,11 @@ fn gather_all<C: Channel>(
     mut callers: Vec<C::Caller>,
 )
     requires agents { AllZip (λ link agent.
-        IsOfLink (C.name link.a2p) (C.name link.p2a) agent) links.items agents.items }
+        IsOfLink (C.identity link.a2p) (C.identity link.p2a) agent) links.items agents.items }
     requires callees { AllZip (λ link callee.
-        C.callee_name callee ≡ C.name link.a2p) links.items callees.items }
+        C.callee_identity callee ≡ C.identity link.a2p) links.items callees.items }
     requires callers { AllZip (λ link caller.
-        C.caller_name caller ≡ C.name link.p2a) links.items callers.items }
+        C.caller_identity caller ≡ C.identity link.p2a) links.items callers.items }
     ensures { AllGathered agents.items (map C.callee_view callees.items)
         (map C.caller_view callers.items) }
 {

@@ -21,11 +21,11 @@ pub(crate) fn serve_one<C: Channel>(
     agent: u32,
     buffers: &mut Buffers,
 ) -> Served
-    requires name { C.callee_name callee.old ≡ C.name a2p.now }
+    requires identity { C.callee_identity callee.old ≡ C.identity a2p.now }
     requires room { 0 < core.old.room }
     requires agent { IsAgent (length core.old.board.agents) agent }
     requires legal { IsLegal core.old.board core.old.history }
-    ensures name { C.callee_name callee.new ≡ C.callee_name callee.old }
+    ensures identity { C.callee_identity callee.new ≡ C.callee_identity callee.old }
     ensures board { core.new.board ≡ core.old.board }
     ensures legal { IsLegal core.new.board core.new.history }
     ensures step { ServesOne core.old.board agent core.old.history
@@ -45,9 +45,9 @@ pub(crate) fn serve_one<C: Channel>(
 // none of those of `serve_one`.
 #[inline(never)]
 fn answer_malformed<C: Channel>(a2p: &C, callee: &mut C::Callee)
-    requires name { C.callee_name callee.old ≡ C.name a2p.now }
+    requires identity { C.callee_identity callee.old ≡ C.identity a2p.now }
     requires owes { Owes (C.callee_view callee.old) }
-    ensures name { C.callee_name callee.new ≡ C.callee_name callee.old }
+    ensures identity { C.callee_identity callee.new ≡ C.callee_identity callee.old }
     ensures answered { C.callee_view callee.new ≡
         record (C.callee_view callee.old)
         { answered = (C.callee_view callee.old).answered ++ ChannelError ∷ [] } }

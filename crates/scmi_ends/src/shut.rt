@@ -18,11 +18,11 @@ pub(crate) fn shut_one<C: Channel>(
     closed_at: &mut Option<usize>,
     events: usize,
 ) -> Result<(), ShutError>
-    requires a2p { C.callee_name callee.old ≡ C.name link.now.a2p }
-    requires p2a { C.caller_name caller.old ≡ C.name link.now.p2a }
+    requires a2p { C.callee_identity callee.old ≡ C.identity link.now.a2p }
+    requires p2a { C.caller_identity caller.old ≡ C.identity link.now.p2a }
     requires owes { ¬ (Owes (C.callee_view callee.old)) }
-    ensures a2p { C.callee_name callee.new ≡ C.callee_name callee.old }
-    ensures p2a { C.caller_name caller.new ≡ C.caller_name caller.old }
+    ensures a2p { C.callee_identity callee.new ≡ C.callee_identity callee.old }
+    ensures p2a { C.caller_identity caller.new ≡ C.caller_identity caller.old }
     ensures closes { C.callee_view callee.new ≡
         record (C.callee_view callee.old) { closed = true } }
     ensures closed_at { closed_at.new ≡ option_or closed_at.old (Some events) }

@@ -17,7 +17,7 @@ impl<C: Channel> AgentEnd<C> {
     /// these the thread pauses (own).
     #[tactic(auto, unfolding(crate::specs::Poll::more_collects))]
     pub fn wait_reply<R: Wait>(&mut self, rt: &R, link: &Link<C>, turns: u32) -> Collected
-        requires { IsOfLink (C.name link.now.a2p) (C.name link.now.p2a) self.old }
+        requires { IsOfLink (C.identity link.now.a2p) (C.identity link.now.p2a) self.old }
         ensures same { self.new ≡ record self.old { caller = self.new.caller } }
         ensures waits { Waits turns self.old.caller result self.new.caller }
     {

@@ -1,4 +1,4 @@
 pub mod NoteLemmas
-pub mod RingNames
+pub mod RingIdentities
 pub mod RingSteps
 pub mod RingsAgree

@@ -5,22 +5,22 @@ use Rattle.scmi_link.specs.declared.envelope.Envelope.{Envelope}
 use Rattle.scmi_link.specs.Envelope.{frames_in}
 use Rattle.scmi_link.specs.declared.note.Note.{Note}
 use Rattle.scmi_link.specs.declared.note.Note.TheVariants.{Said, Closing}
-use Rattle.scmi_link.specs.Note.{said, has_closing, ends_well, is_nil}
+use Rattle.scmi_link.specs.Note.{answers_among, has_closing, ends_well, is_nil}
 
-pub said-said : (ns : List Note) (e : Box Envelope Global) → said (ns ++ Said e ∷ []) ≡ said ns ++ e.value.answer ∷ []
-said-said [] e = refl
-said-said (Said b ∷ ns) e = ap (λ xs. b.value.answer ∷ xs) (said-said ns e)
-said-said (Closing ∷ ns) e = said-said ns e
+pub answers_among-said : (ns : List Note) (e : Box Envelope Global) → answers_among (ns ++ Said e ∷ []) ≡ answers_among ns ++ e.value.answer ∷ []
+answers_among-said [] e = refl
+answers_among-said (Said b ∷ ns) e = ap (λ xs. b.value.answer ∷ xs) (answers_among-said ns e)
+answers_among-said (Closing ∷ ns) e = answers_among-said ns e
 
-pub said-closing : (ns : List Note) → said (ns ++ Closing ∷ []) ≡ said ns
-said-closing [] = refl
-said-closing (Said b ∷ ns) = ap (λ xs. b.value.answer ∷ xs) (said-closing ns)
-said-closing (Closing ∷ ns) = said-closing ns
+pub answers_among-closing : (ns : List Note) → answers_among (ns ++ Closing ∷ []) ≡ answers_among ns
+answers_among-closing [] = refl
+answers_among-closing (Said b ∷ ns) = ap (λ xs. b.value.answer ∷ xs) (answers_among-closing ns)
+answers_among-closing (Closing ∷ ns) = answers_among-closing ns
 
-pub said-append : (ns ms : List Note) → said (ns ++ ms) ≡ said ns ++ said ms
-said-append [] ms = refl
-said-append (Said b ∷ ns) ms = ap (λ xs. b.value.answer ∷ xs) (said-append ns ms)
-said-append (Closing ∷ ns) ms = said-append ns ms
+pub answers_among-append : (ns ms : List Note) → answers_among (ns ++ ms) ≡ answers_among ns ++ answers_among ms
+answers_among-append [] ms = refl
+answers_among-append (Said b ∷ ns) ms = ap (λ xs. b.value.answer ∷ xs) (answers_among-append ns ms)
+answers_among-append (Closing ∷ ns) ms = answers_among-append ns ms
 
 pub has_closing-said : (ns : List Note) (a : Box Envelope Global) → has_closing (ns ++ Said a ∷ []) ≡ has_closing ns
 has_closing-said [] a = refl

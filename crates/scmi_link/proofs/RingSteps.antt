@@ -9,9 +9,9 @@ use Rattle.scmi_link.specs.Envelope.{frames_in}
 use Rattle.scmi_link.specs.declared.callee_rings.CalleeRings.{CalleeRings}
 use Rattle.scmi_link.specs.declared.note.Note.{Note}
 use Rattle.scmi_link.specs.declared.note.Note.TheVariants.{Said, Closing}
-use Rattle.scmi_link.specs.Note.{said, has_closing, ends_well}
+use Rattle.scmi_link.specs.Note.{answers_among, has_closing, ends_well}
 use Rattle.scmi_link.specs.Bit.{bit}
-use Rattle.scmi_link.proofs.NoteLemmas.{said-said, said-closing, has_closing-said, ends_well-said, ends_well-closing}
+use Rattle.scmi_link.proofs.NoteLemmas.{answers_among-said, answers_among-closing, has_closing-said, ends_well-said, ends_well-closing}
 
 pub is_set : (b : Bool) (n m : ℕ) → n ≡ m + bit b → n ≡ m + 1 → b ≡ true
 is_set true n m h k = refl
@@ -22,15 +22,15 @@ not_true true h = absurd (h refl)
 not_true false h = refl
 
 -- an owed answer goes in
-module _ (d : CalleeRings) (ns' : List Note) (a : Box Envelope Global) (owes : length (frames_in (received d.frames)) ≡ length (said (sent d.answers)) + 1) (e : ns' ≡ sent d.answers ++ Said a ∷ []) where
+module _ (d : CalleeRings) (ns' : List Note) (a : Box Envelope Global) (owes : length (frames_in (received d.frames)) ≡ length (answers_among (sent d.answers)) + 1) (e : ns' ≡ sent d.answers ++ Said a ∷ []) where
   no_closing : has_closing (sent d.answers) ≡ false
-  no_closing = not_true _ (λ h. false≢true (sym (d.done (d.noted h)) ∙ is_set d.owing _ (length (said (sent d.answers))) d.counted owes))
+  no_closing = not_true _ (λ h. false≢true (sym (d.done (d.noted h)) ∙ is_set d.owing _ (length (answers_among (sent d.answers))) d.counted owes))
 
-  pub answered_said : said ns' ≡ said (sent d.answers) ++ a.value.answer ∷ []
-  answered_said = ap said e ∙ said-said (sent d.answers) a
+  pub answered_said : answers_among ns' ≡ answers_among (sent d.answers) ++ a.value.answer ∷ []
+  answered_said = ap answers_among e ∙ answers_among-said (sent d.answers) a
 
-  pub answered_counted : length (frames_in (received d.frames)) ≡ length (said ns') + bit false
-  answered_counted = rw answered_said (omega (arith, owes, length-append (said (sent d.answers)) (a.value.answer ∷ [])))
+  pub answered_counted : length (frames_in (received d.frames)) ≡ length (answers_among ns') + bit false
+  answered_counted = rw answered_said (omega (arith, owes, length-append (answers_among (sent d.answers)) (a.value.answer ∷ [])))
 
   pub answered_noted : has_closing ns' ≡ true → d.closed ≡ true
   answered_noted h = absurd (false≢true (sym no_closing ∙ sym (has_closing-said (sent d.answers) a) ∙ sym (ap has_closing e) ∙ h))
@@ -43,8 +43,8 @@ pub pushed : {E : Type 0} (r : Result (Unit {0}) E) (ns ns' : List Note) (Q : Ty
 pushed (Ok u) ns ns' Q P R ok err = inl ok.0
 pushed (Err x) ns ns' Q P R ok err = inr err.1
 
-pub closing_said : (ns ns' : List Note) → (ns' ≡ ns ++ Closing ∷ []) ⊎ (ns' ≡ ns) → said ns' ≡ said ns
-closing_said ns ns' h = elim h [ inl e ↦ ap said e ∙ said-closing ns | inr e ↦ ap said e ]
+pub closing_said : (ns ns' : List Note) → (ns' ≡ ns ++ Closing ∷ []) ⊎ (ns' ≡ ns) → answers_among ns' ≡ answers_among ns
+closing_said ns ns' h = elim h [ inl e ↦ ap answers_among e ∙ answers_among-closing ns | inr e ↦ ap answers_among e ]
 
 pub closing_last : (ns ns' : List Note) → has_closing ns ≡ false → ends_well ns ≡ true → (ns' ≡ ns ++ Closing ∷ []) ⊎ (ns' ≡ ns) → ends_well ns' ≡ true
 closing_last ns ns' n w h = elim h [ inl e ↦ ap ends_well e ∙ ends_well-closing ns n | inr e ↦ ap ends_well e ∙ w ]

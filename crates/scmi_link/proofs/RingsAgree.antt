@@ -9,12 +9,12 @@ use Rattle.scmi_link.specs.declared.note.Note.{Note}
 use Rattle.scmi_link.specs.declared.caller_rings.CallerRings.{CallerRings}
 use Rattle.scmi_link.specs.declared.callee_rings.CalleeRings.{CalleeRings}
 use Rattle.scmi_link.specs.Envelope.{frames_in}
-use Rattle.scmi_link.specs.Note.{said, has_closing, ends_well}
+use Rattle.scmi_link.specs.Note.{answers_among, has_closing, ends_well}
 use Rattle.scmi_link.specs.Bit.{bit}
 use Rattle.scmi_link.specs.CallerRings.{caller_rings_view}
 use Rattle.scmi_link.specs.CalleeRings.{callee_rings_view}
 use Rattle.scmi_link.specs.Gathered.{IsAllButLast, Agree, Closed}
-use Rattle.scmi_link.proofs.NoteLemmas.{frames_in-append, said-append, has_closing-front, all_seen}
+use Rattle.scmi_link.proofs.NoteLemmas.{frames_in-append, answers_among-append, has_closing-front, all_seen}
 
 -- a list of length 0 adds nothing
 whole : {X : Type 0} (ts ks fs : List X) → ts ++ ks ≡ fs → length ks ≡ 0 → ts ≡ fs
@@ -47,11 +47,11 @@ small_bit false = inl refl
 
 -- what was pushed into each ring is what was popped and what stands in it
 module _ (p : CallerRings) (q : CalleeRings) (es : List (Box Envelope Global)) (ms : List Note) (envelopes : received q.frames ++ es ≡ sent p.frames) (notes : received p.answers ++ ms ≡ sent q.answers) where
-  said_all : said (received p.answers) ++ said ms ≡ said (sent q.answers)
-  said_all = sym (said-append (received p.answers) ms) ∙ ap said notes
+  said_all : answers_among (received p.answers) ++ answers_among ms ≡ answers_among (sent q.answers)
+  said_all = sym (answers_among-append (received p.answers) ms) ∙ ap answers_among notes
 
-  note_lengths : length (said (received p.answers)) + length (said ms) ≡ length (said (sent q.answers))
-  note_lengths = sym (length-append (said (received p.answers)) (said ms)) ∙ ap length said_all
+  note_lengths : length (answers_among (received p.answers)) + length (answers_among ms) ≡ length (answers_among (sent q.answers))
+  note_lengths = sym (length-append (answers_among (received p.answers)) (answers_among ms)) ∙ ap length said_all
 
   frames : frames_in (received q.frames) ++ frames_in es ≡ frames_in (sent p.frames)
   frames = sym (frames_in-append (received q.frames) es) ∙ ap frames_in envelopes
@@ -70,7 +70,7 @@ module _ (p : CallerRings) (q : CalleeRings) (es : List (Box Envelope Global)) (
   agree = let few = one_bit p.waiting p.left p.one in record {
     taken = at_most_one (frames_in (received q.frames)) (frames_in es) (frames_in (sent p.frames)) frames (omega (arith, note_lengths, frame_lengths, p.counted, q.counted));
     answered = elim (small_bit q.owing) [ inl z ↦ inl (omega (arith, q.counted, z)) | inr z ↦ inr (omega (arith, q.counted, z)) ];
-    read = (said ms, said_all);
+    read = (answers_among ms, said_all);
     unread = omega (arith, p.counted);
   }
 
@@ -78,8 +78,8 @@ module _ (p : CallerRings) (q : CalleeRings) (es : List (Box Envelope Global)) (
   closed_ends = record {
     left = λ l.
         let told = p.gone l in
-        let none = ap said (nothing_more told) in
-        let read : said (received p.answers) ≡ said (sent q.answers) = whole _ (said ms) _ said_all (ap length none) in
+        let none = ap answers_among (nothing_more told) in
+        let read : answers_among (received p.answers) ≡ answers_among (sent q.answers) = whole _ (answers_among ms) _ said_all (ap length none) in
         let idle = ap bit (unset p.waiting p.left p.one l) in
         let gave_up = ap bit l in
         let done = ap bit (q.done (other_closed told)) in
@@ -88,7 +88,7 @@ module _ (p : CallerRings) (q : CalleeRings) (es : List (Box Envelope Global)) (
         let idle = ap bit (p.quiet c) in
         let stayed = ap bit l in (
           whole (frames_in (received q.frames)) (frames_in es) (frames_in (sent p.frames)) frames (omega (arith, note_lengths, frame_lengths, p.counted, q.counted, idle, stayed)),
-          whole (said (received p.answers)) (said ms) (said (sent q.answers)) said_all (omega (arith, note_lengths, frame_lengths, p.counted, q.counted, idle, stayed)),
+          whole (answers_among (received p.answers)) (answers_among ms) (answers_among (sent q.answers)) said_all (omega (arith, note_lengths, frame_lengths, p.counted, q.counted, idle, stayed)),
         );
     caller_told = other_closed;
     callee_told = λ h. absurd (false≢true h);

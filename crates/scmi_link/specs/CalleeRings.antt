@@ -3,8 +3,8 @@ use Rattle.std.specs.Prelude.{◌≡◌, ℕ, List, false}
 use Rattle.rtrb.specs.Ring.{sent, received, SameProducer, SameConsumer, IsPair}
 use Rattle.scmi_link.specs.View.{CalleeView}
 use Rattle.scmi_link.specs.Envelope.{frames_in}
-use Rattle.scmi_link.specs.Note.{said}
-use Rattle.scmi_link.specs.Rings.{rings_name}
+use Rattle.scmi_link.specs.Note.{answers_among}
+use Rattle.scmi_link.specs.Rings.{rings_identity}
 use Rattle.scmi_link.specs.declared.rings.Rings.{Rings}
 use Rattle.scmi_link.specs.declared.callee_rings.CalleeRings.{CalleeRings}
 
@@ -14,7 +14,7 @@ abbrev pub callee_rings_view : CalleeRings → CalleeView
 callee_rings_view c =
     record {
       taken = frames_in (received c.frames);
-      answered = said (sent c.answers);
+      answered = answers_among (sent c.answers);
       closed = c.closed;
       told = false;
       takes = c.takes;
@@ -24,9 +24,9 @@ callee_rings_view c =
 abbrev pub SameCalleeRings : CalleeRings → CalleeRings → Type 0
 SameCalleeRings a b = SameConsumer a.frames b.frames × SameProducer a.answers b.answers
 
--- the callee's ends are ends of the rings of this name
-pub record IsCalleeOf (name : List ℕ) (c : CalleeRings) : Type 0 where
+-- the callee's ends are ends of the rings of this identity
+pub record IsCalleeOf (identity : List ℕ) (c : CalleeRings) : Type 0 where
   pub rings : Rings
-  pub name_is : rings_name rings ≡ name
+  pub identity_is : rings_identity rings ≡ identity
   pub takes_from : IsPair rings.frames.value c.frames
   pub answers_into : SameProducer rings.answers.value c.answers

@@ -3,8 +3,8 @@ use Rattle.std.specs.Prelude.{◌≡◌, ℕ, List, Result, Ok, Err}
 use Rattle.rtrb.specs.Ring.{sent, received, SameProducer, SameConsumer, IsPair}
 use Rattle.scmi_link.specs.View.{CallerView}
 use Rattle.scmi_link.specs.Envelope.{frames_in}
-use Rattle.scmi_link.specs.Note.{said}
-use Rattle.scmi_link.specs.Rings.{rings_name}
+use Rattle.scmi_link.specs.Note.{answers_among}
+use Rattle.scmi_link.specs.Rings.{rings_identity}
 use Rattle.scmi_link.specs.declared.rings.Rings.{Rings}
 use Rattle.scmi_link.specs.declared.caller_rings.CallerRings.{CallerRings}
 use Rattle.scmi_link.specs.declared.closing.Closing.{Closing}
@@ -17,7 +17,7 @@ abbrev pub caller_rings_view : CallerRings → CallerView
 caller_rings_view c =
     record {
       posted = frames_in (sent c.frames);
-      read = said (received c.answers);
+      read = answers_among (received c.answers);
       closed = c.closed;
       told = c.told;
       left = c.left;
@@ -28,10 +28,10 @@ caller_rings_view c =
 abbrev pub SameCallerRings : CallerRings → CallerRings → Type 0
 SameCallerRings a b = SameProducer a.frames b.frames × SameConsumer a.answers b.answers
 
--- the caller's ends are ends of the rings of this name
-pub record IsCallerOf (name : List ℕ) (c : CallerRings) : Type 0 where
+-- the caller's ends are ends of the rings of this identity
+pub record IsCallerOf (identity : List ℕ) (c : CallerRings) : Type 0 where
   pub rings : Rings
-  pub name_is : rings_name rings ≡ name
+  pub identity_is : rings_identity rings ≡ identity
   pub posts_into : SameProducer rings.frames.value c.frames
   pub reads_from : IsPair rings.answers.value c.answers
 

@@ -5,10 +5,10 @@ use Rattle.scmi_link.specs.declared.note.Note.{Note}
 use Rattle.scmi_link.specs.declared.note.Note.TheVariants.{Said, Closing}
 
 -- the answers among the notes
-abbrev pub said : List Note → List Answer
-said [] = []
-said (Said envelope ∷ notes) = envelope.value.answer ∷ said notes
-said (Closing ∷ notes) = said notes
+abbrev pub answers_among : List Note → List Answer
+answers_among [] = []
+answers_among (Said envelope ∷ notes) = envelope.value.answer ∷ answers_among notes
+answers_among (Closing ∷ notes) = answers_among notes
 
 -- whether the closing note is among them
 abbrev pub has_closing : List Note → Bool

@@ -8,6 +8,6 @@ use Rattle.scmi_link.specs.declared.ring_callee.RingCallee.{RingCallee}
 abbrev pub ring_callee_view : RingCallee → CalleeView
 ring_callee_view c = callee_rings_view c.rings
 
--- the name of the channel that made it
-abbrev pub ring_callee_name : RingCallee → List ℕ
-ring_callee_name c = c.name.numbers
+-- the identity of the channel that made it
+abbrev pub ring_callee_identity : RingCallee → List ℕ
+ring_callee_identity c = c.identity.numbers

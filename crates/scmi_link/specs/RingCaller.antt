@@ -10,9 +10,9 @@ use Rattle.scmi_link.specs.declared.ring_caller.RingCaller.{RingCaller}
 abbrev pub ring_caller_view : RingCaller → CallerView
 ring_caller_view c = caller_rings_view c.rings
 
--- the name of the channel that made it
-abbrev pub ring_caller_name : RingCaller → List ℕ
-ring_caller_name c = c.name.numbers
+-- the identity of the channel that made it
+abbrev pub ring_caller_identity : RingCaller → List ℕ
+ring_caller_identity c = c.identity.numbers
 
 -- a ring takes no frame back and does not look for its answer: a close is idle, or refused as in service
 abbrev pub ring_close_shows : RingCaller → Result Closing CloseError → Type 0

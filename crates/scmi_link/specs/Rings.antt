@@ -1,4 +1,4 @@
--- The name of two rings.
+-- The identity of two rings.
 use Rattle.std.specs.Prelude.{ℕ, List, [], ◌∷◌, ◌++◌}
 use base.Stored.{Gv, gnil, gnum, gcons}
 use Rattle.scmi_link.specs.declared.rings.Rings.{Rings}
@@ -11,5 +11,5 @@ numbers_of (gnum n) = 1 ∷ n ∷ []
 numbers_of (gcons a b) = 2 ∷ numbers_of a ++ numbers_of b
 
 -- the numbers that the two rings are stored as, when they are made
-unfoldable pub rings_name : Rings → List ℕ
-rings_name r = numbers_of (the_row.coded.code r)
+unfoldable pub rings_identity : Rings → List ℕ
+rings_identity r = numbers_of (the_row.coded.code r)

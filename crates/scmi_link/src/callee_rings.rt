@@ -2,7 +2,7 @@
 ghost use Rattle.std.specs.Prelude.{◌≡◌, ◌+◌, ◌<◌, true, false, length, IsSome};
 ghost use Rattle.rtrb.specs.Ring.{sent, received, known_free};
 ghost use Rattle.scmi_link.specs.Envelope.{frames_in};
-ghost use Rattle.scmi_link.specs.Note.{said, has_closing, ends_well};
+ghost use Rattle.scmi_link.specs.Note.{answers_among, has_closing, ends_well};
 ghost use Rattle.scmi_link.specs.Bit.{bit};
 
 use crate::close_error::CloseError;
@@ -24,7 +24,7 @@ pub struct CalleeRings {
     // Its calls of `take`, modulo 2^64.
     pub(crate) takes: u64,
     ghost counted: { length (frames_in (received frames)) ≡
-        length (said (sent answers)) + bit owing },
+        length (answers_among (sent answers)) + bit owing },
     ghost held: { owing ≡ true → IsSome envelope },
     ghost room: { owing ≡ true → 0 < known_free answers },
     ghost noted: { has_closing (sent answers) ≡ true → closed ≡ true },

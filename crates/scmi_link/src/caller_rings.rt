@@ -2,7 +2,7 @@
 ghost use Rattle.std.specs.Prelude.{◌≡◌, ◌<◌, ◌+◌, ◌++◌, ◌∷◌, [], true, false, length, IsSome};
 ghost use Rattle.rtrb.specs.Ring.{sent, received, known_free, SameProducer};
 ghost use Rattle.scmi_link.specs.Envelope.{frames_in};
-ghost use Rattle.scmi_link.specs.Note.{said, has_closing};
+ghost use Rattle.scmi_link.specs.Note.{answers_among, has_closing};
 ghost use Rattle.scmi_link.specs.Bit.{bit};
 
 use crate::close_error::CloseError;
@@ -31,7 +31,7 @@ pub struct CallerRings {
     pub(crate) envelope: Option<Box<Envelope>>,
     // Its calls of `collect`, modulo 2^64.
     pub(crate) collects: u64,
-    ghost counted: { length (frames_in (sent frames)) ≡ length (said (received answers)) +
+    ghost counted: { length (frames_in (sent frames)) ≡ length (answers_among (received answers)) +
         (bit waiting + bit left) },
     ghost held: { waiting ≡ false → left ≡ false → IsSome envelope },
     ghost one: { waiting ≡ true → left ≡ false },

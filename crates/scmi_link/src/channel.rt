@@ -39,12 +39,12 @@ pub trait Channel: Sync + Drop {
     /// Whether a post may find no place. Where it is false, no post answers `Full`.
     const FULL: bool;
 
-    // An end has the name of the channel that made it.
-    ghost name: { Self → List ℕ };
+    // An end has the identity of the channel that made it.
+    ghost identity: { Self → List ℕ };
 
-    ghost caller_name: { Self.Caller → List ℕ };
+    ghost caller_identity: { Self.Caller → List ℕ };
 
-    ghost callee_name: { Self.Callee → List ℕ };
+    ghost callee_identity: { Self.Callee → List ℕ };
 
     // What an end has done.
     ghost caller_view: { Self.Caller → CallerView };
@@ -60,7 +60,7 @@ pub trait Channel: Sync + Drop {
     /// A channel and its two ends, with nothing posted. `Memory` where there was none for it.
     fn make(alloc: Global) -> Result<(Self, Self::Caller, Self::Callee), LinkError>
         ensures made { IfOk result (λ r.
-            (caller_name r.1 ≡ name r.0) × (callee_name r.2 ≡ name r.0)) }
+            (caller_identity r.1 ≡ identity r.0) × (callee_identity r.2 ≡ identity r.0)) }
         ensures fresh { IfOk result (λ r.
             (caller_view r.1 ≡ new_caller) × (callee_view r.2 ≡ new_callee)) };
 
@@ -71,8 +71,8 @@ pub trait Channel: Sync + Drop {
     /// representation has no place. After `Closed` the caller knows of the close, if it did not
     /// close itself, and nothing else changed; after the others nothing did.
     fn post(&self, caller: &mut Self::Caller, message: &Message) -> Result<(), PostError>
-        requires { caller_name caller.old ≡ name self.now }
-        ensures name { caller_name caller.new ≡ caller_name caller.old }
+        requires { caller_identity caller.old ≡ identity self.now }
+        ensures identity { caller_identity caller.new ≡ caller_identity caller.old }
         ensures posts { Posts FULL (caller_view caller.old) (Good message.now) result
             (caller_view caller.new) }
     {
@@ -86,8 +86,8 @@ pub trait Channel: Sync + Drop {
         header: Header,
         payload: &Payload,
     ) -> Result<(), PostError>
-        requires { caller_name caller.old ≡ name self.now }
-        ensures name { caller_name caller.new ≡ caller_name caller.old }
+        requires { caller_identity caller.old ≡ identity self.now }
+        ensures identity { caller_identity caller.new ≡ caller_identity caller.old }
         ensures posts { let message : Message = record { header = header; payload = payload.now } in
             Posts FULL (caller_view caller.old) (Good message) result (caller_view caller.new) };
 
@@ -100,8 +100,8 @@ pub trait Channel: Sync + Drop {
         length: u32,
         header: u32,
     ) -> Result<(), PostError>
-        requires { caller_name caller.old ≡ name self.now }
-        ensures name { caller_name caller.new ≡ caller_name caller.old }
+        requires { caller_identity caller.old ≡ identity self.now }
+        ensures identity { caller_identity caller.new ≡ caller_identity caller.old }
         ensures well_formed { (result ≡ Err PostError.WellFormed) ↔ (is_well_formed length ≡ true) }
         ensures unchanged { is_well_formed length ≡ true →
             caller_view caller.new ≡ caller_view caller.old }
@@ -119,8 +119,8 @@ pub trait Channel: Sync + Drop {
     /// up: it counts as left untaken, and is outstanding no more. After one `Closed` every later call
     /// gives `Closed`.
     fn collect(&self, caller: &mut Self::Caller) -> Collected
-        requires { caller_name caller.old ≡ name self.now }
-        ensures name { caller_name caller.new ≡ caller_name caller.old }
+        requires { caller_identity caller.old ≡ identity self.now }
+        ensures identity { caller_identity caller.new ≡ caller_identity caller.old }
         ensures collects { Collects (caller_view caller.old) result (caller_view caller.new) }
         ensures known { knows_close (caller_view caller.old) ≡ true →
             ¬ IsOutstanding (caller_view caller.old) → result ≡ Collected.Closed }
@@ -136,8 +136,8 @@ pub trait Channel: Sync + Drop {
     /// What the channel has for the caller, as `collect`, the answer read into `answer`. Where it gives
     /// no answer, `answer` stays.
     fn collect_into(&self, caller: &mut Self::Caller, answer: &mut Answer) -> Looked
-        requires { caller_name caller.old ≡ name self.now }
-        ensures name { caller_name caller.new ≡ caller_name caller.old }
+        requires { caller_identity caller.old ≡ identity self.now }
+        ensures identity { caller_identity caller.new ≡ caller_identity caller.old }
         ensures collects { Collects (caller_view caller.old) (collected_by result answer.new)
             (caller_view caller.new) }
         ensures stays { ¬ (result ≡ Looked.Got) → answer.new ≡ answer.old }
@@ -147,8 +147,8 @@ pub trait Channel: Sync + Drop {
     /// The frame that is posted. `None` where nothing is posted, an end has closed, or the callee
     /// still owes an answer.
     fn take(&self, callee: &mut Self::Callee) -> Option<Frame>
-        requires { callee_name callee.old ≡ name self.now }
-        ensures name { callee_name callee.new ≡ callee_name callee.old }
+        requires { callee_identity callee.old ≡ identity self.now }
+        ensures identity { callee_identity callee.new ≡ callee_identity callee.old }
         ensures takes { Takes (callee_view callee.old) result (callee_view callee.new) }
     {
         let mut frame = Frame::Malformed {
@@ -165,8 +165,8 @@ pub trait Channel: Sync + Drop {
     /// Takes the frame that is posted, as `take`, into `frame`, and says whether there was one. Where
     /// there was none, `frame` stays.
     fn take_into(&self, callee: &mut Self::Callee, frame: &mut Frame) -> bool
-        requires { callee_name callee.old ≡ name self.now }
-        ensures name { callee_name callee.new ≡ callee_name callee.old }
+        requires { callee_identity callee.old ≡ identity self.now }
+        ensures identity { callee_identity callee.new ≡ callee_identity callee.old }
         ensures takes { Takes (callee_view callee.old) (frame_if result frame.new)
             (callee_view callee.new) }
         ensures stays { result ≡ false → frame.new ≡ frame.old };
@@ -177,18 +177,18 @@ pub trait Channel: Sync + Drop {
 
     /// Answers the frame that was taken last. Condition: the callee owes an answer. It never fails.
     fn answer(&self, callee: &mut Self::Callee, answer: &Answer)
-        requires name { callee_name callee.old ≡ name self.now }
+        requires identity { callee_identity callee.old ≡ identity self.now }
         requires owes { Owes (callee_view callee.old) }
-        ensures name { callee_name callee.new ≡ callee_name callee.old }
+        ensures identity { callee_identity callee.new ≡ callee_identity callee.old }
         ensures answered { callee_view callee.new ≡
             record (callee_view callee.old)
             { answered = (callee_view callee.old).answered ++ answer.now ∷ [] } };
 
     /// Answers the frame that was taken last by a reply, as `answer`.
     fn reply(&self, callee: &mut Self::Callee, message: &Message)
-        requires name { callee_name callee.old ≡ name self.now }
+        requires identity { callee_identity callee.old ≡ identity self.now }
         requires owes { Owes (callee_view callee.old) }
-        ensures name { callee_name callee.new ≡ callee_name callee.old }
+        ensures identity { callee_identity callee.new ≡ callee_identity callee.old }
         ensures answered { callee_view callee.new ≡
             record (callee_view callee.old)
             { answered = (callee_view callee.old).answered ++ Reply message.now ∷ [] } }
@@ -204,22 +204,22 @@ pub trait Channel: Sync + Drop {
     /// where its answer stands to be collected. After a refusal the end is not closed. What tells one
     /// answer from another is said by each kind of channel.
     fn close_caller(&self, caller: &mut Self::Caller) -> Result<Closing, CloseError>
-        requires { caller_name caller.old ≡ name self.now }
-        ensures name { caller_name caller.new ≡ caller_name caller.old }
+        requires { caller_identity caller.old ≡ identity self.now }
+        ensures identity { caller_identity caller.new ≡ caller_identity caller.old }
         ensures closes { ClosesCaller (caller_view caller.old) result (caller_view caller.new) }
         ensures shows { close_shows caller.new result };
 
     /// Closes the callee's end. `InService` where the callee owes an answer, and then the end is not
     /// closed. Closing twice is `Ok`.
     fn close_callee(&self, callee: &mut Self::Callee) -> Result<(), CloseError>
-        requires { callee_name callee.old ≡ name self.now }
-        ensures name { callee_name callee.new ≡ callee_name callee.old }
+        requires { callee_identity callee.old ≡ identity self.now }
+        ensures identity { callee_identity callee.new ≡ callee_identity callee.old }
         ensures closes { ClosesCallee (callee_view callee.old) result (callee_view callee.new) };
 
     /// Ends the channel, with both of its ends at hand: what each has done is then known to agree.
     fn gather(self, caller: Self::Caller, callee: Self::Callee) -> Self::Rest
-        requires caller { caller_name caller ≡ name self }
-        requires callee { callee_name callee ≡ name self }
+        requires caller { caller_identity caller ≡ identity self }
+        requires callee { callee_identity callee ≡ identity self }
         ensures agree { Agree (caller_view caller) (callee_view callee) }
         ensures closed { Closed (caller_view caller) (callee_view callee) };
 }

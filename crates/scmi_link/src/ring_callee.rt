@@ -7,8 +7,8 @@ use boxcar::tag::Tag;
 /// The end of a `RingChannel` that takes frames and answers them.
 #[derive(Drop)]
 pub struct RingCallee {
-    // The name of the channel that made this end. It has no bytes.
-    pub(crate) name: Tag,
+    // The identity of the channel that made this end. It has no bytes.
+    pub(crate) identity: Tag,
     pub(crate) rings: CalleeRings,
-    ghost named: { ∥ IsCalleeOf name.numbers rings ∥₁ },
+    ghost identified: { ∥ IsCalleeOf identity.numbers rings ∥₁ },
 }

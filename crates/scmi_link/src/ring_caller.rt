@@ -7,8 +7,8 @@ use boxcar::tag::Tag;
 /// The end of a `RingChannel` that posts frames and collects their answers.
 #[derive(Drop)]
 pub struct RingCaller {
-    // The name of the channel that made this end. It has no bytes.
-    pub(crate) name: Tag,
+    // The identity of the channel that made this end. It has no bytes.
+    pub(crate) identity: Tag,
     pub(crate) rings: CallerRings,
-    ghost named: { ∥ IsCallerOf name.numbers rings ∥₁ },
+    ghost identified: { ∥ IsCallerOf identity.numbers rings ∥₁ },
 }

@@ -13,7 +13,7 @@ use crate::note::Note;
 use crate::post_error::PostError;
 use crate::ring_callee::RingCallee;
 use crate::ring_caller::RingCaller;
-use crate::rings::{RingNames, Rings};
+use crate::rings::{RingIdentities, Rings};
 use boxcar::tag::Tag;
 use rtrb::RingBuffer;
 use scmi_codec::{Answer, Frame, Header, Message, Payload, is_well_formed};
@@ -32,10 +32,10 @@ const ANSWER_PLACES: usize = 2;
 /// nothing is outstanding. Until the caller has seen the closing note of a callee that closed, `post`
 /// may succeed and `collect` be `Nothing`. A caller's close is `Idle` or `InService` only.
 ///
-/// It has no bytes, since the ends hold the rings: to a contract it is a name.
+/// It has no bytes, since the ends hold the rings: to a contract it is an identity.
 #[derive(Drop)]
 pub struct RingChannel {
-    pub(crate) name: Tag,
+    pub(crate) identity: Tag,
 }
 
 impl Channel for RingChannel {
@@ -45,19 +45,19 @@ impl Channel for RingChannel {
 
     type Rest = ();
 
-    ghost use Rattle.scmi_link.specs.RingChannel.{ring_name};
-    ghost use Rattle.scmi_link.specs.RingCaller.{ring_caller_view, ring_caller_name, ring_close_shows};
-    ghost use Rattle.scmi_link.specs.RingCallee.{ring_callee_view, ring_callee_name};
+    ghost use Rattle.scmi_link.specs.RingChannel.{ring_identity};
+    ghost use Rattle.scmi_link.specs.RingCaller.{ring_caller_view, ring_caller_identity, ring_close_shows};
+    ghost use Rattle.scmi_link.specs.RingCallee.{ring_callee_view, ring_callee_identity};
 
     ghost FULL = { true };
 
     const FULL: bool = true;
 
-    ghost name = { ring_name };
+    ghost identity = { ring_identity };
 
-    ghost caller_name = { ring_caller_name };
+    ghost caller_identity = { ring_caller_identity };
 
-    ghost callee_name = { ring_callee_name };
+    ghost callee_identity = { ring_callee_identity };
 
     ghost caller_view = { ring_caller_view };
 
@@ -80,10 +80,10 @@ impl Channel for RingChannel {
             answers: Snapshot::of(&notes),
         };
         let channel = RingChannel {
-            name: Tag::of::<Rings, RingNames>(&rings),
+            identity: Tag::of::<Rings, RingIdentities>(&rings),
         };
         let caller = RingCaller {
-            name: Tag::of::<Rings, RingNames>(&rings),
+            identity: Tag::of::<Rings, RingIdentities>(&rings),
             rings: CallerRings {
                 frames,
                 answers,
@@ -96,7 +96,7 @@ impl Channel for RingChannel {
             },
         };
         let callee = RingCallee {
-            name: Tag::of::<Rings, RingNames>(&rings),
+            identity: Tag::of::<Rings, RingIdentities>(&rings),
             rings: CalleeRings {
                 frames: posted,
                 answers: notes,
@@ -164,11 +164,11 @@ impl Channel for RingChannel {
 
     fn gather(self, caller: RingCaller, callee: RingCallee) {
         let RingCaller {
-            name: _,
+            identity: _,
             rings: mut caller,
         } = caller;
         let RingCallee {
-            name: _,
+            identity: _,
             rings: mut callee,
         } = callee;
         let _ = callee.frames.slots_beside(&mut caller.frames);

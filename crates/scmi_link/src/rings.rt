@@ -13,11 +13,11 @@ pub struct Rings {
     pub(crate) answers: Snapshot<Producer<Note>>,
 }
 
-/// How a channel of two rings is named.
-pub struct RingNames;
+/// How a channel of two rings is identified.
+pub struct RingIdentities;
 
-impl Names<Rings> for RingNames {
-    ghost use Rattle.scmi_link.specs.Rings.{rings_name};
+impl Names<Rings> for RingIdentities {
+    ghost use Rattle.scmi_link.specs.Rings.{rings_identity};
 
-    ghost numbers = { rings_name };
+    ghost numbers = { rings_identity };
 }

@@ -1,6 +1,6 @@
 //! What the agents' posts ask for, in words.
-use crate::label::{add_field, name_of, named};
-use crate::words::{numbered, payload_words};
+use crate::label::{add_field, name_label, name_of};
+use crate::words::{numbered_word, payload_words};
 use scmi_chart::Label;
 use scmi_codec::{ClockCommand, Command, Header, Message, Payload, PowerCommand};
 use scmi_plan::RawPlan;
@@ -21,7 +21,7 @@ pub(crate) fn asked_label(
         } => malformed_label(alloc, *length),
         _ => match message_of(step) {
             Some(message) => command_label(alloc, board, &message),
-            None => Ok(named(alloc, Vec::new(alloc))),
+            None => Ok(name_label(alloc, Vec::new(alloc))),
         },
     }
 }
@@ -45,7 +45,7 @@ fn message_of(step: &Step) -> Option<Message> {
         | Step::Agent {
             step: AgentStep::Call(call),
             ..
-        } => Some(called(call)),
+        } => Some(call_message(call)),
         Step::Agent {
             step: AgentStep::Raw(message),
             ..
@@ -55,7 +55,7 @@ fn message_of(step: &Step) -> Option<Message> {
 }
 
 /// The message of a call, with token 0.
-fn called(call: &Call) -> Message {
+fn call_message(call: &Call) -> Message {
     let mut payload = Payload::new();
     let _ = payload.try_extend_from_slice(call.payload.as_slice());
     Message {
@@ -65,15 +65,15 @@ fn called(call: &Call) -> Message {
 }
 
 fn malformed_label(alloc: Global, length: u32) -> Result<Label, AllocError> {
-    let mut label = named(alloc, Vec::from_slice(alloc, b"malformed")?);
-    label.object = numbered(alloc, "length", length)?;
+    let mut label = name_label(alloc, Vec::from_slice(alloc, b"malformed")?);
+    label.object = numbered_word(alloc, "length", length)?;
     Ok(label)
 }
 
 /// What a message asks for: the fields of the command that it carries, or its words.
 fn command_label(alloc: Global, board: &RawPlan, message: &Message) -> Result<Label, AllocError> {
     let header = message.header;
-    let mut label = named(alloc, name_of(alloc, header.protocol, header.id)?);
+    let mut label = name_label(alloc, name_of(alloc, header.protocol, header.id)?);
     match Command::read(message) {
         Ok(command) => {
             for field in command_fields(&command).as_slice() {
@@ -83,7 +83,7 @@ fn command_label(alloc: Global, board: &RawPlan, message: &Message) -> Result<La
         Err(_) => label.object = payload_words(alloc, message.payload.as_slice())?,
     }
     if header.kind != 0 {
-        label.tag = numbered(alloc, "type", u32::from(header.kind))?;
+        label.tag = numbered_word(alloc, "type", u32::from(header.kind))?;
     }
     Ok(label)
 }

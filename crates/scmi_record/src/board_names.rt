@@ -1,5 +1,5 @@
 //! The names of a board's agents, domains and clocks.
-use crate::words::numbered;
+use crate::words::numbered_word;
 use scmi_plan::RawPlan;
 use std::alloc::{AllocError, Global};
 
@@ -18,7 +18,7 @@ pub(crate) fn agent_name(
     }
     match board.agents.get(agent as usize - 1) {
         Some(name) => Vec::from_slice(alloc, name.as_bytes()),
-        None => numbered(alloc, "agent", agent),
+        None => numbered_word(alloc, "agent", agent),
     }
 }
 
@@ -30,7 +30,7 @@ pub(crate) fn domain_name(
 ) -> Result<Vec<u8>, AllocError> {
     match board.domains.get(domain as usize) {
         Some(domain) => Vec::from_slice(alloc, domain.name.as_bytes()),
-        None => numbered(alloc, "domain", domain),
+        None => numbered_word(alloc, "domain", domain),
     }
 }
 
@@ -42,6 +42,6 @@ pub(crate) fn clock_name(
 ) -> Result<Vec<u8>, AllocError> {
     match board.clocks.get(clock as usize) {
         Some(clock) => Vec::from_slice(alloc, clock.name.as_bytes()),
-        None => numbered(alloc, "clock", clock),
+        None => numbered_word(alloc, "clock", clock),
     }
 }

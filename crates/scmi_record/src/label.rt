@@ -1,13 +1,13 @@
 //! What messages are about, in words.
 use crate::board_names::{agent_name, clock_name, domain_name};
-use crate::words::{hex_words, name_words, numbered, rate_words, state_words, switched};
+use crate::words::{hex_words, name_words, numbered_word, rate_words, state_words, switch_word};
 use scmi_chart::Label;
 use scmi_plan::RawPlan;
 use scmi_say::{Field, message_name, protocol_name};
 use std::alloc::{AllocError, Global};
 
 /// A label of a name alone.
-pub(crate) fn named(alloc: Global, name: Vec<u8>) -> Label {
+pub(crate) fn name_label(alloc: Global, name: Vec<u8>) -> Label {
     Label {
         name,
         object: Vec::new(alloc),
@@ -41,9 +41,9 @@ pub(crate) fn add_field(
         Field::Agent(agent) => label.object = agent_name(alloc, board, *agent)?,
         Field::State(_) | Field::Rate(_) => add_value(alloc, label, field)?,
         Field::Enable(bits) | Field::ClockAttributes(bits) => {
-            label.value = Vec::from_slice(alloc, switched(bits % 2 == 1))?;
+            label.value = Vec::from_slice(alloc, switch_word(bits % 2 == 1))?;
         }
-        Field::Device(device) => label.value = numbered(alloc, "device", *device)?,
+        Field::Device(device) => label.value = numbered_word(alloc, "device", *device)?,
         Field::Name(words) => label.object = name_words(alloc, words)?,
         Field::By(agent) => {
             label.tag = Vec::from_slice(alloc, b"by ")?;
@@ -53,7 +53,7 @@ pub(crate) fn add_field(
         }
         Field::Message(id) => label.object = hex_words(alloc, *id)?,
         Field::Version(_) | Field::Counts(_) => add_counts(alloc, label, field)?,
-        Field::Index(index) => label.tag = numbered(alloc, "from", *index)?,
+        Field::Index(index) => label.tag = numbered_word(alloc, "from", *index)?,
         _ => add_flags(alloc, label, field)?,
     }
     Ok(())

@@ -82,7 +82,7 @@ impl Parties {
     }
 
     /// The slot in which the agent closed its channels, if it did.
-    pub fn closed(&self, agent: u8) -> Option<u16> {
+    pub fn closed_at(&self, agent: u8) -> Option<u16> {
         let place = usize::from(agent).checked_sub(1)?;
         self.parties.get(place)?.closed
     }

@@ -5,7 +5,7 @@ ghost use Rattle.scmi_record.specs.Signs.{sign_of, signs_of, lane, raw_token, re
 
 use crate::asked::{asked_label, sets_later};
 use crate::board_names::agent_name;
-use crate::label::named;
+use crate::label::name_label;
 use crate::levels::Levels;
 use crate::marks::Marks;
 use crate::parties::{Outstanding, Parties};
@@ -107,30 +107,40 @@ impl<'a> Recorder<'a> {
         ensures { OnOk result (self.new ≡ self.old ++ signs_of step.now came.now) }
     {
         match came {
-            StepLine::Token { agent, token } => self.sent(lane(*agent), slot, step, Some(*token)),
-            StepLine::Posted { agent } => self.sent(lane(*agent), slot, step, raw_token(step)),
+            StepLine::Token { agent, token } => self.record_post(
+                lane(*agent),
+                slot,
+                step,
+                Some(*token),
+            ),
+            StepLine::Posted { agent } => self.record_post(
+                lane(*agent),
+                slot,
+                step,
+                raw_token(step),
+            ),
             StepLine::NotPosted { agent, refusal } => {
-                self.refused(lane(*agent), slot, step, *refusal)
+                self.record_refusal(lane(*agent), slot, step, *refusal)
             }
-            StepLine::Served { agent, served } => self.served(lane(*agent), slot, *served),
+            StepLine::Served { agent, served } => self.record_serve(lane(*agent), slot, *served),
             StepLine::Collected { agent, collected } => match step {
-                Step::Do { .. } => self.exchanged(lane(*agent), slot, step, collected),
-                _ => self.collected(lane(*agent), slot, collected),
+                Step::Do { .. } => self.record_exchange(lane(*agent), slot, step, collected),
+                _ => self.record_collect(lane(*agent), slot, collected),
             },
-            StepLine::Advanced { more } => self.advanced(slot, *more),
-            StepLine::Flushed { agent, flushed } => self.flushed(lane(*agent), slot, *flushed),
-            StepLine::P2a { agent, frame } => self.taken(lane(*agent), slot, frame),
-            StepLine::Closed { agent, closing } => self.closed(lane(*agent), slot, closing),
+            StepLine::Advanced { more } => self.record_advance(slot, *more),
+            StepLine::Flushed { agent, flushed } => self.record_flush(lane(*agent), slot, *flushed),
+            StepLine::P2a { agent, frame } => self.record_take(lane(*agent), slot, frame),
+            StepLine::Closed { agent, closing } => self.record_close(lane(*agent), slot, closing),
             StepLine::Shut {
                 agent,
                 result: closing,
-            } => self.shut(lane(*agent), slot, closing),
+            } => self.record_shut(lane(*agent), slot, closing),
             StepLine::Trace { .. } => Ok(()),
         }
     }
 
     /// A command was posted.
-    fn sent(
+    fn record_post(
         &mut self,
         agent: u8,
         slot: u16,
@@ -158,7 +168,7 @@ impl<'a> Recorder<'a> {
     }
 
     /// A command was not posted.
-    fn refused(
+    fn record_refusal(
         &mut self,
         agent: u8,
         slot: u16,
@@ -179,17 +189,17 @@ impl<'a> Recorder<'a> {
     }
 
     /// The platform served an agent.
-    fn served(&mut self, agent: u8, slot: u16, served: Served) -> Result<(), AllocError>
+    fn record_serve(&mut self, agent: u8, slot: u16, served: Served) -> Result<(), AllocError>
         ensures { OnOk result (self.new ≡ self.old ++ served_signs agent served) }
     {
         match served {
             Served::Nothing => self.remark(agent, slot, Side::Platform, "nothing to serve"),
-            Served::Done => self.executed(agent, slot, slot),
+            Served::Done => self.record_execution(agent, slot, slot),
         }
     }
 
     /// The platform took the agent's command in this slot, and answered it until another.
-    fn executed(&mut self, agent: u8, slot: u16, until: u16) -> Result<(), AllocError>
+    fn record_execution(&mut self, agent: u8, slot: u16, until: u16) -> Result<(), AllocError>
         ensures { OnOk result (self.new ≡ self.old ++ executed ∷ []) }
     {
         if let Some(place) = self.parties.answer(agent, until) {
@@ -199,7 +209,7 @@ impl<'a> Recorder<'a> {
     }
 
     /// A command was posted, served and collected in turn.
-    fn exchanged(
+    fn record_exchange(
         &mut self,
         agent: u8,
         slot: u16,
@@ -211,26 +221,31 @@ impl<'a> Recorder<'a> {
             self.old ++ exchange_signs agent collected.now ++ collected_signs agent collected.now) }
     {
         let after = slot.saturating_add(1);
-        self.sent(agent, slot, step, reply_token(collected))?;
+        self.record_post(agent, slot, step, reply_token(collected))?;
         if let Collected::Got(_) = collected {
-            self.executed(agent, slot, after)?;
+            self.record_execution(agent, slot, after)?;
         }
-        self.collected(agent, after, collected)
+        self.record_collect(agent, after, collected)
     }
 
     /// The agent collected.
-    fn collected(&mut self, agent: u8, slot: u16, collected: &Collected) -> Result<(), AllocError>
+    fn record_collect(
+        &mut self,
+        agent: u8,
+        slot: u16,
+        collected: &Collected,
+    ) -> Result<(), AllocError>
         ensures { OnOk result (self.new ≡ self.old ++ collected_signs agent collected.now) }
     {
         match collected {
             Collected::Nothing => self.remark(agent, slot, Side::Agent, "nothing yet"),
             Collected::Closed => self.remark(agent, slot, Side::Agent, "told: closed"),
-            Collected::Got(answer) => self.answered(agent, slot, answer),
+            Collected::Got(answer) => self.record_answer(agent, slot, answer),
         }
     }
 
     /// The agent read the answer to its command.
-    fn answered(&mut self, agent: u8, slot: u16, answer: &Answer) -> Result<(), AllocError>
+    fn record_answer(&mut self, agent: u8, slot: u16, answer: &Answer) -> Result<(), AllocError>
         ensures { OnOk result (self.new ≡ self.old ++ answered agent (is_success answer.now) ∷ []) }
     {
         let command = self.parties.settle(agent);
@@ -246,7 +261,7 @@ impl<'a> Recorder<'a> {
     }
 
     /// The platform was to complete a pending set.
-    fn advanced(&mut self, slot: u16, more: bool) -> Result<(), AllocError>
+    fn record_advance(&mut self, slot: u16, more: bool) -> Result<(), AllocError>
         ensures { OnOk result (self.new ≡ self.old ++ advanced more ∷ []) }
     {
         let text = if more {
@@ -263,7 +278,7 @@ impl<'a> Recorder<'a> {
     }
 
     /// The platform was to post the first message of an agent's outbox.
-    fn flushed(&mut self, agent: u8, slot: u16, flushed: Flushed) -> Result<(), AllocError>
+    fn record_flush(&mut self, agent: u8, slot: u16, flushed: Flushed) -> Result<(), AllocError>
         ensures { OnOk result (self.new ≡ self.old ++ flushed_signs agent flushed) }
     {
         match flushed {
@@ -278,7 +293,7 @@ impl<'a> Recorder<'a> {
     }
 
     /// The agent was to take a message.
-    fn taken(&mut self, agent: u8, slot: u16, frame: &Option<Frame>) -> Result<(), AllocError>
+    fn record_take(&mut self, agent: u8, slot: u16, frame: &Option<Frame>) -> Result<(), AllocError>
         ensures { OnOk result (self.new ≡ self.old ++ taken_signs agent frame.now) }
     {
         match frame {
@@ -303,7 +318,7 @@ impl<'a> Recorder<'a> {
     }
 
     /// The agent's end was to be closed.
-    fn closed(
+    fn record_close(
         &mut self,
         agent: u8,
         slot: u16,
@@ -331,7 +346,7 @@ impl<'a> Recorder<'a> {
     }
 
     /// The platform's ends of an agent's channels were to be closed.
-    fn shut(
+    fn record_shut(
         &mut self,
         agent: u8,
         slot: u16,
@@ -376,7 +391,7 @@ impl<'a> Recorder<'a> {
             lifelines.push(Lifeline {
                 agent,
                 name: agent_name(self.alloc, self.board, u32::from(agent))?,
-                closed: self.parties.closed(agent),
+                closed: self.parties.closed_at(agent),
             })?;
         }
         let end = self.slots.saturating_add(1);

@@ -1,5 +1,5 @@
 //! What the platform's messages say, in words.
-use crate::label::{add_field, name_of, named};
+use crate::label::{add_field, name_label, name_of};
 use crate::words::{hex_words, payload_words};
 use scmi_chart::{Label, Outcome};
 use scmi_codec::{Answer, CLOCK_PROTOCOL, Message, POWER_PROTOCOL, Status, rate_of};
@@ -32,9 +32,9 @@ fn reply_label(
     is_later: bool,
 ) -> Result<Label, AllocError> {
     let [word, words @ ..] = message.payload.as_slice() else {
-        return Ok(named(alloc, Vec::from_slice(alloc, b"no status")?));
+        return Ok(name_label(alloc, Vec::from_slice(alloc, b"no status")?));
     };
-    let mut label = named(alloc, status_words(alloc, *word)?);
+    let mut label = name_label(alloc, status_words(alloc, *word)?);
     let header = message.header;
     match reply_fields(header.protocol, header.id, words) {
         Ok(fields) => {
@@ -82,7 +82,7 @@ fn add_list(
 
 /// What an answer without a status says.
 fn plain_label(alloc: Global, words: &str) -> Result<Label, AllocError> {
-    Ok(named(alloc, Vec::from_slice(alloc, words.as_bytes())?))
+    Ok(name_label(alloc, Vec::from_slice(alloc, words.as_bytes())?))
 }
 
 /// What a message from the platform of its own accord says.
@@ -93,7 +93,10 @@ pub(crate) fn posted_label(
 ) -> Result<Label, AllocError> {
     let header = message.header;
     let mut label = match notification_name(header.protocol, header.id) {
-        Some(name) if header.kind == 3 => named(alloc, Vec::from_slice(alloc, name.as_bytes())?),
+        Some(name) if header.kind == 3 => name_label(
+            alloc,
+            Vec::from_slice(alloc, name.as_bytes())?,
+        ),
         _ => delayed_name(alloc, message)?,
     };
     for field in posted_fields(message).as_slice() {
@@ -106,7 +109,7 @@ pub(crate) fn posted_label(
 fn delayed_name(alloc: Global, message: &Message) -> Result<Label, AllocError> {
     let mut name = name_of(alloc, message.header.protocol, message.header.id)?;
     name.extend_from_slice(b" completed")?;
-    Ok(named(alloc, name))
+    Ok(name_label(alloc, name))
 }
 
 /// The fields of a delayed response or a notification.

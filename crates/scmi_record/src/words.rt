@@ -16,7 +16,7 @@ pub(crate) fn hex_words(alloc: Global, word: u32) -> Result<Vec<u8>, AllocError>
 }
 
 /// A word and a number.
-pub(crate) fn numbered(alloc: Global, word: &str, number: u32) -> Result<Vec<u8>, AllocError> {
+pub(crate) fn numbered_word(alloc: Global, word: &str, number: u32) -> Result<Vec<u8>, AllocError> {
     Ok(format!(in alloc; "{word} {number}")?.into_bytes())
 }
 
@@ -60,6 +60,6 @@ pub(crate) fn name_words(alloc: Global, words: &[u32; 4]) -> Result<Vec<u8>, All
 }
 
 /// Whether a bit is set, in words.
-pub(crate) fn switched(is_on: bool) -> &'static [u8] {
+pub(crate) fn switch_word(is_on: bool) -> &'static [u8] {
     if is_on { b"on" } else { b"off" }
 }

@@ -4,7 +4,7 @@ use Rattle.std.specs.Option.{option_map_or}
 use Rattle.std.specs.Result.{result_ok}
 use Rattle.std.specs.Io.KnownBytes.{Appends}
 use Rattle.hex.specs.Hex.{decode_sized, encode_lower}
-use Rattle.scmi_codec.specs.Area.{arrived, answered}
+use Rattle.scmi_codec.specs.Area.{frame_waiting, area_after_answer}
 use Rattle.scmi_codec.specs.declared.area.TheConstants.{AREA_BYTES}
 use Rattle.scmi_core.specs.BoardB.{board_b}
 use Rattle.scmi_core.specs.History.{answer_to}
@@ -16,7 +16,7 @@ area_of input = option_and_then (λ line. result_ok (decode_sized line AREA_BYTE
 
 -- an area with the answer to its frame, agent 1's first command on the reference board; a free channel's area as it is
 abbrev pub answered_area : List ℕ → List ℕ
-answered_area area = option_map_or (λ frame. answered (answer_to board_b 1 frame []) area) (arrived area) area
+answered_area area = option_map_or (λ frame. area_after_answer (answer_to board_b 1 frame []) area) (frame_waiting area) area
 
 -- an area in lower-case digits, and a line feed
 abbrev pub area_text : List ℕ → List ℕ

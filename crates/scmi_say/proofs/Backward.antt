@@ -31,18 +31,18 @@ unfolding eight_digits
 back-eight w onto = refl
 
 -- words from their end, each behind a space
-abbrev pub laid : List ℕ → List ℕ → List ℕ
-laid [] onto = onto
-laid (w ∷ ws) onto = eight_back w (32 ∷ laid ws onto)
+abbrev pub words_back : List ℕ → List ℕ → List ℕ
+words_back [] onto = onto
+words_back (w ∷ ws) onto = eight_back w (32 ∷ words_back ws onto)
 
 back-word : (w : ℕ) (onto : List ℕ) → back (word_text w) onto ≡ eight_back w (32 ∷ onto)
 unfolding word_text literal eight_digits
 back-word w onto = refl
 
-pub back-each_word : (ws vs onto : List ℕ) → back (each_word ws) (laid vs onto) ≡ laid (back ws vs) onto
+pub back-each_word : (ws vs onto : List ℕ) → back (each_word ws) (words_back vs onto) ≡ words_back (back ws vs) onto
 back-each_word [] vs onto = refl
 back-each_word (w ∷ ws) vs onto =
-    back-append (word_text w) (each_word ws) (laid vs onto) ∙ ap (back (each_word ws)) (back-word w (laid vs onto))
+    back-append (word_text w) (each_word ws) (words_back vs onto) ∙ ap (back (each_word ws)) (back-word w (words_back vs onto))
     ∙ back-each_word ws (w ∷ vs) onto
 
 -- digits that look alike are the same
@@ -92,13 +92,13 @@ abbrev pub AreWords : List ℕ → Type 0
 AreWords ws = AllByRecursion (λ w. w < 2 ^ 32) ws
 
 -- words behind a space more: their number and each of them is known from the end
-pub laid-injective : (vs ws p q : List ℕ) → AreWords vs → AreWords ws → laid vs (32 ∷ p) ≡ laid ws (32 ∷ q) → vs ≡ ws
-laid-injective [] [] p q hv hw e = refl
-laid-injective [] (w ∷ ws) p q hv hw e = absurd (last_digit-no_space w (sym (ap (λ xs. get_or xs 0 0) e)))
-laid-injective (v ∷ vs) [] p q hv hw e = absurd (last_digit-no_space v (ap (λ xs. get_or xs 0 0) e))
-laid-injective (v ∷ vs) (w ∷ ws) p q hv hw e =
-    let h = eight_back-injective v w (32 ∷ laid vs (32 ∷ p)) (32 ∷ laid ws (32 ∷ q)) hv.0 hw.0 e in
-    let more = laid-injective vs ws p q hv.1 hw.1 (ap (λ xs. drop 1 xs) h.1) in
+pub words_back-injective : (vs ws p q : List ℕ) → AreWords vs → AreWords ws → words_back vs (32 ∷ p) ≡ words_back ws (32 ∷ q) → vs ≡ ws
+words_back-injective [] [] p q hv hw e = refl
+words_back-injective [] (w ∷ ws) p q hv hw e = absurd (last_digit-no_space w (sym (ap (λ xs. get_or xs 0 0) e)))
+words_back-injective (v ∷ vs) [] p q hv hw e = absurd (last_digit-no_space v (ap (λ xs. get_or xs 0 0) e))
+words_back-injective (v ∷ vs) (w ∷ ws) p q hv hw e =
+    let h = eight_back-injective v w (32 ∷ words_back vs (32 ∷ p)) (32 ∷ words_back ws (32 ∷ q)) hv.0 hw.0 e in
+    let more = words_back-injective vs ws p q hv.1 hw.1 (ap (λ xs. drop 1 xs) h.1) in
     ap (λ x. x ∷ vs) h.0 ∙ ap (λ xs. w ∷ xs) more
 
 AreWords-back : (xs ys : List ℕ) → AreWords xs → AreWords ys → AreWords (back xs ys)
@@ -106,14 +106,14 @@ AreWords-back [] ys hx hy = hy
 AreWords-back (x ∷ xs) ys hx hy = AreWords-back xs (x ∷ ys) hx.1 (hx.0, hy)
 
 -- what stands before the digits of the last word is a space
-pub laid_mark : (xs ys onto : List ℕ) (y : ℕ) → get_or (laid (back xs (y ∷ ys)) onto) 8 0 ≡ 32
+pub laid_mark : (xs ys onto : List ℕ) (y : ℕ) → get_or (words_back (back xs (y ∷ ys)) onto) 8 0 ≡ 32
 laid_mark [] ys onto y = refl
 laid_mark (x ∷ xs) ys onto y = laid_mark xs (y ∷ ys) onto x
 
 -- a first word and words behind it, from their end
 pub laid_back-injective : (h k : ℕ) (xs ys p q : List ℕ) → h < 2 ^ 32 → k < 2 ^ 32 → AreWords xs → AreWords ys
-    → laid (back xs (h ∷ [])) (32 ∷ p) ≡ laid (back ys (k ∷ [])) (32 ∷ q) → (h ≡ k) × (xs ≡ ys)
+    → words_back (back xs (h ∷ [])) (32 ∷ p) ≡ words_back (back ys (k ∷ [])) (32 ∷ q) → (h ≡ k) × (xs ≡ ys)
 laid_back-injective h k xs ys p q hh hk hx hy e =
-    let same = laid-injective (back xs (h ∷ [])) (back ys (k ∷ [])) p q (AreWords-back xs (h ∷ []) hx (hh, tt)) (AreWords-back ys (k ∷ []) hy (hk, tt)) e in
+    let same = words_back-injective (back xs (h ∷ [])) (back ys (k ∷ [])) p q (AreWords-back xs (h ∷ []) hx (hh, tt)) (AreWords-back ys (k ∷ []) hy (hk, tt)) e in
     let whole : h ∷ xs ++ [] ≡ k ∷ ys ++ [] = sym (back-back xs (h ∷ []) []) ∙ ap (λ zs. back zs []) same ∙ back-back ys (k ∷ []) [] in
     (ap (λ zs. get_or zs 0 0) whole, sym (append-nil xs) ∙ ap (λ zs. drop 1 zs) whole ∙ append-nil ys)

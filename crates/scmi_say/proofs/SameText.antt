@@ -9,7 +9,7 @@ use Rattle.scmi_codec.specs.declared.frame.Frame.TheVariants.{Good, Malformed}
 use Rattle.scmi_say.specs.Alike.{StandAlike}
 use Rattle.scmi_say.specs.Words.{words_text}
 use Rattle.scmi_say.specs.Text.{told_text, length_text}
-use Rattle.scmi_say.specs.Told.{told}
+use Rattle.scmi_say.specs.Told.{told_area}
 use Rattle.scmi_say.specs.declared.told.Told.{Told}
 use Rattle.scmi_say.proofs.Backward.{back, eight_back-injective, laid_back-injective, laid_mark}
 use Rattle.scmi_say.proofs.Figures.{decimal-known}
@@ -132,7 +132,7 @@ state_number-injective Failed Busy e = absurd (omega (arith, e))
 state_number-injective Failed Free e = absurd (omega (arith, e))
 
 -- equal texts are of areas that stand alike
-pub alike_from_text : (a b : List ℕ) → AreBytes a → AreBytes b → told_text (told a) ≡ told_text (told b) → StandAlike a b
+pub alike_from_text : (a b : List ℕ) → AreBytes a → AreBytes b → told_text (told_area a) ≡ told_text (told_area b) → StandAlike a b
 alike_from_text a b ha hb e =
     let (s, sa, ta) = told_by_state a in
     let (t, sb, tb) = told_by_state b in
@@ -146,17 +146,17 @@ alike_from_text a b ha hb e =
     }
 
 -- of areas that stand alike the same is told
-pub told_from_alike : (a b : List ℕ) → StandAlike a b → told a ≡ told b
+pub told_from_alike : (a b : List ℕ) → StandAlike a b → told_area a ≡ told_area b
 told_from_alike a b same =
     let (s, sa, ta) = told_by_state a in
     let (t, sb, tb) = told_by_state b in
     let states = state_number-injective s t (sym sa ∙ same.state ∙ sb) in
     ta ∙ ap (λ x. told_at x (frame_of a)) states ∙ ap (told_at t) same.frame ∙ sym tb
 
-pub text_from_alike : (a b : List ℕ) → StandAlike a b → told_text (told a) ≡ told_text (told b)
+pub text_from_alike : (a b : List ℕ) → StandAlike a b → told_text (told_area a) ≡ told_text (told_area b)
 text_from_alike a b same = ap told_text (told_from_alike a b same)
 
-pub alike_from_told : (a b : List ℕ) → AreBytes a → AreBytes b → told a ≡ told b → StandAlike a b
+pub alike_from_told : (a b : List ℕ) → AreBytes a → AreBytes b → told_area a ≡ told_area b → StandAlike a b
 alike_from_told a b ha hb e = alike_from_text a b ha hb (ap told_text e)
 
 -- areas stand alike just where the same is told of them, and just where it is the same text

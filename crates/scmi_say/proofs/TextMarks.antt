@@ -13,7 +13,7 @@ use Rattle.scmi_say.specs.Heading.{state_text}
 use Rattle.scmi_say.specs.Words.{words_text, words_start, each_word}
 use Rattle.scmi_say.specs.Text.{told_text, command_text, command_line, withdrawn_text, withdrawn_line, misfit_line, misfit_start, misfit_end, request_fields_text, taken_back_line, response_text, reply_text, delayed_text, delayed_line, delayed_start, notification_text, notification_line, channel_error_text, malformed_text, length_text, length_start, why_text, header_end, foreign_text, foreign_start}
 use Rattle.scmi_say.specs.declared.told.Told.{Told}
-use Rattle.scmi_say.proofs.Backward.{back, back-append, eight_back, laid, back-each_word}
+use Rattle.scmi_say.proofs.Backward.{back, back-append, eight_back, words_back, back-each_word}
 use Rattle.scmi_say.proofs.Figures.{decimal_first}
 use Rattle.scmi_say.proofs.Readable.{IsReadable}
 use Rattle.scmi_say.proofs.ToldAt.{State, Busy, Free, Failed, told_at, posted-cases, left-cases, malformed_left-cases}
@@ -82,7 +82,7 @@ ends_in_length Free len header = malformed_left-cases (EndsInLength (malformed_f
 ends_in_length Failed len header = inl refl
 
 -- the words of a message from the end of its text
-pub back_words : (m : Message) (front : List ℕ) → (rest : List ℕ) × (back (front ++ words_text m) [] ≡ 10 ∷ laid (back m.payload.items (header_word m.header ∷ [])) (32 ∷ rest))
+pub back_words : (m : Message) (front : List ℕ) → (rest : List ℕ) × (back (front ++ words_text m) [] ≡ 10 ∷ words_back (back m.payload.items (header_word m.header ∷ [])) (32 ∷ rest))
 unfolding words_text words_start literal eight_digits
 back_words m front =
     let h : ℕ = header_word m.header in
@@ -90,7 +90,7 @@ back_words m front =
     let whole : back (front ++ words_text m) [] ≡ back (words_text m) (back front []) = back-append front (words_text m) [] in
     let line : back (words_text m) (back front []) ≡ 10 ∷ back (words_start h ++ each_word m.payload.items) (back front []) =
     back-append (words_start h ++ each_word m.payload.items) (codes "\n") (back front []) in
-    let parts : back (words_start h ++ each_word m.payload.items) (back front []) ≡ back (each_word m.payload.items) (laid (h ∷ []) (32 ∷ blank)) =
+    let parts : back (words_start h ++ each_word m.payload.items) (back front []) ≡ back (each_word m.payload.items) (words_back (h ∷ []) (32 ∷ blank)) =
     back-append (words_start h) (each_word m.payload.items) (back front []) in
     (blank, whole ∙ line ∙ ap (λ xs. 10 ∷ xs) (parts ∙ back-each_word m.payload.items (h ∷ []) (32 ∷ blank)))
 

@@ -11,7 +11,7 @@ use Rattle.scmi_codec.specs.declared.frame.Frame.{Frame}
 use Rattle.scmi_codec.specs.declared.frame.Frame.TheVariants.{Good, Malformed}
 use Rattle.scmi_say.specs.Alike.{state_of}
 use Rattle.scmi_say.specs.Replies.{response_status}
-use Rattle.scmi_say.specs.Told.{told, told_p2a, told_posted, told_by_status, told_response, told_left}
+use Rattle.scmi_say.specs.Told.{told_area, told_p2a, told_posted, told_by_status, told_response, told_left}
 use Rattle.scmi_say.specs.declared.told.Told.{Told}
 use Rattle.scmi_say.specs.declared.told.Told.TheVariants as is
 
@@ -39,13 +39,13 @@ low_bit : (n : ℕ) → (n % 2 == 1) ≡ true → (n / 2 % 2 == 1) ≡ false →
 low_bit n odd error = grind (arith, nat_tests)
 
 by_bits : (area : List ℕ) (odd error : Bool) → (status_at area % 2 == 1) ≡ odd → (status_at area / 2 % 2 == 1) ≡ error
-    → (s : State) × (state_of area ≡ state_number s) × (told area ≡ told_at s (frame_of area))
+    → (s : State) × (state_of area ≡ state_number s) × (told_area area ≡ told_at s (frame_of area))
 by_bits area true true odd error = (Failed, rw odd (low_bits (status_at area) odd error), rw (odd, error) refl)
 by_bits area true false odd error = (Free, rw odd (low_bit (status_at area) odd error), rw (odd, error) refl)
 by_bits area false error odd _ = (Busy, rw odd refl, rw odd refl)
 
 -- what is told of an area, by its state and its frame
-pub told_by_state : (area : List ℕ) → (s : State) × (state_of area ≡ state_number s) × (told area ≡ told_at s (frame_of area))
+pub told_by_state : (area : List ℕ) → (s : State) × (state_of area ≡ state_number s) × (told_area area ≡ told_at s (frame_of area))
 told_by_state area = by_bits area (status_at area % 2 == 1) (status_at area / 2 % 2 == 1) refl refl
 
 -- what holds of each kind of message to the agent

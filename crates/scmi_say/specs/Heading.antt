@@ -10,13 +10,13 @@ use Rattle.scmi_say.specs.Field.{reserved_text}
 use Rattle.scmi_say.specs.Names.{message_text, notification_text, protocol_text, status_text}
 
 -- a name in brackets, if there is one
-abbrev pub bracketed : Option (List ℕ) → List ℕ
-bracketed (Some name) = codes " (" ++ name ++ codes ")"
-bracketed None = []
+abbrev pub bracketed_text : Option (List ℕ) → List ℕ
+bracketed_text (Some name) = codes " (" ++ name ++ codes ")"
+bracketed_text None = []
 
 -- the short name of a protocol that has one, in brackets
 unfoldable pub in_brackets : ℕ → List ℕ
-in_brackets protocol = bracketed (protocol_text protocol)
+in_brackets protocol = bracketed_text (protocol_text protocol)
 
 -- a message id in hexadecimal digits
 unfoldable pub id_digits : ℕ → List ℕ

@@ -1,6 +1,6 @@
 -- What an area is, by the codec's reading of it.
 use Rattle.std.specs.Prelude.{ℕ, ◌/◌, ◌%◌, ◌==◌, ◌&&◌, Bool, true, false, if◌then◌else◌, List, Option, Some, None}
-use Rattle.scmi_codec.specs.Area.{arrived, frame_of, status_at}
+use Rattle.scmi_codec.specs.Area.{frame_waiting, frame_of, status_at}
 use Rattle.scmi_codec.specs.Command.{command_of}
 use Rattle.scmi_codec.specs.declared.message.Message.{Message}
 use Rattle.scmi_codec.specs.declared.status.Status.{Status}
@@ -47,8 +47,8 @@ told_found area (Some f) = told_posted f
 told_found area None = told_left (status_at area / 2 % 2 == 1) (frame_of area)
 
 -- what an area is
-abbrev pub told : List ℕ → Told
-told area = told_found area (arrived area)
+abbrev pub told_area : List ℕ → Told
+told_area area = told_found area (frame_waiting area)
 
 -- what an area is once a frame in it was answered
 abbrev pub told_answer : Frame → Answer → Told

@@ -1,7 +1,7 @@
 //! Areas that are told with the same text.
 ghost use Rattle.std.specs.Prelude.{◌≡◌, ◌↔◌, IsTrue};
 ghost use Rattle.scmi_say.specs.Alike.{state_of, StandAlike};
-ghost use Rattle.scmi_say.specs.Told.{told};
+ghost use Rattle.scmi_say.specs.Told.{told_area};
 ghost use Rattle.scmi_say.specs.Text.{told_text};
 
 use crate::telling::{STATUS_AT, standing_frame};
@@ -15,8 +15,8 @@ use scmi_codec::{AREA_BYTES, Frame};
 #[tactic(auto, using(crate::proofs::SameText::same_text))]
 pub fn are_told_alike(first: &[u8; AREA_BYTES], second: &[u8; AREA_BYTES]) -> bool
     ensures area { IsTrue result ↔ StandAlike first.now second.now }
-    ensures told { IsTrue result ↔ (told first.now ≡ told second.now) }
-    ensures text { IsTrue result ↔ (told_text (told first.now) ≡ told_text (told second.now)) }
+    ensures told { IsTrue result ↔ (told_area first.now ≡ told_area second.now) }
+    ensures text { IsTrue result ↔ (told_text (told_area first.now) ≡ told_text (told_area second.now)) }
 {
     let is_same_state = state_of(first) == state_of(second);
     is_same_state && are_same(&standing_frame(first), &standing_frame(second))

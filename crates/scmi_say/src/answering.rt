@@ -1,6 +1,6 @@
 //! What an area is once something was written into it.
 ghost use Rattle.std.specs.Prelude.{◌≡◌};
-ghost use Rattle.scmi_codec.specs.Area.{answered, frame_of, posted};
+ghost use Rattle.scmi_codec.specs.Area.{area_after_answer, frame_of, area_after_post};
 ghost use Rattle.scmi_codec.specs.declared.frame.Frame.TheVariants.{Good};
 ghost use Rattle.scmi_say.specs.Told.{told_answer, told_posted};
 
@@ -12,7 +12,7 @@ use scmi_codec::{AREA_BYTES, Answer, Message, write_answer, write_message};
 /// it has no words of its own the frame that it was given to.
 pub fn tell_answered(area: &mut [u8; AREA_BYTES], answer: &Answer) -> Told
     ensures told { result ≡ told_answer (frame_of area.old) answer.now }
-    ensures area { area.new ≡ answered answer.now area.old }
+    ensures area { area.new ≡ area_after_answer answer.now area.old }
 {
     let _ = write_answer(area, answer);
     tell(area)
@@ -21,7 +21,7 @@ pub fn tell_answered(area: &mut [u8; AREA_BYTES], answer: &Answer) -> Told
 /// Writes a message as a caller posts it, and says what the area then is: that message, which waits.
 pub fn tell_written(area: &mut [u8; AREA_BYTES], message: &Message) -> Told
     ensures told { result ≡ told_posted (Good message.now) }
-    ensures area { area.new ≡ posted message.now area.old }
+    ensures area { area.new ≡ area_after_post message.now area.old }
 {
     let _ = write_message(area, message);
     tell(area)

@@ -3,7 +3,7 @@ ghost use Rattle.std.specs.Prelude.{◌≡◌, ◌≢◌, ◌/◌, ◌%◌, ◌=
 ghost use Rattle.scmi_codec.specs.Area.{frame_of, status_at, StandsForAnswer};
 ghost use Rattle.scmi_codec.specs.declared.frame.Frame.{Frame as FrameOf};
 ghost use Rattle.scmi_codec.specs.declared.frame.Answer.{Answer as AnswerOf};
-ghost use Rattle.scmi_say.specs.Told.{told, told_posted, told_left, told_response, told_p2a, told_answer};
+ghost use Rattle.scmi_say.specs.Told.{told_area, told_posted, told_left, told_response, told_p2a, told_answer};
 
 use crate::reply::response_status;
 use crate::told::Told;
@@ -17,7 +17,7 @@ pub(crate) const STATUS_AT: usize = 4;
 /// there. Of a free one a message of type 0 is a reply where it has the form of one, and else a command
 /// that was withdrawn (own).
 pub fn tell(area: &[u8; AREA_BYTES]) -> Told
-    ensures told { result ≡ told area.now }
+    ensures told { result ≡ told_area area.now }
     ensures answer { (frame : FrameOf) → (answer : AnswerOf) →
         StandsForAnswer area.now frame answer → result ≡ told_answer frame answer }
 {

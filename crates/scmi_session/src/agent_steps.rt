@@ -1,7 +1,7 @@
 //! What one agent does in a step, and the line that is written for it, by its own end and link.
 ghost use Rattle.scmi_ends.specs.AgentView.{IsOfLink};
 ghost use Rattle.scmi_text.specs.declared.step.AgentStep.TheVariants as step;
-ghost use Rattle.scmi_session.specs.Session.{HasSameNames};
+ghost use Rattle.scmi_session.specs.Session.{HasSameIdentities};
 ghost use Rattle.scmi_session.specs.StepLines.{IsAgentLine};
 
 use scmi_codec::Message;
@@ -16,8 +16,8 @@ pub fn make<C: Channel>(
     end: &mut AgentEnd<C>,
     link: &Link<C>,
 ) -> StepLine
-    requires { IsOfLink (C.name link.now.a2p) (C.name link.now.p2a) end.old }
-    ensures names { HasSameNames end.old end.new }
+    requires { IsOfLink (C.identity link.now.a2p) (C.identity link.now.p2a) end.old }
+    ensures identities { HasSameIdentities end.old end.new }
     ensures line { IsAgentLine agent step.now result }
 {
     match step {
@@ -39,8 +39,8 @@ pub fn call<C: Channel>(
     end: &mut AgentEnd<C>,
     link: &Link<C>,
 ) -> StepLine
-    requires { IsOfLink (C.name link.now.a2p) (C.name link.now.p2a) end.old }
-    ensures names { HasSameNames end.old end.new }
+    requires { IsOfLink (C.identity link.now.a2p) (C.identity link.now.p2a) end.old }
+    ensures identities { HasSameIdentities end.old end.new }
     ensures line { IsAgentLine agent (step.Call command.now) result }
 {
     match end.call(link, command.protocol, command.message, &command.payload) {
@@ -55,8 +55,8 @@ fn post<C: Channel>(
     end: &mut AgentEnd<C>,
     link: &Link<C>,
 ) -> StepLine
-    requires { IsOfLink (C.name link.now.a2p) (C.name link.now.p2a) end.old }
-    ensures names { HasSameNames end.old end.new }
+    requires { IsOfLink (C.identity link.now.a2p) (C.identity link.now.p2a) end.old }
+    ensures identities { HasSameIdentities end.old end.new }
     ensures line { IsAgentLine agent (step.Raw message.now) result }
 {
     match end.post(link, message) {
@@ -72,8 +72,8 @@ fn post_malformed<C: Channel>(
     end: &mut AgentEnd<C>,
     link: &Link<C>,
 ) -> StepLine
-    requires { IsOfLink (C.name link.now.a2p) (C.name link.now.p2a) end.old }
-    ensures names { HasSameNames end.old end.new }
+    requires { IsOfLink (C.identity link.now.a2p) (C.identity link.now.p2a) end.old }
+    ensures identities { HasSameIdentities end.old end.new }
     ensures line { IsAgentLine agent (step.Malformed length header) result }
 {
     match end.post_malformed(link, length, header) {
@@ -84,8 +84,8 @@ fn post_malformed<C: Channel>(
 
 /// The agent collects.
 pub fn collect<C: Channel>(agent: u32, end: &mut AgentEnd<C>, link: &Link<C>) -> StepLine
-    requires { IsOfLink (C.name link.now.a2p) (C.name link.now.p2a) end.old }
-    ensures names { HasSameNames end.old end.new }
+    requires { IsOfLink (C.identity link.now.a2p) (C.identity link.now.p2a) end.old }
+    ensures identities { HasSameIdentities end.old end.new }
     ensures line { IsAgentLine agent step.Collect result }
 {
     let collected = end.collect(link);
@@ -93,8 +93,8 @@ pub fn collect<C: Channel>(agent: u32, end: &mut AgentEnd<C>, link: &Link<C>) ->
 }
 
 fn next_p2a<C: Channel>(agent: u32, end: &mut AgentEnd<C>, link: &Link<C>) -> StepLine
-    requires { IsOfLink (C.name link.now.a2p) (C.name link.now.p2a) end.old }
-    ensures names { HasSameNames end.old end.new }
+    requires { IsOfLink (C.identity link.now.a2p) (C.identity link.now.p2a) end.old }
+    ensures identities { HasSameIdentities end.old end.new }
     ensures line { IsAgentLine agent step.P2a result }
 {
     let frame = end.next_p2a(link);
@@ -102,8 +102,8 @@ fn next_p2a<C: Channel>(agent: u32, end: &mut AgentEnd<C>, link: &Link<C>) -> St
 }
 
 fn close<C: Channel>(agent: u32, end: &mut AgentEnd<C>, link: &Link<C>) -> StepLine
-    requires { IsOfLink (C.name link.now.a2p) (C.name link.now.p2a) end.old }
-    ensures names { HasSameNames end.old end.new }
+    requires { IsOfLink (C.identity link.now.a2p) (C.identity link.now.p2a) end.old }
+    ensures identities { HasSameIdentities end.old end.new }
     ensures line { IsAgentLine agent step.Close result }
 {
     match end.close(link) {

@@ -27,7 +27,7 @@ impl<C: Channel> Model for Session<C> {
 
     ghost view = { λ s. length s.agents.items };
 
-    ghost invariant = { λ s. BelongTogether C.name s.links.items s.controller s.agents.items };
+    ghost invariant = { λ s. BelongTogether C.identity s.links.items s.controller s.agents.items };
 }
 
 impl<C: Channel> Session<C> {

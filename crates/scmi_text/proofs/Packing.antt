@@ -4,12 +4,12 @@ use Rattle.std.proofs.lemmas.List.{drop-take, length-take, map-append, take-appe
 use Rattle.std.proofs.lemmas.List.Elements.{All-head, All-push, All-tail}
 use Rattle.std.specs.List.{All}
 use Rattle.std.specs.Prelude.{map}
-use Rattle.scmi_text.specs.PackedStep.{IsPacked, Keeps, step_of, step_with}
+use Rattle.scmi_text.specs.PackedStep.{IsPacked, IsStartOf, step_of, step_with}
 use Rattle.scmi_text.specs.Step.{AddsStepOf, IsStepOf}
 use Rattle.scmi_text.specs.declared.packed_step.PackedStep.{PackedStep}
 use Rattle.scmi_text.specs.declared.step.Step.{Step}
 
-module _ (old new : List ℕ) (keeps : Keeps old new) where
+module _ (old new : List ℕ) (keeps : IsStartOf old new) where
   -- words that are kept are no fewer
   pub length_kept : length old ≤ length new
   length_kept =
@@ -37,15 +37,15 @@ module _ (old new : List ℕ) (keeps : Keeps old new) where
       rw (part_kept p.first p.count first.within) (ap (λ ss. step_of old p ∷ ss) (steps_kept steps (All-tail (IsPacked old) p steps all)))
 
 -- all words are kept
-pub Keeps-same : (words : List ℕ) → Keeps words words
-Keeps-same words = take_all (length words) words (omega arith)
+pub IsStartOf-same : (words : List ℕ) → IsStartOf words words
+IsStartOf-same words = take_all (length words) words (omega arith)
 
 -- and are kept with one more behind them
-pub Keeps-push : (old new : List ℕ) (word : ℕ) → Keeps old new → Keeps old (new ++ word ∷ [])
-Keeps-push old new word keeps = take-append-le (length old) new (word ∷ []) (length_kept old new keeps) ∙ keeps
+pub IsStartOf-push : (old new : List ℕ) (word : ℕ) → IsStartOf old new → IsStartOf old (new ++ word ∷ [])
+IsStartOf-push old new word keeps = take-append-le (length old) new (word ∷ []) (length_kept old new keeps) ∙ keeps
 
 -- one step more
-pub adds : (agents : ℕ) (old new : List ℕ) (steps after : List PackedStep) (p : PackedStep) → Keeps old new → All (IsPacked old) steps → after ≡ steps ++ p ∷ [] → IsStepOf agents (step_of new p)
+pub adds : (agents : ℕ) (old new : List ℕ) (steps after : List PackedStep) (p : PackedStep) → IsStartOf old new → All (IsPacked old) steps → after ≡ steps ++ p ∷ [] → IsStepOf agents (step_of new p)
     → AddsStepOf agents (map (step_of old) steps) (map (step_of new) after)
 adds agents old new steps after p keeps all pushed of_agent = record {
   step = step_of new p;

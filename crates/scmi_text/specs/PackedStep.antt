@@ -41,5 +41,5 @@ pub record IsPacked (words : List ℕ) (packed : PackedStep) : Type 0 where
   pub within : packed.first + packed.count ≤ length words
 
 -- the words are still the first of those that follow
-abbrev pub Keeps : List ℕ → List ℕ → Type 0
-Keeps old new = take (length old) new ≡ old
+abbrev pub IsStartOf : List ℕ → List ℕ → Type 0
+IsStartOf old new = take (length old) new ≡ old

@@ -3,7 +3,7 @@ ghost use Rattle.std.specs.Prelude.{◌≡◌, ◌≤◌, ◌+◌, List, ℕ, So
 ghost use Rattle.std.specs.List.{All};
 ghost use Rattle.scmi_board.specs.TextError.{IsOfScript};
 ghost use Rattle.scmi_codec.specs.declared.payload.TheConstants.{PAYLOAD_WORDS};
-ghost use Rattle.scmi_text.specs.PackedStep.{IsPacked, Keeps, step_of, step_with};
+ghost use Rattle.scmi_text.specs.PackedStep.{IsPacked, IsStartOf, step_of, step_with};
 ghost use Rattle.scmi_text.specs.Step.{IsStepOf, step_agent};
 
 use crate::packed_step::{Head, PackedStep, has_payload};
@@ -37,7 +37,7 @@ pub(crate) fn read_step(
     agents: u32,
     words: &mut Vec<u32>,
 ) -> Result<PackedStep, LineError>
-    ensures rest { Keeps words.old.items words.new.items }
+    ensures rest { IsStartOf words.old.items words.new.items }
     ensures packed { IfOk result (IsPacked words.new.items) }
     ensures agent { IfOk result (λ step. IsStepOf agents (step_of words.new.items step)) }
 {
@@ -56,7 +56,7 @@ pub(crate) fn read_step(
 /// Adds all items that are left behind words, and gives how many they were. `Form` where there are
 /// more than `PAYLOAD_WORDS`, or one is no word.
 fn read_words(items: &mut Items<'_>, words: &mut Vec<u32>) -> Result<usize, LineError>
-    ensures rest { Keeps words.old.items words.new.items }
+    ensures rest { IsStartOf words.old.items words.new.items }
     ensures few { IfOk result (λ count. count ≤ PAYLOAD_WORDS) }
     ensures count { IfOk result (λ count.
         length words.old.items + count ≡ length words.new.items) }

@@ -11,7 +11,7 @@ use Rattle.scmi_ends.specs.declared.served.Served.TheVariants as served
 use Rattle.scmi_ends.specs.declared.flushed.Flushed.{Flushed}
 use Rattle.scmi_plan.specs.Board.{Board}
 use Rattle.scmi_core.specs.declared.event.Event.{Event}
-use Rattle.scmi_threads.specs.Rounds.{AllOpen}
+use Rattle.scmi_threads.specs.Rounds.{IsOpenToAll}
 
 abbrev is_open : CalleeView → Type 0
 is_open callee = callee.closed ≡ false
@@ -25,10 +25,10 @@ stays_open : (board : Board) (a : ℕ) (h h' : List Event) (v w : CalleeView) (r
 stays_open board a h h' v w served.Nothing s o = ap (λ u. u.closed) s.1.same ∙ o
 stays_open board a h h' v w served.Done s o = ap (λ u. u.closed) s.end ∙ o
 
-pub serves_open : (a : ℕ) (c c' : ControllerView) (r : Served) → Serves a c r c' → AllOpen c → AllOpen c'
+pub serves_open : (a : ℕ) (c c' : ControllerView) (r : Served) → Serves a c r c' → IsOpenToAll c → IsOpenToAll c'
 serves_open a c c' r s o = subst (λ ds. All is_open ds) (sym (ap (λ u. u.callees) s.same)) (All-set is_open c.callees (a - 1) s.callee (stays_open c.board a c.history c'.history (callee_of c a) s.callee r s.step (one_open c.callees (a - 1) o)) o)
 
-pub flushes_open : (full : Bool) (a : ℕ) (c c' : ControllerView) (r : Flushed) → Flushes full a c r c' → AllOpen c → AllOpen c'
+pub flushes_open : (full : Bool) (a : ℕ) (c c' : ControllerView) (r : Flushed) → Flushes full a c r c' → IsOpenToAll c → IsOpenToAll c'
 flushes_open full a c c' r s o = subst (λ ds. All is_open ds) (sym (ap (λ u. u.callees) s.same)) o
 
 -- the platform's ends as they are made

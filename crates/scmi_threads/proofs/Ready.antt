@@ -5,15 +5,15 @@ use Rattle.std.specs.List.{AllZip}
 use Rattle.std.proofs.lemmas.List.{map-append, drop_more, take_more, take_all}
 use Rattle.scmi_ends.specs.Each.{AllFrom}
 use Rattle.scmi_ends.specs.AgentView.{AgentView, IsNewAgent}
-use Rattle.scmi_threads.specs.ScriptRuns.{IsReady}
+use Rattle.scmi_threads.specs.ScriptRuns.{IsNewOnLink}
 
-pub all_ready : {L : Type 0} (f k : L → List ℕ) (n : ℕ) (ls : List L) (es : List AgentView) → map (λ e. e.a2p_name) es ≡ map f ls → map (λ e. e.p2a_name) es ≡ map k ls → AllFrom IsNewAgent n es → AllZip (λ l e. IsReady (f l) (k l) e) ls es
+pub all_ready : {L : Type 0} (f k : L → List ℕ) (n : ℕ) (ls : List L) (es : List AgentView) → map (λ e. e.a2p_identity) es ≡ map f ls → map (λ e. e.p2a_identity) es ≡ map k ls → AllFrom IsNewAgent n es → AllZip (λ l e. IsNewOnLink (f l) (k l) e) ls es
 all_ready f k n [] [] p q h = tt
 all_ready f k n [] (e ∷ es) p q h = absurd (omega (arith, ap length p))
 all_ready f k n (l ∷ ls) [] p q h = absurd (omega (arith, ap length p))
 all_ready f k n (l ∷ ls) (e ∷ es) p q h = (
   record {
-    fits = record { of_a2p = ap (λ zs. get_or zs 0 (e.a2p_name)) p; of_p2a = ap (λ zs. get_or zs 0 (e.p2a_name)) q };
+    fits = record { of_a2p = ap (λ zs. get_or zs 0 (e.a2p_identity)) p; of_p2a = ap (λ zs. get_or zs 0 (e.p2a_identity)) q };
     caller = h.0.caller;
     callee = h.0.callee;
     token = h.0.token;

@@ -10,7 +10,7 @@ use Rattle.scmi_link.specs.View.{CallerView, CalleeView}
 use Rattle.scmi_plan.specs.Board.{Board}
 use Rattle.scmi_core.specs.declared.event.Event.{Event}
 use Rattle.scmi_core.specs.declared.event.Event.TheVariants.{Command, Advance, Sent}
-use Rattle.scmi_core.specs.Deed.{over}
+use Rattle.scmi_core.specs.Deed.{fold_with_prefix}
 use Rattle.scmi_core.specs.History.{answer_to}
 use Rattle.scmi_core.specs.Agents.{frame_from, frames_of, answer_for, answers_to}
 use Rattle.scmi_ends.specs.AgentView.{AgentView}
@@ -56,8 +56,8 @@ module _ (board : Board) (a : ℕ) where
   each before Advance rest h = (All-nil IsReply, h)
   each before (Sent b) rest h = (All-nil IsReply, h)
 
-  from : (before : List Event) (so_far : List Answer) (h : List Event) → All IsReply so_far → All IsGood (filter_map (frame_from a) h) → All IsReply (over (λ b xs e. xs ++ answer_for board a b e) before so_far h)
-  unfolding over
+  from : (before : List Event) (so_far : List Answer) (h : List Event) → All IsReply so_far → All IsGood (filter_map (frame_from a) h) → All IsReply (fold_with_prefix (λ b xs e. xs ++ answer_for board a b e) before so_far h)
+  unfolding fold_with_prefix
   from before so_far [] r good = r
   from before so_far (e ∷ h) r good =
       let one = each before e (filter_map (frame_from a) h) good in

@@ -5,7 +5,7 @@ use Rattle.scmi_link.specs.Gathered.{IsAllButLast, IsPrefixOf}
 use Rattle.scmi_link.specs.declared.closing.Closing.TheVariants.{Idle, Withdrawn}
 use Rattle.scmi_plan.specs.Board.{Board}
 use Rattle.scmi_core.specs.Agents.{frames_of, answers_to}
-use Rattle.scmi_core.specs.History.{delivered}
+use Rattle.scmi_core.specs.History.{delivered_messages}
 use Rattle.scmi_core.specs.declared.event.Event.{Event}
 use Rattle.scmi_ends.specs.AgentView.{AgentView}
 use Rattle.scmi_ends.specs.Headline.{IsAllMade}
@@ -50,7 +50,7 @@ pub record LogHeadline (board : Board) (h : List Event) (a : ℕ) (log : AgentLo
   -- after a close with nothing outstanding no command was given up: each was executed, and its answer was read
   pub idle : log.closing ≡ Some Idle → (frames_of a h ≡ log.posted.items) × (log.read.items ≡ answers_to board a h)
   -- the messages that were taken are those delivered, at most the last left out
-  pub taken : (log.p2a.items ≡ map Good (delivered board a h)) ⊎ IsAllButLast log.p2a.items (map Good (delivered board a h))
+  pub taken : (log.p2a.items ≡ map Good (delivered_messages board a h)) ⊎ IsAllButLast log.p2a.items (map Good (delivered_messages board a h))
   -- what was made for the agent is what it took, then at most one message not taken, then its outbox
   pub made : IsAllMade board h a log.p2a.items
   -- the lines show the messages that were taken

@@ -6,11 +6,11 @@ use Rattle.scmi_ends.specs.ControllerView.{ControllerView}
 use Rattle.scmi_ends.specs.Links.{HasLinks}
 
 -- the platform has closed no agent's A2P channel
-abbrev pub AllOpen : ControllerView → Type 0
-AllOpen platform = All (λ callee. callee.closed ≡ false) platform.callees
+abbrev pub IsOpenToAll : ControllerView → Type 0
+IsOpenToAll platform = All (λ callee. callee.closed ≡ false) platform.callees
 
 -- what a round leaves as it was: the links whose ends the platform has, the board, and that the ends are open
-pub record GoesOn {C Caller Callee Rest : Type 0} (name : C → List ℕ) (links : List (Link C Caller Callee Rest)) (old new : ControllerView) : Type 0 where
-  pub has_links : HasLinks name links new
+pub record GoesOn {C Caller Callee Rest : Type 0} (identity : C → List ℕ) (links : List (Link C Caller Callee Rest)) (old new : ControllerView) : Type 0 where
+  pub has_links : HasLinks identity links new
   pub board : new.board ≡ old.board
-  pub open_ends : AllOpen new
+  pub open_ends : IsOpenToAll new

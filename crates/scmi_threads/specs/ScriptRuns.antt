@@ -10,8 +10,8 @@ use Rattle.scmi_threads.specs.declared.script_run.ScriptRun.{ScriptRun}
 
 -- what an agent's script leaves as it was: whose ends it has, and what it was to do; a disturbed agent stays so
 pub record HasRun {C Caller Callee Rest : Type 0} {g : _} (old new : ScriptRun C Caller Callee Rest g) : Type 0 where
-  pub a2p : new.end.a2p_name ≡ old.end.a2p_name
-  pub p2a : new.end.p2a_name ≡ old.end.p2a_name
+  pub a2p : new.end.a2p_identity ≡ old.end.a2p_identity
+  pub p2a : new.end.p2a_identity ≡ old.end.p2a_identity
   pub script : new.script ≡ old.script
   pub undisturbed : IsUndisturbed new.end.caller → IsUndisturbed old.end.caller
 
@@ -27,8 +27,8 @@ pub record IsStarted {C Caller Callee Rest : Type 0} {g : _} (scripts : List Scr
   pub caller : script_run.end.caller ≡ new_caller
 
 -- an agent that has done nothing, with the ends of the channels with these names
-pub record IsReady (a2p_name p2a_name : List ℕ) (agent : AgentView) : Type 0 where
-  pub fits : IsOfLink a2p_name p2a_name agent
+pub record IsNewOnLink (a2p_identity p2a_identity : List ℕ) (agent : AgentView) : Type 0 where
+  pub fits : IsOfLink a2p_identity p2a_identity agent
   pub caller : agent.caller ≡ new_caller
   pub callee : agent.callee ≡ new_callee
   pub token : agent.token ≡ 0

@@ -1,6 +1,6 @@
 //! The platform's side of a run: the controller's rounds.
 ghost use Rattle.scmi_ends.specs.Links.{HasLinks};
-ghost use Rattle.scmi_threads.specs.Rounds.{AllOpen, GoesOn};
+ghost use Rattle.scmi_threads.specs.Rounds.{IsOpenToAll, GoesOn};
 
 use scmi_ends::{Controller, Link, ServeError};
 use scmi_link::Channel;
@@ -16,9 +16,9 @@ pub(crate) fn run_rounds<C: Channel, R: Wait>(
     mut controller: Controller<C>,
     agents: u32,
 ) -> (Controller<C>, bool)
-    requires links { HasLinks C.name links.now controller }
-    requires open_ends { AllOpen controller }
-    ensures { GoesOn C.name links.now controller result.0 }
+    requires links { HasLinks C.identity links.now controller }
+    requires open_ends { IsOpenToAll controller }
+    ensures { GoesOn C.identity links.now controller result.0 }
 {
     let mut refused = false;
     'rounds: for _ in rt.forever() {
@@ -38,9 +38,9 @@ fn run_round<C: Channel>(
     links: &[Link<C>],
     agents: u32,
 ) -> Result<(), ServeError>
-    requires links { HasLinks C.name links.now controller.old }
-    requires open_ends { AllOpen controller.old }
-    ensures { GoesOn C.name links.now controller.old controller.new }
+    requires links { HasLinks C.identity links.now controller.old }
+    requires open_ends { IsOpenToAll controller.old }
+    ensures { GoesOn C.identity links.now controller.old controller.new }
 {
     'served: for agent in 1..agents.saturating_add(1) {
         controller.serve(links, agent)?;

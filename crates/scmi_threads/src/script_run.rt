@@ -20,8 +20,8 @@ pub struct ScriptRun<'a, C: Channel> {
     pub script: &'a [Order],
     pub end: AgentEnd<C>,
     pub log: AgentLog,
-    ghost of_a2p: { end.a2p_name ≡ C.name link.now.a2p },
-    ghost of_p2a: { end.p2a_name ≡ C.name link.now.p2a },
+    ghost of_a2p: { end.a2p_identity ≡ C.identity link.now.a2p },
+    ghost of_p2a: { end.p2a_identity ≡ C.identity link.now.p2a },
     ghost posted_is: { log.posted.items ≡ end.caller.posted },
     ghost read_is: { log.read.items ≡ end.caller.read },
     ghost p2a_is: { log.p2a.items ≡ end.callee.taken },
@@ -33,7 +33,7 @@ impl<'a, C: Channel> ScriptRun<'a, C> {
     ghost use Rattle.scmi_ends.specs.AgentView.{IsOfLink};
     ghost use Rattle.scmi_threads.specs.Logs.{IsEmptyLog};
     ghost use Rattle.scmi_threads.specs.Orders.{HasDone, IsAtRest, IsUndisturbed, stop_of};
-    ghost use Rattle.scmi_threads.specs.ScriptRuns.{HasPlayed, HasRun, IsReady};
+    ghost use Rattle.scmi_threads.specs.ScriptRuns.{HasPlayed, HasRun, IsNewOnLink};
 
     /// The run of a script that has done nothing, with an empty log.
     pub(crate) fn new(
@@ -42,7 +42,7 @@ impl<'a, C: Channel> ScriptRun<'a, C> {
         script: &'a [Order],
         end: AgentEnd<C>,
     ) -> ScriptRun<'a, C>
-        requires ready { IsReady (C.name link.now.a2p) (C.name link.now.p2a) end }
+        requires ready { IsNewOnLink (C.identity link.now.a2p) (C.identity link.now.p2a) end }
         ensures end { result.end ≡ end }
         ensures script { result.script ≡ script.entry }
         ensures log { IsEmptyLog result.log }

@@ -3,7 +3,7 @@ ghost use Rattle.std.specs.Prelude.{◌≡◌, ◌≤◌, [], map, vec_len, vec_
 ghost use Rattle.std.specs.List.{AllZip};
 ghost use Rattle.scmi_ends.specs.Each.{AllFrom};
 ghost use Rattle.scmi_ends.specs.AgentView.{IsNewAgent};
-ghost use Rattle.scmi_ends.specs.Links.{AreEndsOf, names_of_a2p, names_of_p2a};
+ghost use Rattle.scmi_ends.specs.Links.{AreEndsOf, identities_of_a2p, identities_of_p2a};
 ghost use Rattle.scmi_threads.specs.Logs.{IsLogOf};
 ghost use Rattle.scmi_threads.specs.ScriptLogs.{orders_of};
 ghost use Rattle.scmi_threads.specs.ScriptRuns.{IsStarted};
@@ -23,12 +23,12 @@ pub(crate) fn start_runs<'a, C: Channel>(
     scripts: &'a [Script],
     mut ends: Vec<AgentEnd<C>>,
 ) -> Result<Vec<ScriptRun<'a, C>>, AllocError>
-    requires ends { AreEndsOf C.name links.now ends.items }
+    requires ends { AreEndsOf C.identity links.now ends.items }
     requires fresh { AllFrom IsNewAgent 1 ends.items }
     ensures a2p { IfOk result (λ runs.
-        map (λ run. run.end.a2p_name) runs.items ≡ names_of_a2p C.name links.entry.now) }
+        map (λ run. run.end.a2p_identity) runs.items ≡ identities_of_a2p C.identity links.entry.now) }
     ensures p2a { IfOk result (λ runs.
-        map (λ run. run.end.p2a_name) runs.items ≡ names_of_p2a C.name links.entry.now) }
+        map (λ run. run.end.p2a_identity) runs.items ≡ identities_of_p2a C.identity links.entry.now) }
     ensures started { IfOk result (λ runs. AllFrom (IsStarted scripts.entry.now) 1 runs.items) }
 {
     let mut script_runs = Vec::new(alloc);
@@ -62,10 +62,10 @@ pub(crate) fn end_runs<C: Channel>(
     requires empty { (ends.items ≡ []) × (logs.items ≡ []) }
     requires ends { vec_len script_runs ≤ vec_capacity ends }
     requires logs { vec_len script_runs ≤ vec_capacity logs }
-    ensures a2p { map (λ agent. agent.a2p_name) result.0.items ≡
-        map (λ run. run.end.a2p_name) script_runs.entry.items }
-    ensures p2a { map (λ agent. agent.p2a_name) result.0.items ≡
-        map (λ run. run.end.p2a_name) script_runs.entry.items }
+    ensures a2p { map (λ agent. agent.a2p_identity) result.0.items ≡
+        map (λ run. run.end.a2p_identity) script_runs.entry.items }
+    ensures p2a { map (λ agent. agent.p2a_identity) result.0.items ≡
+        map (λ run. run.end.p2a_identity) script_runs.entry.items }
     ensures logs { AllZip IsLogOf result.0.items result.1.items }
     ensures same { (result.0.items ≡ map (λ run. run.end) script_runs.entry.items) ×
         (result.1.items ≡ map (λ run. run.log) script_runs.entry.items) }

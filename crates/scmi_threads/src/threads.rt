@@ -7,7 +7,7 @@ ghost use Rattle.scmi_core.specs.Legal.{IsLegal};
 ghost use Rattle.scmi_ends.specs.Each.{AllFrom};
 ghost use Rattle.scmi_ends.specs.Links.{HasLinks, AreEndsOf};
 ghost use Rattle.scmi_threads.specs.Logs.{IsLogOf, LogHeadline};
-ghost use Rattle.scmi_threads.specs.Rounds.{AllOpen, GoesOn};
+ghost use Rattle.scmi_threads.specs.Rounds.{IsOpenToAll, GoesOn};
 ghost use Rattle.scmi_threads.specs.Orders.{IsUndisturbed};
 ghost use Rattle.scmi_threads.specs.ScriptLogs.{IsScriptLog, orders_of};
 ghost use Rattle.scmi_threads.specs.Scripts.{AreScriptsOf};
@@ -94,18 +94,18 @@ fn run_beside<'a, C: Channel, G: Gate, R: Threads + Wait + Sync>(
     script_runs: Vec<ScriptRun<'a, C>>,
     agents: u32,
 ) -> ((Controller<C>, bool), Vec<ScriptRun<'a, C>>)
-    requires links { HasLinks C.name links.now controller }
-    requires open_ends { AllOpen controller }
-    ensures goes_on { GoesOn C.name links.now controller result.0.0 }
+    requires links { HasLinks C.identity links.now controller }
+    requires open_ends { IsOpenToAll controller }
+    ensures goes_on { GoesOn C.identity links.now controller result.0.0 }
     ensures ran { AllZip (HasPlayed C.FULL) script_runs.entry.items result.1.items }
 {
     let ended = AtomicUsize::new(0);
     join(
         rt,
         || -> (Controller<C>, bool)
-            requires links { HasLinks C.name links.now controller }
-            requires open_ends { AllOpen controller }
-            ensures { GoesOn C.name links.entry.now controller result.0 }
+            requires links { HasLinks C.identity links.now controller }
+            requires open_ends { IsOpenToAll controller }
+            ensures { GoesOn C.identity links.entry.now controller result.0 }
         { run_rounds(rt, links, &ended, controller, agents) },
         || -> Vec<ScriptRun<C>>
             ensures { AllZip (HasPlayed C.FULL) script_runs.entry.items result.items }
@@ -121,9 +121,9 @@ fn conclude<C: Channel>(
     logs: Vec<AgentLog>,
     memory: bool,
 ) -> Outcome
-    requires links { HasLinks C.name links.items controller }
-    requires open_ends { AllOpen controller }
-    requires ends { AreEndsOf C.name links.items ends.items }
+    requires links { HasLinks C.identity links.items controller }
+    requires open_ends { IsOpenToAll controller }
+    requires ends { AreEndsOf C.identity links.items ends.items }
     requires logs { AllZip IsLogOf ends.items logs.items }
     ensures legal { IsLegal controller.board result.trace.events }
     ensures bounds { HasBounds controller.board (deeds controller.board result.trace.events) }

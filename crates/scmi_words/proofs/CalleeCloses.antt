@@ -16,7 +16,7 @@ use Rattle.scmi_words.specs.declared.view.CalleeHalf.{CalleeHalf}
 use Rattle.scmi_words.specs.declared.view.View.{View}
 use Rattle.scmi_words.specs.Area.{Begins, IsLawful, IsLawfulAnswer, frame_words, settled_words, stored_words, answer_of}
 use Rattle.scmi_words.specs.StatusWord.{Mark, status_word, answer_mark, settled_mark}
-use Rattle.scmi_words.specs.Mailbox.{Rule, Kept, Stage, IsTaken, idle, posted, taken, answered, withdrawn}
+use Rattle.scmi_words.specs.Mailbox.{Rule, HalvesAgree, Stage, IsTaken, idle, posted, taken, answered, withdrawn}
 use Rattle.scmi_words.specs.View.{with_callee, callee_or}
 use Rattle.scmi_words.specs.CalleeSteps.{callee_answered, callee_closed, IsOwing, answers, closes}
 use Rattle.scmi_words.proofs.TableWords.{begins_after_status, narrow_status}
@@ -70,12 +70,12 @@ answer_decoded Released l = refl
 answer_decoded ChannelError l = refl
 
 pub answers_allowed : (slots id : ℕ) (me : M) (h : CalleeHalf) (x : Answer) (a : ℕ) → me.0.callee ≡ Some h → IsOwing h → IsLawfulAnswer x → h.state.draft ≡ stored_words x → a ≡ status_word (answer_mark x) false
-    → Allows Kept slots id me 0 (λ n. either (eqb n TAKEN) a n) (answers (step slots 0 TAKEN a none) me)
+    → Allows HalvesAgree slots id me 0 (λ n. either (eqb n TAKEN) a n) (answers (step slots 0 TAKEN a none) me)
 answers_allowed slots id me h x a is owes lawful as_stored status s r _ at _ =
     let n : ℕ = get_or s.words 0 0 in let c = r.caller in let rule = callee_known s r id me.0 h at is in let t = is_taken s.words c.state h.state rule.stage owes in
     let found : n ≡ TAKEN = t.status ∙ (λ i. status_word Mark.taken (t.unclosed.0 i || t.unclosed.1 i)) in let h' = callee_answered h x in
     let decoded : answer_of a h.state.draft ≡ x = (λ i. answer_of (status i) (as_stored i)) ∙ answer_decoded x lawful in
-    exchanged n TAKEN a (λ z. (w : View) × (act : _) × Valid s.homes me.1 act × Kept (stepped s 0 z id me.1 w act) × answers (step slots 0 TAKEN a none) me n (w, carried_after me.1 act))
+    exchanged n TAKEN a (λ z. (w : View) × (act : _) × Valid s.homes me.1 act × HalvesAgree (stepped s 0 z id me.1 w act) × answers (step slots 0 TAKEN a none) me n (w, carried_after me.1 act))
     (λ hit. (
       with_callee me.0 h',
       keeps,
@@ -150,7 +150,7 @@ module _ (words : List ℕ) (c : CallerState) (k : CalleeState) (wide : length w
     lawful = x.lawful;
   }
 
-pub closes_allowed : (slots id : ℕ) (me : M) (h : CalleeHalf) → me.0.callee ≡ Some h → (IsOwing h → ⊥) → Allows Kept slots id me 0 (λ n. bit_or n CLOSED) (closes (step slots 0 CLOSED 0 none) me)
+pub closes_allowed : (slots id : ℕ) (me : M) (h : CalleeHalf) → me.0.callee ≡ Some h → (IsOwing h → ⊥) → Allows HalvesAgree slots id me 0 (λ n. bit_or n CLOSED) (closes (step slots 0 CLOSED 0 none) me)
 closes_allowed slots id me h is done s r _ at _ =
     let c = r.caller in let rule = callee_known s r id me.0 h at is in let n : ℕ = get_or s.words 0 0 in let a : ℕ = bit_or n CLOSED in let h' = callee_closed h (length c.state.posted) in (
       with_callee me.0 h',

@@ -6,7 +6,7 @@ use prog.Atomic.{either}
 use Rattle.atomic_table.proofs.Lists.{exchanged}
 use Rattle.atomic_table.specs.Table.{Me, step, keeps, stepped, Allows, Valid, carried_after}
 use Rattle.scmi_codec.specs.declared.frame.Frame.{Frame}
-use Rattle.scmi_words.specs.declared.phase.Phase.TheVariants.{Waiting, Stranded, GivenUp}
+use Rattle.scmi_words.specs.declared.phase.Phase.TheVariants.{Waiting, Withdrawing, GivenUp}
 use Rattle.scmi_words.specs.declared.view.CallerState.{CallerState}
 use Rattle.scmi_words.specs.declared.view.CalleeState.{CalleeState}
 use Rattle.scmi_words.specs.declared.view.CallerHalf.{CallerHalf}
@@ -14,7 +14,7 @@ use Rattle.scmi_words.specs.declared.view.CalleeHalf.{CalleeHalf}
 use Rattle.scmi_words.specs.declared.view.View.{View}
 use Rattle.scmi_words.specs.Area.{Begins, frame_words, taken_words}
 use Rattle.scmi_words.specs.StatusWord.{Mark, status_word}
-use Rattle.scmi_words.specs.Mailbox.{Rule, Kept, Stage, IsPosted, IsTaken, idle, posted, taken, answered, withdrawn}
+use Rattle.scmi_words.specs.Mailbox.{Rule, HalvesAgree, Stage, IsPosted, IsTaken, idle, posted, taken, answered, withdrawn}
 use Rattle.scmi_words.specs.View.{with_callee, callee_or}
 use Rattle.scmi_words.specs.CalleeSteps.{callee_after, callee_stored, callee_looked, callee_took, IsOwing, frame_area, takes, reads, stores}
 use Rattle.scmi_words.proofs.TableWords.{begins_more, begins_after_status, narrow_after, narrow_status, last_snoc}
@@ -80,7 +80,7 @@ store_keeps words h k j a r p here fits small = let wide = r.wide in let x = is_
 }
 
 pub stores_allowed : (slots id : ℕ) (me : M) (h : CalleeHalf) (j a : ℕ) → me.0.callee ≡ Some h → IsOwing h → j ≡ 2 + length h.state.draft → j < TABLE_WORDS → a < 2 ^ 32
-    → Allows Kept slots id me j (λ _. a) (λ _. stores (step slots j a 0 none) me a)
+    → Allows HalvesAgree slots id me j (λ _. a) (λ _. stores (step slots j a 0 none) me a)
 stores_allowed slots id me h j a is p here fits small s r _ at _ = let h' = callee_stored h a in (
   with_callee me.0 h',
   keeps,
@@ -91,7 +91,7 @@ stores_allowed slots id me h j a is p here fits small s r _ at _ = let h' = call
 
 -- a load of a word of the frame
 pub reads_allowed : (slots id : ℕ) (me : M) (h : CalleeHalf) (j : ℕ) → me.0.callee ≡ Some h → IsOwing h → h.state.draft ≡ [] → 0 < j
-    → Allows Kept slots id me j (λ n. n) (reads (step slots j 0 0 none) me)
+    → Allows HalvesAgree slots id me j (λ n. n) (reads (step slots j 0 0 none) me)
 reads_allowed slots id me h j is p none_yet pos s r _ at _ =
     let c = r.caller in let rule = callee_known s r id me.0 h at is in let x = is_taken s.words c.state h.state rule.stage p in let n : ℕ = get_or s.words j 0 in
     let h' = callee_after h 1 in
@@ -148,7 +148,7 @@ module _ (words : List ℕ) (h : CallerHalf) (k : CalleeHalf) where
     narrow = narrow_status words TAKEN r.narrow;
     stage = taken record {
       frame = x.frame;
-      phase = ⊎_elim (λ (e : h.state.phase ≡ Waiting). e) (⊎_elim (λ (e : h.state.phase ≡ Stranded). gone (λ w. let f : Stranded ≡ Waiting = sym e ∙ w in cc)) (λ (e : h.state.phase ≡ GivenUp). gone (λ w. let f : GivenUp ≡ Waiting = sym e ∙ w in cc))) x.phase;
+      phase = ⊎_elim (λ (e : h.state.phase ≡ Waiting). e) (⊎_elim (λ (e : h.state.phase ≡ Withdrawing). gone (λ w. let f : Withdrawing ≡ Waiting = sym e ∙ w in cc)) (λ (e : h.state.phase ≡ GivenUp). gone (λ w. let f : GivenUp ≡ Waiting = sym e ∙ w in cc))) x.phase;
       unclosed = sides;
       taken = sym x.taken;
       read = x.read;
@@ -169,11 +169,11 @@ module _ (words : List ℕ) (h : CallerHalf) (k : CalleeHalf) where
       gone : h.state.phase ≢ Waiting → h.state.phase ≡ Waiting
       gone ne = absurd (let f : true ≡ false = sym (x.gone ne) ∙ both in cc)
 
-pub takes_allowed : (slots id : ℕ) (me : M) (h : CalleeHalf) → me.0.callee ≡ Some h → Allows Kept slots id me 0 (λ n. either (eqb n 0) TAKEN n) (takes (step slots 0 0 TAKEN none) me)
+pub takes_allowed : (slots id : ℕ) (me : M) (h : CalleeHalf) → me.0.callee ≡ Some h → Allows HalvesAgree slots id me 0 (λ n. either (eqb n 0) TAKEN n) (takes (step slots 0 0 TAKEN none) me)
 takes_allowed slots id me h is s r _ at _ =
     let n : ℕ = get_or s.words 0 0 in let c = r.caller in let rule = callee_known s r id me.0 h at is in
     let same : (g : CalleeHalf) → me.0.callee ≡ Some g → h ≡ g = λ g e. ap callee_or (sym is ∙ e) in
-    exchanged n 0 TAKEN (λ z. (w : View) × (a : _) × Valid s.homes me.1 a × Kept (stepped s 0 z id me.1 w a) × takes (step slots 0 0 TAKEN none) me n (w, carried_after me.1 a))
+    exchanged n 0 TAKEN (λ z. (w : View) × (a : _) × Valid s.homes me.1 a × HalvesAgree (stepped s 0 z id me.1 w a) × takes (step slots 0 0 TAKEN none) me n (w, carried_after me.1 a))
     (λ hit. let p = take_here s.words c h rule.stage hit in let h' = callee_took h p.0.frame in (
       with_callee me.0 h',
       keeps,

@@ -5,7 +5,7 @@ use prog.Atomic.{either}
 use Rattle.atomic_table.proofs.Lists.{exchanged}
 use Rattle.std.specs.List.{last_or}
 use Rattle.atomic_table.specs.Table.{State, Me, step, keeps, stepped, Allows}
-use Rattle.scmi_words.specs.declared.phase.Phase.TheVariants.{Idle, Waiting, Stranded, Withdrawn}
+use Rattle.scmi_words.specs.declared.phase.Phase.TheVariants.{Idle, Waiting, Withdrawing, Withdrawn}
 use Rattle.scmi_words.specs.declared.view.CallerState.{CallerState}
 use Rattle.scmi_words.specs.declared.view.CalleeState.{CalleeState}
 use Rattle.scmi_words.specs.declared.view.CallerHalf.{CallerHalf}
@@ -13,7 +13,7 @@ use Rattle.scmi_words.specs.declared.view.CalleeHalf.{CalleeHalf}
 use Rattle.scmi_words.specs.declared.view.View.{View}
 use Rattle.scmi_words.specs.Area.{frame_words}
 use Rattle.scmi_words.specs.StatusWord.{Mark, status_word, settled_mark}
-use Rattle.scmi_words.specs.Mailbox.{Rule, Kept, Stage, IsPosted, IsTaken, IsAnswered, idle, posted, taken, answered, withdrawn}
+use Rattle.scmi_words.specs.Mailbox.{Rule, HalvesAgree, Stage, IsPosted, IsTaken, IsAnswered, idle, posted, taken, answered, withdrawn}
 use Rattle.scmi_words.specs.View.{with_caller, caller_or}
 use Rattle.scmi_words.specs.CallerSteps.{caller_closed, caller_withdrew, caller_saw_taken, caller_saw_answered, caller_stranded, Refuses, withdraws, closes}
 use Rattle.scmi_words.proofs.TableWords.{begins_after_status, narrow_status}
@@ -68,7 +68,7 @@ close_stage words c k wide (withdrawn x) p = let a : ℕ = bit_or (get_or words 
 }
 
 pub plain_closes : (slots id : ℕ) (me : M) (h : CallerHalf) → me.0.caller ≡ Some h → (h.state.phase ≡ Waiting → ⊥)
-    → Allows Kept slots id me 0 (λ n. bit_or n CLOSED) (closes (step slots 0 CLOSED 0 none) me)
+    → Allows HalvesAgree slots id me 0 (λ n. bit_or n CLOSED) (closes (step slots 0 CLOSED 0 none) me)
 plain_closes slots id me h is p s r _ at _ =
     let k = r.callee in let rule = caller_known s r id me.0 h at is in let n : ℕ = get_or s.words 0 0 in let a : ℕ = bit_or n CLOSED in let h' = caller_closed h (length k.state.taken) in (
       with_caller me.0 h',
@@ -89,12 +89,12 @@ plain_closes slots id me h is p s r _ at _ =
     )
 
 -- where the callee has closed, the fetch_or of both bits withdraws
-strands : (words : List ℕ) (c : CallerState) (k : CalleeState) → Stage words c k → c.phase ≡ Stranded → IsPosted words c k
-strands words c k (idle x) p = absurd (let f : Stranded ≡ Idle = sym p ∙ x.phase in cc)
+strands : (words : List ℕ) (c : CallerState) (k : CalleeState) → Stage words c k → c.phase ≡ Withdrawing → IsPosted words c k
+strands words c k (idle x) p = absurd (let f : Withdrawing ≡ Idle = sym p ∙ x.phase in cc)
 strands words c k (posted x) p = x
-strands words c k (taken x) p = absurd (let f : Stranded ≡ Waiting = sym p ∙ x.phase in cc)
-strands words c k (answered x) p = absurd (let f : Stranded ≡ Waiting = sym p ∙ x.phase in cc)
-strands words c k (withdrawn x) p = absurd (let f : Stranded ≡ Withdrawn = sym p ∙ x.phase in cc)
+strands words c k (taken x) p = absurd (let f : Withdrawing ≡ Waiting = sym p ∙ x.phase in cc)
+strands words c k (answered x) p = absurd (let f : Withdrawing ≡ Waiting = sym p ∙ x.phase in cc)
+strands words c k (withdrawn x) p = absurd (let f : Withdrawing ≡ Withdrawn = sym p ∙ x.phase in cc)
 
 -- the frame is withdrawn
 withdraw_keeps : (words : List ℕ) (h : CallerHalf) (k : CalleeHalf) → Rule words h k → IsPosted words h.state k.state → Rule (set words 0 (CLOSED + FREE)) (caller_withdrew h (length k.state.taken)) k
@@ -121,24 +121,24 @@ withdraw_keeps words h k r x = let wide = r.wide in record {
   shown = r.shown;
 }
 
-pub freeing_closes : (slots id : ℕ) (me : M) (h : CallerHalf) → me.0.caller ≡ Some h → h.state.phase ≡ Stranded
-    → Allows Kept slots id me 0 (λ n. bit_or n (CLOSED + FREE)) (closes (step slots 0 (CLOSED + FREE) 0 none) me)
+pub freeing_closes : (slots id : ℕ) (me : M) (h : CallerHalf) → me.0.caller ≡ Some h → h.state.phase ≡ Withdrawing
+    → Allows HalvesAgree slots id me 0 (λ n. bit_or n (CLOSED + FREE)) (closes (step slots 0 (CLOSED + FREE) 0 none) me)
 freeing_closes slots id me h is p s r _ at _ =
     let k = r.callee in let rule = caller_known s r id me.0 h at is in let n : ℕ = get_or s.words 0 0 in let x = strands s.words h.state k.state rule.stage p in let h' = caller_withdrew h (length k.state.taken) in
-    let found : n ≡ CLOSED = x.status ∙ ap (status_word Mark.posted) (x.gone (λ w. let f : Stranded ≡ Waiting = sym p ∙ w in cc)) in
+    let found : n ≡ CLOSED = x.status ∙ ap (status_word Mark.posted) (x.gone (λ w. let f : Withdrawing ≡ Waiting = sym p ∙ w in cc)) in
     let bits : bit_or n (CLOSED + FREE) ≡ (CLOSED + FREE) = ap (λ (z : ℕ). bit_or z (CLOSED + FREE)) found in (
       with_caller me.0 h',
       keeps,
       tt,
-      subst (λ (z : ℕ). Kept (stepped s 0 z id me.1 (with_caller me.0 h') keeps)) (sym bits) (caller_moves s r id 0 (CLOSED + FREE) me.0 h h' at is (withdraw_keeps s.words h k rule x)),
+      subst (λ (z : ℕ). HalvesAgree (stepped s 0 z id me.1 (with_caller me.0 h') keeps)) (sym bits) (caller_moves s r id 0 (CLOSED + FREE) me.0 h h' at is (withdraw_keeps s.words h k rule x)),
       λ g e. (h', refl, (length k.state.taken, ap (λ (z : CallerHalf). caller_withdrew z (length k.state.taken)) (ap caller_or (sym is ∙ e)))),
     )
 
-pub closes_allowed : (slots id : ℕ) (me : M) (h : CallerHalf) (bits : ℕ) → me.0.caller ≡ Some h → ((bits ≡ CLOSED) × (h.state.phase ≢ Waiting)) ⊎ ((bits ≡ (CLOSED + FREE)) × (h.state.phase ≡ Stranded))
-    → Allows Kept slots id me 0 (λ n. bit_or n bits) (closes (step slots 0 bits 0 none) me)
+pub closes_allowed : (slots id : ℕ) (me : M) (h : CallerHalf) (bits : ℕ) → me.0.caller ≡ Some h → ((bits ≡ CLOSED) × (h.state.phase ≢ Waiting)) ⊎ ((bits ≡ (CLOSED + FREE)) × (h.state.phase ≡ Withdrawing))
+    → Allows HalvesAgree slots id me 0 (λ n. bit_or n bits) (closes (step slots 0 bits 0 none) me)
 closes_allowed slots id me h bits is why = ⊎_elim
-    (λ (t : (bits ≡ CLOSED) × (h.state.phase ≢ Waiting)). subst (λ (b : ℕ). Allows Kept slots id me 0 (λ n. bit_or n b) (closes (step slots 0 b 0 none) me)) (sym t.0) (plain_closes slots id me h is t.1))
-    (λ (t : (bits ≡ (CLOSED + FREE)) × (h.state.phase ≡ Stranded)). subst (λ (b : ℕ). Allows Kept slots id me 0 (λ n. bit_or n b) (closes (step slots 0 b 0 none) me)) (sym t.0) (freeing_closes slots id me h is t.1)) why
+    (λ (t : (bits ≡ CLOSED) × (h.state.phase ≢ Waiting)). subst (λ (b : ℕ). Allows HalvesAgree slots id me 0 (λ n. bit_or n b) (closes (step slots 0 b 0 none) me)) (sym t.0) (plain_closes slots id me h is t.1))
+    (λ (t : (bits ≡ (CLOSED + FREE)) × (h.state.phase ≡ Withdrawing)). subst (λ (b : ℕ). Allows HalvesAgree slots id me 0 (λ n. bit_or n b) (closes (step slots 0 b 0 none) me)) (sym t.0) (freeing_closes slots id me h is t.1)) why
 
 -- an exchange that withdraws
 module _ (words : List ℕ) (h : CallerHalf) (k : CalleeHalf) (waits : h.state.phase ≡ Waiting) where
@@ -165,7 +165,7 @@ module _ (words : List ℕ) (h : CallerHalf) (k : CalleeHalf) (waits : h.state.p
         frame = x.frame;
         phase = inr (inl refl);
         gone = λ _. both;
-        unclosed = λ w. absurd (let f : Stranded ≡ Waiting = w in cc);
+        unclosed = λ w. absurd (let f : Withdrawing ≡ Waiting = w in cc);
         taken = x.taken;
         read = x.read;
         answered = x.answered;
@@ -198,11 +198,11 @@ module _ (words : List ℕ) (h : CallerHalf) (k : CalleeHalf) (waits : h.state.p
   at_zero (withdrawn x) z = absurd (let f : Waiting ≡ Withdrawn = sym waits ∙ x.phase in cc)
 
 pub withdraws_allowed : (slots id : ℕ) (me : M) (h : CallerHalf) → me.0.caller ≡ Some h → h.state.phase ≡ Waiting
-    → Allows Kept slots id me 0 (λ n. either (eqb n 0) (CLOSED + FREE) n) (withdraws (step slots 0 0 (CLOSED + FREE) none) me)
+    → Allows HalvesAgree slots id me 0 (λ n. either (eqb n 0) (CLOSED + FREE) n) (withdraws (step slots 0 0 (CLOSED + FREE) none) me)
 withdraws_allowed slots id me h is p s r _ at _ =
     let n : ℕ = get_or s.words 0 0 in let k = r.callee in let rule = caller_known s r id me.0 h at is in
     let same : (g : CallerHalf) → me.0.caller ≡ Some g → h ≡ g = λ g e. ap caller_or (sym is ∙ e) in
-    exchanged n 0 (CLOSED + FREE) (λ z. (w : View) × (a : _) × Rattle.atomic_table.specs.Table.Valid s.homes me.1 a × Kept (stepped s 0 z id me.1 w a) × withdraws (step slots 0 0 (CLOSED + FREE) none) me n (w, Rattle.atomic_table.specs.Table.carried_after me.1 a))
+    exchanged n 0 (CLOSED + FREE) (λ z. (w : View) × (a : _) × Rattle.atomic_table.specs.Table.Valid s.homes me.1 a × HalvesAgree (stepped s 0 z id me.1 w a) × withdraws (step slots 0 0 (CLOSED + FREE) none) me n (w, Rattle.atomic_table.specs.Table.carried_after me.1 a))
     (λ hit. let h' = caller_withdrew h (length k.state.taken) in (
       with_caller me.0 h',
       keeps,

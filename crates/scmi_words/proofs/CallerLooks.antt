@@ -3,13 +3,13 @@ use Rattle.std.proofs.Common.{◌≡◌, ◌≢◌, ℕ, ◌%◌, ◌<◌, ◌||
 use mathlib.Core.Option.{none}
 use Rattle.std.specs.List.{last_or}
 use Rattle.atomic_table.specs.Table.{Me, step, keeps, Allows}
-use Rattle.scmi_words.specs.declared.phase.Phase.TheVariants.{Idle, Waiting, Stranded, Withdrawn, GivenUp}
+use Rattle.scmi_words.specs.declared.phase.Phase.TheVariants.{Idle, Waiting, Withdrawing, Withdrawn, GivenUp}
 use Rattle.scmi_words.specs.declared.view.CallerHalf.{CallerHalf}
 use Rattle.scmi_words.specs.declared.view.CalleeHalf.{CalleeHalf}
 use Rattle.scmi_words.specs.declared.view.View.{View}
 use Rattle.scmi_words.specs.Area.{Begins, IsLawfulAnswer, settled_words}
 use Rattle.scmi_words.specs.StatusWord.{Mark, status_word, answer_mark, settled_mark}
-use Rattle.scmi_words.specs.Mailbox.{Rule, Kept, Stage, IsPosted, IsAnswered, idle, posted, taken, answered, withdrawn}
+use Rattle.scmi_words.specs.Mailbox.{Rule, HalvesAgree, Stage, IsPosted, IsAnswered, idle, posted, taken, answered, withdrawn}
 use Rattle.scmi_words.specs.View.{with_caller, caller_or}
 use Rattle.scmi_words.specs.CallerSteps.{caller_looked, caller_saw, caller_collected, caller_gave_up, Sees, looks}
 use Rattle.scmi_words.proofs.TableWords.{last_snoc}
@@ -114,13 +114,13 @@ module _ (words : List ℕ) (h : CallerHalf) (k : CalleeHalf) where
   look_at : Rule words h k → Stage words h.state k.state → Look
   look_at r (idle x) = glances r (settled_mark (last_or None k.state.answered)) x.status (λ e. let f : Idle ≡ Waiting = sym x.phase ∙ e in cc)
   look_at r (posted x) = ⊎_elim (λ (e : h.state.phase ≡ Waiting). posted_waits r x e Both refl)
-      (⊎_elim (λ (e : h.state.phase ≡ Stranded). glances r Mark.posted x.status (λ w. let f : Stranded ≡ Waiting = sym e ∙ w in cc))
+      (⊎_elim (λ (e : h.state.phase ≡ Withdrawing). glances r Mark.posted x.status (λ w. let f : Withdrawing ≡ Waiting = sym e ∙ w in cc))
       (λ (e : h.state.phase ≡ GivenUp). glances r Mark.posted x.status (λ w. let f : GivenUp ≡ Waiting = sym e ∙ w in cc))) x.phase
   look_at r (taken x) = let n : N ≡ TAKEN = x.status ∙ (λ i. status_word Mark.taken (x.unclosed.0 i || x.unclosed.1 i)) in waits r Mark.taken x.status x.phase (λ f. omega arith) (omega arith)
   look_at r (answered x) = collects r x
   look_at r (withdrawn x) = glances r Mark.free x.status (λ e. let f : Withdrawn ≡ Waiting = sym x.phase ∙ e in cc)
 
-pub looks_allowed : (slots id : ℕ) (me : M) (h : CallerHalf) → me.0.caller ≡ Some h → Allows Kept slots id me 0 (λ n. n) (looks (step slots 0 0 0 none) me)
+pub looks_allowed : (slots id : ℕ) (me : M) (h : CallerHalf) → me.0.caller ≡ Some h → Allows HalvesAgree slots id me 0 (λ n. n) (looks (step slots 0 0 0 none) me)
 looks_allowed slots id me h is s r _ at _ =
     let k = r.callee in let rule = caller_known s r id me.0 h at is in let t = look_at s.words h k rule rule.stage in let n : ℕ = get_or s.words 0 0 in (
       with_caller me.0 t.0,

@@ -6,7 +6,7 @@ use prog.Atomic.{either}
 use Rattle.atomic_table.proofs.Lists.{exchanged}
 use Rattle.std.specs.List.{last_or}
 use Rattle.atomic_table.specs.Table.{State, Me, step, keeps, stepped, Allows}
-use Rattle.scmi_words.specs.declared.phase.Phase.TheVariants.{Idle, Waiting, Stranded, Withdrawn, GivenUp}
+use Rattle.scmi_words.specs.declared.phase.Phase.TheVariants.{Idle, Waiting, Withdrawing, Withdrawn, GivenUp}
 use Rattle.scmi_words.specs.declared.view.CallerState.{CallerState}
 use Rattle.scmi_words.specs.declared.view.CalleeState.{CalleeState}
 use Rattle.scmi_words.specs.declared.view.CallerHalf.{CallerHalf}
@@ -14,7 +14,7 @@ use Rattle.scmi_words.specs.declared.view.CalleeHalf.{CalleeHalf}
 use Rattle.scmi_words.specs.declared.view.View.{View}
 use Rattle.scmi_words.specs.Area.{Begins, IsLawful, frame_words, frame_in, settled_words}
 use Rattle.scmi_words.specs.StatusWord.{Mark, status_word, settled_mark}
-use Rattle.scmi_words.specs.Mailbox.{Rule, Kept, Stage, IsIdle, idle, posted, taken, answered, withdrawn}
+use Rattle.scmi_words.specs.Mailbox.{Rule, HalvesAgree, Stage, IsIdle, idle, posted, taken, answered, withdrawn}
 use Rattle.scmi_words.specs.View.{with_caller, caller_or}
 use Rattle.scmi_words.specs.CallerSteps.{caller_after, caller_stored, caller_posted, caller_refused, answer_area, stores, posts, reads}
 use Rattle.scmi_codec.specs.declared.frame.Frame.{Frame}
@@ -29,7 +29,7 @@ M = Me (Unit {0}) View
 
 pub is_idle : (words : List ℕ) (c : CallerState) (k : CalleeState) → Stage words c k → c.phase ≡ Idle → IsIdle words c k
 is_idle words c k (idle x) p = x
-is_idle words c k (posted x) p = absurd (⊎_elim (λ (e : c.phase ≡ Waiting). let f : Idle ≡ Waiting = sym p ∙ e in cc) (⊎_elim (λ (e : c.phase ≡ Stranded). let f : Idle ≡ Stranded = sym p ∙ e in cc) (λ (e : c.phase ≡ GivenUp). let f : Idle ≡ GivenUp = sym p ∙ e in cc)) x.phase)
+is_idle words c k (posted x) p = absurd (⊎_elim (λ (e : c.phase ≡ Waiting). let f : Idle ≡ Waiting = sym p ∙ e in cc) (⊎_elim (λ (e : c.phase ≡ Withdrawing). let f : Idle ≡ Withdrawing = sym p ∙ e in cc) (λ (e : c.phase ≡ GivenUp). let f : Idle ≡ GivenUp = sym p ∙ e in cc)) x.phase)
 is_idle words c k (taken x) p = absurd (let f : Idle ≡ Waiting = sym p ∙ x.phase in cc)
 is_idle words c k (answered x) p = absurd (let f : Idle ≡ Waiting = sym p ∙ x.phase in cc)
 is_idle words c k (withdrawn x) p = absurd (let f : Idle ≡ Withdrawn = sym p ∙ x.phase in cc)
@@ -62,7 +62,7 @@ store_keeps words h k j a r p here fits small = let wide = r.wide in let x = is_
 }
 
 pub stores_allowed : (slots id : ℕ) (me : M) (h : CallerHalf) (j a : ℕ) → me.0.caller ≡ Some h → h.state.phase ≡ Idle → j ≡ 2 + length h.state.draft → j < TABLE_WORDS → a < 2 ^ 32
-    → Allows Kept slots id me j (λ _. a) (λ _. stores (step slots j a 0 none) me a)
+    → Allows HalvesAgree slots id me j (λ _. a) (λ _. stores (step slots j a 0 none) me a)
 stores_allowed slots id me h j a is p here fits small s r _ at _ = let h' = caller_stored h a in (
   with_caller me.0 h',
   keeps,
@@ -118,14 +118,14 @@ post_keeps words h k r p mine other f as_frame lawful = let wide = r.wide in let
 
 pub posts_allowed : (slots id : ℕ) (me : M) (h : CallerHalf) (old : ℕ) → me.0.caller ≡ Some h → h.state.phase ≡ Idle → h.state.closed ≡ false
     → old ≡ status_word (settled_mark (last_or None h.state.read)) false → (f : Frame) → h.state.draft ≡ frame_words f → IsLawful f
-    → Allows Kept slots id me 0 (λ n. either (eqb n old) 0 n) (posts (step slots 0 old 0 none) me)
+    → Allows HalvesAgree slots id me 0 (λ n. either (eqb n old) 0 n) (posts (step slots 0 old 0 none) me)
 posts_allowed slots id me h old is p mine expected f as_frame lawful s r _ at _ =
     let n : ℕ = get_or s.words 0 0 in let k = r.callee in let rule = caller_known s r id me.0 h at is in let x = is_idle s.words h.state k.state rule.stage p in
     let m : Mark = settled_mark (last_or None h.state.read) in
     let status : n ≡ status_word m k.state.closed = x.status ∙ (λ i. status_word (settled_mark (last_or None (sym x.read i))) (mine i || k.state.closed)) in
     let same : (g : CallerHalf) → me.0.caller ≡ Some g → h ≡ g = λ g e. ap caller_or (sym is ∙ e) in
     let posted_same : (g : CallerHalf) → h ≡ g → caller_posted h f ≡ caller_posted g (frame_in g.state.draft) = λ g e. subst (λ (z : CallerHalf). caller_posted h f ≡ caller_posted z (frame_in z.state.draft)) e (ap (caller_posted h) (sym (ap frame_in as_frame ∙ frame_of_words f lawful))) in
-    exchanged n old 0 (λ z. (w : View) × (a : _) × Rattle.atomic_table.specs.Table.Valid s.homes me.1 a × Kept (stepped s 0 z id me.1 w a) × posts (step slots 0 old 0 none) me n (w, Rattle.atomic_table.specs.Table.carried_after me.1 a))
+    exchanged n old 0 (λ z. (w : View) × (a : _) × Rattle.atomic_table.specs.Table.Valid s.homes me.1 a × HalvesAgree (stepped s 0 z id me.1 w a) × posts (step slots 0 old 0 none) me n (w, Rattle.atomic_table.specs.Table.carried_after me.1 a))
     (λ hit. (
       with_caller me.0 (caller_posted h f),
       keeps,
@@ -148,7 +148,7 @@ posts_allowed slots id me h old is p mine expected f as_frame lawful s r _ at _ 
 
 -- a load of the area before the caller's first store
 pub reads_allowed : (slots id : ℕ) (me : M) (h : CallerHalf) (j : ℕ) → me.0.caller ≡ Some h → h.state.phase ≡ Idle → h.state.draft ≡ [] → 0 < j
-    → Allows Kept slots id me j (λ n. n) (reads (step slots j 0 0 none) me)
+    → Allows HalvesAgree slots id me j (λ n. n) (reads (step slots j 0 0 none) me)
 reads_allowed slots id me h j is p none_yet pos s r _ at _ =
     let k = r.callee in let rule = caller_known s r id me.0 h at is in let x = is_idle s.words h.state k.state rule.stage p in let n : ℕ = get_or s.words j 0 in
     let h' = caller_after h 1 in

@@ -5,7 +5,7 @@ use Rattle.std.proofs.lemmas.List.{append-nil}
 use Rattle.scmi_link.specs.View.{CallerView, CalleeView}
 use Rattle.scmi_link.specs.Gathered.{Agree, Closed, IsPrefixOf}
 use Rattle.scmi_words.specs.declared.phase.Phase.{Phase}
-use Rattle.scmi_words.specs.declared.phase.Phase.TheVariants.{Idle, Waiting, Stranded, Withdrawn, GivenUp}
+use Rattle.scmi_words.specs.declared.phase.Phase.TheVariants.{Idle, Waiting, Withdrawing, Withdrawn, GivenUp}
 use Rattle.scmi_words.specs.declared.view.CallerHalf.{CallerHalf}
 use Rattle.scmi_words.specs.declared.view.CalleeHalf.{CalleeHalf}
 use Rattle.scmi_words.specs.Mailbox.{Stage, Rule, idle, posted, taken, answered, withdrawn}
@@ -25,7 +25,7 @@ whole xs ys e = ([], append-nil xs ∙ e)
 unread_few : (now : Phase) → unread now ≤ 1
 unread_few Idle = omega arith
 unread_few Waiting = omega arith
-unread_few Stranded = omega arith
+unread_few Withdrawing = omega arith
 unread_few Withdrawn = omega arith
 unread_few GivenUp = omega arith
 
@@ -52,7 +52,7 @@ module _ (words : List ℕ) (h : CallerHalf) (k : CalleeHalf) (n m : ℕ) (rule 
     left = λ _. ((x.frame, x.taken), x.read);
     idle = λ c l. absurd (⊎_elim
         (λ (e : h.state.phase ≡ Waiting). true≢false (sym c ∙ x.unclosed e))
-        (⊎_elim (λ (e : h.state.phase ≡ Stranded). true≢false (sym (ap is_stranded e) ∙ settled)) (λ (e : h.state.phase ≡ GivenUp). true≢false (sym (ap is_left e) ∙ l))) x.phase);
+        (⊎_elim (λ (e : h.state.phase ≡ Withdrawing). true≢false (sym (ap is_stranded e) ∙ settled)) (λ (e : h.state.phase ≡ GivenUp). true≢false (sym (ap is_left e) ∙ l))) x.phase);
     caller_told = rule.caller_told;
     callee_told = rule.callee_told;
   }

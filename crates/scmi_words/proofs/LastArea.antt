@@ -7,7 +7,7 @@ use Rattle.scmi_codec.specs.declared.frame.Frame.{Frame}
 use Rattle.scmi_codec.specs.declared.frame.Frame.TheVariants.{Good}
 use Rattle.scmi_codec.specs.declared.frame.Answer.{Answer}
 use Rattle.scmi_codec.specs.declared.frame.Answer.TheVariants.{Reply, Released, ChannelError}
-use Rattle.scmi_words.specs.declared.phase.Phase.TheVariants.{Waiting, Stranded, GivenUp}
+use Rattle.scmi_words.specs.declared.phase.Phase.TheVariants.{Waiting, Withdrawing, GivenUp}
 use Rattle.scmi_words.specs.declared.view.CallerState.{CallerState}
 use Rattle.scmi_words.specs.declared.view.CalleeState.{CalleeState}
 use Rattle.scmi_words.specs.declared.view.CallerHalf.{CallerHalf}
@@ -90,7 +90,7 @@ module _ (words : List ℕ) (c : CallerState) (k : CalleeState) (wide : length w
   at_untaken : Stage words c k → (f : Frame) → c.posted ≡ k.taken ++ f ∷ [] → StandsFor area (untaken_status c.phase) f
   at_untaken (idle z) f e = absurd (longer k.taken c.posted f (sym z.taken) e)
   at_untaken (posted z) f e = let same : z.frame ≡ f = same_last z.frame f z.taken e in
-      let s : 0 ≡ untaken_status c.phase = ⊎_elim (λ (w : c.phase ≡ Waiting). ap untaken_status (sym w)) (⊎_elim (λ (w : c.phase ≡ Stranded). ap untaken_status (sym w)) (λ (w : c.phase ≡ GivenUp). ap untaken_status (sym w))) z.phase in
+      let s : 0 ≡ untaken_status c.phase = ⊎_elim (λ (w : c.phase ≡ Waiting). ap untaken_status (sym w)) (⊎_elim (λ (w : c.phase ≡ Withdrawing). ap untaken_status (sym w)) (λ (w : c.phase ≡ GivenUp). ap untaken_status (sym w))) z.phase in
       subst (λ (o : ℕ × Frame). StandsFor area o.0 o.1) (λ i. (s i, same i)) (stands z.frame 0 (status Mark.posted z.status) z.lawful z.area)
   at_untaken (taken z) f e = absurd (longer k.taken c.posted f (sym z.taken) e)
   at_untaken (answered z) f e = absurd (longer k.taken c.posted f (sym z.taken) e)

@@ -1,6 +1,6 @@
 mod Picks
 mod Status
-mod TableNames
+mod TableIdentities
 mod TableWords
 mod FrameWords
 mod Views

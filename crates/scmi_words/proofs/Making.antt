@@ -8,7 +8,7 @@ use Rattle.scmi_words.specs.declared.view.CallerHalf.{CallerHalf}
 use Rattle.scmi_words.specs.declared.view.CalleeHalf.{CalleeHalf}
 use Rattle.scmi_words.specs.declared.view.View.{View}
 use Rattle.scmi_words.specs.Area.{fresh_words, fresh_table}
-use Rattle.scmi_words.specs.Mailbox.{Kept, Rule, idle}
+use Rattle.scmi_words.specs.Mailbox.{HalvesAgree, Rule, idle}
 use Rattle.scmi_words.specs.View.{first_view, first_caller, first_callee, caller_only, callee_only, both_halves, no_half, caller_or, callee_or}
 use Rattle.scmi_words.specs.declared.layout.TheConstants.{TABLE_WORDS, LENGTH}
 use Rattle.scmi_words.proofs.Views.{St}
@@ -17,7 +17,7 @@ fresh_zero : (i : ℕ) → i < length fresh_words → get_or fresh_words i 0 ≡
 unfolding fresh_words
 fresh_zero i lt = get_or-replicate (TABLE_WORDS - LENGTH) i 0 0 (omega arith)
 
-pub starts : (words : List ℕ) → length words ≡ TABLE_WORDS → get_or words 0 0 ≡ 1 → ((i : ℕ) → 0 < i → get_or words i 0 ≡ 0) → Kept (opening words [] first_view)
+pub starts : (words : List ℕ) → length words ≡ TABLE_WORDS → get_or words 0 0 ≡ 1 → ((i : ℕ) → 0 < i → get_or words i 0 ≡ 0) → HalvesAgree (opening words [] first_view)
 starts words wide free zeros = record {
   caller = first_caller;
   callee = first_callee;
@@ -59,7 +59,7 @@ at_end [] a b (suc j) e = absurd (some-ne-none b (sym e))
 at_end (x ∷ xs) a b zero e = inl e
 at_end (x ∷ xs) a b (suc j) e = ⊎_elim (λ t. inl t) (λ t. inr (t.0, ap suc t.1)) (at_end xs a b j e)
 
-pub parts : (id : ℕ) (v : View) (h : CallerHalf) (k : CalleeHalf) → v.caller ≡ Some h → v.callee ≡ Some k → Splits Kept id v (caller_only v) (callee_only v)
+pub parts : (id : ℕ) (v : View) (h : CallerHalf) (k : CalleeHalf) → v.caller ≡ Some h → v.callee ≡ Some k → Splits HalvesAgree id v (caller_only v) (callee_only v)
 parts id v h k is is' s r at = record {
   caller = r.caller;
   callee = r.callee;
@@ -82,7 +82,7 @@ parts id v h k is is' s r at = record {
   rule = r.rule;
 }
 
-pub joins : (id : ℕ) (v : View) (other : ℕ) (w : View) (h : CallerHalf) (k : CalleeHalf) → v.caller ≡ Some h → w.callee ≡ Some k → Joins Kept id v other w (both_halves v w) no_half
+pub joins : (id : ℕ) (v : View) (other : ℕ) (w : View) (h : CallerHalf) (k : CalleeHalf) → v.caller ≡ Some h → w.callee ≡ Some k → Joins HalvesAgree id v other w (both_halves v w) no_half
 joins id v other w h k is is' s r at apart there = record {
   caller = r.caller;
   callee = r.callee;
@@ -124,10 +124,10 @@ tail_zero : (i : ℕ) → 0 < i → get_or (1 ∷ zeros (TABLE_WORDS - 1)) i 0 �
 tail_zero zero pos = absurd (omega arith)
 tail_zero (suc i) pos = all_zero (TABLE_WORDS - 1) i
 
-pub starts_fresh : Kept (opening fresh_table [] first_view)
+pub starts_fresh : HalvesAgree (opening fresh_table [] first_view)
 unfolding zeros fresh_table
 starts_fresh = starts (1 ∷ replicate (TABLE_WORDS - 1) 0) refl refl tail_zero
 
 -- what the joined seat knows of the last words
-pub closes : (words : List ℕ) (s : St) (r : Kept s) (id : ℕ) (v : View) (h : CallerHalf) (k : CalleeHalf) → s.words ≡ words → get_elem? s.views id ≡ some v → v.caller ≡ Some h → v.callee ≡ Some k → Rule words h k
+pub closes : (words : List ℕ) (s : St) (r : HalvesAgree s) (id : ℕ) (v : View) (h : CallerHalf) (k : CalleeHalf) → s.words ≡ words → get_elem? s.views id ≡ some v → v.caller ≡ Some h → v.callee ≡ Some k → Rule words h k
 closes words s r id v h k same at is is' = subst (λ (z : List ℕ × (CallerHalf × CalleeHalf)). Rule z.0 z.1.0 z.1.1) (λ i. (same i, (sym (r.caller_at id v h at is).0 i, sym (r.callee_at id v k at is').0 i))) r.rule

@@ -7,21 +7,21 @@ use Rattle.atomic_table.proofs.Lists.{at_set}
 use Rattle.scmi_words.specs.declared.view.CallerHalf.{CallerHalf}
 use Rattle.scmi_words.specs.declared.view.CalleeHalf.{CalleeHalf}
 use Rattle.scmi_words.specs.declared.view.View.{View}
-use Rattle.scmi_words.specs.Mailbox.{Rule, Kept}
+use Rattle.scmi_words.specs.Mailbox.{Rule, HalvesAgree}
 use Rattle.scmi_words.specs.View.{with_caller, with_callee, caller_or, callee_or}
 
 abbrev pub St : Type 0
 St = State (Unit {0}) View
 
 -- the rule at the caller's half that a seat has
-pub caller_known : (s : St) (r : Kept s) (id : ℕ) (v : View) (h : CallerHalf) → get_elem? s.views id ≡ some v → v.caller ≡ Some h → Rule s.words h r.callee
+pub caller_known : (s : St) (r : HalvesAgree s) (id : ℕ) (v : View) (h : CallerHalf) → get_elem? s.views id ≡ some v → v.caller ≡ Some h → Rule s.words h r.callee
 caller_known s r id v h at is = subst (λ c. Rule s.words c r.callee) (sym (r.caller_at id v h at is).0) r.rule
 
-pub callee_known : (s : St) (r : Kept s) (id : ℕ) (v : View) (h : CalleeHalf) → get_elem? s.views id ≡ some v → v.callee ≡ Some h → Rule s.words r.caller h
+pub callee_known : (s : St) (r : HalvesAgree s) (id : ℕ) (v : View) (h : CalleeHalf) → get_elem? s.views id ≡ some v → v.callee ≡ Some h → Rule s.words r.caller h
 callee_known s r id v h at is = subst (λ c. Rule s.words r.caller c) (sym (r.callee_at id v h at is).0) r.rule
 
-pub caller_moves : (s : St) (r : Kept s) (id i n : ℕ) (v : View) (h h' : CallerHalf) → get_elem? s.views id ≡ some v → v.caller ≡ Some h
-    → Rule (set s.words i n) h' r.callee → Kept record { words = set s.words i n; homes = s.homes; views = set s.views id (with_caller v h') }
+pub caller_moves : (s : St) (r : HalvesAgree s) (id i n : ℕ) (v : View) (h h' : CallerHalf) → get_elem? s.views id ≡ some v → v.caller ≡ Some h
+    → Rule (set s.words i n) h' r.callee → HalvesAgree record { words = set s.words i n; homes = s.homes; views = set s.views id (with_caller v h') }
 caller_moves s r id i n v h h' at is rule = record {
   caller = h';
   callee = r.callee;
@@ -38,8 +38,8 @@ caller_moves s r id i n v h h' at is rule = record {
   rule = rule;
 }
 
-pub callee_moves : (s : St) (r : Kept s) (id i n : ℕ) (v : View) (h h' : CalleeHalf) → get_elem? s.views id ≡ some v → v.callee ≡ Some h
-    → Rule (set s.words i n) r.caller h' → Kept record { words = set s.words i n; homes = s.homes; views = set s.views id (with_callee v h') }
+pub callee_moves : (s : St) (r : HalvesAgree s) (id i n : ℕ) (v : View) (h h' : CalleeHalf) → get_elem? s.views id ≡ some v → v.callee ≡ Some h
+    → Rule (set s.words i n) r.caller h' → HalvesAgree record { words = set s.words i n; homes = s.homes; views = set s.views id (with_callee v h') }
 callee_moves s r id i n v h h' at is rule = record {
   caller = r.caller;
   callee = h';

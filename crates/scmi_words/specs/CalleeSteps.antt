@@ -13,16 +13,16 @@ use Rattle.scmi_words.specs.StatusWord.{told_by}
 use Rattle.scmi_words.specs.View.{with_callee}
 
 -- a step: its word and its operands
-abbrev At : Type 0
-At = Step (Unit {0})
+abbrev AtomicStep : Type 0
+AtomicStep = Step (Unit {0})
 
 -- what a seat has: its view, and no slots
-abbrev Sat : Type 0
-Sat = Me (Unit {0}) View
+abbrev SeatState : Type 0
+SeatState = Me (Unit {0}) View
 
 -- where the callee's half was `half`, it becomes `half'`, of which `next` holds
-abbrev Turns : Sat → Sat → (CalleeHalf → CalleeHalf → Type 0) → Type 0
-Turns before after next = (half : CalleeHalf) → before.0.callee ≡ Some half → (half' : CalleeHalf) × (after ≡ (with_callee before.0 half', before.1)) × next half half'
+abbrev ChangesHalf : SeatState → SeatState → (CalleeHalf → CalleeHalf → Type 0) → Type 0
+ChangesHalf before after next = (half : CalleeHalf) → before.0.callee ≡ Some half → (half' : CalleeHalf) × (after ≡ (with_callee before.0 half', before.1)) × next half half'
 
 -- the half after n more steps
 abbrev pub callee_after : CalleeHalf → ℕ → CalleeHalf
@@ -61,22 +61,22 @@ abbrev pub frame_area : CalleeHalf → List ℕ
 frame_area half = taken_words (last_or None half.state.taken)
 
 -- an exchange that takes the frame where it finds it posted
-abbrev pub takes : At → Sat → ℕ → Sat → Type 0
-takes step before found after = Turns before after (λ half half'. (found ≡ POSTED → (f : Frame) × IsLawful f × (half' ≡ callee_took half f)) × (found ≢ POSTED → half' ≡ callee_looked half found))
+abbrev pub takes : AtomicStep → SeatState → ℕ → SeatState → Type 0
+takes step before found after = ChangesHalf before after (λ half half'. (found ≡ POSTED → (f : Frame) × IsLawful f × (half' ≡ callee_took half f)) × (found ≢ POSTED → half' ≡ callee_looked half found))
 
 -- a load of a word of the frame
-abbrev pub reads : At → Sat → ℕ → Sat → Type 0
-reads step before found after = Turns before after (λ half half'. (half' ≡ callee_after half 1) × (found < 2 ^ 32)
+abbrev pub reads : AtomicStep → SeatState → ℕ → SeatState → Type 0
+reads step before found after = ChangesHalf before after (λ half half'. (half' ≡ callee_after half 1) × (found < 2 ^ 32)
     × ((i : ℕ) → step.word ≡ LENGTH + i → i < length (frame_area half) → found ≡ slice_index (frame_area half) i))
 
 -- a store of a word of an answer
-abbrev pub stores : At → Sat → ℕ → Sat → Type 0
-stores step before found after = Turns before after (λ half half'. half' ≡ callee_stored half found)
+abbrev pub stores : AtomicStep → SeatState → ℕ → SeatState → Type 0
+stores step before found after = ChangesHalf before after (λ half half'. half' ≡ callee_stored half found)
 
 -- an exchange that answers
-abbrev pub answers : At → Sat → ℕ → Sat → Type 0
-answers step before found after = Turns before after (λ half half'. half' ≡ callee_answered half (answer_of step.second half.state.draft))
+abbrev pub answers : AtomicStep → SeatState → ℕ → SeatState → Type 0
+answers step before found after = ChangesHalf before after (λ half half'. half' ≡ callee_answered half (answer_of step.second half.state.draft))
 
 -- a close by an or of the closed mark
-abbrev pub closes : At → Sat → ℕ → Sat → Type 0
-closes step before found after = Turns before after (λ half half'. (p : ℕ) × (half' ≡ callee_closed half p))
+abbrev pub closes : AtomicStep → SeatState → ℕ → SeatState → Type 0
+closes step before found after = ChangesHalf before after (λ half half'. (p : ℕ) × (half' ≡ callee_closed half p))

@@ -5,7 +5,7 @@ use Rattle.atomic_table.specs.Table.{Me, Step}
 use Rattle.scmi_codec.specs.declared.frame.Frame.{Frame}
 use Rattle.scmi_codec.specs.declared.frame.Answer.{Answer}
 use Rattle.scmi_words.specs.declared.layout.TheConstants.{LENGTH}
-use Rattle.scmi_words.specs.declared.phase.Phase.TheVariants.{Idle, Waiting, Stranded, Withdrawn, GivenUp}
+use Rattle.scmi_words.specs.declared.phase.Phase.TheVariants.{Idle, Waiting, Withdrawing, Withdrawn, GivenUp}
 use Rattle.scmi_words.specs.declared.status_word.TheConstants.{POSTED, FREE, TAKEN, CLOSED}
 use Rattle.scmi_words.specs.declared.view.CallerHalf.{CallerHalf}
 use Rattle.scmi_words.specs.declared.view.View.{View}
@@ -14,16 +14,16 @@ use Rattle.scmi_words.specs.StatusWord.{status_word, answer_mark, told_by}
 use Rattle.scmi_words.specs.View.{with_caller}
 
 -- a step: its word and its operands
-abbrev At : Type 0
-At = Step (Unit {0})
+abbrev AtomicStep : Type 0
+AtomicStep = Step (Unit {0})
 
 -- what a seat has: its view, and no slots
-abbrev Sat : Type 0
-Sat = Me (Unit {0}) View
+abbrev SeatState : Type 0
+SeatState = Me (Unit {0}) View
 
 -- where the caller's half was `half`, it becomes `half'`, of which `next` holds
-abbrev Turns : Sat → Sat → (CallerHalf → CallerHalf → Type 0) → Type 0
-Turns before after next = (half : CallerHalf) → before.0.caller ≡ Some half → (half' : CallerHalf) × (after ≡ (with_caller before.0 half', before.1)) × next half half'
+abbrev ChangesHalf : SeatState → SeatState → (CallerHalf → CallerHalf → Type 0) → Type 0
+ChangesHalf before after next = (half : CallerHalf) → before.0.caller ≡ Some half → (half' : CallerHalf) × (after ≡ (with_caller before.0 half', before.1)) × next half half'
 
 -- the half after n more steps
 abbrev pub caller_after : CallerHalf → ℕ → CallerHalf
@@ -83,7 +83,7 @@ caller_saw_answered half = record half { shown_taken = length half.state.posted;
 
 -- the half after an exchange that found the post untaken and the callee closed
 abbrev pub caller_stranded : CallerHalf → CallerHalf
-caller_stranded half = record half { state = record half.state { phase = Stranded }; steps = half.steps + 1 }
+caller_stranded half = record half { state = record half.state { phase = Withdrawing }; steps = half.steps + 1 }
 
 -- the words of the last answer, as the caller knows it
 abbrev pub answer_area : CallerHalf → List ℕ
@@ -108,26 +108,26 @@ Refuses half n half' =
     ⊎ ((n ≡ CLOSED) × (half' ≡ caller_stranded half)))
 
 -- a store of a word of a frame
-abbrev pub stores : At → Sat → ℕ → Sat → Type 0
-stores step before found after = Turns before after (λ half half'. half' ≡ caller_stored half found)
+abbrev pub stores : AtomicStep → SeatState → ℕ → SeatState → Type 0
+stores step before found after = ChangesHalf before after (λ half half'. half' ≡ caller_stored half found)
 
 -- an exchange that posts the stored frame where it finds the status that it wants
-abbrev pub posts : At → Sat → ℕ → Sat → Type 0
-posts step before found after = Turns before after (λ half half'. (found ≡ step.first → half' ≡ caller_posted half (frame_in half.state.draft)) × (found ≢ step.first → half' ≡ caller_refused half))
+abbrev pub posts : AtomicStep → SeatState → ℕ → SeatState → Type 0
+posts step before found after = ChangesHalf before after (λ half half'. (found ≡ step.first → half' ≡ caller_posted half (frame_in half.state.draft)) × (found ≢ step.first → half' ≡ caller_refused half))
 
 -- a load of the status
-abbrev pub looks : At → Sat → ℕ → Sat → Type 0
-looks step before found after = Turns before after (λ half half'. (half.state.phase ≡ Waiting → Sees half found half') × (half.state.phase ≢ Waiting → half' ≡ caller_looked half found))
+abbrev pub looks : AtomicStep → SeatState → ℕ → SeatState → Type 0
+looks step before found after = ChangesHalf before after (λ half half'. (half.state.phase ≡ Waiting → Sees half found half') × (half.state.phase ≢ Waiting → half' ≡ caller_looked half found))
 
 -- a load of a word of the answer
-abbrev pub reads : At → Sat → ℕ → Sat → Type 0
-reads step before found after = Turns before after (λ half half'. (half' ≡ caller_after half 1) × (found < 2 ^ 32)
+abbrev pub reads : AtomicStep → SeatState → ℕ → SeatState → Type 0
+reads step before found after = ChangesHalf before after (λ half half'. (half' ≡ caller_after half 1) × (found < 2 ^ 32)
     × ((i : ℕ) → step.word ≡ LENGTH + i → i < length (answer_area half) → found ≡ slice_index (answer_area half) i))
 
 -- a close by an or of bits
-abbrev pub closes : At → Sat → ℕ → Sat → Type 0
-closes step before found after = Turns before after (λ half half'. (t : ℕ) × (half' ≡ closed_by half step.first t))
+abbrev pub closes : AtomicStep → SeatState → ℕ → SeatState → Type 0
+closes step before found after = ChangesHalf before after (λ half half'. (t : ℕ) × (half' ≡ closed_by half step.first t))
 
 -- an exchange that withdraws the post where it finds it posted
-abbrev pub withdraws : At → Sat → ℕ → Sat → Type 0
-withdraws step before found after = Turns before after (λ half half'. (found ≡ POSTED → (t : ℕ) × (half' ≡ caller_withdrew half t)) × (found ≢ POSTED → Refuses half found half'))
+abbrev pub withdraws : AtomicStep → SeatState → ℕ → SeatState → Type 0
+withdraws step before found after = ChangesHalf before after (λ half half'. (found ≡ POSTED → (t : ℕ) × (half' ≡ caller_withdrew half t)) × (found ≢ POSTED → Refuses half found half'))

@@ -11,7 +11,7 @@ use Rattle.atomic_table.specs.Table.{State}
 use Rattle.scmi_codec.specs.declared.frame.Frame.{Frame}
 use Rattle.scmi_codec.specs.declared.frame.Answer.{Answer}
 use Rattle.scmi_words.specs.declared.layout.TheConstants.{STATUS, FLAGS, TABLE_WORDS}
-use Rattle.scmi_words.specs.declared.phase.Phase.TheVariants.{Idle, Waiting, Stranded, Withdrawn, GivenUp}
+use Rattle.scmi_words.specs.declared.phase.Phase.TheVariants.{Idle, Waiting, Withdrawing, Withdrawn, GivenUp}
 use Rattle.scmi_words.specs.declared.view.CallerState.{CallerState}
 use Rattle.scmi_words.specs.declared.view.CalleeState.{CalleeState}
 use Rattle.scmi_words.specs.declared.view.CallerHalf.{CallerHalf}
@@ -42,7 +42,7 @@ module _ (words : List ℕ) (caller : CallerState) (callee : CalleeState) where
   -- posted: the last frame posted stands, and is not taken
   pub record IsPosted : Type 0 where
     pub frame : Frame
-    pub phase : (caller.phase ≡ Waiting) ⊎ ((caller.phase ≡ Stranded) ⊎ (caller.phase ≡ GivenUp))
+    pub phase : (caller.phase ≡ Waiting) ⊎ ((caller.phase ≡ Withdrawing) ⊎ (caller.phase ≡ GivenUp))
     -- a caller that does not wait for it any more knows of a close
     pub gone : caller.phase ≢ Waiting → (caller.closed || callee.closed) ≡ true
     pub unclosed : caller.phase ≡ Waiting → caller.closed ≡ false
@@ -122,7 +122,7 @@ pub record Rule (words : List ℕ) (caller : CallerHalf) (callee : CalleeHalf) :
   pub shown : (caller.shown_taken ≤ length callee.state.taken) × (caller.shown_answered ≤ length callee.state.answered)
 
 -- each half stands in one view, wherever that is, and the rule holds of them
-pub record Kept (s : State (Unit {0}) View) : Type 0 where
+pub record HalvesAgree (s : State (Unit {0}) View) : Type 0 where
   pub caller : CallerHalf
   pub callee : CalleeHalf
   pub caller_seat : ℕ

@@ -1,7 +1,7 @@
 -- What a caller's phase says.
 use Rattle.std.specs.Prelude.{ℕ, Bool, true, false}
 use Rattle.scmi_words.specs.declared.phase.Phase.{Phase}
-use Rattle.scmi_words.specs.declared.phase.Phase.TheVariants.{Idle, Stranded, Withdrawn, GivenUp}
+use Rattle.scmi_words.specs.declared.phase.Phase.TheVariants.{Idle, Withdrawing, Withdrawn, GivenUp}
 
 -- whether the last post was withdrawn or given up
 abbrev pub is_left : Phase → Bool
@@ -11,7 +11,7 @@ is_left _ = false
 
 -- whether a close is under way that found the callee closed
 abbrev pub is_stranded : Phase → Bool
-is_stranded Stranded = true
+is_stranded Withdrawing = true
 is_stranded _ = false
 
 -- how many posts have no answer that was read

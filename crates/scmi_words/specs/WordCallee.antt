@@ -7,7 +7,7 @@ use Rattle.scmi_words.specs.declared.view.CalleeHalf.{CalleeHalf}
 use Rattle.scmi_words.specs.declared.word_callee.WordCallee.{WordCallee}
 use Rattle.scmi_words.specs.Area.{frame_size}
 use Rattle.scmi_words.specs.View.{callee_of}
-use Rattle.scmi_words.specs.WordChannel.{table_name}
+use Rattle.scmi_words.specs.WordChannel.{table_identity}
 
 -- what the callee has done, and how many steps that took
 abbrev pub callee_half : WordCallee → CalleeHalf
@@ -23,9 +23,9 @@ word_callee_view callee = record {
   takes = callee.takes;
 }
 
--- the name of the channel that made it
-abbrev pub word_callee_name : WordCallee → List ℕ
-word_callee_name callee = table_name callee.seat.table_id
+-- the identity of the channel that made it
+abbrev pub word_callee_identity : WordCallee → List ℕ
+word_callee_identity callee = table_identity callee.seat.table_id
 
 -- the same seat at the same table
 abbrev pub IsSameCallee : WordCallee → WordCallee → Type 0

@@ -14,7 +14,7 @@ use Rattle.scmi_words.specs.declared.word_caller.WordCaller.{WordCaller}
 use Rattle.scmi_words.specs.Area.{answer_size}
 use Rattle.scmi_words.specs.Phase.{is_left}
 use Rattle.scmi_words.specs.View.{caller_of}
-use Rattle.scmi_words.specs.WordChannel.{table_name}
+use Rattle.scmi_words.specs.WordChannel.{table_identity}
 
 -- what the caller has done, and how many steps that took
 abbrev pub caller_half : WordCaller → CallerHalf
@@ -31,9 +31,9 @@ word_caller_view caller = record {
   collects = caller.collects;
 }
 
--- the name of the channel that made it
-abbrev pub word_caller_name : WordCaller → List ℕ
-word_caller_name caller = table_name caller.seat.table_id
+-- the identity of the channel that made it
+abbrev pub word_caller_identity : WordCaller → List ℕ
+word_caller_identity caller = table_identity caller.seat.table_id
 
 -- the same seat at the same table
 abbrev pub IsSameCaller : WordCaller → WordCaller → Type 0

@@ -6,10 +6,10 @@ use atomic_table::TableRule;
 pub struct Mailbox;
 
 impl TableRule<(), View, ()> for Mailbox {
-    ghost use Rattle.scmi_words.specs.Mailbox.{Kept};
+    ghost use Rattle.scmi_words.specs.Mailbox.{HalvesAgree};
     ghost use Rattle.scmi_words.specs.View.{first_view};
 
-    ghost holds = { λ _. Kept };
+    ghost holds = { λ _. HalvesAgree };
 
     ghost first = { λ _. first_view };
 }

@@ -9,7 +9,7 @@ pub enum Phase {
     Waiting,
     /// A post is outstanding, and the callee has closed and will not take it. An end is in this phase
     /// only inside of its close.
-    Stranded,
+    Withdrawing,
     /// The last post was withdrawn.
     Withdrawn,
     /// The last post was given up.

@@ -53,7 +53,7 @@ impl WordChannel {
     }
 }
 
-#[tactic(auto, using(crate::proofs::TableNames::same_table))]
+#[tactic(auto, using(crate::proofs::TableIdentities::same_table))]
 impl Channel for WordChannel {
     type Caller = WordCaller;
 
@@ -72,20 +72,20 @@ impl Channel for WordChannel {
     ghost use Rattle.scmi_words.specs.Area.{answer_size};
     ghost use Rattle.scmi_words.specs.Mailbox.{Rule};
     ghost use Rattle.scmi_words.specs.View.{first_caller, first_callee};
-    ghost use Rattle.scmi_words.specs.WordCaller.{word_caller_view, word_caller_name, caller_half, collect_steps, WhyNothing, CloseShows, HasNoDraft, IsWithdrawn};
-    ghost use Rattle.scmi_words.specs.WordCallee.{word_callee_view, word_callee_name, callee_half, take_steps, WhyNone};
-    ghost use Rattle.scmi_words.specs.WordChannel.{word_channel_name};
+    ghost use Rattle.scmi_words.specs.WordCaller.{word_caller_view, word_caller_identity, caller_half, collect_steps, WhyNothing, CloseShows, HasNoDraft, IsWithdrawn};
+    ghost use Rattle.scmi_words.specs.WordCallee.{word_callee_view, word_callee_identity, callee_half, take_steps, WhyNone};
+    ghost use Rattle.scmi_words.specs.WordChannel.{word_channel_identity};
     ghost use Rattle.scmi_words.specs.WordImage.{StandsAtEnd, image_words, image_area};
 
     ghost FULL = { false };
 
     const FULL: bool = false;
 
-    ghost name = { word_channel_name };
+    ghost identity = { word_channel_identity };
 
-    ghost caller_name = { word_caller_name };
+    ghost caller_identity = { word_caller_identity };
 
-    ghost callee_name = { word_callee_name };
+    ghost callee_identity = { word_callee_identity };
 
     ghost caller_view = { word_caller_view };
 
@@ -95,8 +95,8 @@ impl Channel for WordChannel {
 
     fn make(alloc: Global) -> Result<(WordChannel, WordCaller, WordCallee), LinkError>
         ensures made { IfOk result (λ r.
-            (word_caller_name r.1 ≡ word_channel_name r.0) ×
-            (word_callee_name r.2 ≡ word_channel_name r.0)) }
+            (word_caller_identity r.1 ≡ word_channel_identity r.0) ×
+            (word_callee_identity r.2 ≡ word_channel_identity r.0)) }
         ensures fresh { IfOk result (λ r.
             (word_caller_view r.1 ≡ new_caller) × (word_callee_view r.2 ≡ new_callee)) }
         ensures halves { IfOk result (λ r.
@@ -131,8 +131,8 @@ impl Channel for WordChannel {
         header: Header,
         payload: &Payload,
     ) -> Result<(), PostError>
-        requires name { word_caller_name caller.old ≡ word_channel_name self.now }
-        ensures name { word_caller_name caller.new ≡ word_caller_name caller.old }
+        requires identity { word_caller_identity caller.old ≡ word_channel_identity self.now }
+        ensures identity { word_caller_identity caller.new ≡ word_caller_identity caller.old }
         ensures posts { let message : Message = record { header = header; payload = payload.now } in
             Posts false (word_caller_view caller.old) (Good message) result (word_caller_view caller.new) }
         ensures never_full { result ≢ Err PostError.Full }
@@ -152,8 +152,8 @@ impl Channel for WordChannel {
         length: u32,
         header: u32,
     ) -> Result<(), PostError>
-        requires name { word_caller_name caller.old ≡ word_channel_name self.now }
-        ensures name { word_caller_name caller.new ≡ word_caller_name caller.old }
+        requires identity { word_caller_identity caller.old ≡ word_channel_identity self.now }
+        ensures identity { word_caller_identity caller.new ≡ word_caller_identity caller.old }
         ensures well_formed { (result ≡ Err PostError.WellFormed) ↔ (is_well_formed length ≡ true) }
         ensures unchanged { is_well_formed length ≡ true →
             word_caller_view caller.new ≡ word_caller_view caller.old }
@@ -174,8 +174,8 @@ impl Channel for WordChannel {
     }
 
     fn collect_into(&self, caller: &mut WordCaller, answer: &mut Answer) -> Looked
-        requires name { word_caller_name caller.old ≡ word_channel_name self.now }
-        ensures name { word_caller_name caller.new ≡ word_caller_name caller.old }
+        requires identity { word_caller_identity caller.old ≡ word_channel_identity self.now }
+        ensures identity { word_caller_identity caller.new ≡ word_caller_identity caller.old }
         ensures collects { Collects (word_caller_view caller.old) (collected_by result answer.new)
             (word_caller_view caller.new) }
         ensures stays { ¬ (result ≡ Looked.Got) → answer.new ≡ answer.old }
@@ -191,8 +191,8 @@ impl Channel for WordChannel {
     }
 
     fn take_into(&self, callee: &mut WordCallee, frame: &mut Frame) -> bool
-        requires name { word_callee_name callee.old ≡ word_channel_name self.now }
-        ensures name { word_callee_name callee.new ≡ word_callee_name callee.old }
+        requires identity { word_callee_identity callee.old ≡ word_channel_identity self.now }
+        ensures identity { word_callee_identity callee.new ≡ word_callee_identity callee.old }
         ensures takes { Takes (word_callee_view callee.old) (frame_if result frame.new)
             (word_callee_view callee.new) }
         ensures stays { result ≡ false → frame.new ≡ frame.old }
@@ -208,9 +208,9 @@ impl Channel for WordChannel {
     }
 
     fn answer(&self, callee: &mut WordCallee, answer: &Answer)
-        requires name { word_callee_name callee.old ≡ word_channel_name self.now }
+        requires identity { word_callee_identity callee.old ≡ word_channel_identity self.now }
         requires owes { Owes (word_callee_view callee.old) }
-        ensures name { word_callee_name callee.new ≡ word_callee_name callee.old }
+        ensures identity { word_callee_identity callee.new ≡ word_callee_identity callee.old }
         ensures answered { word_callee_view callee.new ≡
             record (word_callee_view callee.old)
             { answered = (word_callee_view callee.old).answered ++ answer.now ∷ [] } }
@@ -221,9 +221,9 @@ impl Channel for WordChannel {
     }
 
     fn reply(&self, callee: &mut WordCallee, message: &Message)
-        requires name { word_callee_name callee.old ≡ word_channel_name self.now }
+        requires identity { word_callee_identity callee.old ≡ word_channel_identity self.now }
         requires owes { Owes (word_callee_view callee.old) }
-        ensures name { word_callee_name callee.new ≡ word_callee_name callee.old }
+        ensures identity { word_callee_identity callee.new ≡ word_callee_identity callee.old }
         ensures answered { word_callee_view callee.new ≡
             record (word_callee_view callee.old)
             { answered = (word_callee_view callee.old).answered ++ Reply message.now ∷ [] } }
@@ -234,8 +234,8 @@ impl Channel for WordChannel {
     }
 
     fn close_caller(&self, caller: &mut WordCaller) -> Result<Closing, CloseError>
-        requires name { word_caller_name caller.old ≡ word_channel_name self.now }
-        ensures name { word_caller_name caller.new ≡ word_caller_name caller.old }
+        requires identity { word_caller_identity caller.old ≡ word_channel_identity self.now }
+        ensures identity { word_caller_identity caller.new ≡ word_caller_identity caller.old }
         ensures closes { ClosesCaller (word_caller_view caller.old) result
             (word_caller_view caller.new) }
         ensures shows { CloseShows caller.new result }
@@ -247,8 +247,8 @@ impl Channel for WordChannel {
     }
 
     fn close_callee(&self, callee: &mut WordCallee) -> Result<(), CloseError>
-        requires name { word_callee_name callee.old ≡ word_channel_name self.now }
-        ensures name { word_callee_name callee.new ≡ word_callee_name callee.old }
+        requires identity { word_callee_identity callee.old ≡ word_channel_identity self.now }
+        ensures identity { word_callee_identity callee.new ≡ word_callee_identity callee.old }
         ensures closes { ClosesCallee (word_callee_view callee.old) result
             (word_callee_view callee.new) }
         ensures steps { (callee_half callee.new).steps ≤ (callee_half callee.old).steps + 1 }
@@ -257,8 +257,8 @@ impl Channel for WordChannel {
     }
 
     fn gather(self, caller: WordCaller, callee: WordCallee) -> WordImage
-        requires caller { word_caller_name caller ≡ word_channel_name self }
-        requires callee { word_callee_name callee ≡ word_channel_name self }
+        requires caller { word_caller_identity caller ≡ word_channel_identity self }
+        requires callee { word_callee_identity callee ≡ word_channel_identity self }
         ensures agree { Agree (word_caller_view caller) (word_callee_view callee) }
         ensures closed { Closed (word_caller_view caller) (word_callee_view callee) }
         ensures rule { Rule (image_words result) (caller_half caller) (callee_half callee) }

@@ -3,7 +3,7 @@ ghost use Rattle.std.specs.Prelude.{◌≡◌, ◌≢◌, ℕ, ◌+◌, ◌<◌,
 ghost use Rattle.std.specs.List.{last_or};
 ghost use Rattle.scmi_codec.specs.declared.frame.Frame.{Frame};
 ghost use Rattle.scmi_words.specs.declared.layout.TheConstants.{LENGTH, TABLE_WORDS};
-ghost use Rattle.scmi_words.specs.declared.phase.Phase.TheVariants.{Idle, Waiting, Stranded};
+ghost use Rattle.scmi_words.specs.declared.phase.Phase.TheVariants.{Idle, Waiting, Withdrawing};
 ghost use Rattle.scmi_words.specs.declared.status_word.TheConstants.{FREE, CLOSED};
 ghost use Rattle.scmi_words.specs.declared.view.CallerHalf.{CallerHalf};
 ghost use Rattle.scmi_words.specs.Area.{IsLawful, frame_words};
@@ -122,7 +122,7 @@ pub fn set_caller_closed(table: &SharedTable, seat: &mut TableSeat, bits: u64) -
     requires table { IsSeatAt table.now seat.old }
     requires half { HasCaller seat.old }
     requires bits { ((bits ≡ CLOSED) × ((caller_of seat.old).state.phase ≢ Waiting)) ⊎
-        ((bits ≡ CLOSED + FREE) × ((caller_of seat.old).state.phase ≡ Stranded)) }
+        ((bits ≡ CLOSED + FREE) × ((caller_of seat.old).state.phase ≡ Withdrawing)) }
     ensures { (t : ℕ) × CallerBecomes seat.old (closed_by (caller_of seat.old) bits t) seat.new }
 {
     let words = &table.words.shared;

@@ -3,5 +3,5 @@ use Rattle.scmi_channel_tests.proofs.race.serve_until_done.Given as goal
 
 abbrev pub invariant-turns : goal.invariant-turns
 invariant-turns g l = record {
-  links : HasLinks g.C.Channel.name l.links l.controller;
+  links : HasLinks g.C.Channel.identity l.links l.controller;
 }

@@ -1,7 +1,7 @@
 use Rattle.std.proofs.Common.{◌≡◌, refl}
 use Rattle.scmi_codec.specs.Header.{header_of}
 use Rattle.scmi_codec.proofs.HeaderLemmas.{header_word-header_of}
-use Rattle.scmi_codec.proofs.AreaLemmas.{replied, StandsFor-replied, kept-replied}
+use Rattle.scmi_codec.proofs.AreaLemmas.{area_after_reply, StandsFor-replied, kept-replied}
 use Rattle.scmi_codec.proofs.area.write_parts.Goals as goal
 
 pub returns-clause-written : goal.returns-clause-written
@@ -18,7 +18,7 @@ returns-clause-written c =
 pub returns-clause-stands : goal.returns-clause-stands
 returns-clause-stands c =
     let words = c.args.payload.now.items in
-    let e : c.write_word-3.new.bytes ≡ replied c.args.area.now c.args.status c.args.header words =
+    let e : c.write_word-3.new.bytes ≡ area_after_reply c.args.area.now c.args.status c.args.header words =
     rw (c.write_word-3.ensures, c.write_payload.ensures.written, c.write_word-2.ensures, c.write_word.ensures, c.as_slice-words.ensures.value) refl in
     rw e (StandsFor-replied c.args.area.now (header_of c.args.header) c.args.status c.args.header words c.requires
     (rw c.as_slice-words.ensures.value at c.as_slice-words.ensures.fits) (rw c.as_slice-words.ensures.value at c.write_payload.ensures.words)
@@ -27,7 +27,7 @@ returns-clause-stands c =
 pub returns-clause-rest : goal.returns-clause-rest
 returns-clause-rest c =
     let words = c.args.payload.now.items in
-    let e : c.write_word-3.new.bytes ≡ replied c.args.area.now c.args.status c.args.header words =
+    let e : c.write_word-3.new.bytes ≡ area_after_reply c.args.area.now c.args.status c.args.header words =
     rw (c.write_word-3.ensures, c.write_payload.ensures.written, c.write_word-2.ensures, c.write_word.ensures, c.as_slice-words.ensures.value) refl in
     rw e (λ i away. kept-replied c.args.area.now c.args.status c.args.header words i c.requires
     (rw c.as_slice-words.ensures.value at c.as_slice-words.ensures.fits) away)

@@ -10,7 +10,7 @@ returns c =
       c.read_word-2.ensures,
       c.read_word-3.ensures,
       c.read_word-4.ensures,
-      c.padded-bytes.ensures,
+      c.padded_bytes-bytes.ensures,
       word_at-zeros 0 (16 - length name) name,
       word_at-zeros 4 (16 - length name) name,
       word_at-zeros 8 (16 - length name) name,

@@ -5,7 +5,7 @@ use Rattle.scmi_threads.specs.Logs.{IsLogOf}
 use Rattle.scmi_threads.specs.ScriptRuns.{HasPlayed}
 use Rattle.std.specs.List.{All}
 use Rattle.scmi_ends.specs.Each.{AllFrom}
-use Rattle.scmi_ends.specs.Links.{names_of_a2p, names_of_p2a}
+use Rattle.scmi_ends.specs.Links.{identities_of_a2p, identities_of_p2a}
 use Rattle.scmi_threads.specs.Orders.{IsUndisturbed}
 use Rattle.scmi_threads.specs.ScriptLogs.{IsScriptLog, orders_of}
 use Rattle.scmi_threads.specs.declared.agent_log.AgentLog.{AgentLog}
@@ -14,11 +14,11 @@ use Rattle.scmi_threads.proofs.Moves.{zip_maps}
 use Rattle.scmi_threads.proofs.threads.run_agents.Goals as goal
 use Rattle.scmi_threads.proofs.threads.run_agents.Goals.{After-end_runs-ends}
 
-a2p_names : (g : _) (c : After-end_runs-ends g) → map (λ agent. agent.a2p_name) c.end_runs-ends.result.0.items ≡ names_of_a2p g.C.Channel.name c.in-Ok.links.items
-a2p_names g c = c.end_runs-ends.ensures.a2p ∙ zip_maps (HasPlayed g.C.Channel.FULL) (λ script_run. script_run.end.a2p_name) (λ a b r. r.ran.a2p) c.in_ok-script_runs.script_runs.items c.run_beside-controller.result.1.items c.run_beside-controller.ensures.ran ∙ c.in_ok-script_runs.ensures.a2p ∙ ap (names_of_a2p g.C.Channel.name) c.deref.ensures.value
+a2p_identities : (g : _) (c : After-end_runs-ends g) → map (λ agent. agent.a2p_identity) c.end_runs-ends.result.0.items ≡ identities_of_a2p g.C.Channel.identity c.in-Ok.links.items
+a2p_identities g c = c.end_runs-ends.ensures.a2p ∙ zip_maps (HasPlayed g.C.Channel.FULL) (λ script_run. script_run.end.a2p_identity) (λ a b r. r.ran.a2p) c.in_ok-script_runs.script_runs.items c.run_beside-controller.result.1.items c.run_beside-controller.ensures.ran ∙ c.in_ok-script_runs.ensures.a2p ∙ ap (identities_of_a2p g.C.Channel.identity) c.deref.ensures.value
 
-p2a_names : (g : _) (c : After-end_runs-ends g) → map (λ agent. agent.p2a_name) c.end_runs-ends.result.0.items ≡ names_of_p2a g.C.Channel.name c.in-Ok.links.items
-p2a_names g c = c.end_runs-ends.ensures.p2a ∙ zip_maps (HasPlayed g.C.Channel.FULL) (λ script_run. script_run.end.p2a_name) (λ a b r. r.ran.p2a) c.in_ok-script_runs.script_runs.items c.run_beside-controller.result.1.items c.run_beside-controller.ensures.ran ∙ c.in_ok-script_runs.ensures.p2a ∙ ap (names_of_p2a g.C.Channel.name) c.deref.ensures.value
+p2a_identities : (g : _) (c : After-end_runs-ends g) → map (λ agent. agent.p2a_identity) c.end_runs-ends.result.0.items ≡ identities_of_p2a g.C.Channel.identity c.in-Ok.links.items
+p2a_identities g c = c.end_runs-ends.ensures.p2a ∙ zip_maps (HasPlayed g.C.Channel.FULL) (λ script_run. script_run.end.p2a_identity) (λ a b r. r.ran.p2a) c.in_ok-script_runs.script_runs.items c.run_beside-controller.result.1.items c.run_beside-controller.ensures.ran ∙ c.in_ok-script_runs.ensures.p2a ∙ ap (identities_of_p2a g.C.Channel.identity) c.deref.ensures.value
 
 pub start_runs-requires-clause-ends : goal.start_runs-requires-clause-ends
 start_runs-requires-clause-ends g c κs within = rw c.deref.ensures.value c.in-Ok.ensures.ends
@@ -36,13 +36,13 @@ pub conclude-requires-clause-links : goal.conclude-requires-clause-links
 conclude-requires-clause-links g c κs within = rw (← c.deref-2.ensures.value) c.run_beside-controller.ensures.goes_on.has_links
 
 pub conclude-requires-clause-ends : goal.conclude-requires-clause-ends
-conclude-requires-clause-ends g c κs within = let at = (goal.at.conclude-requires-clause-ends g c).After-end_runs-ends in (a2p_names g at, p2a_names g at)
+conclude-requires-clause-ends g c κs within = let at = (goal.at.conclude-requires-clause-ends g c).After-end_runs-ends in (a2p_identities g at, p2a_identities g at)
 
 pub returns-clause-count : goal.returns-clause-count
 returns-clause-count g c =
-    let names = a2p_names g (goal.at.returns-clause-count g c).After-end_runs-ends in
+    let names = a2p_identities g (goal.at.returns-clause-count g c).After-end_runs-ends in
     ap (λ logs. logs.len) c.conclude.ensures.logs
-    ∙ omega (arith, c.end_runs-ends.result.1.ok.0, AllZip-long IsLogOf c.end_runs-ends.result.0.items c.end_runs-ends.result.1.items c.end_runs-ends.ensures.logs, length-map c.end_runs-ends.result.0.items (λ agent. agent.a2p_name), ap length names, length-map c.in-Ok.links.items (λ link. g.C.Channel.name link.a2p), c.in-Ok.links.ok.0, c.in-Ok.ensures.count.0)
+    ∙ omega (arith, c.end_runs-ends.result.1.ok.0, AllZip-long IsLogOf c.end_runs-ends.result.0.items c.end_runs-ends.result.1.items c.end_runs-ends.ensures.logs, length-map c.end_runs-ends.result.0.items (λ agent. agent.a2p_identity), ap length names, length-map c.in-Ok.links.items (λ link. g.C.Channel.identity link.a2p), c.in-Ok.links.ok.0, c.in-Ok.ensures.count.0)
     ∙ ap (λ board. length board.agents) c.new-core.ensures.board
 
 pub returns-clause-headline : goal.returns-clause-headline

@@ -1,7 +1,7 @@
 use Rattle.std.proofs.Common.{◌∙◌, ap, sym, unwrap_or}
 use Rattle.scmi_base.specs.Permission.{is_allowed_after, reset_after}
 use Rattle.scmi_power.specs.PowerTable.{is_subscribed}
-use Rattle.scmi_core.specs.Subscriptions.{ended}
+use Rattle.scmi_core.specs.Subscriptions.{subscription_after_reset}
 use Rattle.scmi_core.specs.Reply.{reply_words}
 use Rattle.scmi_core.proofs.ClockSteps.{base-stepped}
 use Rattle.scmi_core.proofs.tables.Tables.execute_base.Goals as goal
@@ -16,5 +16,5 @@ returns-clause-stepped c =
     let done = c.end_requests.ensures in
     base-stepped c.args.plan.now c.args.self.now c.end_requests.new.self c.execute-reset.new.self c.args.agent c.args.header c.args.command c.execute-reset.new.reply.items
     (λ x d scope lo small. c.execute-reset.ensures.allowed x d scope lo small ∙ ap (λ r. is_allowed_after r x d scope c.args.command c.args.self.now.base) (sym reply))
-    (λ x d lo hi small. done.subscriptions x d lo hi small ∙ ap (λ r. unwrap_or (ended x r) (is_subscribed c.args.self.now.power x d)) (c.execute-reset.ensures.reset ∙ ap (λ r. reset_after r c.args.command) (sym reply)))
+    (λ x d lo hi small. done.subscriptions x d lo hi small ∙ ap (λ r. unwrap_or (subscription_after_reset x r) (is_subscribed c.args.self.now.power x d)) (c.execute-reset.ensures.reset ∙ ap (λ r. reset_after r c.args.command) (sym reply)))
     done.states done.base done.clocks done.pending done.outboxes

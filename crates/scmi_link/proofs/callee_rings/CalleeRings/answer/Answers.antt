@@ -1,6 +1,6 @@
 use Rattle.std.proofs.Common.{◌++◌, ◌∷◌, [], ap, ◌∙◌}
 use Rattle.rtrb.specs.Ring.{sent}
-use Rattle.scmi_link.specs.Note.{said}
+use Rattle.scmi_link.specs.Note.{answers_among}
 use Rattle.scmi_link.specs.CalleeRings.{callee_rings_view}
 use Rattle.scmi_link.proofs.RingSteps.{answered_said, answered_counted, answered_noted, answered_last}
 use Rattle.scmi_link.proofs.callee_rings.CalleeRings.answer.Goals as goal
@@ -18,5 +18,5 @@ pub returns-clause-answered : goal.returns-clause-answered
 returns-clause-answered c =
     let d = c.args.self.now in
     let came = answered_said d _ _ c.requires c.push_reserved.ensures.sent.0 in
-    let answered = came ∙ ap (λ a. said (sent d.answers) ++ a ∷ []) c.copy_from.ensures in
+    let answered = came ∙ ap (λ a. answers_among (sent d.answers) ++ a ∷ []) c.copy_from.ensures in
     λ i. record (callee_rings_view d) { answered = answered i }

@@ -1,7 +1,7 @@
 use Rattle.std.proofs.Common.{◌≡◌, ◌++◌, ◌∷◌, [], length, ap, ◌∙◌, sym, refl, arith, length-append}
 use Rattle.rtrb.specs.Ring.{received}
 use Rattle.scmi_link.specs.Envelope.{frames_in}
-use Rattle.scmi_link.specs.Note.{said, ends_well}
+use Rattle.scmi_link.specs.Note.{answers_among, ends_well}
 use Rattle.scmi_link.specs.Bit.{bit}
 use Rattle.scmi_link.specs.View.{one_more}
 use Rattle.scmi_link.specs.CalleeRings.{callee_rings_view}
@@ -19,7 +19,7 @@ frame_came c =
 pub invariant_of-self-2-clause-counted : goal.invariant_of-self-2-clause-counted
 invariant_of-self-2-clause-counted c =
     let d = c.args.self.now in
-    let stay = ap (λ ns. length (said ns)) c.is_full.ensures.looked.1 in
+    let stay = ap (λ ns. length (answers_among ns)) c.is_full.ensures.looked.1 in
     let owed = ap bit c.if-self-2.false in
     rw (frame_came (goal.at.invariant_of-self-2-clause-counted c).After-pop_known-envelope) (omega (arith, d.counted, owed, stay, length-append (frames_in (received d.frames)) (c.pop_known-envelope.result.value.frame ∷ [])))
 
@@ -31,7 +31,7 @@ returns-clause-takes c =
     let d = c.args.self.now in
     let came = frame_came (goal.at.returns-clause-takes c).After-pop_known-envelope in
     let taken = came ∙ ap (λ f. frames_in (received d.frames) ++ f ∷ []) (sym (c.copy_from.ensures ∙ ap (λ e. e.frame) c.deref.ensures)) in
-    let answered = ap said c.is_full.ensures.looked.1 in
+    let answered = ap answers_among c.is_full.ensures.looked.1 in
     record {
       open_before = rw c.if-self.false refl;
       owed_nothing = omega (arith, d.counted, ap bit c.if-self-2.false);

@@ -3,10 +3,10 @@ use Rattle.std.proofs.lemmas.Bool.{false≢true}
 use Rattle.rtrb.specs.Ring.{received}
 use Rattle.scmi_link.specs.declared.note.Note.TheVariants.{Said, Closing}
 use Rattle.scmi_link.specs.View.{IsOutstanding, one_more}
-use Rattle.scmi_link.specs.Note.{said, has_closing}
+use Rattle.scmi_link.specs.Note.{answers_among, has_closing}
 use Rattle.scmi_link.specs.Bit.{bit}
 use Rattle.scmi_link.specs.CallerRings.{caller_rings_view}
-use Rattle.scmi_link.proofs.NoteLemmas.{said-said, said-closing, has_closing-said, has_closing-closing}
+use Rattle.scmi_link.proofs.NoteLemmas.{answers_among-said, answers_among-closing, has_closing-said, has_closing-closing}
 use Rattle.scmi_link.proofs.RingSteps.{or_true, told_now}
 use Rattle.scmi_link.proofs.caller_rings.CallerRings.collect_into.Goals as goal
 use Rattle.scmi_link.proofs.caller_rings.CallerRings.collect_into.Goals.{In-Said, In-Closing}
@@ -15,21 +15,21 @@ use Rattle.scmi_link.proofs.caller_rings.CallerRings.collect_into.Goals.{In-Said
 answer_came : (c : In-Said) → received c.pop_known.new.self ≡ received c.args.self.now.answers ++ Said c.in-Said.envelope ∷ []
 answer_came c = c.pop_known.ensures.received.0 ∙ ap (λ ns. ns ++ c.pop_known.result ∷ []) c.is_empty.ensures.looked.1 ∙ ap (λ n. received c.args.self.now.answers ++ n ∷ []) c.in-Said.is
 
-one_answer : (c : In-Said) → said (received c.pop_known.new.self) ≡ said (received c.args.self.now.answers) ++ c.in-Said.envelope.value.answer ∷ []
-one_answer c = ap said (answer_came c) ∙ said-said (received c.args.self.now.answers) c.in-Said.envelope
+one_answer : (c : In-Said) → answers_among (received c.pop_known.new.self) ≡ answers_among (received c.args.self.now.answers) ++ c.in-Said.envelope.value.answer ∷ []
+one_answer c = ap answers_among (answer_came c) ∙ answers_among-said (received c.args.self.now.answers) c.in-Said.envelope
 
 -- the closing note was taken out of the ring
 note_came : (c : In-Closing) → received c.pop_known.new.self ≡ received c.args.self.now.answers ++ Closing ∷ []
 note_came c = c.pop_known.ensures.received.0 ∙ ap (λ ns. ns ++ c.pop_known.result ∷ []) c.is_empty.ensures.looked.1 ∙ ap (λ n. received c.args.self.now.answers ++ n ∷ []) c.in-Closing.is
 
-no_answer : (c : In-Closing) → said (received c.pop_known.new.self) ≡ said (received c.args.self.now.answers)
-no_answer c = ap said (note_came c) ∙ said-closing (received c.args.self.now.answers)
+no_answer : (c : In-Closing) → answers_among (received c.pop_known.new.self) ≡ answers_among (received c.args.self.now.answers)
+no_answer c = ap answers_among (note_came c) ∙ answers_among-closing (received c.args.self.now.answers)
 
 pub invariant_of-self-in-Said-clause-counted : goal.invariant_of-self-in-Said-clause-counted
 invariant_of-self-in-Said-clause-counted c =
     let p = c.args.self.now in
     let waited = ap bit c.if-not-self.false in
-    rw (one_answer (goal.at.invariant_of-self-in-Said-clause-counted c).In-Said) (omega (arith, p.counted, waited, length-append (said (received p.answers)) (c.in-Said.envelope.value.answer ∷ [])))
+    rw (one_answer (goal.at.invariant_of-self-in-Said-clause-counted c).In-Said) (omega (arith, p.counted, waited, length-append (answers_among (received p.answers)) (c.in-Said.envelope.value.answer ∷ [])))
 
 pub invariant_of-self-in-Said-clause-heard : goal.invariant_of-self-in-Said-clause-heard
 invariant_of-self-in-Said-clause-heard c =
@@ -51,7 +51,7 @@ returns-in-Said-clause-collects c =
     let p = c.args.self.now in
     let waited = ap bit c.if-not-self.false in
     let stays = p.one c.if-not-self.false in
-    let read = one_answer (goal.at.returns-in-Said-clause-collects c).In-Said ∙ ap (λ a. said (received p.answers) ++ a ∷ []) (sym (c.copy_from.ensures ∙ ap (λ e. e.answer) c.deref.ensures)) in
+    let read = one_answer (goal.at.returns-in-Said-clause-collects c).In-Said ∙ ap (λ a. answers_among (received p.answers) ++ a ∷ []) (sym (c.copy_from.ensures ∙ ap (λ e. e.answer) c.deref.ensures)) in
     record {
       was_outstanding = record { unread = omega (arith, p.counted, waited, ap bit stays); stays = stays };
       read = λ i. record (caller_rings_view p) { read = read i; collects = one_more p.collects };

@@ -1,20 +1,20 @@
 use Rattle.std.proofs.Common.{sym, ◌∙◌}
 use Rattle.rtrb.specs.Ring.{known_items}
 use Rattle.scmi_link.proofs.RingsAgree.{agree, closed_ends, at_start}
-use Rattle.scmi_link.proofs.RingNames.{are_beside}
+use Rattle.scmi_link.proofs.RingIdentities.{are_beside}
 use Rattle.scmi_link.proofs.ring_channel.RingChannelChannel.gather.Goals as goal
 
 pub slots_beside-requires : goal.slots_beside-requires
 slots_beside-requires c =
     let p = c.args.caller in
     let q = c.args.callee in
-    (are_beside p.rings q.rings p.name.numbers q.name.numbers p.named q.named (c.requires.caller ∙ sym c.requires.callee)).frames
+    (are_beside p.rings q.rings p.identity.numbers q.identity.numbers p.identified q.identified (c.requires.caller ∙ sym c.requires.callee)).frames
 
 pub slots_beside-requires-2 : goal.slots_beside-requires-2
 slots_beside-requires-2 c =
     let p = c.args.caller in
     let q = c.args.callee in
-    (are_beside p.rings q.rings p.name.numbers q.name.numbers p.named q.named (c.requires.caller ∙ sym c.requires.callee)).answers
+    (are_beside p.rings q.rings p.identity.numbers q.identity.numbers p.identified q.identified (c.requires.caller ∙ sym c.requires.callee)).answers
 
 pub returns-clause-agree : goal.returns-clause-agree
 returns-clause-agree c =

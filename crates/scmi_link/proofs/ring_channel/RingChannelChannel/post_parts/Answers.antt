@@ -1,5 +1,5 @@
-use Rattle.scmi_link.proofs.RingNames.{caller_stays}
+use Rattle.scmi_link.proofs.RingIdentities.{caller_stays}
 use Rattle.scmi_link.proofs.ring_channel.RingChannelChannel.post_parts.Goals as goal
 
 pub invariant_of-caller : goal.invariant_of-caller
-invariant_of-caller c = record { named = caller_stays _ _ _ c.args.caller.now.named c.post_parts.ensures.rings }
+invariant_of-caller c = record { identified = caller_stays _ _ _ c.args.caller.now.identified c.post_parts.ensures.rings }

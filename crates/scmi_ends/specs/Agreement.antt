@@ -4,7 +4,7 @@ use Rattle.scmi_codec.specs.declared.frame.Frame.TheVariants.{Good}
 use Rattle.scmi_link.specs.View.{CallerView, CalleeView}
 use Rattle.scmi_plan.specs.Board.{Board}
 use Rattle.scmi_core.specs.Agents.{frames_of, answers_to}
-use Rattle.scmi_core.specs.History.{delivered}
+use Rattle.scmi_core.specs.History.{delivered_messages}
 use Rattle.scmi_core.specs.Legal.{IsLegal}
 use Rattle.scmi_core.specs.declared.event.Event.{Event}
 use Rattle.scmi_ends.specs.Each.{AllFrom}
@@ -17,7 +17,7 @@ pub record IsServed (board : Board) (h : List Event) (a : ℕ) (callee : CalleeV
 
 -- the end of agent a's P2A channel has posted the messages that are delivered to that agent
 abbrev pub IsDelivered : Board → List Event → ℕ → CallerView → Type 0
-IsDelivered board h a caller = caller.posted ≡ map Good (delivered board a h)
+IsDelivered board h a caller = caller.posted ≡ map Good (delivered_messages board a h)
 
 -- no command of agent a is executed after these many events, if it has such a number
 abbrev pub ExecutesNoneAfter : List Event → ℕ → Option ℕ → Type 0
@@ -30,7 +30,7 @@ pub record StayShut (h : List Event) (callees : List CalleeView) (closed_at : Li
   pub none_after : AllFrom (ExecutesNoneAfter h) 1 closed_at
 
 -- the history is legal, and each agent's ends have done what it says
-pub record Keeps (board : Board) (h : List Event) (callees : List CalleeView) (callers : List CallerView) (closed_at : List (Option ℕ)) : Type 0 where
+pub record EndsAgree (board : Board) (h : List Event) (callees : List CalleeView) (callers : List CallerView) (closed_at : List (Option ℕ)) : Type 0 where
   pub legal : IsLegal board h
   pub callees_count : length callees ≡ length board.agents
   pub callers_count : length callers ≡ length board.agents
@@ -40,5 +40,5 @@ pub record Keeps (board : Board) (h : List Event) (callees : List CalleeView) (c
   pub shut : StayShut h callees closed_at
 
 -- the same of the platform's side as a whole
-abbrev pub IsKept : ControllerView → Type 0
-IsKept platform = Keeps platform.board platform.history platform.callees platform.callers platform.closed_at
+abbrev pub IsInStep : ControllerView → Type 0
+IsInStep platform = EndsAgree platform.board platform.history platform.callees platform.callers platform.closed_at

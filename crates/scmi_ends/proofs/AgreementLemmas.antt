@@ -15,7 +15,7 @@ use Rattle.scmi_core.specs.declared.core_error.CoreError.{CoreError}
 use Rattle.scmi_core.specs.Platform.{Platform}
 use Rattle.scmi_plan.specs.Board.{Board}
 use Rattle.scmi_core.specs.Agents.{frames_of}
-use Rattle.scmi_core.specs.History.{answer_to, delivered}
+use Rattle.scmi_core.specs.History.{answer_to, delivered_messages}
 use Rattle.scmi_core.specs.Legal.{IsLegal}
 use Rattle.scmi_core.proofs.Laws.{frames_own, frames_other, answers_own, answers_other, IsQuiet, advance, sent_to, frames_quiet, answers_quiet, delivered_kept, delivered_sent, delivered_other, as_many}
 use Rattle.scmi_ends.specs.declared.served.Served.{Served}
@@ -25,7 +25,7 @@ use Rattle.scmi_ends.specs.declared.flushed.Flushed.TheVariants as flushed
 use Rattle.scmi_ends.specs.declared.shut_error.ShutError.{ShutError}
 use Rattle.scmi_ends.specs.declared.shut_error.ShutError.TheVariants as shut
 use Rattle.scmi_ends.specs.Each.{AllFrom}
-use Rattle.scmi_ends.specs.Kept.{ExecutesNoneAfter, StayShut, IsServed, IsDelivered, Keeps}
+use Rattle.scmi_ends.specs.Agreement.{ExecutesNoneAfter, StayShut, IsServed, IsDelivered, EndsAgree}
 use Rattle.scmi_ends.specs.Serve.{ServesOne}
 use Rattle.scmi_ends.specs.Flush.{FlushesOne, CollectsAndFlushes}
 use Rattle.scmi_link.specs.declared.closing.Closing.{Closing}
@@ -79,7 +79,7 @@ open_before v e = neither v.closed v.told e where
 
 -- SERVE
 
-module _ {D : Type 0} (f : D → CalleeView) (board : Board) (a i : ℕ) (ds : List D) (cs : List CallerView) (ps : List (Option ℕ)) (x d : D) (h : List Event) (e : a ≡ 1 + i) (lt : i < length ds) (is : x ≡ get_or ds i x) (kept : Keeps board h (map f ds) cs ps) where
+module _ {D : Type 0} (f : D → CalleeView) (board : Board) (a i : ℕ) (ds : List D) (cs : List CallerView) (ps : List (Option ℕ)) (x d : D) (h : List Event) (e : a ≡ 1 + i) (lt : i < length ds) (is : x ≡ get_or ds i x) (kept : EndsAgree board h (map f ds) cs ps) where
   -- the ends that have closed, as one goes on
   same_places : (f d).closed ≡ (f x).closed → map (λ v. v.closed) (map f (set ds i d)) ≡ map is_some ps
   same_places c =
@@ -93,8 +93,8 @@ module _ {D : Type 0} (f : D → CalleeView) (board : Board) (a i : ℕ) (ds : L
       is_open (get_or ps i None) (sym (at_place (λ v. v.closed) is_some (map f ds) ps i (f x) None kept.shut.places below) ∙ ap (λ v. v.closed) (view_at f ds i x (f x) lt is) ∙ c)
 
   -- the end goes on or closes, under the same history
-  kept_end : (ps' : List (Option ℕ)) → length ps' ≡ length ps → StayShut h (map f (set ds i d)) ps' → (f d).taken ≡ (f x).taken → (f d).answered ≡ (f x).answered → Keeps board h (map f (set ds i d)) cs ps'
-  kept_end ps' l shut t r =
+  agrees_end : (ps' : List (Option ℕ)) → length ps' ≡ length ps → StayShut h (map f (set ds i d)) ps' → (f d).taken ≡ (f x).taken → (f d).answered ≡ (f x).answered → EndsAgree board h (map f (set ds i d)) cs ps'
+  agrees_end ps' l shut t r =
       let mine = from_at (IsServed board h) f 1 i a ds x lt e is kept.served in
       record {
         legal = kept.legal;
@@ -107,28 +107,28 @@ module _ {D : Type 0} (f : D → CalleeView) (board : Board) (a i : ℕ) (ds : L
       }
 
   -- the end goes on
-  kept_callee : (f d).closed ≡ (f x).closed → (f d).taken ≡ (f x).taken → (f d).answered ≡ (f x).answered → Keeps board h (map f (set ds i d)) cs ps
-  kept_callee c = kept_end ps refl (record { places = same_places c; none_after = kept.shut.none_after })
+  agrees_callee : (f d).closed ≡ (f x).closed → (f d).taken ≡ (f x).taken → (f d).answered ≡ (f x).answered → EndsAgree board h (map f (set ds i d)) cs ps
+  agrees_callee c = agrees_end ps refl (record { places = same_places c; none_after = kept.shut.none_after })
 
   -- the end closes, and the first close is noted
-  pub kept_close : f d ≡ record (f x) { closed = true } → Keeps board h (map f (set ds i d)) cs (set ps i (option_or (get_or ps i None) (Some (length h))))
-  kept_close c =
+  pub agrees_close : f d ≡ record (f x) { closed = true } → EndsAgree board h (map f (set ds i d)) cs (set ps i (option_or (get_or ps i None) (Some (length h))))
+  agrees_close c =
       let place = option_or (get_or ps i None) (Some (length h)) in
       let noted_as : map is_some (set ps i place) ≡ set (map is_some ps) i true = map_at_set is_some ps i place ∙ ap (set (map is_some ps) i) (is_noted (get_or ps i None) (length h)) in
-      kept_end (set ps i place) (length-set ps i place) (record {
+      agrees_end (set ps i place) (length-set ps i place) (record {
         places = ap (map (λ v. v.closed)) (map_at_set f ds i d) ∙ map_at_set (λ v. v.closed) (map f ds) i (f d) ∙ ap (set (map (λ v. v.closed) (map f ds)) i) (ap (λ v. v.closed) c) ∙ ap (λ bs. set bs i true) kept.shut.places ∙ sym noted_as;
         none_after = from_set (ExecutesNoneAfter h) (ExecutesNoneAfter h) a (λ b p ne s. s) 1 i ps place e (noted h 1 i a ps e kept.shut.none_after) kept.shut.none_after;
       }) (ap (λ v. v.taken) c) (ap (λ v. v.answered) c)
 
   -- an agent is served
-  pub kept_serve : (h' : List Event) (r : Served) → IsLegal board h' → ServesOne board a h (f x) r h' (f d) → Keeps board h' (map f (set ds i d)) cs ps
-  kept_serve h' served.Nothing legal s =
-      subst (λ k. Keeps board k (map f (set ds i d)) cs ps) (sym s.0) (kept_callee (ap (λ w. w.closed) s.1.same) (ap (λ w. w.taken) s.1.same) (ap (λ w. w.answered) s.1.same))
-  kept_serve h' served.Done legal s =
+  pub agrees_serve : (h' : List Event) (r : Served) → IsLegal board h' → ServesOne board a h (f x) r h' (f d) → EndsAgree board h' (map f (set ds i d)) cs ps
+  agrees_serve h' served.Nothing legal s =
+      subst (λ k. EndsAgree board k (map f (set ds i d)) cs ps) (sym s.0) (agrees_callee (ap (λ w. w.closed) s.1.same) (ap (λ w. w.taken) s.1.same) (ap (λ w. w.answered) s.1.same))
+  agrees_serve h' served.Done legal s =
       let frame = s.frame in
       let mine = from_at (IsServed board h) f 1 i a ds x lt e is kept.served in
       let none = no_place (open_before (f x) s.unclosed) in
-      subst (λ k. Keeps board k (map f (set ds i d)) cs ps) (sym s.event) (record {
+      subst (λ k. EndsAgree board k (map f (set ds i d)) cs ps) (sym s.event) (record {
         legal = subst (λ k. IsLegal board k) s.event legal;
         callees_count = count_set f ds i d ∙ kept.callees_count;
         callers_count = kept.callers_count;
@@ -150,8 +150,8 @@ module _ {D : Type 0} (f : D → CalleeView) (board : Board) (a i : ℕ) (ds : L
 -- ADVANCE
 
 -- a set completes
-pub kept_advance : (board : Board) (h : List Event) (vs : List CalleeView) (cs : List CallerView) (ps : List (Option ℕ)) → Keeps board h vs cs ps → IsLegal board (h ++ Advance ∷ []) → Keeps board (h ++ Advance ∷ []) vs cs ps
-kept_advance board h vs cs ps kept legal = record {
+pub agrees_advance : (board : Board) (h : List Event) (vs : List CalleeView) (cs : List CallerView) (ps : List (Option ℕ)) → EndsAgree board h vs cs ps → IsLegal board (h ++ Advance ∷ []) → EndsAgree board (h ++ Advance ∷ []) vs cs ps
+agrees_advance board h vs cs ps kept legal = record {
   legal = legal;
   callees_count = kept.callees_count;
   callers_count = kept.callers_count;
@@ -162,12 +162,12 @@ kept_advance board h vs cs ps kept legal = record {
 }
 
 -- what `Core::advance` leaves, whatever it answers
-pub kept_after : (old new : Platform) (vs : List CalleeView) (cs : List CallerView) (ps : List (Option ℕ)) (r : Result Bool CoreError) → Keeps old.board old.history vs cs ps → new.board ≡ old.board → IsLegal new.board new.history
-    → IfOk r (λ did. did ≡ true → new.history ≡ old.history ++ Advance ∷ []) → IfOk r (λ did. did ≡ false → new ≡ old) → OnErr r (new ≡ old) → Keeps new.board new.history vs cs ps
-kept_after old new vs cs ps (Ok true) kept eb legal event same err =
-    rw eb (subst (λ k. Keeps old.board k vs cs ps) (sym (event refl)) (kept_advance old.board old.history vs cs ps kept (subst (λ k. IsLegal old.board k) (event refl) (rw eb at legal))))
-kept_after old new vs cs ps (Ok false) kept eb legal event same err = subst (λ p. Keeps p.board p.history vs cs ps) (sym (same refl)) kept
-kept_after old new vs cs ps (Err e) kept eb legal event same err = subst (λ p. Keeps p.board p.history vs cs ps) (sym err) kept
+pub agrees_after : (old new : Platform) (vs : List CalleeView) (cs : List CallerView) (ps : List (Option ℕ)) (r : Result Bool CoreError) → EndsAgree old.board old.history vs cs ps → new.board ≡ old.board → IsLegal new.board new.history
+    → IfOk r (λ did. did ≡ true → new.history ≡ old.history ++ Advance ∷ []) → IfOk r (λ did. did ≡ false → new ≡ old) → OnErr r (new ≡ old) → EndsAgree new.board new.history vs cs ps
+agrees_after old new vs cs ps (Ok true) kept eb legal event same err =
+    rw eb (subst (λ k. EndsAgree old.board k vs cs ps) (sym (event refl)) (agrees_advance old.board old.history vs cs ps kept (subst (λ k. IsLegal old.board k) (event refl) (rw eb at legal))))
+agrees_after old new vs cs ps (Ok false) kept eb legal event same err = subst (λ p. EndsAgree p.board p.history vs cs ps) (sym (same refl)) kept
+agrees_after old new vs cs ps (Err e) kept eb legal event same err = subst (λ p. EndsAgree p.board p.history vs cs ps) (sym err) kept
 
 -- FLUSH
 
@@ -186,10 +186,10 @@ shuts_posted shows v r w s = after r s.step ∙ collects_posted v s.answer s.col
   after (Err shut.InService) t = ap (λ u. u.posted) t.1
   after (Err shut.ReplyWaiting) t = ap (λ u. u.posted) t.1
 
-module _ {D : Type 0} (f : D → CallerView) (board : Board) (a i : ℕ) (vs : List CalleeView) (ds : List D) (ps : List (Option ℕ)) (x d : D) (h : List Event) (e : a ≡ 1 + i) (lt : i < length ds) (is : x ≡ get_or ds i x) (kept : Keeps board h vs (map f ds) ps) where
+module _ {D : Type 0} (f : D → CallerView) (board : Board) (a i : ℕ) (vs : List CalleeView) (ds : List D) (ps : List (Option ℕ)) (x d : D) (h : List Event) (e : a ≡ 1 + i) (lt : i < length ds) (is : x ≡ get_or ds i x) (kept : EndsAgree board h vs (map f ds) ps) where
   -- the end goes on, under the same history
-  pub kept_caller : (f d).posted ≡ (f x).posted → Keeps board h vs (map f (set ds i d)) ps
-  kept_caller p = record {
+  pub agrees_caller : (f d).posted ≡ (f x).posted → EndsAgree board h vs (map f (set ds i d)) ps
+  agrees_caller p = record {
     legal = kept.legal;
     callees_count = kept.callees_count;
     callers_count = count_set f ds i d ∙ kept.callers_count;
@@ -200,14 +200,14 @@ module _ {D : Type 0} (f : D → CallerView) (board : Board) (a i : ℕ) (vs : L
   }
 
   -- a flush, after its `collect`
-  kept_after_collect : (w : CallerView) (full : Bool) (h' : List Event) (r : Flushed) → w.posted ≡ (f x).posted → IsLegal board h' → FlushesOne full board a h w r h' (f d) → Keeps board h' vs (map f (set ds i d)) ps
-  kept_after_collect w full h' flushed.Waiting p legal s = subst (λ k. Keeps board k vs (map f (set ds i d)) ps) (sym s.0) (kept_caller (ap (λ u. u.posted) s.1 ∙ p))
-  kept_after_collect w full h' flushed.Nothing p legal s = subst (λ k. Keeps board k vs (map f (set ds i d)) ps) (sym s.0) (kept_caller (ap (λ u. u.posted) s.1 ∙ p))
-  kept_after_collect w full h' flushed.Closed p legal s = subst (λ k. Keeps board k vs (map f (set ds i d)) ps) (sym s.0) (kept_caller (ap (λ u. u.posted) s.1.told ∙ p))
-  kept_after_collect w full h' flushed.Posted p legal s =
+  agrees_after_collect : (w : CallerView) (full : Bool) (h' : List Event) (r : Flushed) → w.posted ≡ (f x).posted → IsLegal board h' → FlushesOne full board a h w r h' (f d) → EndsAgree board h' vs (map f (set ds i d)) ps
+  agrees_after_collect w full h' flushed.Waiting p legal s = subst (λ k. EndsAgree board k vs (map f (set ds i d)) ps) (sym s.0) (agrees_caller (ap (λ u. u.posted) s.1 ∙ p))
+  agrees_after_collect w full h' flushed.Nothing p legal s = subst (λ k. EndsAgree board k vs (map f (set ds i d)) ps) (sym s.0) (agrees_caller (ap (λ u. u.posted) s.1 ∙ p))
+  agrees_after_collect w full h' flushed.Closed p legal s = subst (λ k. EndsAgree board k vs (map f (set ds i d)) ps) (sym s.0) (agrees_caller (ap (λ u. u.posted) s.1.told ∙ p))
+  agrees_after_collect w full h' flushed.Posted p legal s =
       let m = s.message in
       let mine = from_at (IsDelivered board h) f 1 i a ds x lt e is kept.delivers in
-      subst (λ k. Keeps board k vs (map f (set ds i d)) ps) (sym s.event) (record {
+      subst (λ k. EndsAgree board k vs (map f (set ds i d)) ps) (sym s.event) (record {
         legal = subst (λ k. IsLegal board k) s.event legal;
         callees_count = kept.callees_count;
         callers_count = count_set f ds i d ∙ kept.callers_count;
@@ -216,18 +216,18 @@ module _ {D : Type 0} (f : D → CallerView) (board : Board) (a i : ℕ) (vs : L
         served = from_all (IsServed board h) (IsServed board (h ++ Sent a ∷ [])) (served_quiet board h (Sent a) (sent_to a)) 1 vs kept.served;
         delivers = rw (map_at_set f ds i d) (from_set (IsDelivered board h) (IsDelivered board (h ++ Sent a ∷ [])) a
             (λ b v ne t. t ∙ ap (map Good) (sym (delivered_other board b a h kept.legal ne))) 1 i (map f ds) (f d) e
-            (ap (λ u. u.posted) s.end ∙ ap (λ fs. fs ++ Good m ∷ []) (p ∙ mine) ∙ sym (map-append Good (delivered board a h) (m ∷ [])) ∙ ap (map Good) (sym (delivered_sent board a h m s.first)))
+            (ap (λ u. u.posted) s.end ∙ ap (λ fs. fs ++ Good m ∷ []) (p ∙ mine) ∙ sym (map-append Good (delivered_messages board a h) (m ∷ [])) ∙ ap (map Good) (sym (delivered_sent board a h m s.first)))
             kept.delivers);
       })
 
   -- a flush
-  pub kept_flush : (full : Bool) (h' : List Event) (r : Flushed) → IsLegal board h' → CollectsAndFlushes full board a h (f x) r h' (f d) → Keeps board h' vs (map f (set ds i d)) ps
-  kept_flush full h' r legal s = kept_after_collect s.collected full h' r (collects_posted (f x) s.answer s.collected s.collects) legal s.step
+  pub agrees_flush : (full : Bool) (h' : List Event) (r : Flushed) → IsLegal board h' → CollectsAndFlushes full board a h (f x) r h' (f d) → EndsAgree board h' vs (map f (set ds i d)) ps
+  agrees_flush full h' r legal s = agrees_after_collect s.collected full h' r (collects_posted (f x) s.answer s.collected s.collects) legal s.step
 
 -- CLOSE
 
 -- the platform owes no answer between calls
-pub never_owes : {D : Type 0} (f : D → CalleeView) (board : Board) (a i : ℕ) (ds : List D) (cs : List CallerView) (ps : List (Option ℕ)) (x : D) (h : List Event) → a ≡ 1 + i → i < length ds → x ≡ get_or ds i x → Keeps board h (map f ds) cs ps → ¬ (Owes (f x))
+pub never_owes : {D : Type 0} (f : D → CalleeView) (board : Board) (a i : ℕ) (ds : List D) (cs : List CallerView) (ps : List (Option ℕ)) (x : D) (h : List Event) → a ≡ 1 + i → i < length ds → x ≡ get_or ds i x → EndsAgree board h (map f ds) cs ps → ¬ (Owes (f x))
 never_owes f board a i ds cs ps x h e lt is kept = λ owes.
     let mine = from_at (IsServed board h) f 1 i a ds x lt e is kept.served in
     omega (arith, owes, ap length mine.taken, ap length mine.answered, as_many board a h)

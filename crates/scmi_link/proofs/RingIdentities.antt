@@ -1,4 +1,4 @@
--- A name tells which rings it names, and an end keeps the name of its rings.
+-- An identity tells which rings it names, and an end keeps the identity of its rings.
 use Rattle.std.proofs.Common.{◌≡◌, ℕ, List, [], ◌++◌, refl, ap, sym, ◌∙◌, append_assoc, subst}
 use Rattle.std.proofs.Math.Logic.{∥∥₁_map, ∥∥₁_elim}
 use denote.Struct.Props.{props}
@@ -12,7 +12,7 @@ use Rattle.scmi_link.specs.declared.caller_rings.CallerRings.{CallerRings}
 use Rattle.scmi_link.specs.declared.callee_rings.CalleeRings.{CalleeRings}
 use Rattle.scmi_link.specs.CallerRings.{IsCallerOf, SameCallerRings}
 use Rattle.scmi_link.specs.CalleeRings.{IsCalleeOf, SameCalleeRings}
-use Rattle.scmi_link.specs.Rings.{numbers_of, rings_name}
+use Rattle.scmi_link.specs.Rings.{numbers_of, rings_identity}
 use Rattle.scmi_link.specs.declared.rings.Rings.{Rings}
 use Rattle.scmi_link.specs.contracts.rings.Rings.{the_row}
 
@@ -39,9 +39,9 @@ numbers_tell (gcons a b) (gcons c d) xs ys e =
     let second = numbers_tell b d xs ys first.rest in
     record { tree = λ i. gcons (first.tree i) (second.tree i); rest = second.rest }
 
--- rings of one name are the same
-pub same_rings : (a b : Rings) → rings_name a ≡ rings_name b → a ≡ b
-unfolding rings_name
+-- rings of one identity are the same
+pub same_rings : (a b : Rings) → rings_identity a ≡ rings_identity b → a ≡ b
+unfolding rings_identity
 same_rings a b e = the_row.coded.inj a b (numbers_tell (the_row.coded.code a) (the_row.coded.code b) [] [] (ap (λ ns. ns ++ []) e)).tree
 
 module _ {T A P : Type 0} (a b c : End T A P) where
@@ -53,30 +53,30 @@ module _ {T A P : Type 0} (a b c : End T A P) where
   pub beside : SameRing a b → SameRing a c → SameRing b c
   beside p q = (q.0 ∙ sym p.0, q.1 ∙ sym p.1, q.2 ∙ sym p.2, q.3 ∙ sym p.3)
 
-pub caller_stays : (name : List ℕ) (c d : CallerRings) → ∥ IsCallerOf name c ∥₁ → SameCallerRings c d → ∥ IsCallerOf name d ∥₁
-caller_stays name c d named same = ∥∥₁_map named (λ n. record {
+pub caller_stays : (identity : List ℕ) (c d : CallerRings) → ∥ IsCallerOf identity c ∥₁ → SameCallerRings c d → ∥ IsCallerOf identity d ∥₁
+caller_stays identity c d identified same = ∥∥₁_map identified (λ n. record {
   rings = n.rings;
-  name_is = n.name_is;
+  identity_is = n.identity_is;
   posts_into = (stays n.rings.frames.value.end c.frames.end d.frames.end n.posts_into.0 same.0.0, same.0.1 ∙ n.posts_into.1);
   reads_from = stays n.rings.answers.value.end c.answers.end d.answers.end n.reads_from same.1.0;
 })
 
-pub callee_stays : (name : List ℕ) (c d : CalleeRings) → ∥ IsCalleeOf name c ∥₁ → SameCalleeRings c d → ∥ IsCalleeOf name d ∥₁
-callee_stays name c d named same = ∥∥₁_map named (λ n. record {
+pub callee_stays : (identity : List ℕ) (c d : CalleeRings) → ∥ IsCalleeOf identity c ∥₁ → SameCalleeRings c d → ∥ IsCalleeOf identity d ∥₁
+callee_stays identity c d identified same = ∥∥₁_map identified (λ n. record {
   rings = n.rings;
-  name_is = n.name_is;
+  identity_is = n.identity_is;
   takes_from = stays n.rings.frames.value.end c.frames.end d.frames.end n.takes_from same.0.0;
   answers_into = (stays n.rings.answers.value.end c.answers.end d.answers.end n.answers_into.0 same.1.0, same.1.1 ∙ n.answers_into.1);
 })
 
--- the ends of one name are ends of the same two rings
+-- the ends of one identity are ends of the same two rings
 pub record AreBeside (c : CallerRings) (d : CalleeRings) : Type 0 where
   pub frames : IsPair c.frames d.frames
   pub answers : IsPair d.answers c.answers
 
-both_beside : (c : CallerRings) (d : CalleeRings) (name : List ℕ) → IsCallerOf name c → IsCalleeOf name d → AreBeside c d
-both_beside c d name n m =
-    let one = same_rings n.rings m.rings (n.name_is ∙ sym m.name_is) in
+both_beside : (c : CallerRings) (d : CalleeRings) (identity : List ℕ) → IsCallerOf identity c → IsCalleeOf identity d → AreBeside c d
+both_beside c d identity n m =
+    let one = same_rings n.rings m.rings (n.identity_is ∙ sym m.identity_is) in
     record {
       frames = beside m.rings.frames.value.end c.frames.end d.frames.end (subst (λ (r : Rings). SameRing r.frames.value.end c.frames.end) one n.posts_into.0) m.takes_from;
       answers = beside m.rings.answers.value.end d.answers.end c.answers.end m.answers_into.0 (subst (λ (r : Rings). SameRing r.answers.value.end c.answers.end) one n.reads_from);
