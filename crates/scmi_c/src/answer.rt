@@ -28,7 +28,8 @@ pub extern "C" fn scmi_answer(
     ensures done { result ≡ DONE →
         IsSomeAnd platform.old.value (λ p.
         IsSomeAnd platform.new.value (λ k.
-        IsSomeAnd (frame_waiting area.old) (λ frame. HasAnswered p k agent frame area.old area.new))) }
+        IsSomeAnd (frame_waiting area.old)
+        (λ frame. HasAnswered p k agent frame area.old area.new))) }
     ensures no_platform { (result ≡ NO_PLATFORM) ↔ (platform.old.value ≡ None) }
     ensures free { result ≡ NOTHING → frame_waiting area.old ≡ None }
     ensures no_agent { result ≡ NO_AGENT → IsSomeAnd platform.old.value (LacksAgent agent) }

@@ -21,7 +21,8 @@ use scmi_core::Answered;
 pub fn answer(desk: &mut Desk, agent: u32, area: &mut [u8; AREA_BYTES]) -> Result<(), Refusal>
     ensures ok { OnOk result
         (IsSomeAnd
-        (frame_waiting area.old) (λ frame. HasAnswered desk.old desk.new agent frame area.old area.new)) }
+        (frame_waiting area.old)
+        (λ frame. HasAnswered desk.old desk.new agent frame area.old area.new)) }
     ensures free { (result ≡ Err Refusal.Nothing) ↔ (frame_waiting area.old ≡ None) }
     ensures no_agent { (result ≡ Err Refusal.NoAgent) ↔
         ((frame_waiting area.old ≢ None) × (IsNoAgent (length (board_of desk.old).agents) agent)) }

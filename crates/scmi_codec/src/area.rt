@@ -222,7 +222,8 @@ pub fn write_reply(area: &mut [u8], message: &Message) -> Result<(), AreaError>
     ensures stands { OnOk result
         (StandsForAnswer area.new (frame_of area.old) (Reply message.now)) }
     ensures rest { OnOk result
-        ((i : ℕ) → IsUntouched (Reply message.now) i → slice_index area.new i ≡ slice_index area.old i) }
+        ((i : ℕ) → IsUntouched (Reply message.now) i →
+        slice_index area.new i ≡ slice_index area.old i) }
     ensures err { OnErr result (area.new ≡ area.old) }
     ensures errors { IfErr result (λ e. e ≡ AreaError.WrongSize) }
 {
@@ -283,7 +284,8 @@ fn write_with_status(area: &mut [u8], message: &Message, status: u32)
 /// Writes a message of this header word, and then the status word.
 fn write_parts(area: &mut [u8], header: u32, payload: &Payload, status: u32)
     requires { length area.old ≡ AREA_BYTES }
-    ensures written { area.new ≡ area_after_write status (message_of header payload.now.items) area.old }
+    ensures written { area.new ≡
+        area_after_write status (message_of header payload.now.items) area.old }
     ensures stands { StandsFor area.new status (Good (message_of header payload.now.items)) }
     ensures rest { (i : ℕ) → IsOutside (message_of header payload.now.items) i →
         slice_index area.new i ≡ slice_index area.old i }

@@ -82,7 +82,8 @@ fn make_one<C: Channel>(
     id: u32,
 ) -> Result<(Link<C>, AgentEnd<C>, C::Callee, C::Caller), LinkError>
     ensures platform { IfOk result (λ r.
-        (C.callee_identity r.2 ≡ C.identity r.0.a2p) × (C.caller_identity r.3 ≡ C.identity r.0.p2a)) }
+        (C.callee_identity r.2 ≡ C.identity r.0.a2p) ×
+        (C.caller_identity r.3 ≡ C.identity r.0.p2a)) }
     ensures agent { IfOk result (λ r. IsOfLink (C.identity r.0.a2p) (C.identity r.0.p2a) r.1) }
     ensures new { IfOk result (λ r.
         IsNewAgent id r.1 × (C.callee_view r.2 ≡ new_callee) × (C.caller_view r.3 ≡ new_caller)) }

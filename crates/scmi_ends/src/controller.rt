@@ -54,7 +54,8 @@ impl<C: Channel> Model for Controller<C> {
         } };
 
     ghost invariant = { λ platform.
-        EndsAgree platform.core.board platform.core.history (map C.callee_view platform.callees.items)
+        EndsAgree platform.core.board platform.core.history
+        (map C.callee_view platform.callees.items)
         (map C.caller_view platform.callers.items) platform.closed_at.items };
 }
 

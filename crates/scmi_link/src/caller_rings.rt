@@ -52,7 +52,8 @@ impl CallerRings {
     pub(crate) fn post_parts(&mut self, header: Header, payload: &Payload) -> Result<(), PostError>
         ensures rings { SameCallerRings self.old self.new }
         ensures posts { let message : Message = record { header = header; payload = payload.now } in
-            Posts true (caller_rings_view self.old) (Good message) result (caller_rings_view self.new) }
+            Posts true (caller_rings_view self.old) (Good message) result
+            (caller_rings_view self.new) }
     {
         self.may_post()?;
         let mut envelope = self.envelope.take().unwrap();

@@ -106,7 +106,8 @@ pub trait Channel: Sync + Drop {
         ensures unchanged { is_well_formed length ≡ true →
             caller_view caller.new ≡ caller_view caller.old }
         ensures posts { is_well_formed length ≡ false
-            → Posts FULL (caller_view caller.old) (Malformed length header) result (caller_view caller.new) };
+            → Posts FULL (caller_view caller.old) (Malformed length header) result
+            (caller_view caller.new) };
 
     /// Whether the answer to the last post was not collected, and the post was neither withdrawn nor
     /// given up.

@@ -16,7 +16,8 @@ use scmi_codec::{AREA_BYTES, Frame};
 pub fn are_told_alike(first: &[u8; AREA_BYTES], second: &[u8; AREA_BYTES]) -> bool
     ensures area { IsTrue result ↔ StandAlike first.now second.now }
     ensures told { IsTrue result ↔ (told_area first.now ≡ told_area second.now) }
-    ensures text { IsTrue result ↔ (told_text (told_area first.now) ≡ told_text (told_area second.now)) }
+    ensures text { IsTrue result ↔
+        (told_text (told_area first.now) ≡ told_text (told_area second.now)) }
 {
     let is_same_state = state_of(first) == state_of(second);
     is_same_state && are_same(&standing_frame(first), &standing_frame(second))

@@ -26,9 +26,11 @@ pub(crate) fn start_runs<'a, C: Channel>(
     requires ends { AreEndsOf C.identity links.now ends.items }
     requires fresh { AllFrom IsNewAgent 1 ends.items }
     ensures a2p { IfOk result (λ runs.
-        map (λ run. run.end.a2p_identity) runs.items ≡ identities_of_a2p C.identity links.entry.now) }
+        map (λ run. run.end.a2p_identity) runs.items ≡
+        identities_of_a2p C.identity links.entry.now) }
     ensures p2a { IfOk result (λ runs.
-        map (λ run. run.end.p2a_identity) runs.items ≡ identities_of_p2a C.identity links.entry.now) }
+        map (λ run. run.end.p2a_identity) runs.items ≡
+        identities_of_p2a C.identity links.entry.now) }
     ensures started { IfOk result (λ runs. AllFrom (IsStarted scripts.entry.now) 1 runs.items) }
 {
     let mut script_runs = Vec::new(alloc);

@@ -48,7 +48,8 @@ impl WordCaller {
         requires table { IsSeatAt table.now self.old.seat }
         ensures seat { IsSameCaller self.old self.new }
         ensures posts { let message : Message = record { header = header; payload = payload.now } in
-            Posts false (word_caller_view self.old) (Good message) result (word_caller_view self.new) }
+            Posts false (word_caller_view self.old) (Good message) result
+            (word_caller_view self.new) }
         ensures never_full { result ≢ Err PostError.Full }
         ensures withdrawn_stays { IsWithdrawn self.old → IsWithdrawn self.new }
         ensures draft { HasNoDraft self.old →
@@ -81,7 +82,8 @@ impl WordCaller {
         ensures unchanged { is_well_formed length ≡ true →
             word_caller_view self.new ≡ word_caller_view self.old }
         ensures posts { is_well_formed length ≡ false
-            → Posts false (word_caller_view self.old) (Malformed length header) result (word_caller_view self.new) }
+            → Posts false (word_caller_view self.old) (Malformed length header) result
+            (word_caller_view self.new) }
         ensures never_full { result ≢ Err PostError.Full }
         ensures withdrawn_stays { IsWithdrawn self.old → IsWithdrawn self.new }
         ensures draft { HasNoDraft self.old →

@@ -134,7 +134,8 @@ impl Channel for WordChannel {
         requires identity { word_caller_identity caller.old ≡ word_channel_identity self.now }
         ensures identity { word_caller_identity caller.new ≡ word_caller_identity caller.old }
         ensures posts { let message : Message = record { header = header; payload = payload.now } in
-            Posts false (word_caller_view caller.old) (Good message) result (word_caller_view caller.new) }
+            Posts false (word_caller_view caller.old) (Good message) result
+            (word_caller_view caller.new) }
         ensures never_full { result ≢ Err PostError.Full }
         ensures withdrawn_stays { IsWithdrawn caller.old → IsWithdrawn caller.new }
         ensures draft { HasNoDraft caller.old →
@@ -158,7 +159,8 @@ impl Channel for WordChannel {
         ensures unchanged { is_well_formed length ≡ true →
             word_caller_view caller.new ≡ word_caller_view caller.old }
         ensures posts { is_well_formed length ≡ false
-            → Posts false (word_caller_view caller.old) (Malformed length header) result (word_caller_view caller.new) }
+            → Posts false (word_caller_view caller.old) (Malformed length header) result
+            (word_caller_view caller.new) }
         ensures never_full { result ≢ Err PostError.Full }
         ensures withdrawn_stays { IsWithdrawn caller.old → IsWithdrawn caller.new }
         ensures draft { HasNoDraft caller.old →
