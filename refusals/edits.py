@@ -36,8 +36,10 @@ def read_edit(file, folder, is_unedited=False):
         elif word == "old":
             old = rest
         elif word == "new":
-            edit.changes.append((path, old, old if is_unedited else rest))
+            edit.changes.append((path, old, rest))
     locate(edit, folder)
+    if is_unedited:
+        edit.changes = [(path, old, old) for path, old, _ in edit.changes[:1]]
     return edit
 
 
