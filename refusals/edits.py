@@ -87,7 +87,7 @@ def copy_of(edit, number, folder):
     file = edit.changes[0][0]
     whole = (folder / file).read_text()
     own = function_at(path, file, whole)
-    if len(files) > 1 or own is None or own.is_of_trait or proof_of(own, file, homes_of(folder)) is None:
+    if len(files) > 1 or own is None or own.trait or proof_of(own, file, homes_of(folder)) is None:
         return None
     text = whole[own.start:own.end]
     for _, old, new in edit.changes:

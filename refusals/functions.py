@@ -1,21 +1,27 @@
 """The functions of a crate's sources: where they stand, where their proofs do, and each without its body."""
 import re
 import shutil
-from dataclasses import dataclass
+from dataclasses import dataclass, field
 from pathlib import Path
 
 ITEM = re.compile(
     r"^(?P<close>\})"
     r"|^(?P<impl>impl)(?:<.*?>)? (?:(?P<trait>\w+)(?P<of><.*?>)? for )?(?P<type>\w+)"
     r"|^(?:pub )?trait (?P<declared>\w+)"
-    r'|^(?P<indent> *)(?:pub(?:\(.*?\))? )?(?:const )?(?:unsafe )?(?:extern "C" )?fn (?P<name>\w+)',
+    r'|^(?P<indent> *)(?:(?P<public>pub )|pub\(.*?\) )?(?:const )?(?:unsafe )?(?:extern "C" )?fn (?P<name>\w+)',
     re.M,
 )
+CLAUSE = re.compile(r"^ {4,8}ensures (?:(\w+) )?\{", re.M)
 TYPE = re.compile(r"^(?:pub(?:\(.*?\))? )?(?:struct|enum) (\w+)", re.M)
-HOLE = """use Rattle.{crate}.proofs.{module}.Statement.{{statement}}
+# One hole for all, since rattle prints the goal of each.
+ANYTHING = """pub anything {ℓ} : {A : Type ℓ} → A
+anything = ?
+"""
+HOLE = """use Rattle.{crate}.proofs.Anything.{{anything}}
+use Rattle.{crate}.proofs.{module}.Statement.{{statement}}
 
 pub {name}_spec : {{M : Type 1}} → statement M
-{name}_spec = ?
+{name}_spec = anything
 """
 
 
@@ -28,7 +34,9 @@ class Function:
     start: int
     end: int
     type: str = ""
-    is_of_trait: bool = False
+    trait: str = ""
+    is_public: bool = False
+    labels: list = field(default_factory=list)
 
     @property
     def name(self):
@@ -38,15 +46,16 @@ class Function:
 def functions_of(file, text):
     """The functions of a source, in order."""
     module = Path(file).stem if Path(file).stem not in ("lib", "main") else ""
-    found, owner, owners, is_of_trait = [], "", [], False
+    found, owner, owners, trait = [], "", [], ""
     for item in ITEM.finditer(text):
         if item["close"]:
-            owner, owners, is_of_trait = "", [], False
+            owner, owners, trait = "", [], ""
         elif item["impl"]:
-            owners, is_of_trait = [it for it in (item["type"], item["trait"]) if it], bool(item["trait"])
+            owners, trait = [it for it in (item["type"], item["trait"]) if it], item["trait"] or ""
             owner = "".join(owners) + "".join(re.findall(r"\w+", item["of"] or ""))
         elif item["declared"]:
-            owner, owners, is_of_trait = item["declared"], [item["declared"]], True
+            owner = trait = item["declared"]
+            owners = [owner]
         else:
             # A method's path is that of its type, wherever its impl stands.
             inside = owner if item["indent"] else ""
@@ -54,8 +63,11 @@ def functions_of(file, text):
             names = {f"{it}::{item['name']}" for it in owners} if inside else {item["name"]}
             end = text.find(f"\n{item['indent']}}}\n", item.end())
             end = len(text) if end < 0 else end + len(item["indent"]) + 2
-            of_type, of_trait = (owners[0], is_of_trait) if inside else ("", False)
-            found.append(Function(path, frozenset(names), item.start(), end, of_type, of_trait))
+            of_type, of_trait = (owners[0], trait) if inside else ("", "")
+            is_public = bool(item["public"] or of_trait)
+            found.append(Function(path, frozenset(names), item.start(), end, of_type, of_trait, is_public))
+    for function, end in zip(found, [*(it.start for it in found[1:]), len(text)]):
+        function.labels += [it or "result" for it in CLAUSE.findall(text, function.start, end)]
     return found
 
 
@@ -104,6 +116,7 @@ def body_of(function, text):
 def empty_others(crate, folder, kept):
     """Leaves each function of a copy of a crate, but those of the kept paths, no body, and a hole for its proof."""
     homes = homes_of(folder)
+    put_anything(folder / "proofs")
     for file in sorted(folder.glob("src/**/*.rt")):
         path, text = file.relative_to(folder), file.read_text()
         following = len(text)
@@ -116,6 +129,14 @@ def empty_others(crate, folder, kept):
             text = f"{text[:body[0]]} unreachable!() {text[body[1]:]}"
             put_hole(crate, folder, proof)
         file.write_text(text)
+
+
+def put_anything(proofs):
+    """Puts a lemma of anything, with the one hole that all others cite, among the proofs of a copy of a crate."""
+    proofs.mkdir(exist_ok=True)
+    (proofs / "Anything.antt").write_text(ANYTHING)
+    with (proofs / "Lib.antt").open("a") as lib:
+        lib.write("mod Anything\n")
 
 
 def put_hole(crate, folder, proof):
