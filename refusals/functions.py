@@ -25,6 +25,11 @@ pub {name}_spec : {{M : Type 1}} → statement M
 """
 
 
+# An answer that no goal asks for, as it stands behind those that are there.
+GOALS = "use Rattle.{crate}.proofs.{module}.Goals as goal\n"
+STRAY = "\npub stray : goal.stray\nstray = ?\n"
+
+
 @dataclass
 class Function:
     """A function of a source: the end of its path, as rattle takes it, its names in REFUSALS, its place."""
@@ -146,3 +151,21 @@ def put_hole(crate, folder, proof):
         shutil.rmtree(it, ignore_errors=True)
     place.mkdir(parents=True)
     (place / "Proof.antt").write_text(HOLE.format(crate=crate, module=module, name=proof.name))
+
+
+def add_stray_answers(crate, folder, paths):
+    """Gives the proof of each function of these paths an answer that no goal asks for.
+
+    Rattle then offers no file of answers for it; to print one can take longer than the whole check.
+    """
+    homes = homes_of(folder)
+    for file in sorted(folder.glob("src/**/*.rt")):
+        path = file.relative_to(folder)
+        for function in functions_of(path, file.read_text()):
+            proof = proof_of(function, path, homes)
+            if function.path in paths and proof is not None:
+                answers = folder / "proofs" / proof / "Answers.antt"
+                answers.parent.mkdir(parents=True, exist_ok=True)
+                goals = GOALS.format(crate=crate, module=".".join(proof.parts))
+                others = answers.read_text() if answers.exists() else goals
+                answers.write_text(others + STRAY)
