@@ -1,12 +1,13 @@
 //! The checks of commands, in the order of the profile (own).
-ghost use Rattle.std.specs.Prelude.{◌≡◌, ◌≤◌, ◌<◌, ◌≢◌, ◌∷◌, ◌&&◌, ◌||◌, not, true, [], if◌then◌else◌, length, Ok, Err, IfOk, IfErr, OnOk};
+ghost use Rattle.std.specs.Prelude.{◌≡◌, ◌≤◌, ◌<◌, ◌≢◌, ◌∷◌, ◌&&◌, ◌||◌, not, true, false, [], if◌then◌else◌, length, is_none, Some, Ok, Err, IfOk, IfErr, OnOk};
 ghost use Rattle.scmi_codec.specs.Reply.{bit_0};
 ghost use Rattle.scmi_codec.specs.Status.{status_word};
-ghost use Rattle.scmi_codec.specs.declared.status.Status.TheVariants.{Success, NotFound, Denied, Busy, OutOfRange};
+ghost use Rattle.scmi_codec.specs.declared.status.Status.TheVariants.{Success, NotFound, InvalidParameters, Denied, Busy, OutOfRange};
+ghost use Rattle.scmi_plan.specs.Rates.{HasLawfulRates};
 ghost use Rattle.scmi_plan.specs.declared.limits.TheConstants.{CLOCKS};
-ghost use Rattle.scmi_clock.specs.ClockReply.{no_clock, past_end};
+ghost use Rattle.scmi_clock.specs.ClockReply.{no_clock, past_end, rounded_rate};
 ghost use Rattle.scmi_clock.specs.ClockTable.{set_rate, may_change, is_pending, set_words, config_words};
-ghost use Rattle.scmi_clock.specs.SetFlags.{is_asynchronous, is_response_wanted};
+ghost use Rattle.scmi_clock.specs.SetFlags.{has_unknown_flags, is_asynchronous, is_response_wanted};
 
 use crate::rounding::round;
 use crate::set_flags::SetFlags;
@@ -16,7 +17,7 @@ use scmi_plan::{Load, Plan, Rates, Resource};
 
 /// A rate set that passed its checks: the supported rate in Hz, whether it is asynchronous, and
 /// whether it then wants a delayed response.
-#[derive(Clone, Copy, PartialEq, Eq, Debug)]
+#[derive(Clone, Copy)]
 pub(crate) struct RateSet {
     pub rate: u64,
     pub asynchronous: bool,
@@ -47,12 +48,26 @@ pub(crate) fn check_set(
     ensures refused { IfErr result (λ status. status ≢ Success) }
 {
     check_clock(plan, clock)?;
-    let flags = SetFlags::read(flags)?;
-    let rate = round(&plan.clock(clock).rates, rate, flags.rounding).ok_or(
-        Status::InvalidParameters,
-    )?;
+    let set = rounded_set(&plan.clock(clock).rates, flags, rate)?;
     check_permitted(plan, base, caller, clock)?;
-    check_pending(load, clock, flags.asynchronous)?;
+    check_pending(load, clock, set.asynchronous)?;
+    Ok(set)
+}
+
+/// What flags and a rate ask for; INVALID_PARAMETERS for unknown flags, and where no supported rate
+/// lies in the asked direction.
+fn rounded_set(rates: &Rates, flags: u32, rate: u64) -> Result<RateSet, Status>
+    requires { HasLawfulRates rates.now }
+    ensures known { OnOk result (has_unknown_flags flags ≡ false) }
+    ensures rate { IfOk result (λ set. rounded_rate rates.now flags rate ≡ Some set.rate) }
+    ensures asynchronous { IfOk result (λ set. set.asynchronous ≡ is_asynchronous flags) }
+    ensures response_wanted { IfOk result (λ set. set.response_wanted ≡ is_response_wanted flags) }
+    ensures status { IfErr result (λ status. status ≡ InvalidParameters) }
+    ensures refused { IfErr result (λ status.
+        (has_unknown_flags flags || is_none (rounded_rate rates.now flags rate)) ≡ true) }
+{
+    let flags = SetFlags::read(flags)?;
+    let rate = round(rates, rate, flags.rounding).ok_or(Status::InvalidParameters)?;
     Ok(RateSet {
         rate,
         asynchronous: flags.asynchronous,

@@ -7,7 +7,7 @@ use bitflags::Flags;
 use scmi_codec::{RateFlags, Status};
 
 /// What the flags of a rate set ask for (DEN0056B, clock management protocol).
-#[derive(Clone, Copy, PartialEq, Eq, Debug)]
+#[derive(Clone, Copy)]
 pub(crate) struct SetFlags {
     pub rounding: Rounding,
     pub asynchronous: bool,
