@@ -2,7 +2,7 @@
 
 /// The domain and state that a command set now, be it to an equal state; and the domain and state
 /// that it accepted for later. A command that is refused has neither.
-#[derive(Clone, Copy, PartialEq, Eq, Debug)]
+#[derive(Clone, Copy)]
 pub struct PowerDone {
     pub changed: Option<(u32, u32)>,
     pub later: Option<(u32, u32)>,
