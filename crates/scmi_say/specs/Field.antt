@@ -77,11 +77,15 @@ agent_text w = if w == 0xFFFFFFFF then codes " the caller" else if w == 0 then c
 unfoldable pub hexadecimal : ℕ → List ℕ
 hexadecimal w = literal (codes " 0x") ++ eight_digits w
 
+-- an address of two words
+unfoldable pub address_text : ℕ → ℕ → List ℕ
+address_text high low = hexadecimal high ++ eight_digits low
+
 -- statistics memory, by its address and its length
 unfoldable pub statistics_text : List ℕ → List ℕ
 statistics_text ws =
     if (slice_index ws 0 == 0) && (slice_index ws 1 == 0) && (slice_index ws 2 == 0) then codes " none"
-    else hexadecimal (slice_index ws 1) ++ eight_digits (slice_index ws 0) ++ literal (codes ", ") ++ decimal (slice_index ws 2) ++ literal (codes " bytes")
+    else address_text (slice_index ws 1) (slice_index ws 0) ++ literal (codes ", ") ++ decimal (slice_index ws 2) ++ literal (codes " bytes")
 
 -- a byte of a name: a printable one of ASCII as it is, no zero, and `?` for any other
 abbrev pub character : ℕ → List ℕ
@@ -91,14 +95,14 @@ character byte = if byte == 0 then [] else if nat_lt byte 0x20 || nat_lt 0x7E by
 unfoldable pub name_part : ℕ → List ℕ
 name_part w = character (w % 2 ^ 8) ++ character (w / 2 ^ 8 % 2 ^ 8) ++ character (w / 2 ^ 16 % 2 ^ 8) ++ character (w / 2 ^ 24)
 
--- the first four bytes of a name behind a quotation mark
-unfoldable pub name_start : ℕ → List ℕ
-name_start w = literal (codes " \"") ++ name_part w
+-- eight bytes of a name, those of the first word first
+unfoldable pub name_half : ℕ → ℕ → List ℕ
+name_half first second = name_part first ++ name_part second
 
 -- a name in quotation marks
 unfoldable pub name_text : List ℕ → List ℕ
 name_text ws =
-    name_start (slice_index ws 0) ++ name_part (slice_index ws 1) ++ name_part (slice_index ws 2) ++ name_part (slice_index ws 3) ++ literal (codes "\"")
+    literal (codes " \"") ++ name_half (slice_index ws 0) (slice_index ws 1) ++ name_half (slice_index ws 2) (slice_index ws 3) ++ literal (codes "\"")
 
 -- what a field says, behind a space
 abbrev pub value_text : Field → List ℕ

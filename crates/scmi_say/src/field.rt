@@ -12,7 +12,7 @@ pub const FIELDS: usize = 4;
 pub type Fields = ArrayVec<Field, FIELDS>;
 
 /// A field of a message and what stands there: a payload word, or the words that belong together.
-#[derive(Clone, Copy, PartialEq, Eq, Debug)]
+#[derive(Clone, Copy)]
 pub enum Field {
     /// The version of a protocol: the major number in bits [31:16], the minor one in [15:0].
     Version(u32),

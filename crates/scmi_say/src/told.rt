@@ -5,7 +5,7 @@ use scmi_codec::{Command, Frame, Message, Status};
 
 /// What an area is. While a channel is busy its caller's message stands there; once it is free the
 /// answer does, or the message where no response was written over it.
-#[derive(Debug, Drop)]
+#[derive(Drop)]
 pub enum Told {
     /// Free, with length and header 0: nothing was ever posted.
     Unused,

@@ -1,7 +1,7 @@
 //! What fields say, as it is written: each part behind a space.
 ghost use Rattle.std.specs.Prelude.{◌≡◌, ◌/◌, ◌%◌, ◌^◌, ◌==◌, ◌<◌, OnOk, if◌then◌else◌, []};
 ghost use Rattle.std.specs.Io.KnownBytes.{Appends};
-ghost use Rattle.scmi_say.specs.Field.{value_text, fields_text, if_text, flag_text, reserved_text, rate_flags_text, supports_text, supports_start, supports_rest, state_text, agent_text, statistics_text, name_part, name_start, name_text, hexadecimal, character};
+ghost use Rattle.scmi_say.specs.Field.{value_text, fields_text, if_text, flag_text, reserved_text, rate_flags_text, supports_text, supports_start, supports_rest, state_text, agent_text, statistics_text, name_part, name_half, name_text, hexadecimal, address_text, character};
 
 use crate::digits::write_eight_digits;
 use crate::field::{Field, label};
@@ -34,7 +34,7 @@ pub(crate) fn write_value<W: Write>(writer: &mut W, field: &Field) -> io::Result
             let agents = *word / 256 % 256;
             write!(writer, " {agents} agents, {} protocols", *word % 256)
         }
-        Field::Message(word) => write!(writer, " 0x{:x}", *word),
+        Field::Message(word) | Field::Protocol(word) => write!(writer, " 0x{:x}", *word),
         Field::Attributes(word) | Field::Implementation(word) => {
             write_hexadecimal(writer, *word)
         }
@@ -45,7 +45,6 @@ pub(crate) fn write_value<W: Write>(writer: &mut W, field: &Field) -> io::Result
         | Field::Clock(word)
         | Field::Index(word) => write!(writer, " {}", *word),
         Field::Agent(word) => write_agent(writer, *word),
-        Field::Protocol(word) => write!(writer, " 0x{:x}", *word),
         Field::PermitFlags(word) => write_flag(writer, *word, " allow", " deny"),
         Field::ResetFlags(word) => write_flag(writer, *word, " permissions", " -"),
         Field::Domains(word) => write!(writer, " {}", *word % 65536),
@@ -187,11 +186,20 @@ fn write_statistics<W: Write>(writer: &mut W, words: &[u32; 3]) -> io::Result<()
     if words[0] == 0 && words[1] == 0 && length == 0 {
         return write!(writer, " none");
     }
-    write_hexadecimal(writer, words[1])?;
-    write_eight_digits(writer, words[0])?;
+    write_address(writer, words[1], words[0])?;
     write_text(writer, ", ")?;
     write!(writer, "{length}")?;
     write_text(writer, " bytes")
+}
+
+/// Writes an address of two words.
+#[tactic(auto, unfolding(crate::specs::Field::address_text))]
+fn write_address<W: Write>(writer: &mut W, high: u32, low: u32) -> io::Result<()>
+    ensures { OnOk result (Appends (W.contents writer.old) (W.contents writer.new)
+        (address_text high low)) }
+{
+    write_hexadecimal(writer, high)?;
+    write_eight_digits(writer, low)
 }
 
 /// Writes a word as a number in hexadecimal digits.
@@ -210,21 +218,20 @@ fn write_name<W: Write>(writer: &mut W, words: &[u32; 4]) -> io::Result<()>
     ensures { OnOk result (Appends (W.contents writer.old) (W.contents writer.new)
         (name_text words.now)) }
 {
-    write_name_start(writer, words[0])?;
-    write_name_part(writer, words[1])?;
-    write_name_part(writer, words[2])?;
-    write_name_part(writer, words[3])?;
+    write_text(writer, " \"")?;
+    write_name_half(writer, words[0], words[1])?;
+    write_name_half(writer, words[2], words[3])?;
     write_text(writer, "\"")
 }
 
-/// Writes the first four bytes of a name behind a quotation mark.
-#[tactic(auto, unfolding(crate::specs::Field::name_start))]
-fn write_name_start<W: Write>(writer: &mut W, word: u32) -> io::Result<()>
+/// Writes eight bytes of a name, those of the first word first.
+#[tactic(auto, unfolding(crate::specs::Field::name_half))]
+fn write_name_half<W: Write>(writer: &mut W, first: u32, second: u32) -> io::Result<()>
     ensures { OnOk result (Appends (W.contents writer.old) (W.contents writer.new)
-        (name_start word)) }
+        (name_half first second)) }
 {
-    write_text(writer, " \"")?;
-    write_name_part(writer, word)
+    write_name_part(writer, first)?;
+    write_name_part(writer, second)
 }
 
 /// Writes the four bytes of a word as characters, the lowest first.
