@@ -36,27 +36,38 @@ fn is_malformed(length: u32) -> bool {
     read_area(&area_of(2, length, [0; 3])) == Ok(Some(wanted))
 }
 
+/// Channel statuses, and whether the channel is free.
+const STATUSES: [(u32, bool); 6] = [
+    (0, false),
+    (1, true),
+    (2, false),
+    (3, true),
+    (0xffff_fffe, false),
+    (0xffff_ffff, true),
+];
+
+/// Whether an area of this status is one of a free channel.
+fn is_free(status: u32) -> bool {
+    read_area(&area_of(status, 4, [0; 3])) == Ok(None)
+}
+
 #[test]
 fn of_the_status_bit_0_alone_frees_a_channel(rt: HostRuntime) {
-    for (status, free) in [
-        (0, false),
-        (1, true),
-        (2, false),
-        (3, true),
-        (0xffff_fffe, false),
-        (0xffff_ffff, true),
-    ] {
-        let frame = read_area(&area_of(status, 4, [0; 3]));
-        assert!(rt; (frame == Ok(None)) == free, "{status}");
+    for (status, free) in &STATUSES {
+        assert!(rt; is_free(*status) == *free, "{status}");
     }
+}
+
+/// Whether a length is told from the malformed ones, and its frame too.
+fn is_told(length: u32) -> bool {
+    let wanted = length % 4 == 0 && length != 0 && length <= 260;
+    is_well_formed(length) == wanted && is_malformed(length) != wanted
 }
 
 #[test]
 fn exactly_the_lengths_of_0_to_64_words_are_well_formed(rt: HostRuntime) {
     for length in 0..269 {
-        let wanted = length % 4 == 0 && length != 0 && length <= 260;
-        assert_eq!(rt; is_well_formed(length), wanted, "{length}");
-        assert_eq!(rt; is_malformed(length), !wanted, "{length}");
+        assert!(rt; is_told(length), "{length}");
     }
     assert!(rt; is_malformed(0xffff_ffff));
 }
@@ -76,24 +87,24 @@ fn leaves(answer: &Answer, wanted: &[u8; AREA_BYTES]) -> bool {
 #[test]
 fn an_answer_writes_its_own_bytes_alone(rt: HostRuntime) {
     let reply = Answer::Reply(message(HEADER, &[0, 0x0002_0000]));
-    for (answer, wanted) in [
-        (&reply, area_of(1, 12, [0, 0x0002_0000, 3])),
-        (&Answer::Released, area_of(1, 16, [1, 2, 3])),
-        (&Answer::ChannelError, area_of(3, 16, [1, 2, 3])),
-    ] {
-        assert!(rt; leaves(answer, &wanted), "{answer:?}");
-    }
+    let replied = leaves(&reply, &area_of(1, 12, [0, 0x0002_0000, 3]));
+    let released = leaves(&Answer::Released, &area_of(1, 16, [1, 2, 3]));
+    let failed = leaves(&Answer::ChannelError, &area_of(3, 16, [1, 2, 3]));
+    assert!(rt; [replied, released, failed] == [true; 3]);
+}
+
+/// Whether these bytes are neither read nor written as an area.
+fn is_no_area(bytes: &mut [u8]) -> bool {
+    read_area(bytes) == Err(AreaError::WrongSize)
+        && write_answer(bytes, &Answer::Released) == Err(AreaError::WrongSize)
 }
 
 #[test]
 fn an_area_has_284_bytes(rt: HostRuntime) {
-    assert_eq!(rt; (AREA_BYTES, PAYLOAD_WORDS), (284, 64));
+    assert!(rt; (AREA_BYTES, PAYLOAD_WORDS) == (284, 64));
     let mut bytes = [0; 285];
     for size in [0, 156, 283, 285] {
-        let read = read_area(&bytes[..size]);
-        assert!(rt; read == Err(AreaError::WrongSize), "{size}");
-        let written = write_answer(&mut bytes[..size], &Answer::Released);
-        assert_eq!(rt; written, Err(AreaError::WrongSize), "{size}");
+        assert!(rt; is_no_area(&mut bytes[..size]), "{size}");
     }
     assert!(rt; bytes == [0; 285]);
 }

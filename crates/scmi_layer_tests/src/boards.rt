@@ -38,12 +38,17 @@ pub fn reference(alloc: Global) -> Result<RawPlan, AllocError> {
 /// The reference board with these devices, each a mask of domains and one of clocks.
 fn board_of(alloc: Global, devices: &[(u32, u32)]) -> Result<RawPlan, AllocError> {
     let mut raw = empty(alloc);
-    add_names(&mut raw)?;
-    add_agents(alloc, &mut raw)?;
-    add_domains(alloc, &mut raw)?;
-    add_clocks(alloc, &mut raw)?;
-    add_devices(&mut raw, devices)?;
+    fill(alloc, &mut raw, devices)?;
     Ok(raw)
+}
+
+/// Gives an empty board the names, rows and devices.
+fn fill(alloc: Global, raw: &mut RawPlan, devices: &[(u32, u32)]) -> Result<(), AllocError> {
+    add_names(raw)?;
+    add_agents(alloc, raw)?;
+    add_domains(alloc, raw)?;
+    add_clocks(alloc, raw)?;
+    add_devices(raw, devices)
 }
 
 /// The plan of the reference board with these devices.
@@ -70,8 +75,8 @@ fn add_agents(alloc: Global, raw: &mut RawPlan) -> Result<(), AllocError> {
 }
 
 fn add_domains(alloc: Global, raw: &mut RawPlan) -> Result<(), AllocError> {
-    for (name, on, kinds) in REFERENCE_DOMAINS {
-        add_domain(alloc, raw, name, on, kinds)?;
+    for (name, on, kinds) in &REFERENCE_DOMAINS {
+        add_domain(alloc, raw, name, *on, *kinds)?;
     }
     Ok(())
 }

@@ -59,7 +59,7 @@ fn message(alloc: Global, slot: u16, name: &[u8], object: &[u8]) -> Result<Messa
 /// A command, its reply and a domain.
 fn chart(alloc: Global) -> Result<Chart, AllocError> {
     let mut chart = Chart {
-        title: Vec::from_slice(alloc, b"T")?,
+        title: Vec::new(alloc),
         subtitle: Vec::new(alloc),
         slots: 2,
         lifelines: Vec::new(alloc),
@@ -67,38 +67,75 @@ fn chart(alloc: Global) -> Result<Chart, AllocError> {
         marks: Vec::new(alloc),
         columns: Vec::new(alloc),
     };
-    chart.lifelines.push(Lifeline {
+    fill(alloc, &mut chart)?;
+    Ok(chart)
+}
+
+/// Gives an empty chart its title, its rows and its marks.
+fn fill(alloc: Global, chart: &mut Chart) -> Result<(), AllocError> {
+    chart.title.push(b'T')?;
+    add_lifeline(alloc, &mut chart.lifelines)?;
+    add_step(alloc, &mut chart.steps)?;
+    add_command(alloc, &mut chart.marks)?;
+    add_reply(alloc, &mut chart.marks)?;
+    add_column(alloc, &mut chart.columns)
+}
+
+fn add_lifeline(alloc: Global, lifelines: &mut Vec<Lifeline>) -> Result<(), AllocError> {
+    let name = Vec::from_slice(alloc, b"a<b")?;
+    lifelines.push(Lifeline {
         agent: 1,
-        name: Vec::from_slice(alloc, b"a<b")?,
+        name,
         closed: None,
     })?;
-    chart.steps.push(Step {
+    Ok(())
+}
+
+fn add_step(alloc: Global, steps: &mut Vec<Step>) -> Result<(), AllocError> {
+    let text = Vec::from_slice(alloc, b"do 1")?;
+    steps.push(Step {
         number: 0,
         line: 3,
         slot: 0,
         slots: 2,
-        text: Vec::from_slice(alloc, b"do 1")?,
+        text,
     })?;
-    chart.marks.push(Mark::Command {
-        message: message(alloc, 0, b"POWER_STATE_GET", b"cpu")?,
+    Ok(())
+}
+
+fn add_command(alloc: Global, marks: &mut Vec<Mark>) -> Result<(), AllocError> {
+    let message = message(alloc, 0, b"POWER_STATE_GET", b"cpu")?;
+    marks.push(Mark::Command {
+        message,
         token: Some(7),
     })?;
-    chart.marks.push(Mark::Reply {
-        message: message(alloc, 1, b"SUCCESS", b"ON")?,
+    Ok(())
+}
+
+fn add_reply(alloc: Global, marks: &mut Vec<Mark>) -> Result<(), AllocError> {
+    let message = message(alloc, 1, b"SUCCESS", b"ON")?;
+    marks.push(Mark::Reply {
+        message,
         outcome: Outcome::Success,
     })?;
+    Ok(())
+}
+
+fn add_column(alloc: Global, columns: &mut Vec<Column>) -> Result<(), AllocError> {
     let span = Span {
         since: 0,
         until: 2,
         state: State::On,
     };
-    chart.columns.push(Column {
+    let name = Vec::from_slice(alloc, b"cpu")?;
+    let spans = Vec::from_slice(alloc, &[span])?;
+    columns.push(Column {
         place: 0,
         kind: Kind::Domain,
-        name: Vec::from_slice(alloc, b"cpu")?,
-        spans: Vec::from_slice(alloc, &[span])?,
+        name,
+        spans,
     })?;
-    Ok(chart)
+    Ok(())
 }
 
 /// Whether a text has this part right behind the first `mark`.
@@ -111,37 +148,47 @@ fn has_behind(text: &[u8], mark: &[u8], part: &[u8]) -> bool {
     false
 }
 
+/// Which of the parts of the small chart a text has: its head, its picture, its legend, its end.
+fn parts(text: &[u8]) -> [bool; 4] {
+    [
+        text.starts_with(b"<svg xmlns=\"http://www.w3.org/2000/svg\" width=\"768\" height=\"297\""),
+        has_behind(text, b"</defs>\n", PICTURE),
+        has_behind(
+            text,
+            PICTURE,
+            b"<svg class=\"legend\" x=\"24\" y=\"261\">\n",
+        ),
+        text.ends_with(b"</svg>\n</svg>\n"),
+    ]
+}
+
 #[test]
 fn a_command_and_its_reply_are_drawn_between_two_lifelines(rt: HostRuntime) -> Result<(), Fail> {
     let mut text = Vec::new(rt.alloc());
     write_chart(&mut text, &chart(rt.alloc())?)?;
-    assert!(rt;
-        text.starts_with(b"<svg xmlns=\"http://www.w3.org/2000/svg\" width=\"768\" height=\"297\"")
-    );
-    assert!(rt; has_behind(&text, b"</defs>\n", PICTURE));
-    assert!(rt;
-        has_behind(
-            &text,
-            PICTURE,
-            b"<svg class=\"legend\" x=\"24\" y=\"261\">\n"
-        )
-    );
-    assert!(rt; text.ends_with(b"</svg>\n</svg>\n"));
+    assert!(rt; parts(&text) == [true; 4]);
     Ok(())
+}
+
+/// Texts from outside, and the same as they stand in a picture.
+const ESCAPES: [(&[u8], &[u8]); 4] = [
+    (b"<>&\"", b"&lt;&gt;&amp;&quot;"),
+    (b" 'a-z~", b" 'a-z~"),
+    (b"\0\n\x1f\x7f\xc3\xa9", b"??????"),
+    (b"&lt;", b"&amp;lt;"),
+];
+
+/// Whether bytes are written so.
+fn is_escaped(alloc: Global, bytes: &[u8], wanted: &[u8]) -> Result<bool, Fail> {
+    let mut text = Vec::new(alloc);
+    write_escaped(&mut text, bytes)?;
+    Ok(text.as_slice() == wanted)
 }
 
 #[test]
 fn a_text_from_outside_is_escaped(rt: HostRuntime) -> Result<(), Fail> {
-    let rows: [(&[u8], &[u8]); 4] = [
-        (b"<>&\"", b"&lt;&gt;&amp;&quot;"),
-        (b" 'a-z~", b" 'a-z~"),
-        (b"\0\n\x1f\x7f\xc3\xa9", b"??????"),
-        (b"&lt;", b"&amp;lt;"),
-    ];
-    for (bytes, wanted) in rows {
-        let mut text = Vec::new(rt.alloc());
-        write_escaped(&mut text, bytes)?;
-        assert_eq!(rt; text.as_slice(), wanted);
+    for (index, (bytes, wanted)) in ESCAPES.iter().enumerate() {
+        assert!(rt; is_escaped(rt.alloc(), bytes, wanted)?, "row {index}");
     }
     Ok(())
 }

@@ -53,22 +53,38 @@ fn is_answer_copied(first: &Answer, second: &Answer) -> bool {
     buffer == *second && second.copy() == *second
 }
 
+/// Whether a frame is written over by each of these.
+fn is_frame_written_over(first: &Frame, frames: &[Frame]) -> bool {
+    for second in frames {
+        if !is_frame_copied(first, second) {
+            return false;
+        }
+    }
+    true
+}
+
+/// Whether an answer is written over by each of these.
+fn is_answer_written_over(first: &Answer, answers: &[Answer]) -> bool {
+    for second in answers {
+        if !is_answer_copied(first, second) {
+            return false;
+        }
+    }
+    true
+}
+
 #[test]
 fn a_frame_is_written_over_by_any_other(rt: HostRuntime) {
     let frames = frames();
-    for (i, first) in frames.iter().enumerate() {
-        for (j, second) in frames.iter().enumerate() {
-            assert!(rt; is_frame_copied(first, second), "{j} over {i}");
-        }
+    for (index, first) in frames.iter().enumerate() {
+        assert!(rt; is_frame_written_over(first, &frames), "frame {index}");
     }
 }
 
 #[test]
 fn an_answer_is_written_over_by_any_other(rt: HostRuntime) {
     let answers = answers();
-    for (i, first) in answers.iter().enumerate() {
-        for (j, second) in answers.iter().enumerate() {
-            assert!(rt; is_answer_copied(first, second), "{j} over {i}");
-        }
+    for (index, first) in answers.iter().enumerate() {
+        assert!(rt; is_answer_written_over(first, &answers), "answer {index}");
     }
 }

@@ -3,6 +3,7 @@
 use crate::boards::{list, rates_up_to, reference_plan, steps};
 use scmi_codec::Name;
 use scmi_plan::{Clock, Device, Plan, RateList, Rates, Resource};
+use std::alloc::{AllocError, Global};
 use std::test::Fail;
 
 fn is_named(name: &Name, text: &str) -> bool {
@@ -45,31 +46,50 @@ fn is_device(plan: &Plan, index: u32, domains: u32, clocks: u32) -> bool {
     index < plan.devices() && plan.device(index) == Device { domains, clocks }
 }
 
-#[test]
-fn a_lawful_board_is_read_back(rt: HostRuntime) -> Result<(), Fail> {
-    let plan = reference_plan(rt.alloc())?;
-    let numbers = [
+/// The numbers of a plan: version, trusted agent, agents, domains, clocks and devices.
+fn numbers(plan: &Plan) -> [u32; 6] {
+    [
         plan.version(),
         plan.trusted(),
         plan.agents(),
         plan.domains(),
         plan.clocks(),
         plan.devices(),
-    ];
-    let holds = [
+    ]
+}
+
+/// Which names, agents, domains and devices of the reference board a plan has.
+fn rows(plan: &Plan) -> [bool; 9] {
+    [
         is_named(plan.vendor(), "Acme"),
         is_named(plan.sub_vendor(), "Lab"),
-        is_agent(&plan, 1, "ap"),
-        is_agent(&plan, 2, "modem"),
-        is_domain(&plan, 0, "cpu", false, [true, true, true]),
-        is_domain(&plan, 1, "gpu", true, [true, false, false]),
-        is_domain(&plan, 2, "usb", false, [false, true, true]),
-        is_device(&plan, 0, 0b001, 0b001),
-        is_device(&plan, 1, 0b010, 0),
-    ];
-    assert_eq!(rt; numbers, [0x0001_0000, 1, 2, 3, 3, 2]);
-    assert_eq!(rt; holds, [true; 9]);
+        is_agent(plan, 1, "ap"),
+        is_agent(plan, 2, "modem"),
+        is_domain(plan, 0, "cpu", false, [true, true, true]),
+        is_domain(plan, 1, "gpu", true, [true, false, false]),
+        is_domain(plan, 2, "usb", false, [false, true, true]),
+        is_device(plan, 0, 0b001, 0b001),
+        is_device(plan, 1, 0b010, 0),
+    ]
+}
+
+#[test]
+fn a_lawful_board_is_read_back(rt: HostRuntime) -> Result<(), Fail> {
+    let plan = reference_plan(rt.alloc())?;
+    assert!(rt; numbers(&plan) == [0x0001_0000, 1, 2, 3, 3, 2]);
+    assert!(rt; rows(&plan) == [true; 9]);
     Ok(())
+}
+
+/// Whether the clocks are those of the reference board, and the last is none of these rates.
+fn clocks(plan: &Plan, core: &Rates, pix: &Rates) -> [bool; 4] {
+    let bus = steps(1000, 4000, 500);
+    [
+        is_clock(plan, 0, ("core", true, 100), core),
+        is_clock(plan, 1, ("bus", false, 1000), &bus),
+        is_clock(plan, 2, ("pix", true, 1), pix),
+        is_clock(plan, 2, ("pix", true, 1), core),
+    ]
 }
 
 #[test]
@@ -77,14 +97,7 @@ fn clocks_are_read_back(rt: HostRuntime) -> Result<(), Fail> {
     let plan = reference_plan(rt.alloc())?;
     let core = list(rt.alloc(), &[100, 200, 300])?;
     let pix = rates_up_to(rt.alloc(), 20)?;
-    let bus = steps(1000, 4000, 500);
-    let holds = [
-        is_clock(&plan, 0, ("core", true, 100), &core),
-        is_clock(&plan, 1, ("bus", false, 1000), &bus),
-        is_clock(&plan, 2, ("pix", true, 1), &pix),
-        is_clock(&plan, 2, ("pix", true, 1), &core),
-    ];
-    assert_eq!(rt; holds, [true, true, true, false]);
+    assert!(rt; clocks(&plan, &core, &pix) == [true, true, true, false]);
     Ok(())
 }
 
@@ -100,29 +113,45 @@ fn holds(plan: &Plan, device: u32, resource: Resource) -> Option<bool> {
     None
 }
 
+/// Devices, resources, and whether the one holds the other.
+const HOLDINGS: [(u32, Resource, Option<bool>); 6] = [
+    (0, Resource::Domain(0), Some(true)),
+    (0, Resource::Domain(1), Some(false)),
+    (0, Resource::Clock(0), Some(true)),
+    (0, Resource::Clock(2), Some(false)),
+    (1, Resource::Domain(1), Some(true)),
+    (1, Resource::Clock(0), Some(false)),
+];
+
 #[test]
 fn a_device_holds_its_domains_and_clocks(rt: HostRuntime) -> Result<(), Fail> {
     let plan = reference_plan(rt.alloc())?;
-    for (device, resource, wanted) in [
-        (0, Resource::Domain(0), Some(true)),
-        (0, Resource::Domain(1), Some(false)),
-        (0, Resource::Clock(0), Some(true)),
-        (0, Resource::Clock(2), Some(false)),
-        (1, Resource::Domain(1), Some(true)),
-        (1, Resource::Clock(0), Some(false)),
-    ] {
-        assert!(rt; holds(&plan, device, resource) == wanted, "{device}");
+    for (device, resource, wanted) in &HOLDINGS {
+        assert!(rt; holds(&plan, *device, *resource) == *wanted, "{device}");
     }
     Ok(())
 }
 
+fn rate_list(alloc: Global, rates: &[u64]) -> Result<RateList, AllocError> {
+    Ok(RateList::new(rates.to_vec(alloc)?))
+}
+
+/// Whether a copy of a list is the list, and not this other.
+fn is_copied(list: &RateList, other: &RateList) -> Result<bool, AllocError> {
+    let copy = list.clone()?;
+    Ok(copy == *list && copy != *other)
+}
+
+/// Whether a list gives these rates, as a slice and as a vector.
+fn gives(list: RateList, rates: &[u64]) -> bool {
+    list.as_slice() == rates && list.into_vec().as_slice() == rates
+}
+
 #[test]
 fn a_list_of_rates_gives_its_rates_back(rt: HostRuntime) -> Result<(), Fail> {
-    let list = RateList::new([100, 200].to_vec(rt.alloc())?);
-    let copy = list.clone()?;
-    let other = RateList::new([100].to_vec(rt.alloc())?);
-    assert!(rt; copy == list && copy != other);
-    assert!(rt; list.as_slice() == [100, 200].as_slice());
-    assert!(rt; list.into_vec().as_slice() == [100, 200].as_slice());
+    let list = rate_list(rt.alloc(), &[100, 200])?;
+    let other = rate_list(rt.alloc(), &[100])?;
+    assert!(rt; is_copied(&list, &other)?);
+    assert!(rt; gives(list, &[100, 200]));
     Ok(())
 }

@@ -13,6 +13,8 @@ const TOP: u64 = u64::MAX;
 /// A change of a board.
 #[derive(Clone, Copy)]
 enum Change<'a> {
+    /// No rows, and the names `a`.
+    Empty,
     /// So many agents, domains, clocks and devices more, each named `a`, the devices empty.
     Rows(usize, usize, usize, usize),
     /// An agent of this name more.
@@ -43,6 +45,7 @@ type Row<'a> = (&'a [Change<'a>], u8);
 
 fn apply(alloc: Global, raw: &mut RawPlan, change: Change<'_>) -> Result<(), AllocError> {
     match change {
+        Change::Empty => clear(alloc, raw),
         Change::Rows(agents, domains, clocks, devices) => {
             add_rows(alloc, raw, [agents, domains, clocks, devices])
         }
@@ -62,6 +65,12 @@ fn apply(alloc: Global, raw: &mut RawPlan, change: Change<'_>) -> Result<(), All
         Change::SecondDevice(domains) => replace_device(raw, domains),
         Change::Trusted(agent) => trust(raw, agent),
     }
+}
+
+fn clear(alloc: Global, raw: &mut RawPlan) -> Result<(), AllocError> {
+    *raw = empty(alloc);
+    raw.vendor.push_str("a")?;
+    raw.sub_vendor.push_str("a")
 }
 
 fn add_rows(alloc: Global, raw: &mut RawPlan, counts: [usize; 4]) -> Result<(), AllocError> {
@@ -142,8 +151,9 @@ fn number(alloc: Global, raw: &RawPlan) -> u8 {
     }
 }
 
-/// The number of a board with these changes.
-fn number_of(alloc: Global, mut raw: RawPlan, changes: &[Change<'_>]) -> Result<u8, AllocError> {
+/// The number of the reference board with these changes.
+fn number_of(alloc: Global, changes: &[Change<'_>]) -> Result<u8, AllocError> {
+    let mut raw = reference(alloc)?;
     for change in changes {
         apply(alloc, &mut raw, *change)?;
     }
@@ -153,150 +163,172 @@ fn number_of(alloc: Global, mut raw: RawPlan, changes: &[Change<'_>]) -> Result<
 /// Checks the rows on the reference board.
 fn check_rows(rt: &impl Abort, alloc: Global, rows: &[Row<'_>]) -> Result<(), AllocError> {
     for (index, (changes, wanted)) in rows.iter().enumerate() {
-        let found = number_of(alloc, reference(alloc)?, changes)?;
-        assert_eq!(rt; found, *wanted, "row {index}");
+        let found = number_of(alloc, changes)?;
+        assert!(rt; found == *wanted, "row {index}");
     }
     Ok(())
 }
 
+const COUNTS: [Row<'static>; 8] = [
+    (&[Change::Empty, Change::Rows(8, 32, 32, 32)], 0),
+    (&[Change::Empty, Change::Rows(1, 0, 0, 0)], 0),
+    (&[Change::Empty, Change::Rows(0, 0, 0, 0)], 1),
+    (&[Change::Empty, Change::Rows(9, 0, 0, 0)], 1),
+    (&[Change::Empty, Change::Rows(1, 33, 0, 0)], 1),
+    (&[Change::Empty, Change::Rows(1, 0, 33, 0)], 1),
+    (&[Change::Empty, Change::Rows(1, 0, 0, 33)], 1),
+    (&[Change::Rows(7, 0, 0, 0)], 1),
+];
+
 #[test]
 fn counts_end_at_their_limits(rt: HostRuntime) -> Result<(), Fail> {
-    for (agents, domains, clocks, devices, wanted) in [
-        (8, 32, 32, 32, 0),
-        (1, 0, 0, 0, 0),
-        (0, 0, 0, 0, 1),
-        (9, 0, 0, 0, 1),
-        (1, 33, 0, 0, 1),
-        (1, 0, 33, 0, 1),
-        (1, 0, 0, 33, 1),
+    Ok(check_rows(&rt, rt.alloc(), &COUNTS)?)
+}
+
+/// Names, and the number of a board that has one of them in any place.
+const NAMES: [(&str, u8); 8] = [
+    ("abcdefghijklmno", 0),
+    ("abcdefghijklmnop", 2),
+    ("", 2),
+    ("!", 0),
+    ("~", 0),
+    ("a b", 2),
+    ("a\x7f", 2),
+    ("\u{e9}", 2),
+];
+
+/// Checks a name in each place of the reference board.
+fn check_name(rt: &impl Abort, alloc: Global, name: &str, wanted: u8) -> Result<(), AllocError> {
+    for change in [
+        Change::Vendor(name),
+        Change::SubVendor(name),
+        Change::Agent(name),
+        Change::Second(name),
+        Change::Domain(name),
+        Change::Clock(name),
     ] {
-        let rows = Change::Rows(agents, domains, clocks, devices);
-        let changes = [Change::Vendor("a"), Change::SubVendor("a"), rows];
-        let found = number_of(rt.alloc(), empty(rt.alloc()), &changes)?;
-        assert_eq!(rt; found, wanted, "{agents} {domains} {clocks} {devices}");
+        let found = number_of(alloc, &[change])?;
+        assert!(rt; found == wanted, "{name}");
     }
-    check_rows(&rt, rt.alloc(), &[(&[Change::Rows(7, 0, 0, 0)], 1)])?;
     Ok(())
 }
 
 #[test]
 fn names_have_one_to_fifteen_printable_bytes(rt: HostRuntime) -> Result<(), Fail> {
-    for (name, wanted) in [
-        ("abcdefghijklmno", 0),
-        ("abcdefghijklmnop", 2),
-        ("", 2),
-        ("!", 0),
-        ("~", 0),
-        ("a b", 2),
-        ("a\x7f", 2),
-        ("\u{e9}", 2),
-    ] {
-        let rows: [Row; 6] = [
-            (&[Change::Vendor(name)], wanted),
-            (&[Change::SubVendor(name)], wanted),
-            (&[Change::Agent(name)], wanted),
-            (&[Change::Second(name)], wanted),
-            (&[Change::Domain(name)], wanted),
-            (&[Change::Clock(name)], wanted),
-        ];
-        check_rows(&rt, rt.alloc(), &rows)?;
+    for (name, wanted) in &NAMES {
+        check_name(&rt, rt.alloc(), name, *wanted)?;
     }
     Ok(())
 }
 
+const LISTS: [Row<'static>; 11] = [
+    (&[Change::List(&[100, 200, 300], 100)], 0),
+    (&[Change::List(&[100, 200, 300], 300)], 0),
+    (&[Change::List(&[100, 200, 300], 150)], 3),
+    (&[Change::List(&[200, 100], 100)], 3),
+    (&[Change::List(&[100, 100], 100)], 3),
+    (&[Change::List(&[], 100)], 3),
+    (&[Change::List(&[TOP], TOP)], 0),
+    (&[Change::Core(&[200, 100])], 3),
+    (&[Change::Counted(1)], 0),
+    (&[Change::Counted(64)], 0),
+    (&[Change::Counted(65)], 3),
+];
+
 #[test]
 fn lists_rise_and_have_the_starting_rate(rt: HostRuntime) -> Result<(), Fail> {
-    let rows: [Row; 11] = [
-        (&[Change::List(&[100, 200, 300], 100)], 0),
-        (&[Change::List(&[100, 200, 300], 300)], 0),
-        (&[Change::List(&[100, 200, 300], 150)], 3),
-        (&[Change::List(&[200, 100], 100)], 3),
-        (&[Change::List(&[100, 100], 100)], 3),
-        (&[Change::List(&[], 100)], 3),
-        (&[Change::List(&[TOP], TOP)], 0),
-        (&[Change::Core(&[200, 100])], 3),
-        (&[Change::Counted(1)], 0),
-        (&[Change::Counted(64)], 0),
-        (&[Change::Counted(65)], 3),
-    ];
-    Ok(check_rows(&rt, rt.alloc(), &rows)?)
+    Ok(check_rows(&rt, rt.alloc(), &LISTS)?)
 }
+
+const STEPS: [Row<'static>; 14] = [
+    (&[Change::Steps(1000, 4000, 500, 1000)], 0),
+    (&[Change::Steps(1000, 4000, 500, 2500)], 0),
+    (&[Change::Steps(1000, 4000, 500, 4000)], 0),
+    (&[Change::Steps(1000, 4000, 500, 1250)], 3),
+    (&[Change::Steps(1000, 4000, 500, 500)], 3),
+    (&[Change::Steps(1000, 4000, 500, 4500)], 3),
+    (&[Change::Steps(1000, 4100, 500, 1000)], 3),
+    (&[Change::Steps(7, 7, 5, 7)], 0),
+    (&[Change::Steps(7, 7, 0, 7)], 3),
+    (&[Change::Steps(8, 7, 1, 8)], 3),
+    (&[Change::Steps(0, TOP, 1, TOP)], 0),
+    (&[Change::Steps(TOP, TOP, TOP, TOP)], 0),
+    (&[Change::Steps(1, TOP, 2, 4)], 3),
+    (&[Change::Steps(0, TOP, 2, 0)], 3),
+];
 
 #[test]
 fn steps_end_at_the_highest_rate(rt: HostRuntime) -> Result<(), Fail> {
-    let rows: [Row; 14] = [
-        (&[Change::Steps(1000, 4000, 500, 1000)], 0),
-        (&[Change::Steps(1000, 4000, 500, 2500)], 0),
-        (&[Change::Steps(1000, 4000, 500, 4000)], 0),
-        (&[Change::Steps(1000, 4000, 500, 1250)], 3),
-        (&[Change::Steps(1000, 4000, 500, 500)], 3),
-        (&[Change::Steps(1000, 4000, 500, 4500)], 3),
-        (&[Change::Steps(1000, 4100, 500, 1000)], 3),
-        (&[Change::Steps(7, 7, 5, 7)], 0),
-        (&[Change::Steps(7, 7, 0, 7)], 3),
-        (&[Change::Steps(8, 7, 1, 8)], 3),
-        (&[Change::Steps(0, TOP, 1, TOP)], 0),
-        (&[Change::Steps(TOP, TOP, TOP, TOP)], 0),
-        (&[Change::Steps(1, TOP, 2, 4)], 3),
-        (&[Change::Steps(0, TOP, 2, 0)], 3),
-    ];
-    Ok(check_rows(&rt, rt.alloc(), &rows)?)
+    Ok(check_rows(&rt, rt.alloc(), &STEPS)?)
 }
+
+const DEVICES: [Row<'static>; 9] = [
+    (&[Change::Device(0b111, 0)], 0),
+    (&[Change::Device(0b1000, 0)], 4),
+    (&[Change::Device(0, 0b111)], 0),
+    (&[Change::Device(0, 0b1000)], 4),
+    (&[Change::Device(0x8000_0000, 0)], 4),
+    (&[Change::Rows(0, 29, 0, 0), Change::Device(u32::MAX, 0)], 0),
+    (&[Change::Rows(0, 28, 0, 0), Change::Device(u32::MAX, 0)], 4),
+    (&[Change::Rows(0, 0, 29, 0), Change::Device(0, u32::MAX)], 0),
+    (&[Change::Rows(0, 0, 28, 0), Change::Device(0, u32::MAX)], 4),
+];
 
 #[test]
 fn devices_hold_what_the_board_has(rt: HostRuntime) -> Result<(), Fail> {
-    let rows: [Row; 9] = [
-        (&[Change::Device(0b111, 0)], 0),
-        (&[Change::Device(0b1000, 0)], 4),
-        (&[Change::Device(0, 0b111)], 0),
-        (&[Change::Device(0, 0b1000)], 4),
-        (&[Change::Device(0x8000_0000, 0)], 4),
-        (&[Change::Rows(0, 29, 0, 0), Change::Device(u32::MAX, 0)], 0),
-        (&[Change::Rows(0, 28, 0, 0), Change::Device(u32::MAX, 0)], 4),
-        (&[Change::Rows(0, 0, 29, 0), Change::Device(0, u32::MAX)], 0),
-        (&[Change::Rows(0, 0, 28, 0), Change::Device(0, u32::MAX)], 4),
-    ];
-    Ok(check_rows(&rt, rt.alloc(), &rows)?)
+    Ok(check_rows(&rt, rt.alloc(), &DEVICES)?)
 }
+
+const TRUSTED: [Row<'static>; 5] = [
+    (&[Change::Trusted(0)], 5),
+    (&[Change::Trusted(1)], 0),
+    (&[Change::Trusted(2)], 0),
+    (&[Change::Trusted(3)], 5),
+    (&[Change::Trusted(u32::MAX)], 5),
+];
 
 #[test]
 fn the_trusted_agent_is_on_the_board(rt: HostRuntime) -> Result<(), Fail> {
-    let rows: [Row; 5] = [
-        (&[Change::Trusted(0)], 5),
-        (&[Change::Trusted(1)], 0),
-        (&[Change::Trusted(2)], 0),
-        (&[Change::Trusted(3)], 5),
-        (&[Change::Trusted(u32::MAX)], 5),
-    ];
-    Ok(check_rows(&rt, rt.alloc(), &rows)?)
+    Ok(check_rows(&rt, rt.alloc(), &TRUSTED)?)
 }
+
+/// Each board breaks one rule more than the one before it.
+const BROKEN: [Row<'static>; 5] = [
+    (&[AGENT_10], 5),
+    (&[AGENT_10, NO_DOMAIN], 4),
+    (&[AGENT_10, NO_DOMAIN, FALLING], 3),
+    (&[AGENT_10, NO_DOMAIN, FALLING, LONG], 2),
+    (
+        &[AGENT_10, NO_DOMAIN, FALLING, LONG, Change::Rows(7, 0, 0, 0)],
+        1,
+    ),
+];
+
+const AGENT_10: Change<'static> = Change::Trusted(10);
+
+const NO_DOMAIN: Change<'static> = Change::SecondDevice(0b1010);
+
+const FALLING: Change<'static> = Change::Core(&[200, 100]);
+
+const LONG: Change<'static> = Change::Second("abcdefghijklmnop");
 
 #[test]
 fn the_lowest_number_is_answered(rt: HostRuntime) -> Result<(), Fail> {
-    let trusted = Change::Trusted(10);
-    let device = Change::SecondDevice(0b1010);
-    let rates = Change::Core(&[200, 100]);
-    let name = Change::Second("abcdefghijklmnop");
-    let rows: [Row; 5] = [
-        (&[trusted], 5),
-        (&[trusted, device], 4),
-        (&[trusted, device, rates], 3),
-        (&[trusted, device, rates, name], 2),
-        (&[trusted, device, rates, name, Change::Rows(7, 0, 0, 0)], 1),
-    ];
-    Ok(check_rows(&rt, rt.alloc(), &rows)?)
+    Ok(check_rows(&rt, rt.alloc(), &BROKEN)?)
 }
+
+const NUMBERS: [(PlanError, u8); 6] = [
+    (PlanError::Count, 1),
+    (PlanError::Name, 2),
+    (PlanError::Rates, 3),
+    (PlanError::Device, 4),
+    (PlanError::Trusted, 5),
+    (PlanError::Memory, 6),
+];
 
 #[test]
 fn errors_are_numbered_in_order(rt: HostRuntime) {
-    for (error, number) in [
-        (PlanError::Count, 1),
-        (PlanError::Name, 2),
-        (PlanError::Rates, 3),
-        (PlanError::Device, 4),
-        (PlanError::Trusted, 5),
-        (PlanError::Memory, 6),
-    ] {
-        assert_eq!(rt; error.number(), number);
+    for (error, number) in &NUMBERS {
+        assert!(rt; error.number() == *number, "{number}");
     }
 }
