@@ -4,6 +4,9 @@ use scmi_plan::{Device, Plan, RateList, Rates, RawClock, RawDomain, RawPlan};
 use std::alloc::{AllocError, Global};
 use std::test::Fail;
 
+/// The agents of the reference board.
+const AGENTS: [&str; 2] = ["ap", "modem"];
+
 /// The domains of the reference board: name, whether it is on, and whether it has synchronous sets,
 /// asynchronous sets, and notifications.
 const DOMAINS: [(&str, bool, [bool; 3]); 3] = [
@@ -19,14 +22,10 @@ const DEVICES: [(u32, u32); 2] = [(0b001, 0b001), (0b010, 0)];
 /// `bus`; a device of `cpu` and `core`, and one of `gpu`.
 pub fn reference_board(alloc: Global) -> Result<RawPlan, Fail> {
     let mut raw = empty(alloc)?;
-    for name in ["ap", "modem"] {
-        add_agent(alloc, &mut raw, name)?;
-    }
+    add_agents(alloc, &mut raw)?;
     add_domains(alloc, &mut raw)?;
     add_clocks(alloc, &mut raw)?;
-    for (domains, clocks) in DEVICES {
-        raw.devices.push(Device { domains, clocks })?;
-    }
+    add_devices(&mut raw)?;
     Ok(raw)
 }
 
@@ -62,6 +61,20 @@ fn empty(alloc: Global) -> Result<RawPlan, AllocError> {
 fn add_agent(alloc: Global, raw: &mut RawPlan, name: &str) -> Result<(), AllocError> {
     let name = String::from_str(alloc, name)?;
     raw.agents.push(name)?;
+    Ok(())
+}
+
+fn add_agents(alloc: Global, raw: &mut RawPlan) -> Result<(), AllocError> {
+    for name in AGENTS {
+        add_agent(alloc, raw, name)?;
+    }
+    Ok(())
+}
+
+fn add_devices(raw: &mut RawPlan) -> Result<(), AllocError> {
+    for (domains, clocks) in DEVICES {
+        raw.devices.push(Device { domains, clocks })?;
+    }
     Ok(())
 }
 

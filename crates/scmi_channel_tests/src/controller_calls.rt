@@ -1,29 +1,25 @@
-//! Calls of both sides by themselves, which no script can make.
-use crate::boards::reference_plan;
-use scmi_core::Core;
-use scmi_ends::{ServeError, ShutError, connect};
-use scmi_link::RingChannel;
+//! Calls of the controller for numbers that are no agents, which no script can make.
+
+use crate::session::Session;
+use scmi_ends::{ServeError, ShutError};
+use scmi_link::{Channel, RingChannel};
 use std::test::Fail;
 
+/// Whether the calls that name an agent are refused, since the board lacks it.
+fn knows_no_agent<C: Channel>(session: &mut Session<C>, agent: u32) -> bool {
+    session.serve(agent) == Err(ServeError::NoAgent)
+        && session.flush(agent) == Err(ServeError::NoAgent)
+        && session.close(agent) == Err(ShutError::NoAgent)
+}
+
+// The platform is no agent, and the board has two.
 #[test]
 fn other_numbers_are_no_agents(rt: HostRuntime) -> Result<(), Fail> {
-    let core = Core::new(rt.alloc(), reference_plan(rt.alloc())?);
-    let Ok((mut controller, links, agents)) = connect::<RingChannel>(rt.alloc(), core) else {
-        return Err(Fail::from("no memory"));
-    };
-    assert_eq!(rt;
-        controller.serve(links.as_slice(), 9),
-        Err(ServeError::NoAgent)
-    );
-    assert_eq!(rt;
-        controller.flush(links.as_slice(), 0),
-        Err(ServeError::NoAgent)
-    );
-    assert_eq!(rt;
-        controller.close(links.as_slice(), 3),
-        Err(ShutError::NoAgent)
-    );
-    assert_eq!(rt; controller.advance(), Ok(false));
-    assert_eq!(rt; controller.retire(links, agents).len(), 0);
+    let mut session = Session::<RingChannel>::open(rt.alloc())?;
+    for agent in [0, 3, 9] {
+        assert!(rt; knows_no_agent(&mut session, agent), "agent {agent}");
+    }
+    assert!(rt; session.advance() == Ok(false));
+    assert_eq!(rt; session.retire(), 0);
     Ok(())
 }

@@ -105,31 +105,35 @@ fn knows_no_agent(both: &mut Both, agent: u32) -> bool {
         && both.platform.sent(agent) == Err(CoreError::NoAgent)
 }
 
+/// A power domain that is off.
+const OFF: u32 = 0x4000_0000;
+
+/// Calls of each kind, in order.
+const LINES: [Line<'static>; 18] = [
+    Line::NoAgent(0),
+    Line::NoAgent(3),
+    Line::Nothing(1),
+    Line::Advance(false),
+    Line::Do(1, 0x0000_4000, &[], &[0, 0x2_0000]),
+    Line::Malformed(2),
+    Line::Do(1, 0x0000_4406, &[0, 1], &[0]),
+    Line::Do(1, 0x0004_4404, &[1, 0, 0], &[0]),
+    Line::Do(1, 0x0008_4405, &[0], &[0, OFF]),
+    Line::Advance(true),
+    Line::Posted(1, 0x0004_4604, &[0, 0, 0]),
+    Line::Posted(1, 0x0000_4700, &[1, 0, 0]),
+    Line::Do(1, 0x000c_4405, &[0], &[0, 0]),
+    Line::Nothing(1),
+    Line::Do(2, 0x0000_5005, &[1, 1, 1500, 0], &[0]),
+    Line::Advance(true),
+    Line::Posted(2, 0x0000_5205, &[0, 1, 1500, 0]),
+    Line::Advance(false),
+];
+
 #[test]
 fn a_platform_answers_as_the_controller(rt: HostRuntime) -> Result<(), Fail> {
     let mut both = start(rt.alloc())?;
-    let off = 0x4000_0000;
-    let lines = [
-        Line::NoAgent(0),
-        Line::NoAgent(3),
-        Line::Nothing(1),
-        Line::Advance(false),
-        Line::Do(1, 0x0000_4000, &[], &[0, 0x2_0000]),
-        Line::Malformed(2),
-        Line::Do(1, 0x0000_4406, &[0, 1], &[0]),
-        Line::Do(1, 0x0004_4404, &[1, 0, 0], &[0]),
-        Line::Do(1, 0x0008_4405, &[0], &[0, off]),
-        Line::Advance(true),
-        Line::Posted(1, 0x0004_4604, &[0, 0, 0]),
-        Line::Posted(1, 0x0000_4700, &[1, 0, 0]),
-        Line::Do(1, 0x000c_4405, &[0], &[0, 0]),
-        Line::Nothing(1),
-        Line::Do(2, 0x0000_5005, &[1, 1, 1500, 0], &[0]),
-        Line::Advance(true),
-        Line::Posted(2, 0x0000_5205, &[0, 1, 1500, 0]),
-        Line::Advance(false),
-    ];
-    run(&rt, &mut both, &lines);
+    run(&rt, &mut both, &LINES);
     assert_eq!(rt; [both.platform.agents(), both.core.agents()], [2, 2]);
     Ok(())
 }

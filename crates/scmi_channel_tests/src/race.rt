@@ -1,8 +1,7 @@
 //! One thread posts and closes at once while another serves.
 ghost use Rattle.std.specs.Prelude.{◌≡◌};
-ghost use Rattle.scmi_ends.specs.AgentView.{IsOfLink};
+ghost use Rattle.scmi_ends.specs.AgentView.{IsOfLink, HasSameIdentities};
 ghost use Rattle.scmi_ends.specs.Links.{HasLinks, AreEndsOf};
-ghost use Rattle.scmi_channel_tests.specs.Session.{HasSameIdentities};
 
 use crate::boards::plan_of_one;
 use crate::messages::{command, response};

@@ -5,18 +5,28 @@ use scmi_board::{Items, Lines, TextLine};
 use scmi_codec::PAYLOAD_WORDS;
 use std::test::Fail;
 
+const TEXT: &[u8] = b"\n# a remark\nfirst\n\n#\n second \r\nlast";
+
+/// The lines of `TEXT`: number and bytes.
+const LINES: [(u32, &[u8]); 3] = [(4, b"first"), (7, b" second \r"), (8, b"last")];
+
+/// Whether this is the next line, and the last so far.
+fn is_next(lines: &mut Lines<'_>, number: u32, text: &[u8]) -> bool {
+    lines.next_line() == Some(TextLine { number, text }) && lines.last_number() == number
+}
+
+fn has_ended(lines: &mut Lines<'_>) -> bool {
+    lines.next_line() == None && lines.next_line() == None && lines.last_number() == 8
+}
+
 #[test]
 fn lines_have_their_bytes_and_end_for_good(rt: HostRuntime) {
-    let mut lines = Lines::new(b"\n# a remark\nfirst\n\n#\n second \r\nlast");
+    let mut lines = Lines::new(TEXT);
     assert_eq!(rt; lines.last_number(), 1);
-    let rows: [(u32, &[u8]); 3] = [(4, b"first"), (7, b" second \r"), (8, b"last")];
-    for (number, text) in rows {
-        let next = lines.next_line();
-        assert!(rt; next == Some(TextLine { number, text }), "{number}");
-        assert_eq!(rt; lines.last_number(), number);
+    for (number, text) in LINES {
+        assert!(rt; is_next(&mut lines, number, text), "{number}");
     }
-    assert!(rt; lines.next_line() == None && lines.next_line() == None);
-    assert_eq!(rt; lines.last_number(), 8);
+    assert!(rt; has_ended(&mut lines));
 }
 
 /// The number of words of a payload, and the last; `None` where it is refused.

@@ -1,13 +1,12 @@
 //! Both sides of the reference board on one thread, the agents' looks into buffers.
 ghost use Rattle.std.specs.Prelude.{◌≡◌};
-ghost use Rattle.scmi_ends.specs.AgentView.{IsOfLink};
-ghost use Rattle.scmi_channel_tests.specs.Session.{HasSameIdentities};
+ghost use Rattle.scmi_ends.specs.AgentView.{IsOfLink, HasSameIdentities};
 
 use crate::boards::reference_plan;
 use crate::messages::message;
 use scmi_codec::{Answer, Frame, Payload};
 use scmi_core::Core;
-use scmi_ends::{AgentEnd, Controller, Flushed, Link, Served, connect};
+use scmi_ends::{AgentEnd, Controller, Flushed, Link, ServeError, Served, ShutError, connect};
 use scmi_link::{Channel, Looked, RingChannel};
 use scmi_words::WordChannel;
 use std::alloc::Global;
@@ -16,7 +15,7 @@ use std::test::Fail;
 
 /// The controller of a board, its agents, and the channels between them.
 #[derive(Drop)]
-struct Session<C: Channel> {
+pub struct Session<C: Channel> {
     controller: Controller<C>,
     links: Vec<Link<C>>,
     agents: Vec<AgentEnd<C>>,
@@ -24,7 +23,7 @@ struct Session<C: Channel> {
 
 impl<C: Channel> Model for Session<C> {
     ghost use Rattle.std.specs.Prelude.{ℕ, length};
-    ghost use Rattle.scmi_channel_tests.specs.Session.{BelongTogether};
+    ghost use Rattle.scmi_ends.specs.Links.{BelongTogether};
 
     ghost Value = { ℕ };
 
@@ -45,7 +44,9 @@ enum Call<'a> {
 }
 
 impl<C: Channel> Session<C> {
-    fn open(alloc: Global) -> Result<Session<C>, Fail> {
+    ghost use Rattle.std.specs.Prelude.{◌≤◌};
+
+    pub fn open(alloc: Global) -> Result<Session<C>, Fail> {
         let core = Core::new(alloc, reference_plan(alloc)?);
         match connect(alloc, core) {
             Ok((controller, links, agents)) => Ok(Session {
@@ -59,24 +60,43 @@ impl<C: Channel> Session<C> {
 
     /// Agent 1 makes a call, and says whether there was something.
     fn first(&mut self, call: Call<'_>, answer: &mut Answer, frame: &mut Frame) -> bool {
-        if self.agents.is_empty() {
-            return false;
-        }
+        !self.agents.is_empty() && self.call_of_first(call, answer, frame)
+    }
+
+    fn call_of_first(&mut self, call: Call<'_>, answer: &mut Answer, frame: &mut Frame) -> bool
+        requires { 1 ≤ self.old }
+    {
         make_call(&mut self.agents[0], &self.links[0], call, answer, frame)
     }
 
     /// Whether the platform takes a frame of agent 1.
     fn serves(&mut self) -> bool {
-        self.controller.serve(&self.links, 1) == Ok(Served::Done)
+        self.serve(1) == Ok(Served::Done)
     }
 
     /// Whether the platform posts a message to agent 1.
     fn flushes(&mut self) -> bool {
-        self.controller.flush(&self.links, 1) == Ok(Flushed::Posted)
+        self.flush(1) == Ok(Flushed::Posted)
+    }
+
+    pub fn serve(&mut self, agent: u32) -> Result<Served, ServeError> {
+        self.controller.serve(&self.links, agent)
+    }
+
+    pub fn flush(&mut self, agent: u32) -> Result<Flushed, ServeError> {
+        self.controller.flush(&self.links, agent)
+    }
+
+    pub fn close(&mut self, agent: u32) -> Result<(), ShutError> {
+        self.controller.close(&self.links, agent)
+    }
+
+    pub fn advance(&mut self) -> Result<bool, ServeError> {
+        self.controller.advance()
     }
 
     /// Gathers all ends, and gives the number of events.
-    fn retire(self) -> usize {
+    pub fn retire(self) -> usize {
         let Session {
             controller,
             links,

@@ -1,11 +1,12 @@
 //! Both sides of a board on one thread, and what agent 1 does.
 ghost use Rattle.std.specs.Prelude.{◌≡◌};
+ghost use Rattle.scmi_ends.specs.AgentView.{IsOfLink, HasSameIdentities};
 
 use crate::lines::Lines;
 use scmi_codec::{Answer, BASE_PROTOCOL, Payload};
 use scmi_core::Core;
 use scmi_ends::{AgentEnd, Controller, Link, ServeError, Served, connect};
-use scmi_link::{Channel, Closing, Collected};
+use scmi_link::{Channel, CloseError, Closing, Collected, PostError};
 use std::alloc::Global;
 use std::io::Write;
 use std::marker::Model;
@@ -21,7 +22,7 @@ pub struct Session<C: Channel> {
 
 impl<C: Channel> Model for Session<C> {
     ghost use Rattle.std.specs.Prelude.{ℕ, length};
-    ghost use Rattle.scmi_direct.specs.Session.{BelongTogether};
+    ghost use Rattle.scmi_ends.specs.Links.{BelongTogether};
 
     ghost Value = { ℕ };
 
@@ -52,7 +53,7 @@ impl<C: Channel> Session<C> {
         requires { 1 ≤ self.old }
         ensures { self.new ≡ self.old }
     {
-        match self.agents[0].call(&self.links[0], BASE_PROTOCOL, 0, &Payload::new()) {
+        match self.ask(&Payload::new()) {
             Ok(token) => lines.number("call", token as usize),
             Err(_) => lines.answer("call", "refused"),
         }
@@ -77,7 +78,7 @@ impl<C: Channel> Session<C> {
         requires { 1 ≤ self.old }
         ensures { self.new ≡ self.old }
     {
-        match self.agents[0].collect(&self.links[0]) {
+        match self.look() {
             Collected::Got(Answer::Reply(reply)) => lines.message("collect", &reply),
             _ => lines.answer("collect", "none"),
         }
@@ -89,9 +90,9 @@ impl<C: Channel> Session<C> {
         requires { 1 ≤ self.old }
         ensures { self.new ≡ self.old }
     {
-        let _ = self.agents[0].call(&self.links[0], BASE_PROTOCOL, 0, payload);
+        let _ = self.ask(payload);
         let _ = self.controller.serve(&self.links, 1);
-        let _ = self.agents[0].collect_into(&self.links[0], answer);
+        self.look_into(answer);
     }
 
     /// Agent 1 closes its channels.
@@ -99,7 +100,7 @@ impl<C: Channel> Session<C> {
         requires { 1 ≤ self.old }
         ensures { self.new ≡ self.old }
     {
-        match self.agents[0].close(&self.links[0]) {
+        match self.close_first() {
             Ok(Closing::Withdrawn) => lines.answer("close", "withdrawn"),
             Ok(Closing::Idle) => lines.answer("close", "idle"),
             Err(_) => lines.answer("close", "refused"),
@@ -116,4 +117,51 @@ impl<C: Channel> Session<C> {
         let trace = controller.retire(links, agents);
         lines.number("trace", trace.len());
     }
+
+    fn ask(&mut self, payload: &Payload) -> Result<u16, PostError>
+        requires { 1 ≤ self.old }
+        ensures { self.new ≡ self.old }
+    {
+        ask(&mut self.agents[0], &self.links[0], payload)
+    }
+
+    fn look(&mut self) -> Collected
+        requires { 1 ≤ self.old }
+        ensures { self.new ≡ self.old }
+    {
+        self.agents[0].collect(&self.links[0])
+    }
+
+    fn look_into(&mut self, answer: &mut Answer)
+        requires { 1 ≤ self.old }
+        ensures { self.new ≡ self.old }
+    {
+        let _ = self.agents[0].collect_into(&self.links[0], answer);
+    }
+
+    fn close_first(&mut self) -> Result<Closing, CloseError>
+        requires { 1 ≤ self.old }
+        ensures { self.new ≡ self.old }
+    {
+        close(&mut self.agents[0], &self.links[0])
+    }
+}
+
+/// Asks for the version of the base protocol, with these payload words.
+fn ask<C: Channel>(
+    end: &mut AgentEnd<C>,
+    link: &Link<C>,
+    payload: &Payload,
+) -> Result<u16, PostError>
+    requires { IsOfLink (C.identity link.now.a2p) (C.identity link.now.p2a) end.old }
+    ensures { HasSameIdentities end.old end.new }
+{
+    end.call(link, BASE_PROTOCOL, 0, payload)
+}
+
+fn close<C: Channel>(end: &mut AgentEnd<C>, link: &Link<C>) -> Result<Closing, CloseError>
+    requires { IsOfLink (C.identity link.now.a2p) (C.identity link.now.p2a) end.old }
+    ensures { HasSameIdentities end.old end.new }
+{
+    end.close(link)
 }

@@ -16,6 +16,11 @@ pub record IsOfLink (a2p_identity p2a_identity : List ℕ) (agent : AgentView) :
   pub of_a2p : agent.a2p_identity ≡ a2p_identity
   pub of_p2a : agent.p2a_identity ≡ p2a_identity
 
+-- an agent's end is still of the same channels
+pub record HasSameIdentities (before after : AgentView) : Type 0 where
+  pub a2p : after.a2p_identity ≡ before.a2p_identity
+  pub p2a : after.p2a_identity ≡ before.p2a_identity
+
 -- agent n, which has done nothing yet
 pub record IsNewAgent (n : ℕ) (agent : AgentView) : Type 0 where
   pub id : agent.id ≡ n

@@ -1,5 +1,5 @@
 -- Which ends are those of which links, whatever the channels are made of.
-use Rattle.std.specs.Prelude.{◌≡◌, ℕ, List, map}
+use Rattle.std.specs.Prelude.{◌≡◌, ℕ, List, length, map}
 use Rattle.scmi_ends.specs.declared.link.Link.{Link}
 use Rattle.scmi_ends.specs.AgentView.{AgentView}
 use Rattle.scmi_ends.specs.ControllerView.{ControllerView, IsOfLinks}
@@ -21,3 +21,9 @@ module _ {C Caller Callee Rest : Type 0} (identity : C → List ℕ) (links : Li
   -- the agents' ends are those of the links, in order
   abbrev pub AreEndsOf : List AgentView → Type 0
   AreEndsOf agents = (map (λ agent. agent.a2p_identity) agents ≡ identities_of_a2p) × (map (λ agent. agent.p2a_identity) agents ≡ identities_of_p2a)
+
+-- the platform's ends and the agents' are those of the links, in order, and each agent of the board has its ends
+pub record BelongTogether {C Caller Callee Rest : Type 0} (identity : C → List ℕ) (links : List (Link C Caller Callee Rest)) (platform : ControllerView) (agents : List AgentView) : Type 0 where
+  pub platform_ends : HasLinks identity links platform
+  pub agents_ends : AreEndsOf identity links agents
+  pub count : length agents ≡ length platform.board.agents

@@ -145,8 +145,12 @@ pub fn add_device(raw: &mut RawPlan, domains: u32, clocks: u32) -> Result<(), Al
     Ok(())
 }
 
+pub fn rate_list(alloc: Global, rates: &[u64]) -> Result<RateList, AllocError> {
+    Ok(RateList::new(rates.to_vec(alloc)?))
+}
+
 pub fn list(alloc: Global, rates: &[u64]) -> Result<Rates, AllocError> {
-    Ok(Rates::List(RateList::new(rates.to_vec(alloc)?)))
+    Ok(Rates::List(rate_list(alloc, rates)?))
 }
 
 /// The list 1, 2 and so on up to `count`.

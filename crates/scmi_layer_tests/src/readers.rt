@@ -1,9 +1,9 @@
 //! A plan gives the values of its board.
 
-use crate::boards::{list, rates_up_to, reference_plan, steps};
+use crate::boards::{list, rate_list, rates_up_to, reference_plan, steps};
 use scmi_codec::Name;
 use scmi_plan::{Clock, Device, Plan, RateList, Rates, Resource};
-use std::alloc::{AllocError, Global};
+use std::alloc::AllocError;
 use std::test::Fail;
 
 fn is_named(name: &Name, text: &str) -> bool {
@@ -130,10 +130,6 @@ fn a_device_holds_its_domains_and_clocks(rt: HostRuntime) -> Result<(), Fail> {
         assert!(rt; holds(&plan, *device, *resource) == *wanted, "{device}");
     }
     Ok(())
-}
-
-fn rate_list(alloc: Global, rates: &[u64]) -> Result<RateList, AllocError> {
-    Ok(RateList::new(rates.to_vec(alloc)?))
 }
 
 /// Whether a copy of a list is the list, and not this other.

@@ -1,7 +1,6 @@
 //! What one agent does in a step, and the line that is written for it, by its own end and link.
-ghost use Rattle.scmi_ends.specs.AgentView.{IsOfLink};
+ghost use Rattle.scmi_ends.specs.AgentView.{IsOfLink, HasSameIdentities};
 ghost use Rattle.scmi_text.specs.declared.step.AgentStep.TheVariants as step;
-ghost use Rattle.scmi_session.specs.Session.{HasSameIdentities};
 ghost use Rattle.scmi_session.specs.StepLines.{IsAgentLine};
 
 use scmi_codec::Message;

@@ -21,7 +21,7 @@ pub struct Session<C: Channel> {
 
 impl<C: Channel> Model for Session<C> {
     ghost use Rattle.std.specs.Prelude.{ℕ, length};
-    ghost use Rattle.scmi_session.specs.Session.{BelongTogether};
+    ghost use Rattle.scmi_ends.specs.Links.{BelongTogether};
 
     ghost Value = { ℕ };
 

@@ -1,5 +1,5 @@
 use Rattle.std.proofs.Common.{◌-◌, arith}
-use Rattle.scmi_session.proofs.Together.{of_link, stays}
+use Rattle.scmi_ends.proofs.Together.{of_link, stays}
 use Rattle.scmi_session.proofs.session.Session.of_agent.Goals as goal
 
 pub make-requires-after_bounds : goal.make-requires-after_bounds

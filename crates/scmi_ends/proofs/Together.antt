@@ -1,11 +1,11 @@
--- The ends of a session, one agent at a time.
+-- The ends of both sides, one agent at a time.
 use Rattle.std.proofs.Common.{◌≡◌, ℕ, ◌<◌, List, length, get_or, set, ◌∙◌, length-set}
 use Rattle.scmi_ends.specs.declared.link.Link.{Link}
-use Rattle.scmi_ends.specs.AgentView.{AgentView, IsOfLink}
+use Rattle.scmi_ends.specs.AgentView.{AgentView, IsOfLink, HasSameIdentities}
 use Rattle.scmi_ends.specs.ControllerView.{ControllerView}
+use Rattle.scmi_ends.specs.Links.{BelongTogether}
 use Rattle.scmi_ends.proofs.Lists.{map_same}
 use Rattle.scmi_ends.proofs.Places.{of_link_at}
-use Rattle.scmi_session.specs.Session.{BelongTogether, HasSameIdentities}
 
 module _ {C Caller Callee Rest : Type 0} (identity : C → List ℕ) (links : List (Link C Caller Callee Rest)) (platform : ControllerView) (agents : List AgentView) (i : ℕ) (agent : AgentView)
     (together : BelongTogether identity links platform agents) (inside : i < length agents) (is : agent ≡ get_or agents i agent) where
