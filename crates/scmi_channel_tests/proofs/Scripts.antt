@@ -1,5 +1,5 @@
 -- The scripts that were read are scripts of the board's agents.
-use Rattle.std.proofs.Common.{ℕ, ◌<◌, ◌≤◌, List, length, map, subst, arith}
+use Rattle.std.proofs.Common.{ℕ, ◌≤◌, List, subst, arith}
 use Rattle.std.proofs.lemmas.List.{get_or-map, length-map}
 use Rattle.std.specs.List.{All}
 use Rattle.scmi_threads.specs.declared.script.Script.{Script}
