@@ -48,6 +48,16 @@ class Function:
         return self.path.split("::")[-1]
 
 
+def end_of(text, item, is_declared):
+    """Where a function ends: behind its body or, where a trait declares it without one, its semicolon."""
+    end = text.find(f"\n{item['indent']}}}\n", item.end())
+    end = len(text) if end < 0 else end + len(item["indent"]) + 2
+    body = re.compile(rf"^{item['indent']}\{{$", re.M).search(text, item.end(), end)
+    semicolon = re.compile(r";$", re.M).search(text, item.end(), end)
+    has_body = not is_declared or not semicolon or (body and body.start() < semicolon.start())
+    return end if has_body else semicolon.end()
+
+
 def functions_of(file, text):
     """The functions of a source, in order."""
     module = Path(file).stem if Path(file).stem not in ("lib", "main") else ""
@@ -66,8 +76,7 @@ def functions_of(file, text):
             inside = owner if item["indent"] else ""
             path = "::".join(it for it in (inside or module, item["name"]) if it)
             names = {f"{it}::{item['name']}" for it in owners} if inside else {item["name"]}
-            end = text.find(f"\n{item['indent']}}}\n", item.end())
-            end = len(text) if end < 0 else end + len(item["indent"]) + 2
+            end = end_of(text, item, bool(inside) and owners == [trait])
             of_type, of_trait = (owners[0], trait) if inside else ("", "")
             is_public = bool(item["public"] or of_trait)
             found.append(Function(path, frozenset(names), item.start(), end, of_type, of_trait, is_public))

@@ -1,8 +1,7 @@
 -- The replies of the base protocol (DEN0056B, base protocol), 0x10.
 use Rattle.std.specs.Prelude.{ℕ, ◌+◌, ◌-◌, ◌*◌, ◌%◌, ◌==◌, ◌||◌, Bool, not, nat_lt, nat_le, if◌then◌else◌, List, [], ◌∷◌, length, drop, get_or, codes}
 use Rattle.byteorder.specs.Endian.{little_number}
-use Rattle.scmi_codec.specs.BaseCommand.{base_table}
-use Rattle.scmi_codec.specs.Row.{is_listed}
+use Rattle.scmi_codec.specs.Listing.{is_listed}
 use Rattle.scmi_codec.specs.declared.base_command.BaseCommand.{BaseCommand}
 use Rattle.scmi_codec.specs.declared.base_command.BaseCommand.TheVariants as base
 use Rattle.scmi_codec.specs.declared.status.Status.TheVariants.{NotFound, InvalidParameters, Denied}
@@ -58,7 +57,7 @@ reset_checks board caller agent flags = (no_agent board agent, NotFound) ∷ tru
 
 -- the reply to 0x2: an id of the protocol's table is supported, with no attributes
 abbrev pub message_reply : ℕ → List ℕ
-message_reply message = reply_unless ((not (is_listed base_table message), NotFound) ∷ []) (0 ∷ 0 ∷ [])
+message_reply message = reply_unless ((not (is_listed 0x10 message), NotFound) ∷ []) (0 ∷ 0 ∷ [])
 
 -- the reply to 0x6: how many protocols follow the skipped ones, and their ids
 abbrev pub protocols_reply : ℕ → List ℕ

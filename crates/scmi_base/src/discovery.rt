@@ -6,8 +6,8 @@ ghost use Rattle.scmi_codec.specs.Name.{name_words};
 
 use byteorder::{ByteOrder, LittleEndian};
 use scmi_codec::{
-    CLOCK_PROTOCOL, Name, POWER_PROTOCOL, Payload, SUCCESS, Status, name_words, set_payload,
-    set_refusal,
+    BASE_PROTOCOL, CLOCK_PROTOCOL, Name, POWER_PROTOCOL, Payload, SUCCESS, Status, is_listed,
+    name_words, set_payload, set_refusal,
 };
 use scmi_plan::Plan;
 
@@ -48,9 +48,10 @@ pub(crate) fn attributes(plan: &Plan, reply: &mut Payload)
 pub(crate) fn message_attributes(message: u32, reply: &mut Payload)
     ensures { reply.new.items ≡ message_reply message }
 {
-    match message {
-        0x0..=0x7 | 0x9..=0xb => set_payload(reply, &[SUCCESS, 0]),
-        _ => set_refusal(reply, Status::NotFound),
+    if is_listed(BASE_PROTOCOL, message) {
+        set_payload(reply, &[SUCCESS, 0]);
+    } else {
+        set_refusal(reply, Status::NotFound);
     }
 }
 

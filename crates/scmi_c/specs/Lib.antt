@@ -3,3 +3,4 @@ pub mod Standing
 pub mod Calls
 pub mod Refusal
 pub mod Board
+pub mod Effect

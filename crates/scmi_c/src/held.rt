@@ -5,12 +5,15 @@ ghost use Rattle.scmi_plan.specs.Agent.{IsNoAgent};
 ghost use Rattle.scmi_core.specs.Pending.{pending_sets};
 ghost use Rattle.scmi_core.specs.History.{answer_to, answer_with, deeds, outbox};
 ghost use Rattle.scmi_core.specs.declared.event.Event.{Event};
-ghost use Rattle.scmi_core.specs.declared.event.Event.TheVariants.{Command as Called, Advance, Sent};
+ghost use Rattle.scmi_core.specs.declared.event.Event.TheVariants.{Command as Called, Advance, Sent, CommandFailed, AdvanceFailed};
+ghost use Rattle.scmi_codec.specs.declared.frame.Answer.TheVariants.{Reply};
+ghost use Rattle.scmi_core.specs.Effect.{effect_after};
+ghost use Rattle.scmi_core.specs.Reply.{failed_answer};
 ghost use Rattle.scmi_c.specs.Standing.{board_of, StandsAt, IsRecorded};
 ghost use Rattle.scmi_c.specs.Calls.{HasHappened};
 
 use scmi_codec::{Frame, Message};
-use scmi_core::{Answered, Core, CoreError, Platform};
+use scmi_core::{Answered, Core, CoreError, Effect, Platform};
 
 /// A platform of either kind.
 #[derive(Drop)]
@@ -109,6 +112,74 @@ impl Held {
         match self {
             Held::Endless(platform) => platform.sent(agent),
             Held::Recorded(core) => core.sent(agent),
+        }
+    }
+
+    /// What an agent's command is to change of the hardware, before it is executed; `None` where it
+    /// changes nothing of it. `NoAgent` where the board lacks the agent.
+    pub fn effect_of(&self, agent: u32, frame: &Frame) -> Result<Option<Effect>, CoreError>
+        ensures effect { (h : List Event) → StandsAt self.now h →
+            IfOk result (λ effect.
+            effect ≡ effect_after (board_of self.now) h (Called agent frame.now)) }
+        ensures no_agent { (result ≡ Err CoreError.NoAgent) ↔
+            IsNoAgent (length (board_of self.now).agents) agent }
+        ensures errors { IfErr result (λ e. e ≡ CoreError.NoAgent) }
+    {
+        match self {
+            Held::Endless(platform) => platform.effect_of(agent, frame),
+            Held::Recorded(core) => core.effect_of(agent, frame),
+        }
+    }
+
+    /// What the completion of the first pending set is to change of the hardware, before it completes;
+    /// `None` where none is pending.
+    pub fn effect_of_advance(&self) -> Option<Effect>
+        ensures { (h : List Event) → StandsAt self.now h →
+            result ≡ effect_after (board_of self.now) h Advance }
+    {
+        match self {
+            Held::Endless(platform) => platform.effect_of_advance(),
+            Held::Recorded(core) => core.effect_of_advance(),
+        }
+    }
+
+    /// Answers a command whose change the hardware refused by HARDWARE_ERROR. `NoAgent` where the board
+    /// lacks the agent, `Nothing` where the command changes nothing of the hardware, and `Memory` where
+    /// the history could not grow; then nothing changed.
+    pub fn command_failed(
+        &mut self,
+        agent: u32,
+        frame: &Frame,
+        reply: &mut Message,
+    ) -> Result<(), CoreError>
+        ensures answer { OnOk result (Reply reply.new ≡ failed_answer frame.now) }
+        ensures event { OnOk result (HasHappened self.old self.new (CommandFailed agent frame.now)) }
+        ensures no_agent { (result ≡ Err CoreError.NoAgent) ↔
+            IsNoAgent (length (board_of self.old).agents) agent }
+        ensures memory { result ≡ Err CoreError.Memory → IsRecorded self.old }
+        ensures err { OnErr result (self.new ≡ self.old) }
+    {
+        match self {
+            Held::Endless(platform) => platform.command_failed(agent, frame, reply),
+            Held::Recorded(core) => core.command_failed(agent, frame, reply),
+        }
+    }
+
+    /// Takes the first pending set off, whose change the hardware refused; `false` where none is
+    /// pending. `Memory` where the history could not grow; then nothing changed.
+    pub fn advance_failed(&mut self) -> Result<bool, CoreError>
+        ensures waiting { (h : List Event) → StandsAt self.old h →
+            IfOk result (λ did.
+            (did ≡ false) ↔ (pending_sets (board_of self.old) (deeds (board_of self.old) h) ≡ [])) }
+        ensures event { IfOk result (λ did.
+            did ≡ true → HasHappened self.old self.new AdvanceFailed) }
+        ensures same { IfOk result (λ did. did ≡ false → self.new ≡ self.old) }
+        ensures memory { IfErr result (λ e. (e ≡ CoreError.Memory) × IsRecorded self.old) }
+        ensures err { OnErr result (self.new ≡ self.old) }
+    {
+        match self {
+            Held::Endless(platform) => Ok(platform.advance_failed()),
+            Held::Recorded(core) => core.advance_failed(),
         }
     }
 }

@@ -11,6 +11,8 @@ mod area;
 mod board;
 mod code;
 mod desk;
+mod effect;
+mod ends;
 mod handle;
 mod held;
 mod history;

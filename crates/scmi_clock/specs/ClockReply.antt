@@ -1,8 +1,7 @@
 -- The replies of the clock protocol (DEN0056B, clock management protocol), 0x14.
 use Rattle.std.specs.Prelude.{ℕ, ◌+◌, ◌-◌, ◌*◌, ◌/◌, ◌^◌, ◌&&◌, ◌||◌, Bool, false, not, nat_le, min, if◌then◌else◌, List, [], ◌∷◌, length, take, drop, Option, is_none}
 use Rattle.std.specs.List.{flat_map}
-use Rattle.scmi_codec.specs.ClockCommand.{clock_table}
-use Rattle.scmi_codec.specs.Row.{is_listed}
+use Rattle.scmi_codec.specs.Listing.{is_listed}
 use Rattle.scmi_codec.specs.declared.clock_command.ClockCommand.{ClockCommand}
 use Rattle.scmi_codec.specs.declared.clock_command.ClockCommand.TheVariants as clock
 use Rattle.scmi_codec.specs.declared.payload.TheConstants.{PAYLOAD_WORDS}
@@ -65,7 +64,7 @@ attributes_reply board = 0 ∷ (PENDING_SETS * 2 ^ 16 + length board.clocks) ∷
 
 -- the reply to 0x2: an id of the protocol's table is supported, with no attributes
 abbrev pub message_reply : ℕ → List ℕ
-message_reply message = reply_unless ((not (is_listed clock_table message), NotFound) ∷ []) (0 ∷ 0 ∷ [])
+message_reply message = reply_unless ((not (is_listed 0x14 message), NotFound) ∷ []) (0 ∷ 0 ∷ [])
 
 -- the reply to 0x3: in bit 0 whether the clock is enabled, and its name
 abbrev pub clock_attributes_reply : Board → Bool → ℕ → List ℕ

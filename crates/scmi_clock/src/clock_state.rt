@@ -127,6 +127,62 @@ impl ClockState {
         None
     }
 
+    /// The clock and rate in Hz that a command of a caller sets at once, as `execute` does; `None`
+    /// where it sets none, or is refused.
+    #[tactic(auto, unfolding(crate::specs::ClockReply::clock_reply))]
+    pub fn rate_change_of(
+        &self,
+        plan: &Plan,
+        base: &BaseState,
+        caller: u32,
+        command: ClockCommand,
+        load: Load,
+    ) -> Option<(u32, u64)>
+        requires first { 1 ≤ caller }
+        requires last { caller ≤ length plan.now.agents }
+        ensures { result ≡ if_success
+            (clock_reply plan.now (view_of plan.now base.now self.now load caller) command)
+            (rate_now plan.now command) }
+    {
+        match command {
+            ClockCommand::SetRate { flags, clock, rate } => {
+                match check_set(plan, base, caller, flags, clock, rate, load) {
+                    Ok(set) if !set.asynchronous => Some((clock, set.rate)),
+                    _ => None,
+                }
+            }
+            _ => None,
+        }
+    }
+
+    /// The clock and enabled bit that a command of a caller sets, as `execute` does; `None` where it
+    /// sets none, or is refused.
+    #[tactic(auto, unfolding(crate::specs::ClockReply::clock_reply))]
+    pub fn enabled_change_of(
+        &self,
+        plan: &Plan,
+        base: &BaseState,
+        caller: u32,
+        command: ClockCommand,
+        load: Load,
+    ) -> Option<(u32, bool)>
+        requires first { 1 ≤ caller }
+        requires last { caller ≤ length plan.now.agents }
+        ensures { result ≡ if_success
+            (clock_reply plan.now (view_of plan.now base.now self.now load caller) command)
+            (enabled_now command) }
+    {
+        match command {
+            ClockCommand::Config { clock, attributes } => {
+                match check_config(plan, base, caller, clock, attributes) {
+                    Ok(enable) => Some((clock, enable)),
+                    Err(_) => None,
+                }
+            }
+            _ => None,
+        }
+    }
+
     /// 0x5: sets a clock's rate at once, or accepts it for later.
     #[tactic(auto, unfolding(crate::specs::ClockReply::clock_reply))]
     fn set_rate(

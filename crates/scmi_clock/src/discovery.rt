@@ -9,7 +9,8 @@ ghost use Rattle.scmi_clock.specs.ClockTable.{rate_at, enabled_at};
 use crate::checks::{check_clock, check_index};
 use crate::clock_state::ClockState;
 use scmi_codec::{
-    PAYLOAD_WORDS, Payload, SUCCESS, Status, name_words, rate_words, set_payload, set_refusal,
+    CLOCK_PROTOCOL, PAYLOAD_WORDS, Payload, SUCCESS, Status, is_listed, name_words, rate_words,
+    set_payload, set_refusal,
 };
 use scmi_plan::{Plan, Rates};
 
@@ -46,9 +47,10 @@ pub(crate) fn attributes(plan: &Plan, reply: &mut Payload)
 pub(crate) fn message_attributes(message: u32, reply: &mut Payload)
     ensures { reply.new.items ≡ message_reply message }
 {
-    match message {
-        0x0..=0x7 => set_payload(reply, &[SUCCESS, 0]),
-        _ => set_refusal(reply, Status::NotFound),
+    if is_listed(CLOCK_PROTOCOL, message) {
+        set_payload(reply, &[SUCCESS, 0]);
+    } else {
+        set_refusal(reply, Status::NotFound);
     }
 }
 

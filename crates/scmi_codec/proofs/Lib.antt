@@ -2,3 +2,5 @@ pub mod HeaderLemmas
 pub mod WordLemmas
 pub mod AreaLemmas
 pub mod ShortLemmas
+pub mod Listed
+pub mod Commands

@@ -1,22 +1,23 @@
 -- The commands of the base protocol (DEN0056B, base protocol), 0x10.
 use Rattle.std.specs.Prelude.{ℕ, List, [], ◌∷◌, Result, slice_index}
+use Rattle.scmi_codec.specs.Listing.{base_rows, table_of}
 use Rattle.scmi_codec.specs.Row.{Row, from_table}
 use Rattle.scmi_codec.specs.declared.status.Status.{Status}
 use Rattle.scmi_codec.specs.declared.base_command.BaseCommand.{BaseCommand}
 use Rattle.scmi_codec.specs.declared.base_command.BaseCommand.TheVariants as base
 
--- the commands by message id, with their payload words in order
+-- the messages in the order of their table, with the command that their payload words give
 abbrev pub base_table : List (Row BaseCommand)
-base_table =
-    (0x0, 0, λ w. base.Version) ∷ (0x1, 0, λ w. base.Attributes)
-    ∷ (0x2, 1, λ w. base.MessageAttributes (slice_index w 0))
-    ∷ (0x3, 0, λ w. base.Vendor) ∷ (0x4, 0, λ w. base.SubVendor) ∷ (0x5, 0, λ w. base.Implementation)
-    ∷ (0x6, 1, λ w. base.Protocols (slice_index w 0))
-    ∷ (0x7, 1, λ w. base.Agent (slice_index w 0))
-    ∷ (0x9, 3, λ w. base.Permit (slice_index w 0) (slice_index w 1) (slice_index w 2))
-    ∷ (0xA, 4, λ w. base.PermitProtocol (slice_index w 0) (slice_index w 1) (slice_index w 2) (slice_index w 3))
-    ∷ (0xB, 2, λ w. base.ResetAgent (slice_index w 0) (slice_index w 1))
-    ∷ []
+base_table = table_of base_rows
+    ((λ w. base.Version) ∷ (λ w. base.Attributes)
+    ∷ (λ w. base.MessageAttributes (slice_index w 0))
+    ∷ (λ w. base.Vendor) ∷ (λ w. base.SubVendor) ∷ (λ w. base.Implementation)
+    ∷ (λ w. base.Protocols (slice_index w 0))
+    ∷ (λ w. base.Agent (slice_index w 0))
+    ∷ (λ w. base.Permit (slice_index w 0) (slice_index w 1) (slice_index w 2))
+    ∷ (λ w. base.PermitProtocol (slice_index w 0) (slice_index w 1) (slice_index w 2) (slice_index w 3))
+    ∷ (λ w. base.ResetAgent (slice_index w 0) (slice_index w 1))
+    ∷ [])
 
 -- the command of a message id and payload words, or the status of the first check that fails
 abbrev pub base_of : ℕ → List ℕ → Result BaseCommand Status

@@ -1,22 +1,23 @@
 -- The commands of the clock protocol (DEN0056B, clock management protocol), 0x14.
 use Rattle.std.specs.Prelude.{ℕ, List, [], ◌∷◌, Result, slice_index}
+use Rattle.scmi_codec.specs.Listing.{clock_rows, table_of}
 use Rattle.scmi_codec.specs.Row.{Row, from_table}
 use Rattle.scmi_codec.specs.Rate.{rate_of, rate_words}
 use Rattle.scmi_codec.specs.declared.status.Status.{Status}
 use Rattle.scmi_codec.specs.declared.clock_command.ClockCommand.{ClockCommand}
 use Rattle.scmi_codec.specs.declared.clock_command.ClockCommand.TheVariants as clock
 
--- the commands by message id, with their payload words in order
+-- the messages in the order of their table, with the command that their payload words give
 abbrev pub clock_table : List (Row ClockCommand)
-clock_table =
-    (0x0, 0, λ w. clock.Version) ∷ (0x1, 0, λ w. clock.Attributes)
-    ∷ (0x2, 1, λ w. clock.MessageAttributes (slice_index w 0))
-    ∷ (0x3, 1, λ w. clock.ClockAttributes (slice_index w 0))
-    ∷ (0x4, 2, λ w. clock.Describe (slice_index w 0) (slice_index w 1))
-    ∷ (0x5, 4, λ w. clock.SetRate (slice_index w 0) (slice_index w 1) (rate_of (slice_index w 2) (slice_index w 3)))
-    ∷ (0x6, 1, λ w. clock.GetRate (slice_index w 0))
-    ∷ (0x7, 2, λ w. clock.Config (slice_index w 0) (slice_index w 1))
-    ∷ []
+clock_table = table_of clock_rows
+    ((λ w. clock.Version) ∷ (λ w. clock.Attributes)
+    ∷ (λ w. clock.MessageAttributes (slice_index w 0))
+    ∷ (λ w. clock.ClockAttributes (slice_index w 0))
+    ∷ (λ w. clock.Describe (slice_index w 0) (slice_index w 1))
+    ∷ (λ w. clock.SetRate (slice_index w 0) (slice_index w 1) (rate_of (slice_index w 2) (slice_index w 3)))
+    ∷ (λ w. clock.GetRate (slice_index w 0))
+    ∷ (λ w. clock.Config (slice_index w 0) (slice_index w 1))
+    ∷ [])
 
 -- the command of a message id and payload words, or the status of the first check that fails
 abbrev pub clock_of : ℕ → List ℕ → Result ClockCommand Status

@@ -1,6 +1,7 @@
 -- The commands of all protocols, as messages carry them (own order of checks).
-use Rattle.std.specs.Prelude.{ℕ, ◌==◌, if◌then◌else◌, List, Result, Ok, Err}
+use Rattle.std.specs.Prelude.{◌≡◌, ℕ, ◌==◌, if◌then◌else◌, List, length, Some, Result, Ok, Err}
 use Rattle.scmi_codec.specs.Header.{HeaderFields}
+use Rattle.scmi_codec.specs.Listing.{listed_words}
 use Rattle.scmi_codec.specs.BaseCommand.{base_of, base_id, base_words}
 use Rattle.scmi_codec.specs.PowerCommand.{power_of, power_id, power_words}
 use Rattle.scmi_codec.specs.ClockCommand.{clock_of, clock_id, clock_words}
@@ -40,3 +41,9 @@ abbrev pub command_header : Command → ℕ → HeaderFields
 command_header (Base c) token = protocol_header 0x10 token (base_id c)
 command_header (Power c) token = protocol_header 0x11 token (power_id c)
 command_header (Clock c) token = protocol_header 0x14 token (clock_id c)
+
+-- whether the message of a command is in the tables, with as many payload words as the command has
+abbrev pub IsListed : Command → Type 0
+IsListed (Base c) = listed_words 0x10 (base_id c) ≡ Some (length (base_words c))
+IsListed (Power c) = listed_words 0x11 (power_id c) ≡ Some (length (power_words c))
+IsListed (Clock c) = listed_words 0x14 (clock_id c) ≡ Some (length (clock_words c))

@@ -4,6 +4,7 @@ pub mod Payload
 pub mod Reply
 pub mod Rate
 pub mod Row
+pub mod Listing
 pub mod Word
 pub mod BaseCommand
 pub mod PowerCommand

@@ -1,20 +1,21 @@
 -- The commands of the power domain protocol (DEN0056B, power domain management protocol), 0x11.
 use Rattle.std.specs.Prelude.{ℕ, List, [], ◌∷◌, Result, slice_index}
+use Rattle.scmi_codec.specs.Listing.{power_rows, table_of}
 use Rattle.scmi_codec.specs.Row.{Row, from_table}
 use Rattle.scmi_codec.specs.declared.status.Status.{Status}
 use Rattle.scmi_codec.specs.declared.power_command.PowerCommand.{PowerCommand}
 use Rattle.scmi_codec.specs.declared.power_command.PowerCommand.TheVariants as power
 
--- the commands by message id, with their payload words in order
+-- the messages in the order of their table, with the command that their payload words give
 abbrev pub power_table : List (Row PowerCommand)
-power_table =
-    (0x0, 0, λ w. power.Version) ∷ (0x1, 0, λ w. power.Attributes)
-    ∷ (0x2, 1, λ w. power.MessageAttributes (slice_index w 0))
-    ∷ (0x3, 1, λ w. power.DomainAttributes (slice_index w 0))
-    ∷ (0x4, 3, λ w. power.Set (slice_index w 0) (slice_index w 1) (slice_index w 2))
-    ∷ (0x5, 1, λ w. power.Get (slice_index w 0))
-    ∷ (0x6, 2, λ w. power.Notify (slice_index w 0) (slice_index w 1))
-    ∷ []
+power_table = table_of power_rows
+    ((λ w. power.Version) ∷ (λ w. power.Attributes)
+    ∷ (λ w. power.MessageAttributes (slice_index w 0))
+    ∷ (λ w. power.DomainAttributes (slice_index w 0))
+    ∷ (λ w. power.Set (slice_index w 0) (slice_index w 1) (slice_index w 2))
+    ∷ (λ w. power.Get (slice_index w 0))
+    ∷ (λ w. power.Notify (slice_index w 0) (slice_index w 1))
+    ∷ [])
 
 -- the command of a message id and payload words, or the status of the first check that fails
 abbrev pub power_of : ℕ → List ℕ → Result PowerCommand Status

@@ -2,6 +2,7 @@
 ghost use Rattle.std.specs.Prelude.{◌≡◌};
 ghost use Rattle.scmi_codec.specs.BaseCommand.{base_of, base_id, base_words};
 
+use crate::listing::misfit;
 use crate::payload::{Payload, payload_of};
 use crate::status::Status;
 
@@ -45,6 +46,7 @@ pub enum BaseCommand {
 impl BaseCommand {
     /// The command of a message id and payload words: NOT_SUPPORTED for an unknown id, then
     /// PROTOCOL_ERROR for another number of words than the command has.
+    #[tactic(auto, unfolding(crate::specs::Listing::rows_of))]
     pub(crate) fn read(id: u8, words: &[u32]) -> Result<BaseCommand, Status>
         ensures { result ≡ base_of id words.now }
     {
@@ -72,8 +74,7 @@ impl BaseCommand {
                 agent: *agent,
                 flags: *flags,
             }),
-            (0x0..=0x7 | 0x9..=0xb, _) => Err(Status::ProtocolError),
-            _ => Err(Status::NotSupported),
+            _ => Err(misfit(BASE_PROTOCOL, id)),
         }
     }
 

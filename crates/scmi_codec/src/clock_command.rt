@@ -2,6 +2,7 @@
 ghost use Rattle.std.specs.Prelude.{◌≡◌};
 ghost use Rattle.scmi_codec.specs.ClockCommand.{clock_of, clock_id, clock_words};
 
+use crate::listing::misfit;
 use crate::payload::{Payload, payload_of};
 use crate::rate::{rate_of, rate_words};
 use crate::status::Status;
@@ -25,6 +26,7 @@ pub enum ClockCommand {
 impl ClockCommand {
     /// The command of a message id and payload words: NOT_SUPPORTED for an unknown id, then
     /// PROTOCOL_ERROR for another number of words than the command has.
+    #[tactic(auto, unfolding(crate::specs::Listing::rows_of))]
     pub(crate) fn read(id: u8, words: &[u32]) -> Result<ClockCommand, Status>
         ensures { result ≡ clock_of id words.now }
     {
@@ -47,8 +49,7 @@ impl ClockCommand {
                 clock: *clock,
                 attributes: *attributes,
             }),
-            (0x0..=0x7, _) => Err(Status::ProtocolError),
-            _ => Err(Status::NotSupported),
+            _ => Err(misfit(CLOCK_PROTOCOL, id)),
         }
     }
 

@@ -1,7 +1,7 @@
 //! Commands of all protocols, and the messages that carry them.
 ghost use Rattle.std.specs.Prelude.{◌≡◌, ◌<◌, IfOk};
 ghost use Rattle.scmi_codec.specs.declared.header.TheConstants.{TOKENS};
-ghost use Rattle.scmi_codec.specs.Command.{command_of, command_header, command_words};
+ghost use Rattle.scmi_codec.specs.Command.{command_of, command_header, command_words, IsListed};
 
 use crate::base_command::{BASE_PROTOCOL, BaseCommand};
 use crate::clock_command::{CLOCK_PROTOCOL, ClockCommand};
@@ -40,11 +40,13 @@ impl Command {
     }
 
     /// The message of the command with this token, with reserved bits 0.
+    #[tactic(auto, using(crate::proofs::Commands::is_listed))]
     pub fn pack(&self, token: u16) -> Message
         requires { token < TOKENS }
         ensures header { result.header ≡ command_header self.now token }
         ensures words { result.payload.items ≡ command_words self.now }
         ensures back { command_of result ≡ Ok self.now }
+        ensures listed { IsListed self.now }
     {
         let (protocol, id, payload) = match self {
             Command::Base(command) => (BASE_PROTOCOL, command.id(), command.payload()),

@@ -14,7 +14,9 @@ mod command;
 mod flag_word;
 mod frame;
 mod header;
+mod listing;
 mod message;
+mod messages;
 mod name;
 mod payload;
 mod power_command;
@@ -34,7 +36,9 @@ pub use command::Command;
 pub use flag_word::single_flag;
 pub use frame::{Answer, Frame};
 pub use header::{Header, TOKENS};
+pub use listing::{is_listed, message_name, wanted_words};
 pub use message::Message;
+pub use messages::{BASE_MESSAGES, CLOCK_MESSAGES, HeldRow, MessageRow, POWER_MESSAGES, Part};
 pub use name::{NAME_BYTES, Name, name_words};
 pub use payload::{
     PAYLOAD_WORDS, Payload, SUCCESS, is_success, payload_of, refusal, set_payload, set_refusal,

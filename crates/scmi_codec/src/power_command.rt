@@ -2,6 +2,7 @@
 ghost use Rattle.std.specs.Prelude.{◌≡◌};
 ghost use Rattle.scmi_codec.specs.PowerCommand.{power_of, power_id, power_words};
 
+use crate::listing::misfit;
 use crate::payload::{Payload, payload_of};
 use crate::status::Status;
 
@@ -23,6 +24,7 @@ pub enum PowerCommand {
 impl PowerCommand {
     /// The command of a message id and payload words: NOT_SUPPORTED for an unknown id, then
     /// PROTOCOL_ERROR for another number of words than the command has.
+    #[tactic(auto, unfolding(crate::specs::Listing::rows_of))]
     pub(crate) fn read(id: u8, words: &[u32]) -> Result<PowerCommand, Status>
         ensures { result ≡ power_of id words.now }
     {
@@ -41,8 +43,7 @@ impl PowerCommand {
                 domain: *domain,
                 enable: *enable,
             }),
-            (0x0..=0x6, _) => Err(Status::ProtocolError),
-            _ => Err(Status::NotSupported),
+            _ => Err(misfit(POWER_PROTOCOL, id)),
         }
     }
 

@@ -1,5 +1,6 @@
 -- The base protocol, computed.
 use Rattle.std.proofs.Common.{◌≡◌, List, [], ◌∷◌, refl}
+use Rattle.scmi_codec.specs.Listing.{rows_of}
 use Rattle.scmi_base.specs.BaseReply.{base_reply}
 use Rattle.scmi_power.specs.PowerReply.{power_reply}
 use Rattle.scmi_clock.specs.ClockReply.{clock_reply}
@@ -75,15 +76,15 @@ unknown_commands =
 unknown_commands-replies : replies board_b unknown_commands
     ≡ (0x00005400 ∷ 0xffffffff ∷ []) ∷ (0x00044008 ∷ 0xffffffff ∷ []) ∷ (0x00084002 ∷ 0xfffffffc ∷ []) ∷ (0x000c4002 ∷ 0 ∷ 0 ∷ [])
     ∷ (0x00004100 ∷ 0xfffffff6 ∷ []) ∷ []
-unfolding unknown_commands deeds reply_words base_reply power_reply clock_reply fold_with_prefix
+unfolding unknown_commands rows_of deeds reply_words base_reply power_reply clock_reply fold_with_prefix
 unknown_commands-replies = refl
 
 unknown_commands-told_ap : words_told board_b 1 unknown_commands ≡ []
-unfolding unknown_commands deeds reply_words base_reply power_reply clock_reply fold_with_prefix
+unfolding unknown_commands rows_of deeds reply_words base_reply power_reply clock_reply fold_with_prefix
 unknown_commands-told_ap = refl
 
 unknown_commands-told_modem : words_told board_b 2 unknown_commands ≡ []
-unfolding unknown_commands deeds reply_words base_reply power_reply clock_reply fold_with_prefix
+unfolding unknown_commands rows_of deeds reply_words base_reply power_reply clock_reply fold_with_prefix
 unknown_commands-told_modem = refl
 
 -- a denied agent, and a reset that allows it again
@@ -164,13 +165,13 @@ protocol_permissions-replies : replies board_b protocol_permissions
     ≡ (0x0000400a ∷ 0 ∷ []) ∷ (0x00005005 ∷ 0xfffffffd ∷ []) ∷ (0x00044404 ∷ 0 ∷ []) ∷ (0x00044009 ∷ 0 ∷ []) ∷ (0x00084404 ∷ 0xfffffffd ∷ [])
     ∷ (0x00084009 ∷ 0 ∷ []) ∷ (0x000c5005 ∷ 0xfffffffd ∷ []) ∷ (0x000c400b ∷ 0 ∷ []) ∷ (0x00105005 ∷ 0 ∷ [])
     ∷ (0x0010400a ∷ 0xfffffffc ∷ []) ∷ (0x0014400a ∷ 0xfffffffe ∷ []) ∷ (0x0014400a ∷ 0xfffffffd ∷ []) ∷ (0x00184002 ∷ 0 ∷ 0 ∷ []) ∷ []
-unfolding protocol_permissions deeds reply_words base_reply power_reply clock_reply fold_with_prefix
+unfolding protocol_permissions rows_of deeds reply_words base_reply power_reply clock_reply fold_with_prefix
 protocol_permissions-replies = refl
 
 protocol_permissions-told_ap : words_told board_b 1 protocol_permissions ≡ []
-unfolding protocol_permissions deeds reply_words base_reply power_reply clock_reply fold_with_prefix
+unfolding protocol_permissions rows_of deeds reply_words base_reply power_reply clock_reply fold_with_prefix
 protocol_permissions-told_ap = refl
 
 protocol_permissions-told_modem : words_told board_b 2 protocol_permissions ≡ []
-unfolding protocol_permissions deeds reply_words base_reply power_reply clock_reply fold_with_prefix
+unfolding protocol_permissions rows_of deeds reply_words base_reply power_reply clock_reply fold_with_prefix
 protocol_permissions-told_modem = refl

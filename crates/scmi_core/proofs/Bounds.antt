@@ -26,13 +26,13 @@ use Rattle.scmi_clock.specs.ClockReply.{ClockView, clock_reply}
 use Rattle.scmi_clock.specs.ClockTable.{rate_later}
 use Rattle.scmi_core.specs.declared.pending_set.PendingSet.{PendingSet}
 use Rattle.scmi_core.specs.declared.event.Event.{Event}
-use Rattle.scmi_core.specs.declared.event.Event.TheVariants.{Command, Advance, Sent}
+use Rattle.scmi_core.specs.declared.event.Event.TheVariants.{Command, Advance, Sent, CommandFailed, AdvanceFailed}
 use Rattle.scmi_core.specs.declared.tables.Tables.{Tables}
 use Rattle.std.specs.Option.{option_to_list, option_and_then}
 use Rattle.scmi_core.specs.Deed.{Deed, success_with, fold_with_prefix}
-use Rattle.scmi_core.specs.Value.{Change, Thing, State, Rate, Enabled, completed_set, change_by}
+use Rattle.scmi_core.specs.Value.{Change, Thing, State, Rate, Enabled, completed_set, failed_set, change_by}
 use Rattle.scmi_core.specs.Pending.{acceptance, accepted_sets, advances, pending_sets, pending_of, sets_by, is_advance}
-use Rattle.scmi_core.specs.Outbox.{messages_made, made_by, outbox_after, sent_count, is_sent_by, response_for, response_to, notice_in, situation_after}
+use Rattle.scmi_core.specs.Outbox.{failed_response_for, failed_response_to, messages_made, made_by, outbox_after, sent_count, is_sent_by, response_for, response_to, notice_in, situation_after}
 use Rattle.scmi_core.specs.History.{deeds, deed_after, outbox}
 use Rattle.scmi_core.specs.Legal.{IsLegal}
 use Rattle.scmi_core.specs.Reply.{reply_words}
@@ -40,9 +40,9 @@ use Rattle.scmi_core.specs.Situation.{Situation, has_room, power_view, clock_vie
 use Rattle.scmi_core.specs.Tables.{load_at}
 use Rattle.scmi_core.specs.Bounds.{HasBounds}
 use Rattle.scmi_core.specs.Agreement.{Agrees}
-use Rattle.scmi_core.proofs.Deeds.{added_success, pending_sets-push, pending_sets-advance, outbox-push, sent_count-push}
+use Rattle.scmi_core.proofs.Deeds.{added_success, made_by-unfailed, pending_sets-push, pending_sets-advance, pending_sets-failed, outbox-push, sent_count-push}
 use Rattle.scmi_core.proofs.Legal.{Grown, empty, grow, grown, deeds-push, IsLegal-front, advances_le-accepted, sent_le-made}
-use Rattle.scmi_core.proofs.Situations.{messages_made-sent}
+use Rattle.scmi_core.proofs.Situations.{messages_made-sent, nothing-made}
 
 -- a set that is accepted for later met room
 room_of : (c1 c2 c3 c4 busy later room : Bool)
@@ -147,16 +147,16 @@ length_if : (b : Bool) (xs : List Message) → length (if b then xs else []) ≡
 length_if true xs = refl
 length_if false xs = refl
 
-messages_made-within : (board : Board) (a : ℕ) (h : List Deed) (deed : Deed)
+messages_made-within : (board : Board) (a : ℕ) (h : List Deed) (deed : Deed) → failed_set board h deed.event ≡ None
     → length (outbox_after board a h) + length (option_map_or (response_for a) (completed_set board h deed.event) []) + length (pending_of board a (h ++ deed ∷ [])) ≤ 16
     → length (outbox_after board a h) + length (made_by board a h (messages_made board a h) deed) + length (pending_of board a (h ++ deed ∷ [])) ≤ 16
-messages_made-within board a h deed base =
+messages_made-within board a h deed unfailed base =
     let responses = option_map_or (response_for a) (completed_set board h deed.event) [] in
     let notices = option_map_or (notice_in (situation_after board a h)) (change_by board h deed) [] in
     let left = length (pending_of board a (h ++ deed ∷ [])) in
     let load = length (outbox_after board a h) + length responses + left in
     let size : length (made_by board a h (messages_made board a h) deed) ≡ length responses + (if nat_lt load 16 then length notices else 0)
-    = length-append responses (if nat_lt load 16 then notices else []) ∙ ap (λ n. length responses + n) (length_if (nat_lt load 16) notices) in
+    = ap length (made_by-unfailed board a h (messages_made board a h) deed unfailed) ∙ length-append responses (if nat_lt load 16 then notices else []) ∙ ap (λ n. length responses + n) (length_if (nat_lt load 16) notices) in
     rw size (within (length (outbox_after board a h)) (length responses) (length notices) left (one_notice (situation_after board a h) (change_by board h deed)) base (nat_lt load 16) refl)
 
 -- what is pending after a deed that accepts at most one set
@@ -191,9 +191,9 @@ fits board h b header r had None e = fits-none board h had
 fits board h b header r had (Some p) e = let two = accept-room board b h header r p e in fits-some board h b p had two.0 two.1
 
 -- a deed that completes and posts nothing
-settled : (board : Board) (h : List Deed) (deed : Deed) → is_advance deed.event ≡ false → ((a : ℕ) → is_sent_by a deed.event ≡ false) → completed_set board h deed.event ≡ None
+settled : (board : Board) (h : List Deed) (deed : Deed) → is_advance deed.event ≡ false → ((a : ℕ) → is_sent_by a deed.event ≡ false) → completed_set board h deed.event ≡ None → failed_set board h deed.event ≡ None
     → advances h ≤ length (accepted_sets board h) → ((a : ℕ) → sent_count a h ≤ length (messages_made board a h)) → Fits board h (option_and_then (acceptance board) (added_success deed)) → HasBounds board (h ++ deed ∷ [])
-settled board h deed stays unsent none enough enough_sent fit =
+settled board h deed stays unsent none unfailed enough enough_sent fit =
     let pend = pending_sets-push board h deed stays enough in
     record {
       pending = rw pend fit.few;
@@ -201,7 +201,7 @@ settled board h deed stays unsent none enough enough_sent fit =
           let zero_more : length (outbox_after board a h) + 0 ≡ length (outbox_after board a h) = omega arith in
           let base : length (outbox_after board a h) + length (option_map_or (response_for a) (completed_set board h deed.event) []) + length (pending_of board a (h ++ deed ∷ [])) ≤ 16
           = rw (none, pend, zero_more) (fit.loads a) in
-          let all = messages_made-within board a h deed base in
+          let all = messages_made-within board a h deed unfailed base in
           rw (outbox-push board a h deed (unsent a) (enough_sent a), length-append (outbox_after board a h) (made_by board a h (messages_made board a h) deed)) all;
     }
 
@@ -225,7 +225,31 @@ bounds-advance board h enough_sent had =
           let step = first-left a (pending_sets board h) in
           let base : length (outbox_after board a h) + length (option_map_or (response_for a) (slice_get (pending_sets board h) 0) []) + length (pending_of board a (h ++ deed ∷ [])) ≤ 16
           = rw (pending_sets-advance board h) (omega arith) in
-          rw (outbox-push board a h deed refl (enough_sent a), length-append (outbox_after board a h) (made_by board a h (messages_made board a h) deed)) (messages_made-within board a h deed base);
+          rw (outbox-push board a h deed refl (enough_sent a), length-append (outbox_after board a h) (made_by board a h (messages_made board a h) deed)) (messages_made-within board a h deed refl base);
+    }
+
+-- and so does one that failed
+failed-left : (a : ℕ) (xs : List PendingSet) → length (option_map_or (failed_response_for a) (slice_get xs 0) []) + length (sets_by a (drop 1 xs)) ≤ length (sets_by a xs)
+failed-left a [] = omega arith
+failed-left a (p ∷ ps) = by (p.agent == a) p.wanted where
+  by : (is wanted : Bool) → length (if is && wanted then failed_response_to p.header ∷ [] else []) + length (sets_by a ps) ≤ length (if is then p ∷ sets_by a ps else sets_by a ps)
+  by true true = omega arith
+  by true false = omega arith
+  by false wanted = omega arith
+
+bounds-failed : (board : Board) (h : List Deed) → ((a : ℕ) → sent_count a h ≤ length (messages_made board a h)) → HasBounds board h → HasBounds board (h ++ record { event = AdvanceFailed; reply = [] } ∷ [])
+bounds-failed board h enough_sent had =
+    let deed : Deed = record { event = AdvanceFailed; reply = [] } in
+    let old = had.pending in
+    record {
+      pending = rw (pending_sets-failed board h, length-drop 1 (pending_sets board h)) (omega arith);
+      loads = λ a.
+          let before = had.loads a in
+          let step = failed-left a (pending_sets board h) in
+          let failures = option_map_or (failed_response_for a) (slice_get (pending_sets board h) 0) [] in
+          let nothing : made_by board a h (messages_made board a h) deed ≡ failures
+          = ap (λ ys. failures ++ ys) (nothing-made a (situation_after board a h) (pending_sets board (h ++ deed ∷ []))) ∙ append-nil failures in
+          rw (outbox-push board a h deed refl (enough_sent a), length-append (outbox_after board a h) (made_by board a h (messages_made board a h) deed), nothing, pending_sets-failed board h) (omega arith);
     }
 
 bounds-sent : (board : Board) (h : List Deed) (b : ℕ) → advances h ≤ length (accepted_sets board h) → HasBounds board h → HasBounds board (h ++ record { event = Sent b; reply = [] } ∷ [])
@@ -244,9 +268,14 @@ bounds-sent board h b enough had =
 
 bounds-more : (board : Board) (h : List Deed) (e : Event) → advances h ≤ length (accepted_sets board h) → ((a : ℕ) → sent_count a h ≤ length (messages_made board a h)) → HasBounds board h → HasBounds board (h ++ deed_after board h e ∷ [])
 bounds-more board h (Command b (Good m)) enough enough_sent had =
-    settled board h (deed_after board h (Command b (Good m))) refl (λ a. refl) refl enough enough_sent (fits board h b m.header (command_of m) had _ refl)
+    settled board h (deed_after board h (Command b (Good m))) refl (λ a. refl) refl refl enough enough_sent (fits board h b m.header (command_of m) had _ refl)
 bounds-more board h (Command b (Malformed len header)) enough enough_sent had =
-    settled board h (deed_after board h (Command b (Malformed len header))) refl (λ a. refl) refl enough enough_sent (fits-none board h had)
+    settled board h (deed_after board h (Command b (Malformed len header))) refl (λ a. refl) refl refl enough enough_sent (fits-none board h had)
+bounds-more board h (CommandFailed b (Good m)) enough enough_sent had =
+    settled board h (deed_after board h (CommandFailed b (Good m))) refl (λ a. refl) refl refl enough enough_sent (fits-none board h had)
+bounds-more board h (CommandFailed b (Malformed len header)) enough enough_sent had =
+    settled board h (deed_after board h (CommandFailed b (Malformed len header))) refl (λ a. refl) refl refl enough enough_sent (fits-none board h had)
+bounds-more board h AdvanceFailed enough enough_sent had = bounds-failed board h enough_sent had
 bounds-more board h Advance enough enough_sent had = bounds-advance board h enough_sent had
 bounds-more board h (Sent b) enough enough_sent had = bounds-sent board h b enough had
 

@@ -38,3 +38,13 @@ popped outboxes a d new inside few is =
     let same = ap length (same_at outboxes (a - 1) d [] inside) in
     let less : length new ≡ length (get_or outboxes (a - 1) d) - 1 = ap length is ∙ length-drop 1 (get_or outboxes (a - 1) d) in
     omega (arith, same, less, few)
+
+-- outboxes are empty where the first is and the others are
+empty_more : (x : List Message) (xs : List (List Message)) → x ≡ [] → ((i : ℕ) → get_or xs i [] ≡ []) → (i : ℕ) → get_or (x ∷ xs) i [] ≡ []
+empty_more x xs first rest zero = first
+empty_more x xs first rest (suc i) = rest i
+
+-- each of eight empty outboxes
+pub eight_empty : (a b c d e f g h : List Message) → a ≡ [] → b ≡ [] → c ≡ [] → d ≡ [] → e ≡ [] → f ≡ [] → g ≡ [] → h ≡ [] → (i : ℕ) → get_or (a ∷ b ∷ c ∷ d ∷ e ∷ f ∷ g ∷ h ∷ []) i [] ≡ []
+eight_empty a b c d e f g h a0 b0 c0 d0 e0 f0 g0 h0 =
+    empty_more a (b ∷ c ∷ d ∷ e ∷ f ∷ g ∷ h ∷ []) a0 (empty_more b (c ∷ d ∷ e ∷ f ∷ g ∷ h ∷ []) b0 (empty_more c (d ∷ e ∷ f ∷ g ∷ h ∷ []) c0 (empty_more d (e ∷ f ∷ g ∷ h ∷ []) d0 (empty_more e (f ∷ g ∷ h ∷ []) e0 (empty_more f (g ∷ h ∷ []) f0 (empty_more g (h ∷ []) g0 (empty_more h ([]) h0 (λ i. refl))))))))

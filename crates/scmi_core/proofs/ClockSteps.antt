@@ -35,16 +35,16 @@ pick : {A : Type 0} (b : Bool) (x old : A) → unwrap_or (if b then Some x else 
 pick true x old = refl
 pick false x old = refl
 
-abbrev rate_change : ℕ → ℕ × ℕ → Change
+abbrev pub rate_change : ℕ → ℕ × ℕ → Change
 rate_change a set = record { thing = Rate set.0; value = set.1; causer = a }
 
-abbrev enabled_change : ℕ → ℕ × Bool → Change
+abbrev pub enabled_change : ℕ → ℕ × Bool → Change
 enabled_change a set = record { thing = Enabled set.0; value = bit_value set.1; causer = a }
 
-abbrev either : ℕ → Option (ℕ × ℕ) → Option (ℕ × Bool) → Option Change
+abbrev pub either : ℕ → Option (ℕ × ℕ) → Option (ℕ × Bool) → Option Change
 either a rate enabled = option_or (option_map (rate_change a) rate) (option_map (enabled_change a) enabled)
 
-change-clock : (board : Board) (a : ℕ) (header : HeaderFields) (c : ClockCommand) (reply : List ℕ)
+pub change-clock : (board : Board) (a : ℕ) (header : HeaderFields) (c : ClockCommand) (reply : List ℕ)
     → change_of board (success_of a header (Ok (Clock c)) reply) None ≡ either a (if_success reply (rate_now board c)) (if_success reply (enabled_now c))
 change-clock board a header c reply = by (begins_with_success reply) where
   by : (b : Bool) → option_or None (option_and_then (change_now board) (if b then success_with a header (Ok (Clock c)) else None)) ≡ either a (if b then rate_now board c else None) (if b then enabled_now c else None)

@@ -7,15 +7,15 @@ use Rattle.std.proofs.lemmas.Grind.{fold-append}
 use Rattle.scmi_codec.specs.declared.message.Message.{Message}
 use Rattle.scmi_plan.specs.Board.{Board}
 use Rattle.scmi_core.specs.declared.event.Event.{Event}
-use Rattle.scmi_core.specs.declared.event.Event.TheVariants.{Advance}
-use Rattle.std.specs.Option.{option_to_list, option_and_then}
+use Rattle.scmi_core.specs.declared.event.Event.TheVariants.{Advance, AdvanceFailed}
+use Rattle.std.specs.Option.{option_to_list, option_and_then, option_map_or}
 use Rattle.scmi_core.specs.Deed.{Deed, Success, fold_with_prefix, latest, successes, success_at}
-use Rattle.scmi_core.specs.Value.{Thing, changes, change_by, value, value_at_start, value_in}
+use Rattle.scmi_core.specs.Value.{Thing, changes, change_by, completed_set, failed_set, value, value_at_start, value_in}
 use Rattle.scmi_base.specs.declared.scope.Scope.{Scope}
 use Rattle.scmi_core.specs.Permissions.{has_permission, permission_in}
 use Rattle.scmi_core.specs.Subscriptions.{subscription, is_subscriber}
 use Rattle.scmi_core.specs.Pending.{acceptance, accepted_sets, advances, is_advance, pending_sets}
-use Rattle.scmi_core.specs.Outbox.{messages_made, made_by, outbox_after, sent_count, is_sent_by}
+use Rattle.scmi_core.specs.Outbox.{failed_response_for, messages_made, made_by, made_in, outbox_after, sent_count, is_sent_by, situation_with}
 use Rattle.scmi_core.specs.Legal.{IsLegal, CanFollow}
 
 pub fold_with_prefix-push : {X S : Type 0} (step : List X → S → X → S) (before : List X) (s : S) (xs : List X) (x : X) → fold_with_prefix step before s (xs ++ x ∷ []) ≡ step (before ++ xs) (fold_with_prefix step before s xs) x
@@ -60,7 +60,7 @@ has_permission-push a d scope h deed =
     ap (λ ss. latest true (filter_map (λ s. permission_in a d scope s.command) ss)) (successes-push h deed)
     ∙ latest-filter_map (λ s. permission_in a d scope s.command) true (successes h) (added_success deed)
 
-changes-push : (board : Board) (h : List Deed) (deed : Deed) → changes board (h ++ deed ∷ []) ≡ changes board h ++ option_to_list (change_by board h deed)
+pub changes-push : (board : Board) (h : List Deed) (deed : Deed) → changes board (h ++ deed ∷ []) ≡ changes board h ++ option_to_list (change_by board h deed)
 changes-push board h deed = fold_with_prefix-push (λ before so_far x. so_far ++ option_to_list (change_by board before x)) [] [] h deed
 
 pub value-push : (board : Board) (t : Thing) (h : List Deed) (deed : Deed)
@@ -83,6 +83,12 @@ accepted_sets-push board h deed =
 pub messages_made-push : (board : Board) (a : ℕ) (h : List Deed) (deed : Deed) → messages_made board a (h ++ deed ∷ []) ≡ messages_made board a h ++ made_by board a h (messages_made board a h) deed
 messages_made-push board a h deed = fold_with_prefix-push (λ before so_far x. so_far ++ made_by board a before so_far x) [] [] h deed
 
+-- a deed that ends no set as failed
+pub made_by-unfailed : (board : Board) (a : ℕ) (h : List Deed) (so_far : List Message) (deed : Deed) → failed_set board h deed.event ≡ None
+    → made_by board a h so_far deed ≡ made_in a (situation_with board a so_far h) (pending_sets board (h ++ deed ∷ [])) (completed_set board h deed.event) (change_by board h deed)
+made_by-unfailed board a h so_far deed none =
+    ap (λ failed. option_map_or (failed_response_for a) failed [] ++ made_in a (situation_with board a so_far h) (pending_sets board (h ++ deed ∷ [])) (completed_set board h deed.event) (change_by board h deed)) none
+
 pub advances-push : (h : List Deed) (deed : Deed) → advances (h ++ deed ∷ []) ≡ advances h + (if is_advance deed.event then 1 else 0)
 advances-push h deed = fold-append (λ n e. n + (if is_advance e.event then 1 else 0)) 0 h (deed ∷ [])
 
@@ -104,6 +110,16 @@ pub pending_sets-advance : (board : Board) (h : List Deed) → pending_sets boar
 pending_sets-advance board h =
     ap (λ n. drop n (accepted_sets board (h ++ advance ∷ []))) (advances-push h advance)
     ∙ ap (drop (advances h + 1)) (accepted_sets-push board h advance ∙ append-nil (accepted_sets board h))
+    ∙ sym (drop-drop 1 (advances h) (accepted_sets board h))
+
+abbrev advance_failed : Deed
+advance_failed = record { event = AdvanceFailed; reply = [] }
+
+-- and so does one that failed
+pub pending_sets-failed : (board : Board) (h : List Deed) → pending_sets board (h ++ advance_failed ∷ []) ≡ drop 1 (pending_sets board h)
+pending_sets-failed board h =
+    ap (λ n. drop n (accepted_sets board (h ++ advance_failed ∷ []))) (advances-push h advance_failed)
+    ∙ ap (drop (advances h + 1)) (accepted_sets-push board h advance_failed ∙ append-nil (accepted_sets board h))
     ∙ sym (drop-drop 1 (advances h) (accepted_sets board h))
 
 pub sent_count-push : (a : ℕ) (h : List Deed) (deed : Deed) → sent_count a (h ++ deed ∷ []) ≡ sent_count a h + (if is_sent_by a deed.event then 1 else 0)

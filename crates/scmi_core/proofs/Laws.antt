@@ -8,11 +8,12 @@ use Rattle.scmi_codec.specs.declared.message.Message.{Message}
 use Rattle.scmi_codec.specs.declared.frame.Frame.{Frame}
 use Rattle.scmi_plan.specs.Board.{Board}
 use Rattle.scmi_core.specs.declared.event.Event.{Event}
-use Rattle.scmi_core.specs.declared.event.Event.TheVariants.{Command, Advance, Sent}
+use Rattle.scmi_core.specs.declared.event.Event.TheVariants.{Command, Advance, Sent, CommandFailed, AdvanceFailed}
 use Rattle.scmi_core.specs.Deed.{fold_with_prefix}
 use Rattle.scmi_core.specs.Outbox.{messages_made, sent_count, is_sent_by}
 use Rattle.scmi_core.specs.History.{answer_to, deeds, deed_after, made_for, delivered_messages, outbox}
 use Rattle.scmi_core.specs.Agents.{frame_from, frames_of, answer_for, answers_to}
+use Rattle.scmi_core.specs.Reply.{failed_answer}
 use Rattle.scmi_core.specs.Legal.{IsLegal}
 use Rattle.scmi_core.proofs.Deeds.{fold_with_prefix-push, posted-kept, posted-front}
 use Rattle.scmi_core.proofs.Legal.{IsLegal-nil, deed-event, deeds-push, sent_le-made}
@@ -48,15 +49,44 @@ answers_other board b a h f differ =
     ∙ ap (λ same. answers_to board b h ++ (if same then answer_to board a f h ∷ [] else [])) (ne_eqb b a differ)
     ∙ append-nil (answers_to board b h)
 
+-- the same of a command that failed
+pub frames_failed_own : (a : ℕ) (h : List Event) (f : Frame) → frames_of a (h ++ CommandFailed a f ∷ []) ≡ frames_of a h ++ f ∷ []
+unfolding frames_of
+frames_failed_own a h f =
+    filter_map-append (frame_from a) h (CommandFailed a f ∷ [])
+    ∙ ap (λ same. filter_map (frame_from a) h ++ cons_option (if same then Some f else None) []) (eq-eqb a a refl)
+
+pub frames_failed_other : (b a : ℕ) (h : List Event) (f : Frame) → b ≢ a → frames_of b (h ++ CommandFailed a f ∷ []) ≡ frames_of b h
+unfolding frames_of
+frames_failed_other b a h f differ =
+    filter_map-append (frame_from b) h (CommandFailed a f ∷ [])
+    ∙ ap (λ same. filter_map (frame_from b) h ++ cons_option (if same then Some f else None) []) (ne_eqb b a differ)
+    ∙ append-nil (filter_map (frame_from b) h)
+
+pub answers_failed_own : (board : Board) (a : ℕ) (h : List Event) (f : Frame) → answers_to board a (h ++ CommandFailed a f ∷ []) ≡ answers_to board a h ++ failed_answer f ∷ []
+unfolding answers_to
+answers_failed_own board a h f =
+    fold_with_prefix-push (λ before so_far event. so_far ++ answer_for board a before event) [] [] h (CommandFailed a f)
+    ∙ ap (λ same. answers_to board a h ++ (if same then failed_answer f ∷ [] else [])) (eq-eqb a a refl)
+
+pub answers_failed_other : (board : Board) (b a : ℕ) (h : List Event) (f : Frame) → b ≢ a → answers_to board b (h ++ CommandFailed a f ∷ []) ≡ answers_to board b h
+unfolding answers_to
+answers_failed_other board b a h f differ =
+    fold_with_prefix-push (λ before so_far event. so_far ++ answer_for board b before event) [] [] h (CommandFailed a f)
+    ∙ ap (λ same. answers_to board b h ++ (if same then failed_answer f ∷ [] else [])) (ne_eqb b a differ)
+    ∙ append-nil (answers_to board b h)
+
 -- an event that is no command
 pub data IsQuiet : Event → Type 0 where
   advance : IsQuiet Advance
+  advance_failed : IsQuiet AdvanceFailed
   sent_to : (b : ℕ) → IsQuiet (Sent b)
 
 -- an event that is no command adds no frame
 pub frames_quiet : (a : ℕ) (h : List Event) (e : Event) → IsQuiet e → frames_of a (h ++ e ∷ []) ≡ frames_of a h
 unfolding frames_of
 frames_quiet a h e advance = filter_map-append (frame_from a) h (Advance ∷ []) ∙ append-nil (filter_map (frame_from a) h)
+frames_quiet a h e advance_failed = filter_map-append (frame_from a) h (AdvanceFailed ∷ []) ∙ append-nil (filter_map (frame_from a) h)
 frames_quiet a h e (sent_to b) = filter_map-append (frame_from a) h (Sent b ∷ []) ∙ append-nil (filter_map (frame_from a) h)
 
 -- and no answer
@@ -64,6 +94,8 @@ pub answers_quiet : (board : Board) (a : ℕ) (h : List Event) (e : Event) → I
 unfolding answers_to
 answers_quiet board a h e advance =
     fold_with_prefix-push (λ before so_far event. so_far ++ answer_for board a before event) [] [] h Advance ∙ append-nil (answers_to board a h)
+answers_quiet board a h e advance_failed =
+    fold_with_prefix-push (λ before so_far event. so_far ++ answer_for board a before event) [] [] h AdvanceFailed ∙ append-nil (answers_to board a h)
 answers_quiet board a h e (sent_to b) =
     fold_with_prefix-push (λ before so_far event. so_far ++ answer_for board a before event) [] [] h (Sent b) ∙ append-nil (answers_to board a h)
 

@@ -1,7 +1,6 @@
 -- The delayed responses of a legal history.
-use Rattle.std.proofs.Common.{◌≡◌, ℕ, zero, suc, ◌+◌, ◌≤◌, ◌==◌, ◌&&◌, nat_lt, Bool, true, false, not, List, [], ◌∷◌, ◌++◌, length, take, drop, map, slice_get, Option, Some, None, refl, sym, ap, ◌∙◌, arith, if◌then◌else◌}
+use Rattle.std.proofs.Common.{◌≡◌, ℕ, zero, suc, ◌+◌, ◌≤◌, ◌==◌, ◌&&◌, nat_lt, Bool, true, false, not, List, [], ◌∷◌, ◌++◌, length, take, drop, map, slice_get, option_map, Option, Some, None, refl, sym, ap, ◌∙◌, arith, if◌then◌else◌}
 use Rattle.std.specs.List.{filter}
-use Rattle.std.specs.Option.{option_map_or}
 use Rattle.std.proofs.lemmas.List.{append-nil, map-append}
 use Rattle.std.proofs.lemmas.List.Elements.{filter-append}
 use Rattle.scmi_codec.specs.declared.message.Message.{Message}
@@ -9,24 +8,24 @@ use Rattle.scmi_codec.specs.declared.frame.Frame.TheVariants.{Good, Malformed}
 use Rattle.scmi_plan.specs.Board.{Board}
 use Rattle.scmi_core.specs.declared.pending_set.PendingSet.{PendingSet}
 use Rattle.scmi_core.specs.declared.event.Event.{Event}
-use Rattle.scmi_core.specs.declared.event.Event.TheVariants.{Command, Advance, Sent}
-use Rattle.std.specs.Option.{option_to_list, option_and_then}
+use Rattle.scmi_core.specs.declared.event.Event.TheVariants.{Command, Advance, Sent, CommandFailed, AdvanceFailed}
+use Rattle.std.specs.Option.{option_map_or, option_to_list, option_and_then}
 use Rattle.scmi_core.specs.Deed.{Deed, fold_with_prefix}
-use Rattle.scmi_core.specs.Value.{Change, Thing, State, Rate, Enabled, completed_set, change_by}
+use Rattle.scmi_core.specs.Value.{Change, Thing, State, Rate, Enabled, completed_set, failed_set, change_by}
 use Rattle.scmi_core.specs.Pending.{accepted_sets, acceptance, advances, is_advance, pending_sets, pending_of}
-use Rattle.scmi_core.specs.Outbox.{outbox_after, messages_made, made_by, response_to, response_for, notice_in, situation_after, state_changed}
+use Rattle.scmi_core.specs.Outbox.{failed_response_for, failed_response_to, outbox_after, messages_made, made_by, response_to, response_for, notice_in, situation_after, state_changed}
 use Rattle.scmi_core.specs.Situation.{Situation}
 use Rattle.scmi_core.specs.History.{deeds, deed_after}
 use Rattle.scmi_core.specs.Legal.{IsLegal}
-use Rattle.scmi_core.specs.Bounds.{HasResponses, completed_sets}
-use Rattle.scmi_core.proofs.Deeds.{added_success, accepted_sets-push, advances-push, messages_made-push}
-use Rattle.scmi_core.proofs.Legal.{Grown, empty, grow, grown, deeds-push, IsLegal-front, advances_le-accepted}
+use Rattle.scmi_core.specs.Bounds.{Ending, HasResponses, ended_sets, ending_by, endings, response_at}
+use Rattle.scmi_core.proofs.Deeds.{added_success, accepted_sets-push, advances-push, fold_with_prefix-push, messages_made-push}
+use Rattle.scmi_core.proofs.Legal.{Grown, empty, grow, grown, deeds-push, deed-event, IsLegal-front, advances_le-accepted}
 
 delayed : List Message → List Message
 delayed ms = filter (λ m. m.header.kind == 2) ms
 
-wanting : ℕ → List PendingSet → List PendingSet
-wanting a ps = filter (λ p. p.agent == a && p.wanted) ps
+wanting : ℕ → List Ending → List Ending
+wanting a es = filter (λ e. e.set.agent == a && e.set.wanted) es
 
 take-within : (n : ℕ) (xs ys : List PendingSet) → n ≤ length xs → take n (xs ++ ys) ≡ take n xs
 take-within zero xs ys h = refl
@@ -54,70 +53,149 @@ no_notice s true (Some change) = by change.thing where
   by (Rate k) = refl
   by (Enabled k) = refl
 
-responses_of : (a : ℕ) (o : Option PendingSet) → delayed (option_map_or (response_for a) o []) ≡ map (λ p. response_to p.header p.setting) (wanting a (option_to_list o))
-unfolding delayed wanting
+completes : PendingSet → Ending
+completes p = record { set = p; failed = false }
+
+fails : PendingSet → Ending
+fails p = record { set = p; failed = true }
+
+responses_of : (a : ℕ) (o : Option PendingSet) → delayed (option_map_or (response_for a) o []) ≡ map response_at (wanting a (option_to_list (option_map completes o)))
+unfolding delayed wanting completes
 responses_of a None = refl
 responses_of a (Some p) = by (p.agent == a) p.wanted where
-  by : (is wanted : Bool) → filter (λ m. m.header.kind == 2) (if is && wanted then response_to p.header p.setting ∷ [] else []) ≡ map (λ p. response_to p.header p.setting) (if is && wanted then p ∷ [] else [])
+  by : (is wanted : Bool) → filter (λ m. m.header.kind == 2) (if is && wanted then response_to p.header p.setting ∷ [] else []) ≡ map response_at (if is && wanted then completes p ∷ [] else [])
   by true true = refl
   by true false = refl
   by false wanted = refl
 
-made_delayed : (board : Board) (a : ℕ) (h : List Deed) (deed : Deed) → delayed (made_by board a h (messages_made board a h) deed) ≡ map (λ p. response_to p.header p.setting) (wanting a (option_to_list (completed_set board h deed.event)))
-unfolding delayed
-made_delayed board a h deed =
-    let responses = option_map_or (response_for a) (completed_set board h deed.event) [] in
-    let load = length (outbox_after board a h) + length responses + length (pending_of board a (h ++ deed ∷ [])) in
-    filter-append (λ m. m.header.kind == 2) responses (if nat_lt load 16 then option_map_or (notice_in (situation_after board a h)) (change_by board h deed) [] else [])
-    ∙ ap (λ ys. delayed responses ++ ys) (no_notice (situation_after board a h) (nat_lt load 16) (change_by board h deed))
-    ∙ append-nil (delayed responses)
-    ∙ responses_of a (completed_set board h deed.event)
+failures_of : (a : ℕ) (o : Option PendingSet) → delayed (option_map_or (failed_response_for a) o []) ≡ map response_at (wanting a (option_to_list (option_map fails o)))
+unfolding delayed wanting fails
+failures_of a None = refl
+failures_of a (Some p) = by (p.agent == a) p.wanted where
+  by : (is wanted : Bool) → filter (λ m. m.header.kind == 2) (if is && wanted then failed_response_to p.header ∷ [] else []) ≡ map response_at (if is && wanted then fails p ∷ [] else [])
+  by true true = refl
+  by true false = refl
+  by false wanted = refl
 
-completed_sets-push : (board : Board) (h : List Deed) (deed : Deed) → advances h ≤ length (accepted_sets board h)
-    → (is_advance deed.event ≡ false → completed_set board h deed.event ≡ None)
-    → (is_advance deed.event ≡ true → (completed_set board h deed.event ≡ slice_get (pending_sets board h) 0) × (option_and_then (acceptance board) (added_success deed) ≡ None))
+-- what a deed makes for an agent has the response to the set that it ends, and no other
+module _ (board : Board) (a : ℕ) (h : List Deed) where
+  abbrev situation : Situation
+  situation = situation_after board a h
+
+  quiet : (event : Event) (reply : List ℕ) → failed_set board h event ≡ None → completed_set board h event ≡ None → delayed (made_by board a h (messages_made board a h) (record { event = event; reply = reply })) ≡ []
+  unfolding delayed
+  quiet event reply unfailed uncompleted =
+      let deed : Deed = record { event = event; reply = reply } in
+      let load = λ (o : Option PendingSet). length (outbox_after board a h) + length (option_map_or (response_for a) o []) + length (pending_of board a (h ++ deed ∷ [])) in
+      let change = change_by board h deed in
+      ap (λ (failed : Option PendingSet). delayed (option_map_or (failed_response_for a) failed []
+      ++ (option_map_or (response_for a) (completed_set board h event) [] ++ (if nat_lt (load (completed_set board h event)) 16 then option_map_or (notice_in situation) change [] else [])))) unfailed
+      ∙ ap (λ (done : Option PendingSet). delayed (option_map_or (response_for a) done [] ++ (if nat_lt (load done) 16 then option_map_or (notice_in situation) change [] else []))) uncompleted
+      ∙ no_notice situation (nat_lt (load None) 16) change
+
+  made_delayed : (event : Event) (reply : List ℕ) → delayed (made_by board a h (messages_made board a h) (record { event = event; reply = reply })) ≡ map response_at (wanting a (option_to_list (ending_by board h event)))
+  unfolding delayed wanting completes fails
+  made_delayed (Command b f) reply = quiet (Command b f) reply refl refl
+  made_delayed (CommandFailed b f) reply = quiet (CommandFailed b f) reply refl refl
+  made_delayed (Sent b) reply = quiet (Sent b) reply refl refl
+  made_delayed Advance reply =
+      let deed : Deed = record { event = Advance; reply = reply } in
+      let responses = option_map_or (response_for a) (completed_set board h Advance) [] in
+      let load = length (outbox_after board a h) + length responses + length (pending_of board a (h ++ deed ∷ [])) in
+      filter-append (λ m. m.header.kind == 2) responses (if nat_lt load 16 then option_map_or (notice_in situation) (change_by board h deed) [] else [])
+      ∙ ap (λ ys. delayed responses ++ ys) (no_notice situation (nat_lt load 16) (change_by board h deed))
+      ∙ append-nil (delayed responses)
+      ∙ responses_of a (completed_set board h Advance)
+  made_delayed AdvanceFailed reply =
+      let deed : Deed = record { event = AdvanceFailed; reply = reply } in
+      let failures = option_map_or (failed_response_for a) (failed_set board h AdvanceFailed) [] in
+      let load = length (outbox_after board a h) + 0 + length (pending_of board a (h ++ deed ∷ [])) in
+      filter-append (λ m. m.header.kind == 2) failures (if nat_lt load 16 then [] else [])
+      ∙ ap (λ ys. delayed failures ++ ys) (no_notice situation (nat_lt load 16) None)
+      ∙ append-nil (delayed failures)
+      ∙ failures_of a (failed_set board h AdvanceFailed)
+
+endings-push : (board : Board) (h : List Deed) (deed : Deed) → endings board (h ++ deed ∷ []) ≡ endings board h ++ option_to_list (ending_by board h deed.event)
+endings-push board h deed = fold_with_prefix-push (λ before so_far x. so_far ++ option_to_list (ending_by board before x.event)) [] [] h deed
+
+ended_sets-push : (board : Board) (h : List Deed) (deed : Deed) (o : Option PendingSet) → advances h ≤ length (accepted_sets board h)
+    → (is_advance deed.event ≡ false → o ≡ None)
+    → (is_advance deed.event ≡ true → (o ≡ slice_get (pending_sets board h) 0) × (option_and_then (acceptance board) (added_success deed) ≡ None))
     → (b : Bool) → is_advance deed.event ≡ b
-    → completed_sets board (h ++ deed ∷ []) ≡ completed_sets board h ++ option_to_list (completed_set board h deed.event)
-completed_sets-push board h deed enough stays goes false is =
+    → ended_sets board (h ++ deed ∷ []) ≡ ended_sets board h ++ option_to_list o
+ended_sets-push board h deed o enough stays goes false is =
     let zero_more : advances h + 0 ≡ advances h = omega arith in
     ap (λ n. take n (accepted_sets board (h ++ deed ∷ []))) (advances-push h deed ∙ ap (λ b. advances h + (if b then 1 else 0)) is ∙ zero_more)
     ∙ ap (take (advances h)) (accepted_sets-push board h deed)
     ∙ take-within (advances h) (accepted_sets board h) (option_to_list (option_and_then (acceptance board) (added_success deed))) enough
-    ∙ sym (append-nil (completed_sets board h))
-    ∙ ap (λ o. completed_sets board h ++ option_to_list o) (sym (stays is))
-completed_sets-push board h deed enough stays goes true is =
+    ∙ sym (append-nil (ended_sets board h))
+    ∙ ap (λ o. ended_sets board h ++ option_to_list o) (sym (stays is))
+ended_sets-push board h deed o enough stays goes true is =
     let one_more : advances h + 1 ≡ suc (advances h) = omega arith in
     ap (λ n. take n (accepted_sets board (h ++ deed ∷ []))) (advances-push h deed ∙ ap (λ b. advances h + (if b then 1 else 0)) is ∙ one_more)
     ∙ ap (take (suc (advances h))) (accepted_sets-push board h deed ∙ ap (λ o. accepted_sets board h ++ option_to_list o) (goes is).1 ∙ append-nil (accepted_sets board h))
     ∙ take-one (advances h) (accepted_sets board h)
-    ∙ ap (λ o. completed_sets board h ++ option_to_list o) (sym (goes is).0)
+    ∙ ap (λ o. ended_sets board h ++ option_to_list o) (sym (goes is).0)
 
-responses-push : (board : Board) (h : List Deed) (deed : Deed) → completed_sets board (h ++ deed ∷ []) ≡ completed_sets board h ++ option_to_list (completed_set board h deed.event) → HasResponses board h → HasResponses board (h ++ deed ∷ [])
+-- the set of an end
+ended : Option Ending → Option PendingSet
+ended o = option_map (λ e. e.set) o
+
+ended_map : (f : PendingSet → Ending) → ((p : PendingSet) → (f p).set ≡ p) → (o : Option PendingSet) → ended (option_map f o) ≡ o
+unfolding ended
+ended_map f same None = refl
+ended_map f same (Some p) = ap Some (same p)
+
+sets_of : (o : Option Ending) → map (λ e. e.set) (option_to_list o) ≡ option_to_list (ended o)
+unfolding ended
+sets_of None = refl
+sets_of (Some e) = refl
+
+ended_sets-more : (board : Board) (h : List Deed) (e : Event) → advances h ≤ length (accepted_sets board h)
+    → ended_sets board (h ++ deed_after board h e ∷ []) ≡ ended_sets board h ++ option_to_list (ended (ending_by board h e))
+unfolding ended
+ended_sets-more board h (Command b (Good m)) enough = ended_sets-push board h (deed_after board h (Command b (Good m))) None enough (λ is. refl) (λ is. absurd (cc)) false refl
+ended_sets-more board h (Command b (Malformed len header)) enough = ended_sets-push board h (deed_after board h (Command b (Malformed len header))) None enough (λ is. refl) (λ is. absurd (cc)) false refl
+ended_sets-more board h (CommandFailed b (Good m)) enough = ended_sets-push board h (deed_after board h (CommandFailed b (Good m))) None enough (λ is. refl) (λ is. absurd (cc)) false refl
+ended_sets-more board h (CommandFailed b (Malformed len header)) enough = ended_sets-push board h (deed_after board h (CommandFailed b (Malformed len header))) None enough (λ is. refl) (λ is. absurd (cc)) false refl
+ended_sets-more board h (Sent b) enough = ended_sets-push board h (deed_after board h (Sent b)) None enough (λ is. refl) (λ is. absurd (cc)) false refl
+ended_sets-more board h Advance enough =
+    ended_sets-push board h (deed_after board h Advance) (ended (ending_by board h Advance)) enough (λ is. absurd (cc))
+    (λ is. (ended_map (λ p. record { set = p; failed = false }) (λ p. refl) (slice_get (pending_sets board h) 0), refl)) true refl
+ended_sets-more board h AdvanceFailed enough =
+    ended_sets-push board h (deed_after board h AdvanceFailed) (ended (ending_by board h AdvanceFailed)) enough (λ is. absurd (cc))
+    (λ is. (ended_map (λ p. record { set = p; failed = true }) (λ p. refl) (slice_get (pending_sets board h) 0), refl)) true refl
+
+responses-push : (board : Board) (h : List Deed) (e : Event) → advances h ≤ length (accepted_sets board h) → HasResponses board h → HasResponses board (h ++ deed_after board h e ∷ [])
 unfolding delayed wanting
-responses-push board h deed sets had = record {
-  delayed = λ a.
-      ap (filter (λ m. m.header.kind == 2)) (messages_made-push board a h deed)
-      ∙ filter-append (λ m. m.header.kind == 2) (messages_made board a h) (made_by board a h (messages_made board a h) deed)
-      ∙ ap (λ ys. ys ++ filter (λ m. m.header.kind == 2) (made_by board a h (messages_made board a h) deed)) (had.delayed a)
-      ∙ ap (λ ys. map (λ p. response_to p.header p.setting) (wanting a (completed_sets board h)) ++ ys) (made_delayed board a h deed)
-      ∙ sym (map-append (λ p. response_to p.header p.setting) (wanting a (completed_sets board h)) (wanting a (option_to_list (completed_set board h deed.event))))
-      ∙ ap (map (λ p. response_to p.header p.setting)) (sym (filter-append (λ p. p.agent == a && p.wanted) (completed_sets board h) (option_to_list (completed_set board h deed.event))))
-      ∙ ap (λ ps. map (λ p. response_to p.header p.setting) (wanting a ps)) (sym sets);
-}
-
-completed_sets-more : (board : Board) (h : List Deed) (e : Event) → advances h ≤ length (accepted_sets board h)
-    → completed_sets board (h ++ deed_after board h e ∷ []) ≡ completed_sets board h ++ option_to_list (completed_set board h (deed_after board h e).event)
-completed_sets-more board h (Command b (Good m)) enough = completed_sets-push board h (deed_after board h (Command b (Good m))) enough (λ is. refl) (λ is. absurd (cc)) false refl
-completed_sets-more board h (Command b (Malformed len header)) enough = completed_sets-push board h (deed_after board h (Command b (Malformed len header))) enough (λ is. refl) (λ is. absurd (cc)) false refl
-completed_sets-more board h (Sent b) enough = completed_sets-push board h (deed_after board h (Sent b)) enough (λ is. refl) (λ is. absurd (cc)) false refl
-completed_sets-more board h Advance enough = completed_sets-push board h (deed_after board h Advance) enough (λ is. absurd (cc)) (λ is. (refl, refl)) true refl
+responses-push board h e enough had =
+    let deed = deed_after board h e in
+    let more : endings board (h ++ deed ∷ []) ≡ endings board h ++ option_to_list (ending_by board h e)
+    = endings-push board h deed ∙ ap (λ event. endings board h ++ option_to_list (ending_by board h event)) (deed-event board h e) in
+    record {
+      each =
+          ap (map (λ x. x.set)) more
+          ∙ map-append (λ x. x.set) (endings board h) (option_to_list (ending_by board h e))
+          ∙ ap (λ ps. ps ++ map (λ x. x.set) (option_to_list (ending_by board h e))) had.each
+          ∙ ap (λ ps. ended_sets board h ++ ps) (sets_of (ending_by board h e))
+          ∙ sym (ended_sets-more board h e enough);
+      delayed = λ a.
+          ap (filter (λ m. m.header.kind == 2)) (messages_made-push board a h deed)
+          ∙ filter-append (λ m. m.header.kind == 2) (messages_made board a h) (made_by board a h (messages_made board a h) deed)
+          ∙ ap (λ ys. ys ++ filter (λ m. m.header.kind == 2) (made_by board a h (messages_made board a h) deed)) (had.delayed a)
+          ∙ ap (λ ys. map response_at (wanting a (endings board h)) ++ ys) (made_delayed board a h deed.event deed.reply)
+          ∙ ap (λ event. map response_at (wanting a (endings board h)) ++ map response_at (wanting a (option_to_list (ending_by board h event)))) (deed-event board h e)
+          ∙ sym (map-append response_at (wanting a (endings board h)) (wanting a (option_to_list (ending_by board h e))))
+          ∙ ap (map response_at) (sym (filter-append (λ x. x.set.agent == a && x.set.wanted) (endings board h) (option_to_list (ending_by board h e))))
+          ∙ ap (λ es. map response_at (wanting a es)) (sym more);
+    }
 
 responses-of : (board : Board) {h : List Event} → Grown h → IsLegal board h → HasResponses board (deeds board h)
 unfolding deeds fold_with_prefix
-responses-of board empty legal = record { delayed = λ a. refl }
+responses-of board empty legal = record { each = refl; delayed = λ a. refl }
 responses-of board (grow {xs} g e) legal =
     let front = IsLegal-front board xs e legal in
-    rw (deeds-push board xs e) (responses-push board (deeds board xs) (deed_after board (deeds board xs) e) (completed_sets-more board (deeds board xs) e (advances_le-accepted board xs front)) (responses-of board g front))
+    rw (deeds-push board xs e) (responses-push board (deeds board xs) e (advances_le-accepted board xs front) (responses-of board g front))
 
 pub responses : (board : Board) (h : List Event) → IsLegal board h → HasResponses board (deeds board h)
 responses board h legal = responses-of board (grown h) legal

@@ -21,7 +21,9 @@ use Rattle.scmi_codec.specs.declared.clock_command.ClockCommand.{ClockCommand}
 use Rattle.scmi_plan.specs.declared.load.Load.{Load}
 use Rattle.scmi_power.specs.PowerReply.{power_reply}
 use Rattle.scmi_power.specs.PowerTable as power_table
-use Rattle.scmi_clock.specs.ClockReply.{clock_reply}
+use Rattle.scmi_codec.specs.declared.power_command.PowerCommand.TheVariants as power
+use Rattle.scmi_codec.specs.declared.clock_command.ClockCommand.TheVariants as clock
+use Rattle.scmi_clock.specs.ClockReply.{clock_attributes_reply, clock_reply}
 use Rattle.scmi_clock.specs.ClockTable as clock_table
 use Rattle.scmi_core.specs.declared.tables.Tables.{Tables}
 use Rattle.scmi_core.specs.declared.pending_set.PendingSet.{PendingSet}
@@ -32,6 +34,7 @@ use Rattle.scmi_core.specs.Pending.{has_set_of, pending_sets, sets_by}
 use Rattle.scmi_core.specs.Situation.{Situation, has_room, power_view, clock_view}
 use Rattle.scmi_core.specs.Outbox.{messages_made, made_in, notice_in, response_for, situation_after, state_changed}
 use Rattle.scmi_core.specs.Reply.{answer_in, reply_words}
+use Rattle.scmi_core.specs.Step.{set_clock, set_domain}
 use Rattle.scmi_core.specs.Tables.{IsThing, situation_in}
 use Rattle.scmi_core.proofs.Deeds.{messages_made-push}
 
@@ -114,24 +117,38 @@ module _ (board : Board) (a : ℕ) (s u : Situation) (same : SameSituation board
       ap (λ b. responses ++ (if nat_lt (length b + length responses + length (sets_by a left)) 16 then option_map_or (notice_in s) change [] else [])) same.outbox
       ∙ ap (λ n. responses ++ (if nat_lt (length u.outbox + length responses + length (sets_by a left)) 16 then n else [])) (notices-same change known)
 
--- what the protocols of power domains and clocks reply by tables and a load is the reply in the situation of the tables
+-- what the protocols of power domains and clocks reply by tables and a load, which only a set reads, is the reply in the situation of the tables
 pub power-reply : (board : Board) (t : Tables) (a : ℕ) (load : Load) (c : PowerCommand) → length board.domains ≤ 32
-    → ((d : ℕ) → d < 32 → (bit_at load.busy d == 1) ≡ has_set_of (resource.Domain d) t.pending)
-    → load.room ≡ has_room a (situation_in a t)
+    → IfSome (set_domain c) (λ set. (d : ℕ) → d < 32 → (bit_at load.busy d == 1) ≡ has_set_of (resource.Domain d) t.pending)
+    → IfSome (set_domain c) (λ set. load.room ≡ has_room a (situation_in a t))
     → power_reply board (power_table.view_of board t.base t.power load a) c ≡ reply_words board a (situation_in a t) (Ok (Power c))
-unfolding reply_words
-power-reply board t a load c few busy room =
+unfolding reply_words power_reply
+power-reply board t a load power.Version few busy room = refl
+power-reply board t a load power.Attributes few busy room = refl
+power-reply board t a load (power.MessageAttributes message) few busy room = refl
+power-reply board t a load (power.DomainAttributes d) few busy room = refl
+power-reply board t a load (power.Set flags d state) few busy room =
     power_same.power_reply-same board (power_table.view_of board t.base t.power load a) (power_view board a (situation_in a t))
-    (record { state = λ d small. refl; may = λ d small. refl; busy = λ d small. busy d (omega arith); room = room }) c
+    (record { state = λ e small. refl; may = λ e small. refl; busy = λ e small. busy e (omega arith); room = room }) (power.Set flags d state)
+power-reply board t a load (power.Get d) few busy room = refl
+power-reply board t a load (power.Notify d enable) few busy room = refl
+
+bit_said : (b : Bool) → b ≡ (bit_value b == 1)
+bit_said true = refl
+bit_said false = refl
 
 pub clock-reply : (board : Board) (t : Tables) (a : ℕ) (load : Load) (c : ClockCommand) → length board.clocks ≤ 32
-    → ((d : ℕ) → d < 32 → (bit_at load.busy d == 1) ≡ has_set_of (resource.Clock d) t.pending)
-    → load.room ≡ has_room a (situation_in a t)
+    → IfSome (set_clock c) (λ set. (d : ℕ) → d < 32 → (bit_at load.busy d == 1) ≡ has_set_of (resource.Clock d) t.pending)
+    → IfSome (set_clock c) (λ set. load.room ≡ has_room a (situation_in a t))
     → clock_reply board (clock_table.view_of board t.base t.clocks load a) c ≡ reply_words board a (situation_in a t) (Ok (Clock c))
-unfolding reply_words
-clock-reply board t a load c few busy room =
+unfolding reply_words clock_reply
+clock-reply board t a load clock.Version few busy room = refl
+clock-reply board t a load clock.Attributes few busy room = refl
+clock-reply board t a load (clock.MessageAttributes message) few busy room = refl
+clock-reply board t a load (clock.ClockAttributes c) few busy room = ap (λ b. clock_attributes_reply board b c) (bit_said (clock_table.enabled_at t.clocks c))
+clock-reply board t a load (clock.Describe c index) few busy room = refl
+clock-reply board t a load (clock.SetRate flags c rate) few busy room =
     clock_same.clock_reply-same board (clock_table.view_of board t.base t.clocks load a) (clock_view board a (situation_in a t))
-    (record { rate = λ d small. refl; enabled = λ d small. said (clock_table.enabled_at t.clocks d); may = λ d small. refl; busy = λ d small. busy d (omega arith); room = room }) c where
-      said : (b : Bool) → b ≡ (bit_value b == 1)
-      said true = refl
-      said false = refl
+    (record { rate = λ e small. refl; enabled = λ e small. bit_said (clock_table.enabled_at t.clocks e); may = λ e small. refl; busy = λ e small. busy e (omega arith); room = room }) (clock.SetRate flags c rate)
+clock-reply board t a load (clock.GetRate c) few busy room = refl
+clock-reply board t a load (clock.Config c attributes) few busy room = refl

@@ -63,7 +63,7 @@ all_one P p h = All-cons P p [] h (All-nil P)
 
 -- POWER
 
-change-power : (board : Board) (a : ℕ) (header : HeaderFields) (c : PowerCommand) (reply : List ℕ)
+pub change-power : (board : Board) (a : ℕ) (header : HeaderFields) (c : PowerCommand) (reply : List ℕ)
     → change_of board (success_of a header (Ok (Power c)) reply) None ≡ option_map (state_change a) (if_success reply (set_now c))
 change-power board a header c reply = by (begins_with_success reply) where
   by : (b : Bool) → option_or None (option_and_then (change_now board) (if b then success_with a header (Ok (Power c)) else None)) ≡ option_map (state_change a) (if b then set_now c else None)

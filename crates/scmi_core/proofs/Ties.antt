@@ -1,8 +1,8 @@
 -- Tables that agree with a history, and what one more event leaves of that.
-use Rattle.std.proofs.Common.{◌≡◌, ◌≢◌, ◌⊎◌, inl, inr, ℕ, ◌+◌, ◌<◌, ◌≤◌, ◌==◌, Bool, true, false, List, [], ◌∷◌, ◌++◌, length, drop, slice_get, None, Err, unwrap_or, refl, sym, ap, ◌∙◌, subst, arith, if◌then◌else◌}
+use Rattle.std.proofs.Common.{◌≡◌, ◌≢◌, ◌⊎◌, inl, inr, ℕ, ◌+◌, ◌<◌, ◌≤◌, ◌==◌, Bool, true, false, List, [], ◌∷◌, ◌++◌, length, drop, slice_get, None, Err, option_map, unwrap_or, refl, sym, ap, ◌∙◌, subst, arith, if◌then◌else◌}
 use Rattle.std.specs.List.{All}
 use Rattle.std.proofs.lemmas.List.{append-nil, drop-drop}
-use Rattle.std.proofs.lemmas.List.Elements.{All-nil}
+use Rattle.std.proofs.lemmas.List.Elements.{All-nil, All-drop}
 use Rattle.std.proofs.lemmas.Bool.{eq-eqb}
 use Rattle.std.proofs.lemmas.Bool.Decides.{eqb_tells}
 use Rattle.scmi_codec.specs.Header.{HeaderFields}
@@ -20,22 +20,23 @@ use Rattle.scmi_power.specs.PowerTable.{state_at, is_subscribed}
 use Rattle.scmi_clock.specs.ClockTable.{rate_at, enabled_at}
 use Rattle.scmi_core.specs.declared.pending_set.PendingSet.{PendingSet}
 use Rattle.scmi_core.specs.declared.event.Event.{Event}
-use Rattle.scmi_core.specs.declared.event.Event.TheVariants.{Command, Advance, Sent}
+use Rattle.scmi_core.specs.declared.event.Event.TheVariants.{Command, Advance, Sent, CommandFailed, AdvanceFailed}
 use Rattle.scmi_core.specs.declared.tables.Tables.{Tables}
-use Rattle.std.specs.Option.{option_to_list, option_and_then}
+use Rattle.std.specs.Option.{option_to_list, option_and_then, option_map_or}
 use Rattle.scmi_core.specs.Deed.{Deed, success_with, fold_with_prefix, success_of}
 use Rattle.scmi_core.specs.Permissions.{permission_in, has_permission}
 use Rattle.scmi_core.specs.Subscriptions.{subscription, is_subscriber}
-use Rattle.scmi_core.specs.Value.{value, change_by, completed_set, Thing, State, Rate, Enabled, bit_value, value_in, value_at_start, change_of}
+use Rattle.scmi_core.specs.Value.{value, change_by, completed_set, failed_set, Thing, State, Rate, Enabled, bit_value, value_in, value_at_start, change_of}
 use Rattle.scmi_core.specs.Pending.{acceptance, pending_sets}
-use Rattle.scmi_core.specs.Outbox.{messages_made, made_by, made_in, outbox_after, sent_count, is_sent_by, situation_after}
+use Rattle.scmi_core.specs.Outbox.{failed_response_for, failed_words, messages_made, made_by, made_in, outbox_after, sent_count, is_sent_by, situation_after}
 use Rattle.scmi_core.specs.History.{answer_to, deeds, outbox}
 use Rattle.scmi_core.specs.Legal.{CanFollow}
+use Rattle.scmi_core.specs.Effect.{effect_after, effect_in, effect_of}
 use Rattle.scmi_core.specs.Reply.{answer_in, reply_words}
 use Rattle.scmi_core.specs.Tables.{outbox_at, situation_in, value_at, IsThing, IsOfBoard}
-use Rattle.scmi_core.specs.Step.{HasAnswered, rest_of, HasStepped}
+use Rattle.scmi_core.specs.Step.{HasAnswered, HasFailed, rest_of, HasStepped}
 use Rattle.scmi_core.specs.Agreement.{Agrees}
-use Rattle.scmi_core.proofs.Deeds.{added_success, has_permission-push, is_subscriber-push, value-push, pending_sets-push, pending_sets-advance, outbox-push, IsLegal-push, sent_count-push}
+use Rattle.scmi_core.proofs.Deeds.{added_success, made_by-unfailed, has_permission-push, is_subscriber-push, value-push, pending_sets-push, pending_sets-advance, pending_sets-failed, outbox-push, IsLegal-push, sent_count-push}
 use Rattle.scmi_core.proofs.Legal.{IsLegal-nil, deeds-push, advances_le-accepted, sent_le-made}
 use Rattle.scmi_core.proofs.Situations.{SameSituation, answer-same, messages_made-same, messages_made-sent, nothing-made, reply-same}
 
@@ -58,7 +59,8 @@ same-situation board t h a agrees law lo hi =
 -- a deed, and the tables that it leaves
 module _ (board : Board) (t new : Tables) (h : List Event) (deed : Deed) (agrees : Agrees board t h) (law : IsLawful board)
     (stepped : HasStepped board t (added_success deed) (completed_set board (deeds board h) deed.event) new)
-    (pend : new.pending ≡ pending_sets board (deeds board h ++ deed ∷ [])) where
+    (pend : new.pending ≡ pending_sets board (deeds board h ++ deed ∷ []))
+    (unfailed : failed_set board (deeds board h) deed.event ≡ None) where
   messages_made-tied : (a : ℕ) → 1 ≤ a → a ≤ length board.agents
       → made_in a (situation_in a t) new.pending (completed_set board (deeds board h) deed.event) (change_of board (added_success deed) (completed_set board (deeds board h) deed.event))
       ≡ made_by board a (deeds board h) (messages_made board a (deeds board h)) deed
@@ -68,6 +70,7 @@ module _ (board : Board) (t new : Tables) (h : List Event) (deed : Deed) (agrees
       ap (λ left. made_in a (situation_in a t) left done change) pend
       ∙ messages_made-same board a (situation_in a t) (situation_after board a (deeds board h)) (same-situation board t h a agrees law lo hi)
       (pending_sets board (deeds board h ++ deed ∷ [])) done change stepped.known
+      ∙ sym (made_by-unfailed board a (deeds board h) (messages_made board a (deeds board h)) deed unfailed)
 
   Agrees-deed : (e : Event) → deeds board (h ++ e ∷ []) ≡ deeds board h ++ deed ∷ [] → CanFollow board h e → ((a : ℕ) → is_sent_by a deed.event ≡ false) → Agrees board new (h ++ e ∷ [])
   unfolding outbox
@@ -104,7 +107,7 @@ Agrees-command board t new h a m reply agrees law lo hi is stepped =
     let stepped' : HasStepped board t (success_of a m.header (command_of m) (reply_words board a (situation_after board a (deeds board h)) (command_of m))) None new = subst (λ r. HasStepped board t (success_of a m.header (command_of m) r) None new) words stepped in
     Agrees-deed board t new h deed agrees law stepped'
     (stepped'.pending ∙ ap (λ p. p ++ option_to_list (option_and_then (acceptance board) (added_success deed))) agrees.pending ∙ sym (pending_sets-push board (deeds board h) deed refl (advances_le-accepted board h agrees.legal)))
-    (Command a (Good m)) (deeds-push board h (Command a (Good m))) (lo, hi) (λ x. refl)
+    refl (Command a (Good m)) (deeds-push board h (Command a (Good m))) (lo, hi) (λ x. refl)
 
 -- an event that is neither a success nor a completion
 nothing-stepped : (board : Board) (t : Tables) → HasStepped board t None None t
@@ -132,7 +135,7 @@ Agrees-malformed board t h a len header agrees law lo hi =
     let deed : Deed = record { event = Command a (Malformed len header); reply = [] } in
     Agrees-deed board t t h deed agrees law (nothing-stepped board t)
     (sym (append-nil t.pending) ∙ ap (λ p. p ++ []) agrees.pending ∙ sym (pending_sets-push board (deeds board h) deed refl (advances_le-accepted board h agrees.legal)))
-    (Command a (Malformed len header)) (deeds-push board h (Command a (Malformed len header))) (lo, hi) (λ x. refl)
+    refl (Command a (Malformed len header)) (deeds-push board h (Command a (Malformed len header))) (lo, hi) (λ x. refl)
 
 -- a frame that was answered
 pub Agrees-answered : (board : Board) (t new : Tables) (h : List Event) (a : ℕ) (frame : Frame) → Agrees board t h → IsLawful board → 1 ≤ a → a ≤ length board.agents
@@ -161,7 +164,53 @@ Agrees-advance board t new h agrees law waiting stepped =
     let stepped' : HasStepped board t None (completed_set board (deeds board h) Advance) new = subst (λ p. HasStepped board t None (slice_get p 0) new) agrees.pending stepped in
     Agrees-deed board t new h deed agrees law stepped'
     (stepped.pending ∙ rest-drop t t.pending waiting ∙ ap (drop 1) agrees.pending ∙ sym (pending_sets-advance board (deeds board h)))
-    Advance (deeds-push board h Advance) follows (λ x. refl)
+    refl Advance (deeds-push board h Advance) follows (λ x. refl)
+
+-- the effect of a frame by the tables is that by the history
+pub effect-table : (board : Board) (t : Tables) (h : List Event) (a : ℕ) (frame : Frame) → Agrees board t h → IsLawful board → 1 ≤ a → a ≤ length board.agents
+    → effect_in board a frame (situation_in a t) ≡ effect_after board h (Command a frame)
+effect-table board t h a (Good m) agrees law lo hi =
+    ap (λ words. option_map effect_of (change_of board (success_of a m.header (command_of m) words) None))
+    (reply-same board a (situation_in a t) (situation_after board a (deeds board h)) (same-situation board t h a agrees law lo hi) (command_of m))
+effect-table board t h a (Malformed len header) agrees law lo hi = refl
+
+-- a command that failed
+pub Agrees-command_failed : (board : Board) (t : Tables) (h : List Event) (a : ℕ) (m : Message) → Agrees board t h → IsLawful board → 1 ≤ a → a ≤ length board.agents
+    → effect_after board h (Command a (Good m)) ≢ None → Agrees board t (h ++ CommandFailed a (Good m) ∷ [])
+Agrees-command_failed board t h a m agrees law lo hi some =
+    let deed : Deed = record { event = CommandFailed a (Good m); reply = failed_words } in
+    Agrees-deed board t t h deed agrees law (nothing-stepped board t)
+    (sym (append-nil t.pending) ∙ ap (λ p. p ++ []) agrees.pending ∙ sym (pending_sets-push board (deeds board h) deed refl (advances_le-accepted board h agrees.legal)))
+    refl (CommandFailed a (Good m)) (deeds-push board h (CommandFailed a (Good m))) ((lo, hi), some) (λ x. refl)
+
+-- a completion that failed
+pub Agrees-advance_failed : (board : Board) (t new : Tables) (h : List Event) → Agrees board t h → IsLawful board → 0 < length t.pending → HasFailed t new
+    → Agrees board new (h ++ AdvanceFailed ∷ [])
+unfolding outbox
+Agrees-advance_failed board t new h agrees law waiting failed =
+    let deed : Deed = record { event = AdvanceFailed; reply = [] } in
+    let more = deeds-push board h AdvanceFailed in
+    let follows : 0 < length (pending_sets board (deeds board h)) = subst (λ p. 0 < length p) agrees.pending waiting in
+    record {
+      legal = IsLegal-push board h AdvanceFailed agrees.legal follows;
+      permissions = λ x d scope lo hi small. ap (λ b. is_allowed b x d scope) failed.base ∙ agrees.permissions x d scope lo hi small ∙ sym (ap (has_permission x d scope) more ∙ has_permission-push x d scope (deeds board h) deed);
+      subscriptions = λ x d lo hi small. ap (λ p. is_subscribed p x d) failed.power ∙ agrees.subscriptions x d lo hi small ∙ sym (ap (is_subscriber x d) more ∙ is_subscriber-push x d (deeds board h) deed);
+      values = λ x within. same_value x ∙ agrees.values x within ∙ sym (ap (value board x) more ∙ value-push board x (deeds board h) deed);
+      pending = failed.pending ∙ ap (drop 1) agrees.pending ∙ sym (ap (pending_sets board) more ∙ pending_sets-failed board (deeds board h));
+      known = subst (All (IsOfBoard board)) (sym failed.pending) (All-drop (IsOfBoard board) 1 t.pending agrees.known);
+      outboxes = λ x lo hi.
+          failed.outboxes x lo
+          ∙ ap (λ b. b ++ option_map_or (failed_response_for x) (slice_get t.pending 0) []) (agrees.outboxes x lo hi)
+          ∙ ap (λ p. outbox board x h ++ option_map_or (failed_response_for x) (slice_get p 0) []) agrees.pending
+          ∙ ap (λ ys. outbox board x h ++ ys) (sym (append-nil (option_map_or (failed_response_for x) (slice_get (pending_sets board (deeds board h)) 0) []))
+          ∙ ap (λ ys. option_map_or (failed_response_for x) (slice_get (pending_sets board (deeds board h)) 0) [] ++ ys)
+          (sym (nothing-made x (situation_after board x (deeds board h)) (pending_sets board (deeds board h ++ deed ∷ [])))))
+          ∙ sym (ap (outbox_after board x) more ∙ outbox-push board x (deeds board h) deed refl (sent_le-made board h agrees.legal x));
+    } where
+      same_value : (x : Thing) → value_at new x ≡ value_at t x
+      same_value (State d) = ap (λ p. state_at p d) failed.power
+      same_value (Rate k) = ap (λ p. rate_at p k) failed.clocks
+      same_value (Enabled k) = ap (λ p. bit_value (enabled_at p k)) failed.clocks
 
 -- a message that was posted
 pub Agrees-sent : (board : Board) (t new : Tables) (h : List Event) (a : ℕ) → Agrees board t h → IsLawful board → 1 ≤ a → a ≤ length board.agents → 0 < length (outbox_at t a)

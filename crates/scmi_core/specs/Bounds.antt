@@ -1,24 +1,49 @@
 -- What every legal history keeps.
-use Rattle.std.specs.Prelude.{◌≡◌, ℕ, ◌+◌, ◌≤◌, ◌==◌, ◌&&◌, List, length, take, map}
+use Rattle.std.specs.Prelude.{◌≡◌, ℕ, ◌+◌, ◌≤◌, ◌==◌, ◌&&◌, Bool, true, false, if◌then◌else◌, List, length, take, map, Option, None, option_map}
 use Rattle.std.specs.List.{filter}
+use Rattle.std.specs.Option.{option_to_list}
+use Rattle.scmi_codec.specs.declared.message.Message.{Message}
 use Rattle.scmi_plan.specs.Board.{Board}
 use Rattle.scmi_core.specs.declared.pending_set.PendingSet.{PendingSet}
-use Rattle.scmi_core.specs.Deed.{Deed}
+use Rattle.scmi_core.specs.declared.event.Event.{Event}
+use Rattle.scmi_core.specs.declared.event.Event.TheVariants.{Advance, AdvanceFailed}
+use Rattle.scmi_core.specs.Deed.{Deed, flat_map_with_prefix}
+use Rattle.scmi_core.specs.Value.{completed_set, failed_set}
 use Rattle.scmi_core.specs.Pending.{accepted_sets, advances, pending_sets, pending_of}
-use Rattle.scmi_core.specs.Outbox.{outbox_after, messages_made, response_to}
+use Rattle.scmi_core.specs.Outbox.{failed_response_to, outbox_after, messages_made, response_to}
 use Rattle.scmi_clock.specs.declared.discovery.TheConstants.{PENDING_SETS}
 use Rattle.scmi_core.specs.declared.outboxes.TheConstants.{OUTBOX_ROOM}
 
--- the sets that are complete, in order
-abbrev pub completed_sets : Board → List Deed → List PendingSet
-completed_sets board h = take (advances h) (accepted_sets board h)
+-- the sets that have ended, in order
+abbrev pub ended_sets : Board → List Deed → List PendingSet
+ended_sets board h = take (advances h) (accepted_sets board h)
+
+-- how a set ended: it completed, or the hardware refused its change
+pub record Ending : Type 0 where
+  pub set : PendingSet
+  pub failed : Bool
+
+-- the end of a set that an event makes, given the deeds before it
+abbrev pub ending_by : Board → List Deed → Event → Option Ending
+ending_by board before Advance = option_map (λ p. record { set = p; failed = false }) (completed_set board before Advance)
+ending_by board before AdvanceFailed = option_map (λ p. record { set = p; failed = true }) (failed_set board before AdvanceFailed)
+ending_by board before _ = None
+
+-- the ends of sets, in order
+abbrev pub endings : Board → List Deed → List Ending
+endings board h = flat_map_with_prefix (λ before deed. option_to_list (ending_by board before deed.event)) h
+
+-- the delayed response to a set that ended so
+abbrev pub response_at : Ending → Message
+response_at e = if e.failed then failed_response_to e.set.header else response_to e.set.header e.set.setting
 
 -- at most 8 sets are pending, and an agent's outbox and its pending sets are at most 16 together (own)
 pub record HasBounds (board : Board) (h : List Deed) : Type 0 where
   pub pending : length (pending_sets board h) ≤ PENDING_SETS
   pub loads : (a : ℕ) → length (outbox_after board a h) + length (pending_of board a h) ≤ OUTBOX_ROOM
 
--- no delayed response is lost: those made for an agent are one for each set of it that completed and wanted one, in order of acceptance
+-- no delayed response is lost: the accepted sets end in order, and those responses made for an agent are one for each set of it that ended and wanted one
 pub record HasResponses (board : Board) (h : List Deed) : Type 0 where
+  pub each : map (λ e. e.set) (endings board h) ≡ ended_sets board h
   pub delayed : (a : ℕ) → filter (λ m. m.header.kind == 2) (messages_made board a h)
-      ≡ map (λ p. response_to p.header p.setting) (filter (λ p. p.agent == a && p.wanted) (completed_sets board h))
+      ≡ map response_at (filter (λ e. e.set.agent == a && e.set.wanted) (endings board h))

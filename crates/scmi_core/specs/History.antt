@@ -14,16 +14,17 @@ use Rattle.scmi_plan.specs.Agent.{IsAgent}
 use Rattle.scmi_plan.specs.Board.{Board}
 use Rattle.scmi_plan.specs.declared.resource.Resource.{Resource}
 use Rattle.scmi_core.specs.declared.event.Event.{Event}
-use Rattle.scmi_core.specs.declared.event.Event.TheVariants.{Command}
+use Rattle.scmi_core.specs.declared.event.Event.TheVariants.{Command, CommandFailed}
 use Rattle.scmi_core.specs.Deed.{Deed}
-use Rattle.scmi_core.specs.Outbox.{messages_made, outbox_after, sent_count, situation_after}
+use Rattle.scmi_core.specs.Outbox.{failed_words, messages_made, outbox_after, sent_count, situation_after}
 use Rattle.scmi_core.specs.Pending.{is_pending, pending_sets}
-use Rattle.scmi_core.specs.Reply.{answer_in, reply_in, reply_words}
+use Rattle.scmi_core.specs.Reply.{answer_in, failed_answer, reply_in, reply_words}
 use Rattle.scmi_core.specs.Value.{Thing, value}
 
 -- an event with the payload of its reply, after these deeds
 abbrev pub deed_after : Board → List Deed → Event → Deed
 deed_after board h (Command a (Good m)) = record { event = Command a (Good m); reply = reply_words board a (situation_after board a h) (command_of m) }
+deed_after board h (CommandFailed a (Good m)) = record { event = CommandFailed a (Good m); reply = failed_words }
 deed_after board h event = record { event = event; reply = [] }
 
 -- each event with its reply at its prefix
@@ -46,6 +47,7 @@ answer_with answered.ChannelError m = ChannelError
 -- the answer to an event after a history, if it is a command
 abbrev pub answer_of_event : Board → List Event → Event → Option Answer
 answer_of_event board h (Command a frame) = Some (answer_to board a frame h)
+answer_of_event board h (CommandFailed a frame) = Some (failed_answer frame)
 answer_of_event board h _ = None
 
 -- the answer to the event at index n of a history, if it is a command

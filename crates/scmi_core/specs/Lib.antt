@@ -8,6 +8,8 @@ pub mod Outbox
 pub mod Outboxes
 pub mod Reply
 pub mod History
+pub mod Effect
+pub mod Driven
 pub mod Agents
 pub mod Legal
 pub mod Bounds

@@ -14,7 +14,7 @@ use Rattle.scmi_core.specs.declared.outboxes.TheConstants.{OUTBOX_ROOM}
 use Rattle.scmi_core.specs.declared.pending_set.PendingSet.{PendingSet}
 use Rattle.scmi_core.specs.declared.pending_set.Setting.{Setting}
 use Rattle.scmi_core.specs.declared.event.Event.{Event}
-use Rattle.scmi_core.specs.declared.event.Event.TheVariants.{Advance}
+use Rattle.scmi_core.specs.declared.event.Event.TheVariants.{Advance, AdvanceFailed}
 use Rattle.scmi_core.specs.Deed.{Deed, Success, successes}
 use Rattle.scmi_core.specs.declared.pending_set.Setting.TheVariants as setting
 
@@ -38,16 +38,17 @@ acceptance board s = accepted_by s.command where
 abbrev pub accepted_sets : Board → List Deed → List PendingSet
 accepted_sets board h = filter_map (acceptance board) (successes h)
 
--- whether an event completes a set
+-- whether an event ends a set: it completes it, or the hardware refused its change
 abbrev pub is_advance : Event → Bool
 is_advance Advance = true
+is_advance AdvanceFailed = true
 is_advance _ = false
 
--- how many sets are complete
+-- how many sets have ended
 abbrev pub advances : List Deed → ℕ
 advances h = count_by (λ deed. is_advance deed.event) h
 
--- sets complete in order of acceptance, one per advance; the others are pending (own)
+-- sets end in order of acceptance, one per advance; the others are pending (own)
 abbrev pub pending_sets : Board → List Deed → List PendingSet
 pending_sets board h = drop (advances h) (accepted_sets board h)
 

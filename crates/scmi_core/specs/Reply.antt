@@ -14,7 +14,7 @@ use Rattle.scmi_plan.specs.Board.{Board}
 use Rattle.scmi_base.specs.BaseReply.{base_reply}
 use Rattle.scmi_power.specs.PowerReply.{power_reply}
 use Rattle.scmi_clock.specs.ClockReply.{clock_reply}
-use Rattle.scmi_core.specs.Outbox.{message_with}
+use Rattle.scmi_core.specs.Outbox.{failed_words, message_with}
 use Rattle.scmi_core.specs.Situation.{Situation, clock_view, power_view}
 
 -- the payload of the reply to a command of agent a, or to a message that is none: its status alone
@@ -32,3 +32,8 @@ reply_in board a m s = message_with m.header (reply_words board a s (command_of 
 abbrev pub answer_in : Board → ℕ → Frame → Situation → Answer
 answer_in board a (Good m) s = Reply (reply_in board a m s)
 answer_in board a (Malformed len header) s = ChannelError
+
+-- the answer to a frame whose change the hardware refused: the message's header, and HARDWARE_ERROR alone
+abbrev pub failed_answer : Frame → Answer
+failed_answer (Good m) = Reply (message_with m.header failed_words)
+failed_answer (Malformed len header) = ChannelError

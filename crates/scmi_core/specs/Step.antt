@@ -1,5 +1,5 @@
 -- What an event leaves of the tables.
-use Rattle.std.specs.Prelude.{◌≡◌, ℕ, ◌==◌, ◌&&◌, nat_lt, if◌then◌else◌, List, [], ◌∷◌, ◌++◌, length, drop, Option, Some, None, unwrap_or, Result, ◌<◌, ◌≤◌, IfSome}
+use Rattle.std.specs.Prelude.{◌≡◌, ℕ, ◌==◌, ◌&&◌, nat_lt, if◌then◌else◌, List, [], ◌∷◌, ◌++◌, length, drop, slice_get, Option, Some, None, unwrap_or, Result, ◌<◌, ◌≤◌, IfSome}
 use Rattle.std.specs.Option.{option_map_or, option_and_then, option_to_list}
 use Rattle.std.specs.List.{All}
 use Rattle.scmi_codec.specs.Header.{HeaderFields}
@@ -11,6 +11,8 @@ use Rattle.scmi_codec.specs.declared.frame.Frame.TheVariants.{Good, Malformed}
 use Rattle.scmi_codec.specs.declared.power_command.PowerCommand.{PowerCommand}
 use Rattle.scmi_codec.specs.declared.command.Command as codec
 use Rattle.scmi_codec.specs.declared.power_command.PowerCommand.TheVariants as power
+use Rattle.scmi_codec.specs.declared.clock_command.ClockCommand.{ClockCommand}
+use Rattle.scmi_codec.specs.declared.clock_command.ClockCommand.TheVariants as clock
 use Rattle.scmi_plan.specs.Board.{Board}
 use Rattle.scmi_plan.specs.declared.limits.TheConstants.{AGENTS, DEVICES, DOMAINS}
 use Rattle.scmi_base.specs.Permission.{is_allowed}
@@ -24,7 +26,7 @@ use Rattle.scmi_core.specs.Tables.{IsOfBoard, IsThing, load_at, situation_in, va
 use Rattle.scmi_core.specs.Deed.{Success, success_of}
 use Rattle.scmi_core.specs.Pending.{acceptance}
 use Rattle.scmi_core.specs.Permissions.{permission_in}
-use Rattle.scmi_core.specs.Outbox.{made_in, state_changed}
+use Rattle.scmi_core.specs.Outbox.{failed_response_for, made_in, state_changed}
 use Rattle.scmi_core.specs.Reply.{reply_words}
 use Rattle.scmi_core.specs.Subscriptions.{subscription}
 use Rattle.scmi_core.specs.declared.outboxes.TheConstants.{OUTBOX_ROOM}
@@ -71,10 +73,23 @@ pub record SameButPending (t new : Tables) : Type 0 where
 abbrev pub Accepts : Tables → Tables → Option PendingSet → Type 0
 Accepts t new set = new.pending ≡ t.pending ++ option_to_list set
 
+-- the first pending set was taken off as failed: nothing else changed but the delayed response to it
+pub record HasFailed (t new : Tables) : Type 0 where
+  pub base : new.base ≡ t.base
+  pub power : new.power ≡ t.power
+  pub clocks : new.clocks ≡ t.clocks
+  pub pending : new.pending ≡ drop 1 t.pending
+  pub outboxes : (a : ℕ) → 1 ≤ a → Gets t.outboxes new.outboxes a (option_map_or (failed_response_for a) (slice_get t.pending 0) [])
+
 -- the domain that a command sets
 abbrev pub set_domain : PowerCommand → Option ℕ
 set_domain (power.Set flags d state) = Some d
 set_domain _ = None
+
+-- the clock whose rate a command sets
+abbrev pub set_clock : ClockCommand → Option ℕ
+set_clock (clock.SetRate flags c rate) = Some c
+set_clock _ = None
 
 -- the notification of a domain's new state to agent a, if it asked for that and has room
 abbrev pub told_at : Tables → ℕ → ℕ → ℕ → ℕ → List Message

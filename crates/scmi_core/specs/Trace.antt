@@ -4,7 +4,7 @@ use Rattle.scmi_codec.specs.Header.{header_of}
 use Rattle.scmi_codec.specs.declared.frame.Frame.TheVariants as frame
 use Rattle.scmi_codec.specs.declared.payload.TheConstants.{PAYLOAD_WORDS}
 use Rattle.scmi_core.specs.declared.event.Event.{Event}
-use Rattle.scmi_core.specs.declared.event.Event.TheVariants.{Command, Advance, Sent}
+use Rattle.scmi_core.specs.declared.event.Event.TheVariants.{Command, Advance, Sent, CommandFailed, AdvanceFailed}
 use Rattle.scmi_core.specs.declared.mark.Mark.{Mark}
 use Rattle.scmi_core.specs.declared.mark.Mark.TheVariants as mark
 use Rattle.scmi_core.specs.Mark.{mark_of}
@@ -18,6 +18,7 @@ pub record Recorded : Type 0 where
 -- how many payload words follow a mark, a size and a header
 abbrev pub payload_count : Mark → ℕ → ℕ
 payload_count (mark.Message a) size = size
+payload_count (mark.Failed a) size = size
 payload_count _ size = 0
 
 -- the event of a mark, a size, a header and the payload words that follow them
@@ -25,7 +26,9 @@ abbrev pub event_of : Mark → ℕ → ℕ → List ℕ → Event
 event_of (mark.Message a) size header payload = Command a (frame.Good (message_with (header_of header) payload))
 event_of (mark.Malformed a) size header payload = Command a (frame.Malformed size header)
 event_of (mark.Sent a) size header payload = Sent a
+event_of (mark.Failed a) size header payload = CommandFailed a (frame.Good (message_with (header_of header) payload))
 event_of mark.Advance size header payload = Advance
+event_of mark.AdvanceFailed size header payload = AdvanceFailed
 
 -- the first n events of some words
 unfoldable pub events_of : ℕ → List ℕ → List Event

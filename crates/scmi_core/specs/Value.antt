@@ -11,7 +11,7 @@ use Rattle.scmi_clock.specs.ClockTable.{rate_now, enabled_now}
 use Rattle.scmi_core.specs.declared.pending_set.PendingSet.{PendingSet}
 use Rattle.scmi_core.specs.declared.pending_set.Setting.{Setting}
 use Rattle.scmi_core.specs.declared.event.Event.{Event}
-use Rattle.scmi_core.specs.declared.event.Event.TheVariants.{Advance}
+use Rattle.scmi_core.specs.declared.event.Event.TheVariants.{Advance, AdvanceFailed}
 use Rattle.scmi_core.specs.Deed.{Deed, Success, flat_map_with_prefix, latest, success_at}
 use Rattle.scmi_core.specs.Pending.{pending_sets}
 use Rattle.scmi_core.specs.declared.pending_set.Setting.TheVariants as setting
@@ -62,6 +62,11 @@ change_now board s = changed_by s.command where
 abbrev pub completed_set : Board → List Deed → Event → Option PendingSet
 completed_set board before Advance = slice_get (pending_sets board before) 0
 completed_set board before _ = None
+
+-- the set that an event ends as failed: the first that is pending before it
+abbrev pub failed_set : Board → List Deed → Event → Option PendingSet
+failed_set board before AdvanceFailed = slice_get (pending_sets board before) 0
+failed_set board before _ = None
 
 -- the change that a success or a completed set makes
 abbrev pub change_of : Board → Option Success → Option PendingSet → Option Change

@@ -1,7 +1,10 @@
 //! The events of a trace, one after another.
 ghost use Rattle.std.specs.Prelude.{◌≡◌, ◌≤◌, ◌∷◌, length};
 ghost use Rattle.std.specs.Iterator.{YieldsFirst, item_count};
+ghost use Rattle.scmi_codec.specs.Header.{header_of};
+ghost use Rattle.scmi_codec.specs.declared.frame.Frame.TheVariants.{Good};
 ghost use Rattle.scmi_codec.specs.declared.payload.TheConstants.{PAYLOAD_WORDS};
+ghost use Rattle.scmi_core.specs.Outbox.{message_with};
 ghost use Rattle.scmi_core.specs.Trace.{AreEvents, event_of, events_of, payload_count};
 
 use crate::event::Event;
@@ -72,7 +75,7 @@ fn payload_count(mark: Mark, size: u32) -> usize
     ensures { result ≡ payload_count mark size }
 {
     match mark {
-        Mark::Message(_) => size as usize,
+        Mark::Message(_) | Mark::Failed(_) => size as usize,
         _ => 0,
     }
 }
@@ -83,13 +86,8 @@ fn event_of(mark: Mark, size: u32, header: u32, payload: &[u32]) -> Event
     ensures { result ≡ event_of mark size header payload.now }
 {
     match mark {
-        Mark::Message(agent) => Event::Command(
-            agent,
-            Frame::Good(Message {
-                header: Header::unpack(header),
-                payload: payload_of(payload),
-            }),
-        ),
+        Mark::Message(agent) => Event::Command(agent, frame_of(header, payload)),
+        Mark::Failed(agent) => Event::CommandFailed(agent, frame_of(header, payload)),
         Mark::Malformed(agent) => Event::Command(
             agent,
             Frame::Malformed {
@@ -99,5 +97,17 @@ fn event_of(mark: Mark, size: u32, header: u32, payload: &[u32]) -> Event
         ),
         Mark::Sent(agent) => Event::Sent(agent),
         Mark::Advance => Event::Advance,
+        Mark::AdvanceFailed => Event::AdvanceFailed,
     }
+}
+
+/// The frame of a header word and these payload words.
+fn frame_of(header: u32, payload: &[u32]) -> Frame
+    requires { length payload.now ≤ PAYLOAD_WORDS }
+    ensures { result ≡ Good (message_with (header_of header) payload.now) }
+{
+    Frame::Good(Message {
+        header: Header::unpack(header),
+        payload: payload_of(payload),
+    })
 }

@@ -6,10 +6,15 @@
 #![tactic(auto)]
 
 mod answered;
+mod core_effects;
 mod core_error;
+mod core_hardware;
 mod core_readers;
+mod effect;
+mod effects;
 mod event;
 mod events;
+mod hardware;
 mod mark;
 mod message_ring;
 mod notices;
@@ -19,14 +24,19 @@ mod pending;
 mod pending_set;
 mod platform;
 mod platform_core;
+mod platform_effects;
+mod platform_hardware;
 mod platform_readers;
+mod slot;
 mod tables;
 mod trace;
 
 pub use answered::Answered;
 pub use core_error::CoreError;
+pub use effect::Effect;
 pub use event::Event;
 pub use events::Events;
+pub use hardware::{Fault, Hardware};
 pub use platform::Platform;
 pub use platform_core::Core;
 pub use trace::Trace;

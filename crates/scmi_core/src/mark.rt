@@ -3,14 +3,17 @@ ghost use Rattle.std.specs.Prelude.{◌≡◌, ◌≤◌};
 ghost use Rattle.scmi_plan.specs.declared.limits.TheConstants.{AGENTS};
 ghost use Rattle.scmi_core.specs.Mark.{HasAgent, mark_of};
 
-/// What an event is, and whose. As a word it is the event's number, 0 to 3 in this order, and four
+/// What an event is, and whose. As a word it is the event's number, 0 to 5 in this order, and eight
 /// times its agent.
 #[derive(Clone, Copy, PartialEq, Eq, Debug)]
 pub enum Mark {
     Advance,
+    AdvanceFailed,
     Sent(u32),
     /// The command of a frame that is malformed.
     Malformed(u32),
+    /// The command of a frame that is a message, which failed.
+    Failed(u32),
     /// The command of a frame that is a message.
     Message(u32),
 }
@@ -23,9 +26,11 @@ impl Mark {
     {
         match self {
             Mark::Advance => 0,
-            Mark::Sent(agent) => 1 + 4 * agent,
-            Mark::Malformed(agent) => 2 + 4 * agent,
-            Mark::Message(agent) => 3 + 4 * agent,
+            Mark::AdvanceFailed => 1,
+            Mark::Sent(agent) => 2 + 8 * agent,
+            Mark::Malformed(agent) => 3 + 8 * agent,
+            Mark::Failed(agent) => 4 + 8 * agent,
+            Mark::Message(agent) => 5 + 8 * agent,
         }
     }
 
@@ -33,11 +38,13 @@ impl Mark {
     pub fn unpack(word: u32) -> Mark
         ensures { result ≡ mark_of word }
     {
-        let agent = word / 4;
-        match word % 4 {
+        let agent = word / 8;
+        match word % 8 {
             0 => Mark::Advance,
-            1 => Mark::Sent(agent),
-            2 => Mark::Malformed(agent),
+            1 => Mark::AdvanceFailed,
+            2 => Mark::Sent(agent),
+            3 => Mark::Malformed(agent),
+            4 => Mark::Failed(agent),
             _ => Mark::Message(agent),
         }
     }

@@ -1,34 +1,37 @@
 //! Messages in the places of a ring.
 ghost use Rattle.std.specs.Prelude.{◌≡◌, ◌<◌, ◌≤◌, ◌++◌, ◌∷◌, [], length, drop, slice_get};
 ghost use Rattle.std.specs.Option.{option_copied};
-ghost use Rattle.scmi_codec.specs.declared.payload.TheConstants.{PAYLOAD_WORDS};
 ghost use Rattle.scmi_core.specs.Outbox.{message_with};
 ghost use Rattle.scmi_core.specs.declared.outboxes.TheConstants.{OUTBOX_ROOM};
+ghost use Rattle.scmi_core.specs.declared.slot.TheConstants.{SLOT_WORDS};
 
 use crate::outboxes::OUTBOX_ROOM;
+use crate::slot::Slot;
 use scmi_codec::{Header, Message, set_payload};
 use std::array;
 use std::marker::Model;
 
-/// At most `OUTBOX_ROOM` messages, the oldest first. Each is written and read where it stands, and
-/// none moves when the oldest is taken off.
+/// At most `OUTBOX_ROOM` messages of at most `SLOT_WORDS` payload words, the oldest first. The
+/// oldest stands whole, so that it can be shown where it is; each of the others stands in a slot.
 #[derive(Debug, Drop)]
 pub struct MessageRing {
-    slots: [Message; OUTBOX_ROOM],
+    slots: [Slot; OUTBOX_ROOM],
+    // The oldest message, which is not in its slot.
+    front: Message,
     // The place of the oldest.
     oldest: usize,
     count: usize,
 }
 
 impl Model for MessageRing {
-    ghost use Rattle.std.specs.Prelude.{List, length, ◌<◌, ◌≤◌, ◌≡◌};
+    ghost use Rattle.std.specs.Prelude.{List, length, set, ◌<◌, ◌≤◌, ◌≡◌};
     ghost use Rattle.scmi_codec.specs.declared.message.Message.{Message};
     ghost use Rattle.scmi_core.specs.Window.{window};
     ghost use Rattle.scmi_core.specs.declared.outboxes.TheConstants.{OUTBOX_ROOM};
 
     ghost Value = { List Message };
 
-    ghost view = { λ r. window r.oldest r.count r.slots };
+    ghost view = { λ r. window r.oldest r.count (set r.slots r.oldest r.front) };
 
     ghost invariant = { λ r. (r.oldest < OUTBOX_ROOM) × (r.count ≤ OUTBOX_ROOM)
         × (length r.slots ≡ OUTBOX_ROOM) };
@@ -40,7 +43,8 @@ impl MessageRing {
         ensures { result ≡ [] }
     {
         MessageRing {
-            slots: array::from_fn(|_| Message::default()),
+            slots: array::from_fn(|_| Slot::new()),
+            front: Message::default(),
             oldest: 0,
             count: 0,
         }
@@ -61,7 +65,7 @@ impl MessageRing {
         if self.count == 0 {
             None
         } else {
-            Some(&self.slots[self.oldest])
+            Some(&self.front)
         }
     }
 
@@ -72,23 +76,32 @@ impl MessageRing {
     {
         self.oldest = (self.oldest + 1) % OUTBOX_ROOM;
         self.count -= 1;
+        if self.count > 0 {
+            let slot = self.slots[self.oldest].copy();
+            slot.copy_to(&mut self.front);
+        }
     }
 
     /// Writes a message of this header and these payload words behind the others.
     pub fn push(&mut self, header: Header, words: &[u32])
         requires room { length self.old < OUTBOX_ROOM }
-        requires few { length words.now ≤ PAYLOAD_WORDS }
+        requires few { length words.now ≤ SLOT_WORDS }
         ensures { self.new ≡ self.old ++ message_with header words.now ∷ [] }
     {
-        let place = (self.oldest + self.count) % OUTBOX_ROOM;
-        set_message(&mut self.slots[place], header, words);
-        self.count += 1;
+        if self.count == 0 {
+            set_message(&mut self.front, header, words);
+            self.count = 1;
+        } else {
+            let place = (self.oldest + self.count) % OUTBOX_ROOM;
+            self.slots[place].set(header, words);
+            self.count += 1;
+        }
     }
 }
 
 /// Makes a message one of this header and these payload words, where it stands.
 fn set_message(message: &mut Message, header: Header, words: &[u32])
-    requires { length words.now ≤ PAYLOAD_WORDS }
+    requires { length words.now ≤ SLOT_WORDS }
     ensures { message.new ≡ message_with header words.now }
 {
     message.header = header;

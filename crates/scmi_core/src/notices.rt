@@ -48,8 +48,8 @@ impl Tables {
             → HasSameOutbox self.old.outboxes self.new.outboxes a }
         ensures rest { SameButOutboxes self.old self.new }
     {
-        if self.load(agent) < OUTBOX_ROOM
-            && (self.power.subscribers(domain) >> (agent - 1)) & 1 == 1
+        if (self.power.subscribers(domain) >> (agent - 1)) & 1 == 1
+            && self.load(agent) < OUTBOX_ROOM
         {
             self.outboxes
                 .put_state_changed(agent, causer, domain, state);

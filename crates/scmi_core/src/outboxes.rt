@@ -1,11 +1,11 @@
 //! The messages that the platform has for each agent.
 ghost use Rattle.std.specs.Prelude.{◌≡◌, ◌≢◌, ◌↔◌, ◌≤◌, ◌<◌, ◌∷◌, [], ℕ, length, true, false, drop, slice_get};
 ghost use Rattle.std.specs.Option.{option_copied};
-ghost use Rattle.scmi_codec.specs.declared.payload.TheConstants.{PAYLOAD_WORDS};
 ghost use Rattle.scmi_plan.specs.declared.limits.TheConstants.{AGENTS};
-ghost use Rattle.scmi_core.specs.Outbox.{message_with, response_for};
+ghost use Rattle.scmi_core.specs.Outbox.{failed_response_for, message_with, response_for};
 ghost use Rattle.scmi_core.specs.Outboxes.{Gets, HasSameOutbox, outbox_in};
 ghost use Rattle.scmi_core.specs.declared.outboxes.TheConstants.{OUTBOX_ROOM};
+ghost use Rattle.scmi_core.specs.declared.slot.TheConstants.{SLOT_WORDS};
 
 use crate::message_ring::MessageRing;
 use crate::pending_set::Setting;
@@ -116,12 +116,31 @@ impl Outboxes {
         }
     }
 
+    /// Puts the delayed response to a set that failed into its agent's outbox, if it is wanted.
+    pub fn respond_failed(&mut self, agent: u32, setting: Setting, header: Header, wanted: bool)
+        requires first { 1 ≤ agent }
+        requires last { agent ≤ AGENTS }
+        requires room { length (outbox_in self.old agent) < OUTBOX_ROOM }
+        ensures { (a : ℕ) → 1 ≤ a → Gets self.old self.new a
+            (failed_response_for a (record {
+              agent = agent;
+              setting = setting;
+              header = header;
+              wanted = wanted;
+            })) }
+    {
+        if !wanted {
+            return;
+        }
+        self.put_failed_response(agent, header);
+    }
+
     /// Puts a message of this header and these payload words into an agent's outbox.
     pub fn put(&mut self, agent: u32, header: Header, words: &[u32])
         requires first { 1 ≤ agent }
         requires last { agent ≤ AGENTS }
         requires room { length (outbox_in self.old agent) < OUTBOX_ROOM }
-        requires few { length words.now ≤ PAYLOAD_WORDS }
+        requires few { length words.now ≤ SLOT_WORDS }
         ensures put { Gets self.old self.new agent (message_with header words.now ∷ []) }
         ensures others { (a : ℕ) → 1 ≤ a → a ≢ agent → HasSameOutbox self.old self.new a }
     {

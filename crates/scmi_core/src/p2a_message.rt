@@ -1,13 +1,13 @@
 //! The messages of the platform to agents.
-ghost use Rattle.std.specs.Prelude.{◌≢◌, ◌≤◌, ◌<◌, ◌∷◌, [], ℕ, length};
+ghost use Rattle.std.specs.Prelude.{◌≡◌, ◌≢◌, ◌≤◌, ◌<◌, ◌∷◌, [], ℕ, length};
 ghost use Rattle.scmi_plan.specs.declared.limits.TheConstants.{AGENTS};
-ghost use Rattle.scmi_core.specs.Outbox.{state_changed, response_to};
+ghost use Rattle.scmi_core.specs.Outbox.{failed_response_to, state_changed, response_to};
 ghost use Rattle.scmi_core.specs.Outboxes.{Gets, HasSameOutbox, outbox_in};
 ghost use Rattle.scmi_core.specs.declared.outboxes.TheConstants.{OUTBOX_ROOM};
 
 use crate::outboxes::Outboxes;
 use crate::pending_set::Setting;
-use scmi_codec::{Header, POWER_PROTOCOL, SUCCESS, rate_words};
+use scmi_codec::{Header, POWER_PROTOCOL, SUCCESS, Status, rate_words};
 
 // Message types (DEN0056B, message header).
 const DELAYED_RESPONSE: u8 = 2;
@@ -41,13 +41,7 @@ impl Outboxes {
         ensures put { Gets self.old self.new agent (response_to header setting ∷ []) }
         ensures others { (a : ℕ) → 1 ≤ a → a ≢ agent → HasSameOutbox self.old self.new a }
     {
-        let header = Header {
-            reserved: 0,
-            token: header.token,
-            protocol: header.protocol,
-            kind: DELAYED_RESPONSE,
-            id: header.id,
-        };
+        let header = delayed_header(header);
         match setting {
             Setting::State(domain, state) => self.put(agent, header, &[SUCCESS, domain, state]),
             Setting::Rate(clock, rate) => {
@@ -55,5 +49,40 @@ impl Outboxes {
                 self.put(agent, header, &[SUCCESS, clock, low, high]);
             }
         }
+    }
+
+    /// Puts the response to a set whose change the hardware refused into an agent's outbox.
+    pub fn put_failed_response(&mut self, agent: u32, header: Header)
+        requires first { 1 ≤ agent }
+        requires last { agent ≤ AGENTS }
+        requires room { length (outbox_in self.old agent) < OUTBOX_ROOM }
+        ensures put { Gets self.old self.new agent (failed_response_to header ∷ []) }
+        ensures others { (a : ℕ) → 1 ≤ a → a ≢ agent → HasSameOutbox self.old self.new a }
+    {
+        self.put(
+            agent,
+            delayed_header(header),
+            &[Status::HardwareError.word()],
+        );
+    }
+}
+
+/// The header of the delayed response to a command of this header.
+fn delayed_header(header: Header) -> Header
+    ensures { result
+        ≡ (record {
+          reserved = 0;
+          token = header.token;
+          protocol = header.protocol;
+          kind = 2;
+          id = header.id;
+        }) }
+{
+    Header {
+        reserved: 0,
+        token: header.token,
+        protocol: header.protocol,
+        kind: DELAYED_RESPONSE,
+        id: header.id,
     }
 }

@@ -72,6 +72,13 @@ impl Pending {
         self.sets.remove(0)
     }
 
+    /// The first set.
+    pub fn first(&self) -> Option<PendingSet>
+        ensures { result ≡ slice_get self.now 0 }
+    {
+        self.sets.as_slice().first().copied()
+    }
+
     /// Whether a domain or clock has a pending set.
     pub fn is_pending(&self, resource: Resource) -> bool
         ensures { result ≡ has_set_of resource self.now }

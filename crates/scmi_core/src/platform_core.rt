@@ -23,7 +23,7 @@ use std::marker::Model;
 #[derive(Drop, Debug)]
 pub struct Core {
     pub(crate) platform: Platform,
-    trace: Trace,
+    pub(crate) trace: Trace,
 }
 
 impl Model for Core {

@@ -1,6 +1,7 @@
 //! What a controller keeps besides its history.
-ghost use Rattle.std.specs.Prelude.{◌≡◌, ◌≤◌, ◌<◌, ◌-◌, [], ℕ, length, true, false, Ok, Err, None, Some, slice_get, IfSome, option_map, unwrap_or};
+ghost use Rattle.std.specs.Prelude.{◌≡◌, ◌≤◌, ◌<◌, ◌-◌, ◌==◌, [], ℕ, length, true, false, Ok, Err, None, Some, slice_get, IfSome, option_map, unwrap_or};
 ghost use Rattle.std.specs.List.{All};
+ghost use Rattle.std.specs.Int.{bit_at};
 ghost use Rattle.scmi_base.specs.Permission.{is_allowed};
 ghost use Rattle.scmi_base.specs.declared.scope.Scope.{Scope};
 ghost use Rattle.scmi_codec.specs.Command.{command_of};
@@ -8,14 +9,16 @@ ghost use Rattle.scmi_codec.specs.declared.command.Command.TheVariants.{Base, Po
 ghost use Rattle.scmi_power.specs.PowerTable.{state_at, is_subscribed};
 ghost use Rattle.scmi_plan.specs.Agent.{IsAgent};
 ghost use Rattle.scmi_plan.specs.Plan.{IsLawful};
-ghost use Rattle.scmi_plan.specs.declared.limits.TheConstants.{AGENTS, DOMAINS};
+ghost use Rattle.scmi_plan.specs.declared.resource.Resource.TheVariants as resource;
+ghost use Rattle.scmi_plan.specs.declared.limits.TheConstants.{AGENTS, CLOCKS, DOMAINS};
 ghost use Rattle.scmi_core.specs.History.{answer_with};
 ghost use Rattle.scmi_core.specs.Value.{Thing, value_at_start};
-ghost use Rattle.scmi_core.specs.Pending.{state_set, rate_set};
+ghost use Rattle.scmi_core.specs.Pending.{has_set_of, state_set, rate_set};
+ghost use Rattle.scmi_core.specs.Situation.{has_room};
 ghost use Rattle.scmi_core.specs.Subscriptions.{subscription_after_reset};
 ghost use Rattle.scmi_core.specs.Reply.{answer_in, reply_words};
 ghost use Rattle.scmi_core.specs.Tables.{outbox_at, load_at, value_at, situation_in, IsThing, IsOfBoard};
-ghost use Rattle.scmi_core.specs.Step.{Accepts, HasStepped, HasExecuted, HasAnswered, set_domain, SameButPending};
+ghost use Rattle.scmi_core.specs.Step.{Accepts, HasFailed, HasStepped, HasExecuted, HasAnswered, set_clock, set_domain, SameButPending};
 ghost use Rattle.scmi_core.specs.declared.outboxes.TheConstants.{OUTBOX_ROOM};
 ghost use Rattle.scmi_clock.specs.declared.discovery.TheConstants.{PENDING_SETS};
 
@@ -28,8 +31,14 @@ use scmi_clock::ClockState;
 use scmi_codec::{
     BaseCommand, ClockCommand, Command, Frame, Header, Message, Payload, PowerCommand, set_refusal,
 };
-use scmi_plan::{DOMAINS, Plan};
+use scmi_plan::{DOMAINS, Load, Plan};
 use scmi_power::PowerState;
+
+// What stands for the load of a command that meets none.
+const NO_LOAD: Load = Load {
+    busy: 0,
+    room: false,
+};
 
 /// The tables of the protocols, the sets that are pending, and each agent's outbox.
 #[derive(Drop, Debug)]
@@ -163,8 +172,7 @@ impl Tables {
         let agents = plan.agents();
         // A set is reported also where the state stays equal, so the state is read before it.
         let before = self.state_before(command);
-        let waiting = self.outboxes.waiting(agent);
-        let load = self.pending.domain_load(agent, waiting);
+        let load = self.power_load(agent, command);
         let done = self
             .power
             .execute(plan, &self.base, agent, command, load, reply);
@@ -189,12 +197,51 @@ impl Tables {
         ensures stepped { HasExecuted plan.now agent header (Ok (Clock command))
             reply.new.items self.old self.new }
     {
-        let waiting = self.outboxes.waiting(agent);
-        let load = self.pending.clock_load(agent, waiting);
+        let load = self.clock_load(agent, command);
         let later = self
             .clocks
             .execute(plan, &self.base, agent, command, load, reply);
         self.accept_rate(agent, header, later);
+    }
+
+    /// The load that a power command of an agent meets. Only a set meets one; for the others none is
+    /// reckoned.
+    pub(crate) fn power_load(&self, agent: u32, command: PowerCommand) -> Load
+        requires first { 1 ≤ agent }
+        requires last { agent ≤ AGENTS }
+        ensures busy { IfSome (set_domain command) (λ set. (d : ℕ) → d < DOMAINS
+            → (bit_at result.busy d == 1) ≡ has_set_of (resource.Domain d) self.now.pending) }
+        ensures room { IfSome (set_domain command) (λ set.
+            result.room ≡ has_room agent (situation_in agent self.now)) }
+        ensures free { result.room ≡ true → length self.now.pending < PENDING_SETS }
+    {
+        match command {
+            PowerCommand::Set { .. } => {
+                let waiting = self.outboxes.waiting(agent);
+                self.pending.domain_load(agent, waiting)
+            }
+            _ => NO_LOAD,
+        }
+    }
+
+    /// The load that a clock command of an agent meets. Only a set of a rate meets one; for the others
+    /// none is reckoned.
+    pub(crate) fn clock_load(&self, agent: u32, command: ClockCommand) -> Load
+        requires first { 1 ≤ agent }
+        requires last { agent ≤ AGENTS }
+        ensures busy { IfSome (set_clock command) (λ set. (c : ℕ) → c < CLOCKS
+            → (bit_at result.busy c == 1) ≡ has_set_of (resource.Clock c) self.now.pending) }
+        ensures room { IfSome (set_clock command) (λ set.
+            result.room ≡ has_room agent (situation_in agent self.now)) }
+        ensures free { result.room ≡ true → length self.now.pending < PENDING_SETS }
+    {
+        match command {
+            ClockCommand::SetRate { .. } => {
+                let waiting = self.outboxes.waiting(agent);
+                self.pending.clock_load(agent, waiting)
+            }
+            _ => NO_LOAD,
+        }
     }
 
     /// Completes the first pending set.
@@ -227,6 +274,26 @@ impl Tables {
                 self.outboxes.respond(agent, setting, header, wanted);
             }
         }
+    }
+
+    /// Takes the first pending set off as failed.
+    pub fn fail(&mut self, plan: &Plan)
+        requires waiting { 0 < length self.now.pending }
+        requires known { All (IsOfBoard plan.now) self.now.pending }
+        requires room { (a : ℕ) → 1 ≤ a → a ≤ length plan.now.agents
+            → load_at self.now a ≤ OUTBOX_ROOM }
+        ensures lawful { IsLawful plan.now }
+        ensures failed { HasFailed self.old self.new }
+    {
+        let _agents = plan.agents();
+        let failed = self.pending.pop_first();
+        let PendingSet {
+            agent,
+            setting,
+            header,
+            wanted,
+        } = failed;
+        self.outboxes.respond_failed(agent, setting, header, wanted);
     }
 
     /// Ends the requests of an agent that was reset, if one was.

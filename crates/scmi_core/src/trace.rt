@@ -4,12 +4,13 @@ ghost use Rattle.scmi_codec.specs.declared.payload.TheConstants.{PAYLOAD_WORDS};
 ghost use Rattle.scmi_plan.specs.declared.limits.TheConstants.{AGENTS};
 ghost use Rattle.scmi_core.specs.Mark.{HasAgent};
 ghost use Rattle.scmi_core.specs.Trace.{event_of, payload_count};
-ghost use Rattle.scmi_core.specs.declared.event.Event.TheVariants.{Command, Advance, Sent};
+ghost use Rattle.scmi_core.specs.declared.event.Event.TheVariants.{Command, Advance, Sent, CommandFailed, AdvanceFailed};
+ghost use Rattle.scmi_codec.specs.declared.frame.Frame.TheVariants.{Good};
 
 use crate::event::Event;
 use crate::events::Events;
 use crate::mark::Mark;
-use scmi_codec::{Frame, PAYLOAD_WORDS};
+use scmi_codec::{Frame, Message, PAYLOAD_WORDS};
 use std::alloc::{AllocError, Global};
 use std::marker::Model;
 
@@ -113,6 +114,23 @@ impl Trace {
         }
     }
 
+    /// Adds a command that failed in the room that there is.
+    pub(crate) fn push_command_failed(&mut self, agent: u32, message: &Message)
+        requires room { 0 < self.old.room }
+        requires agent { agent ≤ AGENTS }
+        ensures events { self.new.events
+            ≡ self.old.events ++ CommandFailed agent (Good message.now) ∷ [] }
+        ensures room { self.old.room ≤ self.new.room + 1 }
+    {
+        let payload = message.payload.as_slice();
+        self.push(
+            Mark::Failed(agent),
+            payload.len() as u32,
+            message.header.pack(),
+            payload,
+        );
+    }
+
     /// Adds the completion of a set in the room that there is.
     pub(crate) fn push_advance(&mut self)
         requires room { 0 < self.old.room }
@@ -120,6 +138,15 @@ impl Trace {
         ensures room { self.old.room ≤ self.new.room + 1 }
     {
         self.push(Mark::Advance, 0, 0, &[]);
+    }
+
+    /// Adds the end of a set that failed in the room that there is.
+    pub(crate) fn push_advance_failed(&mut self)
+        requires room { 0 < self.old.room }
+        ensures events { self.new.events ≡ self.old.events ++ AdvanceFailed ∷ [] }
+        ensures room { self.old.room ≤ self.new.room + 1 }
+    {
+        self.push(Mark::AdvanceFailed, 0, 0, &[]);
     }
 
     /// Adds the posting of a message to an agent in the room that there is.

@@ -1,27 +1,50 @@
 -- The chart of a run.
-use Rattle.std.specs.Prelude.{◌≡◌, ◌≤◌, ℕ, List, [], ◌∷◌, Option, length, map}
+use Rattle.std.specs.Prelude.{◌≡◌, ◌≤◌, ℕ, Bool, true, false, List, [], ◌∷◌, Option, Result, length, map}
 use Rattle.std.specs.Io.KnownBytes.{Appends}
+use Rattle.scmi_link.specs.View.{CallerView}
+use Rattle.scmi_link.specs.RingCaller.{ring_caller_view, ring_close_shows}
+use Rattle.scmi_link.specs.declared.closing.Closing.{Closing}
+use Rattle.scmi_link.specs.declared.close_error.CloseError.{CloseError}
+use Rattle.scmi_words.specs.WordCaller.{word_caller_view, CloseShows}
+use Rattle.scmi_plan.specs.Board.{Board}
+use Rattle.scmi_ends.specs.Shut.{ShowsClose}
 use Rattle.scmi_text.specs.declared.step.Step.{Step}
 use Rattle.scmi_text.specs.declared.step_line.StepLine.{StepLine}
-use Rattle.scmi_session.specs.StepLines.{AreLinesOf}
+use Rattle.scmi_session.specs.SessionView.{SessionView}
+use Rattle.scmi_session.specs.Run.{Runs}
 use Rattle.scmi_chart.specs.Chart.{svg_text}
 use Rattle.scmi_chart.specs.declared.chart.Chart.{Chart}
 use Rattle.scmi_record.specs.Signs.{sign_of, run_signs}
+use Rattle.scmi_draw.specs.declared.kind.Kind.{Kind}
+use Rattle.scmi_draw.specs.declared.kind.Kind.TheVariants.{Rings, Words}
 
--- the chart's marks are those of a run of these steps: of each line what it says, in order, and nothing else
-pub record ShowsRun (steps : List Step) (chart : Chart) : Type 0 where
+-- whether a channel of this kind may have no place for a post
+abbrev pub may_be_full : Kind → Bool
+may_be_full Rings = true
+may_be_full Words = false
+
+-- what a close shows at a channel of this kind, by the view after it
+abbrev pub shows_close : Kind → CallerView → Result Closing CloseError → Type 0
+shows_close Rings = ShowsClose ring_caller_view ring_close_shows
+shows_close Words = ShowsClose word_caller_view CloseShows
+
+-- the chart's marks are those of a run of these steps on this board: of each line that they give what it says, in order, and nothing else
+pub record ShowsRun (full : Bool) (Shows : CallerView → Result Closing CloseError → Type 0) (board : Board) (steps : List Step) (chart : Chart) : Type 0 where
   pub lines : List StepLine
-  pub follow : AreLinesOf steps lines
+  pub last : SessionView
+  pub made : Runs full Shows board steps lines last
   pub marks : map sign_of chart.marks.items ≡ run_signs steps lines
 
--- the chart shows a run of at most 2,000 steps
-pub record ShowsScript (chart : Chart) : Type 0 where
+-- the chart shows a run of at most 2,000 steps on some board, over channels of this kind
+pub record ShowsScript (kind : Kind) (chart : Chart) : Type 0 where
+  pub board : Board
   pub steps : List Step
   pub few : length steps ≤ 2000
-  pub shown : ShowsRun steps chart
+  pub shown : ShowsRun (may_be_full kind) (shows_close kind) board steps chart
 
 -- what is written is the picture of a run
 pub record IsPicture (old new : Option (List ℕ)) : Type 0 where
+  pub kind : Kind
   pub chart : Chart
-  pub shown : ShowsScript chart
+  pub shown : ShowsScript kind chart
   pub text : Appends old new (svg_text chart)

@@ -1,6 +1,7 @@
 //! A run, and its chart.
 ghost use Rattle.std.specs.Prelude.{◌≡◌, length, IfOk, IfErr};
 ghost use Rattle.std.specs.List.{All};
+ghost use Rattle.scmi_ends.specs.Shut.{ShowsClose};
 ghost use Rattle.scmi_text.specs.Step.{IsStepOf};
 ghost use Rattle.scmi_draw.specs.DrawError.{fault_of_plan, status_of};
 ghost use Rattle.scmi_draw.specs.Run.{ShowsRun, ShowsScript};
@@ -23,7 +24,7 @@ pub const STEPS: usize = 2_000;
 /// The chart of the run of a board and a script, over channels of this kind. `Board`, `Script`, `Size`
 /// and `Plan`, in this order, where the input is refused; `Memory` where memory is refused.
 pub fn chart_of(alloc: Global, kind: Kind, bytes: &[u8]) -> Result<Chart, DrawError>
-    ensures shown { IfOk result ShowsScript }
+    ensures shown { IfOk result (ShowsScript kind) }
 {
     let mut lines = Lines::new(bytes);
     let board = read_board(alloc, &mut lines)?;
@@ -60,7 +61,8 @@ fn step_through<C: Channel>(
     lines: &mut Lines<'_>,
 ) -> Result<Chart, DrawError>
     requires { All (IsStepOf (length plan.agents)) steps.now }
-    ensures { IfOk result (ShowsRun steps.now) }
+    ensures { IfOk result (ShowsRun C.FULL (ShowsClose C.caller_view C.close_shows) plan
+        steps.now) }
 {
     let mut session = Session::<C>::open(alloc, plan)?;
     let mut recorder = Recorder::new(alloc, board, session.core())?;

@@ -1,23 +1,31 @@
 -- The controller's ends go on keeping what ties them to the history.
-use Rattle.std.proofs.Common.{◌≡◌, inl, inr, ℕ, zero, suc, ◌+◌, ◌<◌, List, [], ◌∷◌, ◌++◌, length, map, get_or, set, arith, ◌∙◌, sym, ap, subst, refl, true, false, ◌||◌, Bool, Option, Some, None, Result, Ok, Err, OnErr, IfOk}
+use Rattle.std.proofs.Common.{◌≡◌, ◌≢◌, inl, inr, ℕ, zero, suc, ◌+◌, ◌<◌, List, [], ◌∷◌, ◌++◌, length, map, get_or, set, arith, ◌∙◌, sym, ap, subst, refl, true, false, ◌||◌, Bool, Option, Some, None, Result, Ok, Err, OnErr, IfOk}
 use Rattle.std.specs.Prelude.{is_some}
 use Rattle.std.specs.Option.{option_or}
 use Rattle.std.proofs.lemmas.List.{length-append, length-map, length-set, map-append, set-get_or, take-append-le, take_all}
 use Rattle.std.proofs.lemmas.Bool.{false≢true}
+use Rattle.scmi_codec.specs.declared.frame.Frame.{Frame}
 use Rattle.scmi_codec.specs.declared.frame.Frame.TheVariants.{Good}
-use Rattle.scmi_link.specs.View.{CallerView, CalleeView, Owes, callee_knows_close}
+use Rattle.scmi_codec.specs.declared.frame.Answer.{Answer}
+use Rattle.scmi_link.specs.View.{CallerView, CalleeView, Owes, callee_knows_close, one_more}
 use Rattle.scmi_link.specs.Calls.{Collects}
 use Rattle.scmi_link.specs.declared.collected.Collected.{Collected}
 use Rattle.scmi_link.specs.declared.collected.Collected.TheVariants as collected
 use Rattle.scmi_core.specs.declared.event.Event.{Event}
-use Rattle.scmi_core.specs.declared.event.Event.TheVariants.{Command, Advance, Sent}
+use Rattle.scmi_core.specs.declared.event.Event.TheVariants.{Command, Advance, Sent, CommandFailed, AdvanceFailed}
 use Rattle.scmi_core.specs.declared.core_error.CoreError.{CoreError}
 use Rattle.scmi_core.specs.Platform.{Platform}
 use Rattle.scmi_plan.specs.Board.{Board}
-use Rattle.scmi_core.specs.Agents.{frames_of}
-use Rattle.scmi_core.specs.History.{answer_to, delivered_messages}
+use Rattle.scmi_core.specs.Agents.{answers_to, frames_of}
+use Rattle.scmi_core.specs.History.{answer_of_event, answer_to, delivered_messages}
+use Rattle.scmi_core.specs.Outbox.{is_sent_by}
+use Rattle.scmi_core.specs.Reply.{failed_answer}
 use Rattle.scmi_core.specs.Legal.{IsLegal}
-use Rattle.scmi_core.proofs.Laws.{frames_own, frames_other, answers_own, answers_other, IsQuiet, advance, sent_to, frames_quiet, answers_quiet, delivered_kept, delivered_sent, delivered_other, as_many}
+use Rattle.scmi_core.specs.declared.effect.Effect.{Effect}
+use Rattle.scmi_core.specs.Driven.{HappensOn, HasMade, IsCommandOf, IsEnd}
+use Rattle.scmi_core.specs.Effect.{effects}
+use Rattle.scmi_core.proofs.EffectsMade.{made-on}
+use Rattle.scmi_core.proofs.Laws.{frames_failed_own, frames_failed_other, answers_failed_own, answers_failed_other, advance_failed, frames_own, frames_other, answers_own, answers_other, IsQuiet, advance, sent_to, frames_quiet, answers_quiet, delivered_kept, delivered_sent, delivered_other, as_many}
 use Rattle.scmi_ends.specs.declared.served.Served.{Served}
 use Rattle.scmi_ends.specs.declared.served.Served.TheVariants as served
 use Rattle.scmi_ends.specs.declared.flushed.Flushed.{Flushed}
@@ -27,6 +35,7 @@ use Rattle.scmi_ends.specs.declared.shut_error.ShutError.TheVariants as shut
 use Rattle.scmi_ends.specs.Each.{AllFrom}
 use Rattle.scmi_ends.specs.Agreement.{ExecutesNoneAfter, StayShut, IsServed, IsDelivered, EndsAgree}
 use Rattle.scmi_ends.specs.Serve.{ServesOne}
+use Rattle.scmi_ends.specs.ServeOn.{ServesOneOn}
 use Rattle.scmi_ends.specs.Flush.{FlushesOne, CollectsAndFlushes}
 use Rattle.scmi_link.specs.declared.closing.Closing.{Closing}
 use Rattle.scmi_link.specs.declared.close_error.CloseError.{CloseError}
@@ -120,32 +129,82 @@ module _ {D : Type 0} (f : D → CalleeView) (board : Board) (a i : ℕ) (ds : L
         none_after = from_set (ExecutesNoneAfter h) (ExecutesNoneAfter h) a (λ b p ne s. s) 1 i ps place e (noted h 1 i a ps e kept.shut.none_after) kept.shut.none_after;
       }) (ap (λ v. v.taken) c) (ap (λ v. v.answered) c)
 
+  -- an event is a frame of the agent, with this answer
+  agrees_frame : (event : Event) (frame : Frame) (answer : Answer) → IsLegal board (h ++ event ∷ []) → callee_knows_close (f x) ≡ false
+      → f d ≡ record (f x) { taken = (f x).taken ++ frame ∷ []; answered = (f x).answered ++ answer ∷ []; takes = one_more (f x).takes }
+      → frames_of a (h ++ event ∷ []) ≡ frames_of a h ++ frame ∷ [] → answers_to board a (h ++ event ∷ []) ≡ answers_to board a h ++ answer ∷ []
+      → ((b : ℕ) → b ≢ a → frames_of b (h ++ event ∷ []) ≡ frames_of b h) → ((b : ℕ) → b ≢ a → answers_to board b (h ++ event ∷ []) ≡ answers_to board b h)
+      → ((b : ℕ) → is_sent_by b event ≡ false) → EndsAgree board (h ++ event ∷ []) (map f (set ds i d)) cs ps
+  agrees_frame event frame answer legal unclosed end own_frames own_answers other_frames other_answers unsent =
+      let mine = from_at (IsServed board h) f 1 i a ds x lt e is kept.served in
+      let none = no_place (open_before (f x) unclosed) in
+      record {
+        legal = legal;
+        callees_count = count_set f ds i d ∙ kept.callees_count;
+        callers_count = kept.callers_count;
+        closed_at_count = kept.closed_at_count;
+        shut = record {
+          places = same_places (ap (λ w. w.closed) end);
+          none_after = subst (AllFrom (ExecutesNoneAfter (h ++ event ∷ [])) 1) (ap (set ps i) (sym none) ∙ set-get_or ps i None) (from_set (ExecutesNoneAfter h) (ExecutesNoneAfter (h ++ event ∷ [])) a
+              (λ b p ne t. none_more h event b p (other_frames b ne) t) 1 i ps None e tt kept.shut.none_after);
+        };
+        served = rw (map_at_set f ds i d) (from_set (IsServed board h) (IsServed board (h ++ event ∷ [])) a
+            (λ b v ne t. record { taken = t.taken ∙ sym (other_frames b ne); answered = t.answered ∙ sym (other_answers b ne) }) 1 i (map f ds) (f d) e
+            (record {
+              taken = ap (λ w. w.taken) end ∙ ap (λ fs. fs ++ frame ∷ []) mine.taken ∙ sym own_frames;
+              answered = ap (λ w. w.answered) end ∙ ap (λ xs. xs ++ answer ∷ []) mine.answered ∙ sym own_answers;
+            }) kept.served);
+        delivers = from_all (IsDelivered board h) (IsDelivered board (h ++ event ∷ [])) (λ b v t. t ∙ ap (map Good) (sym (delivered_kept board b h event kept.legal (unsent b)))) 1 cs kept.delivers;
+      }
+
+  -- a command of the agent
+  agrees_command : (frame : Frame) → IsLegal board (h ++ Command a frame ∷ []) → callee_knows_close (f x) ≡ false
+      → f d ≡ record (f x) { taken = (f x).taken ++ frame ∷ []; answered = (f x).answered ++ answer_to board a frame h ∷ []; takes = one_more (f x).takes }
+      → EndsAgree board (h ++ Command a frame ∷ []) (map f (set ds i d)) cs ps
+  agrees_command frame legal unclosed end =
+      agrees_frame (Command a frame) frame (answer_to board a frame h) legal unclosed end (frames_own a h frame) (answers_own board a h frame)
+      (λ b ne. frames_other b a h frame ne) (λ b ne. answers_other board b a h frame ne) (λ b. refl)
+
+  -- one that failed
+  agrees_failed : (frame : Frame) → IsLegal board (h ++ CommandFailed a frame ∷ []) → callee_knows_close (f x) ≡ false
+      → f d ≡ record (f x) { taken = (f x).taken ++ frame ∷ []; answered = (f x).answered ++ failed_answer frame ∷ []; takes = one_more (f x).takes }
+      → EndsAgree board (h ++ CommandFailed a frame ∷ []) (map f (set ds i d)) cs ps
+  agrees_failed frame legal unclosed end =
+      agrees_frame (CommandFailed a frame) frame (failed_answer frame) legal unclosed end (frames_failed_own a h frame) (answers_failed_own board a h frame)
+      (λ b ne. frames_failed_other b a h frame ne) (λ b ne. answers_failed_other board b a h frame ne) (λ b. refl)
+
   -- an agent is served
   pub agrees_serve : (h' : List Event) (r : Served) → IsLegal board h' → ServesOne board a h (f x) r h' (f d) → EndsAgree board h' (map f (set ds i d)) cs ps
   agrees_serve h' served.Nothing legal s =
       subst (λ k. EndsAgree board k (map f (set ds i d)) cs ps) (sym s.0) (agrees_callee (ap (λ w. w.closed) s.1.same) (ap (λ w. w.taken) s.1.same) (ap (λ w. w.answered) s.1.same))
   agrees_serve h' served.Done legal s =
-      let frame = s.frame in
-      let mine = from_at (IsServed board h) f 1 i a ds x lt e is kept.served in
-      let none = no_place (open_before (f x) s.unclosed) in
-      subst (λ k. EndsAgree board k (map f (set ds i d)) cs ps) (sym s.event) (record {
-        legal = subst (λ k. IsLegal board k) s.event legal;
-        callees_count = count_set f ds i d ∙ kept.callees_count;
-        callers_count = kept.callers_count;
-        closed_at_count = kept.closed_at_count;
-        shut = record {
-          places = same_places (ap (λ w. w.closed) s.end);
-          none_after = subst (AllFrom (ExecutesNoneAfter (h ++ Command a frame ∷ [])) 1) (ap (set ps i) (sym none) ∙ set-get_or ps i None) (from_set (ExecutesNoneAfter h) (ExecutesNoneAfter (h ++ Command a frame ∷ [])) a
-              (λ b p ne t. none_more h (Command a frame) b p (frames_other b a h frame ne) t) 1 i ps None e tt kept.shut.none_after);
-        };
-        served = rw (map_at_set f ds i d) (from_set (IsServed board h) (IsServed board (h ++ Command a frame ∷ [])) a
-            (λ b v ne t. record { taken = t.taken ∙ sym (frames_other b a h frame ne); answered = t.answered ∙ sym (answers_other board b a h frame ne) }) 1 i (map f ds) (f d) e
-            (record {
-              taken = ap (λ w. w.taken) s.end ∙ ap (λ fs. fs ++ frame ∷ []) mine.taken ∙ sym (frames_own a h frame);
-              answered = ap (λ w. w.answered) s.end ∙ ap (λ xs. xs ++ answer_to board a frame h ∷ []) mine.answered ∙ sym (answers_own board a h frame);
-            }) kept.served);
-        delivers = from_all (IsDelivered board h) (IsDelivered board (h ++ Command a frame ∷ [])) (λ b v t. t ∙ ap (map Good) (sym (delivered_kept board b h (Command a frame) kept.legal refl))) 1 cs kept.delivers;
-      })
+      subst (λ k. EndsAgree board k (map f (set ds i d)) cs ps) (sym s.event)
+      (agrees_command s.frame (subst (λ k. IsLegal board k) s.event legal) s.unclosed s.end)
+
+  -- and beside the hardware
+  pub agrees_serve_on : (h' : List Event) (applied applied' : List Effect) (r : Served) → IsLegal board h' → ServesOneOn board a h applied (f x) r h' applied' (f d) → EndsAgree board h' (map f (set ds i d)) cs ps
+  agrees_serve_on h' applied applied' served.Nothing legal s =
+      subst (λ k. EndsAgree board k (map f (set ds i d)) cs ps) (sym s.0) (agrees_callee (ap (λ w. w.closed) s.2.same) (ap (λ w. w.taken) s.2.same) (ap (λ w. w.answered) s.2.same))
+  agrees_serve_on h' applied applied' served.Done legal s =
+      subst (λ k. EndsAgree board k (map f (set ds i d)) cs ps) (sym s.executes.happens.history)
+      (by s.executes.happens.event s.executes.happens.is_one s.executes.answer (subst (λ k. IsLegal board k) s.executes.happens.history legal)) where
+        with_answer : (y : Answer) → Some y ≡ Some s.answer
+            → f d ≡ record (f x) { taken = (f x).taken ++ s.frame ∷ []; answered = (f x).answered ++ y ∷ []; takes = one_more (f x).takes }
+        with_answer y same = let is : y ≡ s.answer = cc in s.end ∙ ap (λ z. record (f x) { taken = (f x).taken ++ s.frame ∷ []; answered = (f x).answered ++ z ∷ []; takes = one_more (f x).takes }) (sym is)
+
+        by : (event : Event) → IsCommandOf a s.frame event → answer_of_event board h event ≡ Some s.answer → IsLegal board (h ++ event ∷ []) → EndsAgree board (h ++ event ∷ []) (map f (set ds i d)) cs ps
+        by event (inl is) answered l =
+            subst (λ v. EndsAgree board (h ++ v ∷ []) (map f (set ds i d)) cs ps) (sym is)
+            (agrees_command s.frame (subst (λ v. IsLegal board (h ++ v ∷ [])) is l) s.unclosed (with_answer (answer_to board a s.frame h) (subst (λ v. answer_of_event board h v ≡ Some s.answer) is answered)))
+        by event (inr is) answered l =
+            subst (λ v. EndsAgree board (h ++ v ∷ []) (map f (set ds i d)) cs ps) (sym is)
+            (agrees_failed s.frame (subst (λ v. IsLegal board (h ++ v ∷ [])) is l) s.unclosed (with_answer (failed_answer s.frame) (subst (λ v. answer_of_event board h v ≡ Some s.answer) is answered)))
+
+-- hardware that has made the effects of the history goes on having made them
+pub made_serve : (board : Board) (a : ℕ) (h h' : List Event) (applied applied' before : List Effect) (old new : CalleeView) (r : Served) → ServesOneOn board a h applied old r h' applied' new
+    → HasMade before board h applied → HasMade before board h' applied'
+made_serve board a h h' applied applied' before old new served.Nothing s made = s.1 ∙ made ∙ ap (λ k. before ++ effects board k) (sym s.0)
+made_serve board a h h' applied applied' before old new served.Done s made = made-on board (IsCommandOf a s.frame) h h' applied applied' before s.executes.happens made
 
 -- ADVANCE
 
@@ -160,6 +219,30 @@ agrees_advance board h vs cs ps kept legal = record {
   served = from_all (IsServed board h) (IsServed board (h ++ Advance ∷ [])) (served_quiet board h Advance advance) 1 vs kept.served;
   delivers = from_all (IsDelivered board h) (IsDelivered board (h ++ Advance ∷ [])) (λ b v t. t ∙ ap (map Good) (sym (delivered_kept board b h Advance kept.legal refl))) 1 cs kept.delivers;
 }
+
+-- a set ends, which completes or fails
+agrees_end_of : (board : Board) (h : List Event) (event : Event) (vs : List CalleeView) (cs : List CallerView) (ps : List (Option ℕ)) → IsEnd event → EndsAgree board h vs cs ps → IsLegal board (h ++ event ∷ []) → EndsAgree board (h ++ event ∷ []) vs cs ps
+agrees_end_of board h event vs cs ps (inl is) kept legal =
+    subst (λ v. EndsAgree board (h ++ v ∷ []) vs cs ps) (sym is) (agrees_advance board h vs cs ps kept (subst (λ v. IsLegal board (h ++ v ∷ [])) is legal))
+agrees_end_of board h event vs cs ps (inr is) kept legal =
+    subst (λ v. EndsAgree board (h ++ v ∷ []) vs cs ps) (sym is) (record {
+      legal = subst (λ v. IsLegal board (h ++ v ∷ [])) is legal;
+      callees_count = kept.callees_count;
+      callers_count = kept.callers_count;
+      closed_at_count = kept.closed_at_count;
+      shut = shut_quiet h AdvanceFailed advance_failed vs ps kept.shut;
+      served = from_all (IsServed board h) (IsServed board (h ++ AdvanceFailed ∷ [])) (served_quiet board h AdvanceFailed advance_failed) 1 vs kept.served;
+      delivers = from_all (IsDelivered board h) (IsDelivered board (h ++ AdvanceFailed ∷ [])) (λ b v t. t ∙ ap (map Good) (sym (delivered_kept board b h AdvanceFailed kept.legal refl))) 1 cs kept.delivers;
+    })
+
+-- what `Core::advance_on` leaves, whatever it answers
+pub agrees_after_on : (old new : Platform) (applied applied' : List Effect) (vs : List CalleeView) (cs : List CallerView) (ps : List (Option ℕ)) (r : Result Bool CoreError) → EndsAgree old.board old.history vs cs ps → new.board ≡ old.board → IsLegal new.board new.history
+    → IfOk r (λ did. did ≡ true → HappensOn old.board IsEnd old.history applied new.history applied') → IfOk r (λ did. did ≡ false → new ≡ old) → OnErr r (new ≡ old) → EndsAgree new.board new.history vs cs ps
+agrees_after_on old new applied applied' vs cs ps (Ok true) kept eb legal event same err =
+    let happens = event refl in
+    rw eb (subst (λ k. EndsAgree old.board k vs cs ps) (sym happens.history) (agrees_end_of old.board old.history happens.event vs cs ps happens.is_one kept (subst (λ k. IsLegal old.board k) happens.history (rw eb at legal))))
+agrees_after_on old new applied applied' vs cs ps (Ok false) kept eb legal event same err = subst (λ p. EndsAgree p.board p.history vs cs ps) (sym (same refl)) kept
+agrees_after_on old new applied applied' vs cs ps (Err e) kept eb legal event same err = subst (λ p. EndsAgree p.board p.history vs cs ps) (sym err) kept
 
 -- what `Core::advance` leaves, whatever it answers
 pub agrees_after : (old new : Platform) (vs : List CalleeView) (cs : List CallerView) (ps : List (Option ℕ)) (r : Result Bool CoreError) → EndsAgree old.board old.history vs cs ps → new.board ≡ old.board → IsLegal new.board new.history

@@ -5,6 +5,7 @@ pub mod Links
 pub mod Agreement
 pub mod Poll
 pub mod Serve
+pub mod ServeOn
 pub mod Flush
 pub mod Shut
 pub mod Headline

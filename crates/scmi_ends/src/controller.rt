@@ -1,8 +1,10 @@
 //! The platform's side of all agents' channels.
-ghost use Rattle.std.specs.Prelude.{◌≡◌, ◌≢◌, ◌<◌, ◌++◌, ◌∷◌, ◌↔◌, [], true, false, length, map, IfOk, OnOk, OnErr, IfErr, IsTrue};
+ghost use Rattle.std.specs.Prelude.{◌≡◌, ◌≢◌, ◌<◌, ◌++◌, ◌∷◌, ◌↔◌, [], List, true, false, length, map, IfOk, OnOk, OnErr, IfErr, IsTrue};
 ghost use Rattle.scmi_plan.specs.Agent.{IsAgent, IsNoAgent};
 ghost use Rattle.scmi_core.specs.History.{deeds};
+ghost use Rattle.scmi_core.specs.Driven.{HappensOn, HasMade, IsEnd};
 ghost use Rattle.scmi_core.specs.Pending.{pending_sets};
+ghost use Rattle.scmi_core.specs.declared.effect.Effect.{Effect};
 ghost use Rattle.scmi_core.specs.declared.event.Event.TheVariants as event;
 
 use crate::buffers::Buffers;
@@ -11,10 +13,11 @@ use crate::flushed::Flushed;
 use crate::link::Link;
 use crate::serve::serve_one;
 use crate::serve_error::ServeError;
+use crate::serve_on::serve_one_on;
 use crate::served::Served;
 use crate::shut::shut_one;
 use crate::shut_error::ShutError;
-use scmi_core::Core;
+use scmi_core::{Core, Hardware};
 use scmi_link::Channel;
 use std::marker::Model;
 
@@ -65,6 +68,7 @@ impl<C: Channel> Controller<C> {
     ghost use Rattle.scmi_ends.specs.Links.{HasLinks};
     ghost use Rattle.scmi_ends.specs.Agreement.{IsInStep};
     ghost use Rattle.scmi_ends.specs.Serve.{Serves};
+    ghost use Rattle.scmi_ends.specs.ServeOn.{ServesOn};
     ghost use Rattle.scmi_ends.specs.Flush.{Flushes};
     ghost use Rattle.scmi_ends.specs.Shut.{Shuts, ShowsClose};
 
@@ -104,6 +108,74 @@ impl<C: Channel> Controller<C> {
             agent,
             &mut self.buffers,
         ))
+    }
+
+    /// As `serve`, beside the hardware: what the command changes of it is made first, and where the
+    /// hardware refuses that the command has failed, and its reply is HARDWARE_ERROR. The hardware is
+    /// not asked where the call is refused.
+    pub fn serve_on<H: Hardware>(
+        &mut self,
+        links: &[Link<C>],
+        agent: u32,
+        hardware: &mut H,
+    ) -> Result<Served, ServeError>
+        requires { HasLinks C.identity links.now self.old }
+        ensures links { HasLinks C.identity links.now self.new }
+        ensures agrees { IsInStep self.new }
+        ensures board { self.new.board ≡ self.old.board }
+        ensures serves { IfOk result (λ served.
+            ServesOn agent self.old (H.applied hardware.old) served
+            self.new (H.applied hardware.new)) }
+        ensures made { (before : List Effect)
+            → HasMade before self.old.board self.old.history (H.applied hardware.old)
+            → HasMade before self.new.board self.new.history (H.applied hardware.new) }
+        ensures closed { callee_knows_close (callee_of self.old agent) ≡ true →
+            result ≢ Ok Served.Done }
+        ensures no_agent { (result ≡ Err ServeError.NoAgent) ↔
+            IsNoAgent (length self.old.board.agents) agent }
+        ensures err { OnErr result (self.new ≡ self.old) }
+        ensures unasked { OnErr result (H.applied hardware.new ≡ H.applied hardware.old) }
+    {
+        reserve_for(&mut self.core, agent)?;
+        let index = agent as usize - 1;
+        Ok(serve_one_on(
+            &mut self.core,
+            hardware,
+            &links[index].a2p,
+            &mut self.callees[index],
+            agent,
+            &mut self.buffers,
+        ))
+    }
+
+    /// As `advance`, beside the hardware: what the completion changes of it is made first, and where
+    /// the hardware refuses that the set ends as failed. The hardware is not asked where the call is
+    /// refused.
+    pub fn advance_on<H: Hardware>(&mut self, hardware: &mut H) -> Result<bool, ServeError>
+        ensures agrees { IsInStep self.new }
+        ensures board { self.new.board ≡ self.old.board }
+        ensures pending { IfOk result (λ did.
+            IsTrue did ↔
+            (0 < length (pending_sets self.old.board (deeds self.old.board self.old.history)))) }
+        ensures happens { IfOk result (λ did.
+            IsTrue did →
+            HappensOn self.old.board IsEnd self.old.history (H.applied hardware.old)
+            self.new.history (H.applied hardware.new)) }
+        ensures rest { self.new ≡ record self.old { history = self.new.history } }
+        ensures made { (before : List Effect)
+            → HasMade before self.old.board self.old.history (H.applied hardware.old)
+            → HasMade before self.new.board self.new.history (H.applied hardware.new) }
+        ensures same { IfOk result (λ did. ¬ (IsTrue did) → self.new ≡ self.old) }
+        ensures err { OnErr result (self.new ≡ self.old) }
+        ensures unasked { OnErr result (H.applied hardware.new ≡ H.applied hardware.old) }
+        ensures memory { IfErr result (λ error.
+            (error ≡ ServeError.Memory) ×
+            (pending_sets self.old.board (deeds self.old.board self.old.history) ≢ [])) }
+    {
+        match self.core.advance_on(hardware) {
+            Ok(ended) => Ok(ended),
+            Err(_error) => Err(ServeError::Memory),
+        }
     }
 
     /// Completes the first pending set and adds that to the history (own); `Ok(false)` where

@@ -18,6 +18,7 @@ mod pause;
 mod retire;
 mod serve;
 mod serve_error;
+mod serve_on;
 mod served;
 mod shut;
 mod shut_error;

@@ -44,7 +44,7 @@ pub(crate) fn serve_one<C: Channel>(
 // Answers a frame that was malformed. A function clears its locals at its entry, so the answer is
 // none of those of `serve_one`.
 #[inline(never)]
-fn answer_malformed<C: Channel>(a2p: &C, callee: &mut C::Callee)
+pub(crate) fn answer_malformed<C: Channel>(a2p: &C, callee: &mut C::Callee)
     requires identity { C.callee_identity callee.old ≡ C.identity a2p.now }
     requires owes { Owes (C.callee_view callee.old) }
     ensures identity { C.callee_identity callee.new ≡ C.callee_identity callee.old }

@@ -1,7 +1,6 @@
 -- The replies of the power domain protocol (DEN0056B, power domain management protocol), 0x11.
 use Rattle.std.specs.Prelude.{ℕ, ◌+◌, ◌==◌, ◌&&◌, ◌||◌, Bool, not, nat_le, if◌then◌else◌, List, [], ◌∷◌, length}
-use Rattle.scmi_codec.specs.Row.{is_listed}
-use Rattle.scmi_codec.specs.PowerCommand.{power_table}
+use Rattle.scmi_codec.specs.Listing.{is_listed}
 use Rattle.scmi_codec.specs.declared.power_command.PowerCommand.{PowerCommand}
 use Rattle.scmi_codec.specs.declared.power_command.PowerCommand.TheVariants as power
 use Rattle.scmi_codec.specs.declared.status.Status.TheVariants.{NotFound, InvalidParameters, NotSupported, Denied, Busy}
@@ -55,7 +54,7 @@ has_kind row flags = supports row (bit_0 flags)
 
 -- the reply to 0x2: an id of the protocol's table is supported, with no attributes
 abbrev pub message_reply : ℕ → List ℕ
-message_reply message = reply_unless ((not (is_listed power_table message), NotFound) ∷ []) (0 ∷ 0 ∷ [])
+message_reply message = reply_unless ((not (is_listed 0x11 message), NotFound) ∷ []) (0 ∷ 0 ∷ [])
 
 -- the reply to 0x3: a domain's attributes and name
 abbrev pub domain_reply : Board → ℕ → List ℕ

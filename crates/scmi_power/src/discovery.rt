@@ -4,7 +4,9 @@ ghost use Rattle.scmi_power.specs.PowerReply.{message_reply, domain_reply};
 
 use crate::checks::check_domain;
 use crate::domain_attributes::attributes_of;
-use scmi_codec::{Payload, SUCCESS, Status, name_words, set_payload, set_refusal};
+use scmi_codec::{
+    POWER_PROTOCOL, Payload, SUCCESS, Status, is_listed, name_words, set_payload, set_refusal,
+};
 use scmi_plan::Plan;
 
 /// The version of the power domain protocol: major 2, minor 0.
@@ -40,9 +42,10 @@ pub(crate) fn attributes(plan: &Plan, reply: &mut Payload)
 pub(crate) fn message_attributes(message: u32, reply: &mut Payload)
     ensures { reply.new.items ≡ message_reply message }
 {
-    match message {
-        0x0..=0x6 => set_payload(reply, &[SUCCESS, 0]),
-        _ => set_refusal(reply, Status::NotFound),
+    if is_listed(POWER_PROTOCOL, message) {
+        set_payload(reply, &[SUCCESS, 0]);
+    } else {
+        set_refusal(reply, Status::NotFound);
     }
 }
 

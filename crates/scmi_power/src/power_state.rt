@@ -150,6 +150,36 @@ impl PowerState {
         self.states[domain as usize]
     }
 
+    /// The domain and state that a command of a caller sets at once, as `execute` does; `None` where
+    /// it sets none, or is refused.
+    #[tactic(auto, unfolding(crate::specs::PowerReply::power_reply))]
+    pub fn change_of(
+        &self,
+        plan: &Plan,
+        base: &BaseState,
+        caller: u32,
+        command: PowerCommand,
+        load: Load,
+    ) -> Option<(u32, u32)>
+        requires first { 1 ≤ caller }
+        requires last { caller ≤ length plan.now.agents }
+        ensures { result ≡ if_success
+            (power_reply plan.now (view_of plan.now base.now self.now load caller) command)
+            (set_now command) }
+    {
+        match command {
+            PowerCommand::Set {
+                flags,
+                domain,
+                state,
+            } => match check_set(plan, base, caller, flags, domain, state, load) {
+                Ok(false) => Some((domain, state)),
+                _ => None,
+            },
+            _ => None,
+        }
+    }
+
     /// 0x4: sets a domain's state, now or later.
     fn set(
         &mut self,

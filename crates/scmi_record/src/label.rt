@@ -2,8 +2,9 @@
 use crate::board_names::{agent_name, clock_name, domain_name};
 use crate::words::{hex_words, name_words, numbered_word, rate_words, state_words, switch_word};
 use scmi_chart::Label;
+use scmi_codec::message_name;
 use scmi_plan::RawPlan;
-use scmi_say::{Field, message_name, protocol_name};
+use scmi_say::{Field, protocol_name};
 use std::alloc::{AllocError, Global};
 
 /// A label of a name alone.

@@ -1,5 +1,5 @@
 -- What is written of a run.
-use Rattle.std.proofs.Common.{◌≡◌, ℕ, ◌+◌, ◌<◌, ◌≤◌, List, [], ◌∷◌, ◌++◌, length, take, drop, get_or, Option, Some, None, Result, Ok, Err, refl, sym, ap, ◌∙◌, subst, arith, append_assoc}
+use Rattle.std.proofs.Common.{◌≡◌, ℕ, Bool, ◌+◌, ◌<◌, ◌≤◌, List, [], ◌∷◌, ◌++◌, length, take, drop, get_or, Option, Some, None, Result, Ok, Err, refl, sym, ap, ◌∙◌, subst, arith, append_assoc}
 use Rattle.std.specs.List.{All, flat_map}
 use Rattle.std.specs.Prelude.{OnOk}
 use Rattle.std.specs.Io.KnownBytes.{Appends}
@@ -13,8 +13,14 @@ use Rattle.scmi_text.specs.declared.step.Step.{Step}
 use Rattle.scmi_text.specs.declared.step_line.StepLine.{StepLine}
 use Rattle.scmi_text.specs.declared.step_line.StepLine.TheVariants.{Trace}
 use Rattle.scmi_run.specs.Runs.{logs_text}
-use Rattle.scmi_session.proofs.Lines.{follow_more}
-use Rattle.scmi_session.specs.StepLines.{AreLinesOf, IsLineOf}
+use Rattle.scmi_link.specs.View.{CallerView}
+use Rattle.scmi_link.specs.declared.closing.Closing.{Closing}
+use Rattle.scmi_link.specs.declared.close_error.CloseError.{CloseError}
+use Rattle.scmi_plan.specs.Board.{Board}
+use Rattle.scmi_session.proofs.Runs.{runs_none, runs_more}
+use Rattle.scmi_session.specs.SessionView.{SessionView}
+use Rattle.scmi_session.specs.Steps.{Steps}
+use Rattle.scmi_session.specs.Run.{Runs, IsNewSession, IsGathered}
 use Rattle.scmi_run.specs.Steps.{AreStepLines, IsTextOfSteps}
 
 pub nothing_written : (old : Option (List ℕ)) → Appends old old []
@@ -56,43 +62,46 @@ on_ok P Q (Err e) p f = tt
 
 -- the lines of steps
 
--- one line was written for each of these steps
-pub record SoFar (steps : List Step) (old new : Option (List ℕ)) : Type 0 where
-  pub lines : List StepLine
-  pub follow : AreLinesOf steps lines
-  pub text : Appends old new (flat_map step_text lines)
-
-pub no_step : (a : Option (List ℕ)) → SoFar [] a a
-no_step a = record { lines = []; follow = tt; text = nothing_written a }
-
 lines_more : (lines : List StepLine) (line : StepLine) → flat_map step_text (lines ++ line ∷ []) ≡ flat_map step_text lines ++ step_text line
 lines_more [] line = append-nil (step_text line)
 lines_more (x ∷ lines) line = ap (λ ys. step_text x ++ ys) (lines_more lines line) ∙ sym (append_assoc (step_text x) (flat_map step_text lines) (step_text line))
 
-pub step_more : (steps : List Step) (i : ℕ) (s : Step) (a b c : Option (List ℕ)) (line : StepLine) → i < length steps → s ≡ get_or steps i s → SoFar (take i steps) a b → IsLineOf s line → Appends b c (step_text line) → SoFar (take (i + 1) steps) a c
-step_more steps i s a b c line below is so_far one more =
-    let taken : take i steps ++ s ∷ [] ≡ take (i + 1) steps = ap (λ x. take i steps ++ x ∷ []) is ∙ sym (take_more steps i s below) in record {
-      lines = so_far.lines ++ line ∷ [];
-      follow = subst (λ ts. AreLinesOf ts (so_far.lines ++ line ∷ [])) taken (follow_more (take i steps) so_far.lines s line so_far.follow one);
-      text = subst (Appends a c) (sym (lines_more so_far.lines line)) (written_then a b c (flat_map step_text so_far.lines) (step_text line) so_far.text more);
-    }
+module _ (full : Bool) (Shows : CallerView → Result Closing CloseError → Type 0) (board : Board) where
+  -- the line of each of these steps was written, and they left this
+  pub record SoFar (steps : List Step) (session : SessionView) (old new : Option (List ℕ)) : Type 0 where
+    pub lines : List StepLine
+    pub made : Runs full Shows board steps lines session
+    pub text : Appends old new (flat_map step_text lines)
 
--- the lines so far are those of the first steps
-pub first_steps : (steps : List Step) (i : ℕ) (a b : Option (List ℕ)) → SoFar (take i steps) a b → AreStepLines steps a b
-first_steps steps i a b so_far = record {
-  done = take i steps;
-  left = drop i steps;
-  parted = take-append-drop i steps;
-  lines = so_far.lines;
-  follow = so_far.follow;
-  text = so_far.text;
-}
+  pub no_step : (session : SessionView) (a : Option (List ℕ)) → IsNewSession board session → SoFar [] session a a
+  no_step session a new = record { lines = []; made = runs_none full Shows board session new; text = nothing_written a }
 
-pub all_steps : {E : Type 0} (r : Result Unit E) (steps : List Step) (i : ℕ) (a b c : Option (List ℕ)) (events : ℕ) → length steps ≤ i → SoFar (take i steps) a b → OnOk r (Appends b c (step_text (Trace events))) → OnOk r (IsTextOfSteps steps a c)
-all_steps (Err e) steps i a b c events all so_far last = tt
-all_steps (Ok x) steps i a b c events all so_far last = record {
-  lines = so_far.lines;
-  events = events;
-  follow = subst (λ ts. AreLinesOf ts so_far.lines) (take_all i steps all) so_far.follow;
-  text = written_then a b c (flat_map step_text so_far.lines) (step_text (Trace events)) so_far.text last;
-}
+  pub step_more : (steps : List Step) (i : ℕ) (s : Step) (mid new : SessionView) (a b c : Option (List ℕ)) (line : StepLine) → i < length steps → s ≡ get_or steps i s → SoFar (take i steps) mid a b → Steps full Shows s line mid new → Appends b c (step_text line) → SoFar (take (i + 1) steps) new a c
+  step_more steps i s mid new a b c line below is so_far one more =
+      let taken : take i steps ++ s ∷ [] ≡ take (i + 1) steps = ap (λ x. take i steps ++ x ∷ []) is ∙ sym (take_more steps i s below) in record {
+        lines = so_far.lines ++ line ∷ [];
+        made = subst (λ ts. Runs full Shows board ts (so_far.lines ++ line ∷ []) new) taken (runs_more full Shows board (take i steps) so_far.lines s line mid new so_far.made one);
+        text = subst (Appends a c) (sym (lines_more so_far.lines line)) (written_then a b c (flat_map step_text so_far.lines) (step_text line) so_far.text more);
+      }
+
+  -- the lines so far are those of the first steps
+  pub first_steps : (steps : List Step) (i : ℕ) (session : SessionView) (a b : Option (List ℕ)) → SoFar (take i steps) session a b → AreStepLines full Shows board steps a b
+  first_steps steps i session a b so_far = record {
+    done = take i steps;
+    left = drop i steps;
+    parted = take-append-drop i steps;
+    lines = so_far.lines;
+    last = session;
+    made = so_far.made;
+    text = so_far.text;
+  }
+
+  pub all_steps : {E : Type 0} (r : Result Unit E) (steps : List Step) (i : ℕ) (session : SessionView) (a b c : Option (List ℕ)) (events : ℕ) → length steps ≤ i → SoFar (take i steps) session a b → IsGathered session → events ≡ length session.platform.history → OnOk r (Appends b c (step_text (Trace events))) → OnOk r (IsTextOfSteps full Shows board steps a c)
+  all_steps (Err e) steps i session a b c events all so_far gathered is last = tt
+  all_steps (Ok x) steps i session a b c events all so_far gathered is last = record {
+    lines = so_far.lines;
+    last = session;
+    made = subst (λ ts. Runs full Shows board ts so_far.lines session) (take_all i steps all) so_far.made;
+    gathered = gathered;
+    text = written_then a b c (flat_map step_text so_far.lines) (step_text (Trace (length session.platform.history))) so_far.text (subst (λ n. Appends b c (step_text (Trace n))) is last);
+  }

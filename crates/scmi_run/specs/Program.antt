@@ -4,8 +4,9 @@ use Rattle.scmi_input.specs.Lines.{first_line, after_line}
 use Rattle.scmi_run.specs.Mode.{text_of}
 use Rattle.scmi_run.specs.Once.{IsAnswerTo}
 use Rattle.scmi_run.specs.Runs.{IsTextOfRun, may_be_full}
+use Rattle.scmi_run.specs.Steps.{WritesSteps}
 use Rattle.scmi_run.specs.declared.kind.Kind.{Kind}
-use Rattle.scmi_run.specs.declared.mode.Mode.TheVariants.{Once, Threads}
+use Rattle.scmi_run.specs.declared.mode.Mode.TheVariants.{Once, Steps, Threads}
 
 -- where the first line names the mode `once`, what is written is the answer to what stands behind it
 abbrev pub AnswersOnce : Option (List ℕ) → Option (List ℕ) → Option (List ℕ) → Type 0
@@ -15,3 +16,8 @@ AnswersOnce known old new = IfSome known (λ input. first_line input ≡ text_of
 abbrev pub RunsThreads : Option (List ℕ) → Option (List ℕ) → Option (List ℕ) → Type 0
 RunsThreads known old new =
     IfSome known (λ input. (kind : Kind) → first_line input ≡ text_of (Threads kind) → IsTextOfRun (may_be_full kind) old new)
+
+-- where the first line names a mode `steps`, what is written is the text of all steps of a script on some board
+abbrev pub RunsSteps : Option (List ℕ) → Option (List ℕ) → Option (List ℕ) → Type 0
+RunsSteps known old new =
+    IfSome known (λ input. (kind : Kind) → first_line input ≡ text_of (Steps kind) → WritesSteps kind old new)

@@ -2,10 +2,11 @@
 ghost use Rattle.std.specs.Prelude.{◌≡◌, ◌≤◌, ◌+◌, ◌*◌, IfErr, IfSome, OnOk};
 ghost use Rattle.scmi_input.specs.declared.input.TheConstants.{INPUT_BYTES};
 ghost use Rattle.scmi_run.specs.Once.{IsAnswerTo};
-ghost use Rattle.scmi_run.specs.Program.{AnswersOnce, RunsThreads};
+ghost use Rattle.scmi_run.specs.Program.{AnswersOnce, RunsSteps, RunsThreads};
 ghost use Rattle.scmi_run.specs.Reads.{StopsAtFailure};
 ghost use Rattle.scmi_run.specs.RunError.{status_of};
 ghost use Rattle.scmi_run.specs.Runs.{IsTextOfRun, may_be_full};
+ghost use Rattle.scmi_run.specs.Steps.{WritesSteps};
 ghost use Rattle.scmi_run.specs.declared.kind.Kind.{Kind as KindOf};
 
 use crate::mode::Mode;
@@ -33,6 +34,8 @@ pub fn run_program<T: Threads + Wait + Sync, G: Gate, R: Read, W: Write>(
         AnswersOnce (R.remaining reader.old) (W.contents writer.old) (W.contents writer.new) }
     ensures text { result ≡ 0 →
         RunsThreads (R.remaining reader.old) (W.contents writer.old) (W.contents writer.new) }
+    ensures steps { result ≡ 0 →
+        RunsSteps (R.remaining reader.old) (W.contents writer.old) (W.contents writer.new) }
 {
     let mut input = Input::new(CountedReader::new(reader));
     run_input(rt, alloc, gate, &mut input, writer)
@@ -51,6 +54,8 @@ pub fn run_input<T: Threads + Wait + Sync, G: Gate, R: CountedRead + Drop, W: Wr
         AnswersOnce input.old.left (W.contents writer.old) (W.contents writer.new) }
     ensures text { result ≡ 0 →
         RunsThreads input.old.left (W.contents writer.old) (W.contents writer.new) }
+    ensures steps { result ≡ 0 →
+        RunsSteps input.old.left (W.contents writer.old) (W.contents writer.new) }
     ensures reads { input.new.reads ≤ input.old.reads + 2 * (INPUT_BYTES + 1) }
     ensures stops { input.old.since_failure ≡ 0 → input.new.since_failure ≤ 1 }
 {
@@ -75,6 +80,8 @@ fn run_mode<T: Threads + Wait + Sync, G: Gate, R: CountedRead + Drop, W: Write>(
         (AnswersOnce input.old.left (W.contents writer.old) (W.contents writer.new)) }
     ensures text { OnOk result
         (RunsThreads input.old.left (W.contents writer.old) (W.contents writer.new)) }
+    ensures steps { OnOk result
+        (RunsSteps input.old.left (W.contents writer.old) (W.contents writer.new)) }
     ensures kept { IfErr result (λ e. status_of e ≡ 2 → writer.new ≡ writer.old) }
     ensures reads { input.new.reads ≤ input.old.reads + 2 * (INPUT_BYTES + 1) }
     ensures stops { StopsAtFailure result input.old.since_failure input.new.since_failure }
@@ -97,6 +104,8 @@ fn run_in<T: Threads + Wait + Sync, G: Gate, R: CountedRead, W: Write>(
         (λ input. IsAnswerTo input (W.contents writer.old) (W.contents writer.new))) }
     ensures threads { OnOk result ((kind : KindOf) → mode ≡ Mode.Threads kind →
         IsTextOfRun (may_be_full kind) (W.contents writer.old) (W.contents writer.new)) }
+    ensures steps { OnOk result ((kind : KindOf) → mode ≡ Mode.Steps kind →
+        WritesSteps kind (W.contents writer.old) (W.contents writer.new)) }
     ensures kept { IfErr result (λ e. status_of e ≡ 2 → writer.new ≡ writer.old) }
     ensures reads { R.reads reader.new ≤ R.reads reader.old + (INPUT_BYTES + 1) }
     ensures stops { StopsAtFailure result (R.since_failure reader.old)

@@ -2,11 +2,12 @@
 ghost use Rattle.std.specs.Prelude.{◌≡◌, ◌≤◌, ◌+◌, ◌⊎◌, List, length, IfErr, IsErrOf, OnOk};
 ghost use Rattle.std.specs.List.{All};
 ghost use Rattle.std.specs.Io.KnownBytes.{Appends};
+ghost use Rattle.scmi_ends.specs.Shut.{ShowsClose};
 ghost use Rattle.scmi_text.specs.Step.{IsStepOf};
 ghost use Rattle.scmi_text.specs.StepLine.{step_text};
 ghost use Rattle.scmi_run.specs.Reads.{StopsAtFailure};
 ghost use Rattle.scmi_run.specs.RunError.{status_of};
-ghost use Rattle.scmi_run.specs.Steps.{AreStepLines, IsTextOfSteps};
+ghost use Rattle.scmi_run.specs.Steps.{AreStepLines, IsTextOfSteps, WritesSteps, WritesFirstSteps};
 ghost use Rattle.scmi_input.specs.declared.input.TheConstants.{INPUT_BYTES};
 
 use crate::kind::Kind;
@@ -31,10 +32,10 @@ pub fn run_steps<R: CountedRead, W: Write>(
     writer: &mut W,
     kind: Kind,
 ) -> Result<(), RunError>
-    ensures text { OnOk result ((steps : List Step) ×
-        IsTextOfSteps steps (W.contents writer.old) (W.contents writer.new)) }
+    ensures text { OnOk result
+        (WritesSteps kind (W.contents writer.old) (W.contents writer.new)) }
     ensures memory { IsErrOf result RunError.Memory →
-        (steps : List Step) × AreStepLines steps (W.contents writer.old) (W.contents writer.new) }
+        WritesFirstSteps kind (W.contents writer.old) (W.contents writer.new) }
     ensures kept { IfErr result (λ e. status_of e ≡ 2 → writer.new ≡ writer.old) }
     ensures reads { R.reads reader.new ≤ R.reads reader.old + (INPUT_BYTES + 1) }
     ensures stops { StopsAtFailure result (R.since_failure reader.old)
@@ -58,10 +59,12 @@ fn step_through<C: Channel, W: Write>(
     writer: &mut W,
 ) -> Result<(), RunError>
     requires { All (IsStepOf (length plan.agents)) steps.now }
-    ensures text { OnOk result
-        (IsTextOfSteps steps.now (W.contents writer.old) (W.contents writer.new)) }
+    ensures text { OnOk result (IsTextOfSteps C.FULL (ShowsClose C.caller_view C.close_shows)
+        plan steps.now (W.contents writer.old) (W.contents writer.new)) }
     ensures memory { IsErrOf result RunError.Memory →
-        AreStepLines steps.now (W.contents writer.old) (W.contents writer.new) }
+        (W.contents writer.new ≡ W.contents writer.old) ⊎
+        AreStepLines C.FULL (ShowsClose C.caller_view C.close_shows) plan steps.now
+        (W.contents writer.old) (W.contents writer.new) }
     ensures errors { IfErr result (λ e. (e ≡ RunError.Memory) ⊎ (e ≡ RunError.Write)) }
 {
     let mut session = Session::<C>::open(alloc, plan)?;

@@ -7,7 +7,8 @@ use Rattle.scmi_codec.specs.declared.status.Status.{Status}
 use Rattle.scmi_say.specs.Literal.{literal}
 use Rattle.scmi_say.specs.Digits.{two_digits}
 use Rattle.scmi_say.specs.Field.{reserved_text}
-use Rattle.scmi_say.specs.Names.{message_text, notification_text, protocol_text, status_text}
+use Rattle.scmi_codec.specs.Listing.{message_name}
+use Rattle.scmi_say.specs.Names.{notification_text, protocol_text, status_text}
 
 -- a name in brackets, if there is one
 abbrev pub bracketed_text : Option (List ℕ) → List ℕ
@@ -37,7 +38,7 @@ name_or_ids protocol id None = unknown_text protocol id
 
 -- the name of the message of a command
 unfoldable pub name_text : ℕ → ℕ → List ℕ
-name_text protocol id = name_or_ids protocol id (message_text protocol id)
+name_text protocol id = name_or_ids protocol id (message_name protocol id)
 
 -- the name of a notification
 unfoldable pub notification_name_text : ℕ → ℕ → List ℕ

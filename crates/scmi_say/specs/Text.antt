@@ -1,12 +1,7 @@
 -- What an area is, in words.
 use Rattle.std.specs.Prelude.{ℕ, ◌+◌, ◌*◌, ◌==◌, ◌&&◌, nat_lt, Bool, true, false, if◌then◌else◌, List, [], ◌∷◌, ◌++◌, length, codes, decimal, Result, Ok, Err}
-use Rattle.std.specs.List.{find}
-use Rattle.std.specs.Option.{option_map_or}
-use Rattle.scmi_codec.specs.BaseCommand.{base_table}
-use Rattle.scmi_codec.specs.PowerCommand.{power_table}
-use Rattle.scmi_codec.specs.ClockCommand.{clock_table}
 use Rattle.scmi_codec.specs.Header.{HeaderFields, header_word}
-use Rattle.scmi_codec.specs.Row.{Row}
+use Rattle.scmi_codec.specs.Listing.{wanted_words}
 use Rattle.scmi_codec.specs.declared.payload.TheConstants.{PAYLOAD_WORDS}
 use Rattle.scmi_codec.specs.declared.message.Message.{Message}
 use Rattle.scmi_codec.specs.declared.command.Command.{Command}
@@ -24,16 +19,6 @@ use Rattle.scmi_say.specs.Replies.{FieldList, reply_fields, delayed_fields, noti
 use Rattle.scmi_say.specs.Words.{words_text, rates_text, protocols_text}
 use Rattle.scmi_say.specs.declared.told.Told.{Told}
 use Rattle.scmi_say.specs.declared.told.Told.TheVariants as is
-
--- the number of payload words of a message id in a table of commands
-abbrev pub words_in : {C : Type 0} → List (Row C) → ℕ → ℕ
-words_in rows id = option_map_or (λ row. row.1) (find (λ row. row.0 == id) rows) 0
-
--- the number of payload words of a command, by protocol and message id
-abbrev pub wanted_words : ℕ → ℕ → ℕ
-wanted_words protocol id =
-    if protocol == 0x10 then words_in base_table id else if protocol == 0x11 then words_in power_table id
-    else if protocol == 0x14 then words_in clock_table id else 0
 
 -- the fields of a command that was read
 unfoldable pub request_fields_text : Result Command Status → List ℕ

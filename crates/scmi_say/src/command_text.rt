@@ -1,14 +1,14 @@
 //! What a command is, in words.
 ghost use Rattle.std.specs.Prelude.{◌≡◌, OnOk};
 ghost use Rattle.std.specs.Io.KnownBytes.{Appends};
-ghost use Rattle.scmi_say.specs.Text.{command_text, withdrawn_text, command_line, taken_back_line, withdrawn_line, misfit_line, misfit_name, misfit_end, misfit_start, request_fields_text, count_text, wanted_words};
+ghost use Rattle.scmi_say.specs.Text.{command_text, withdrawn_text, command_line, taken_back_line, withdrawn_line, misfit_line, misfit_name, misfit_end, misfit_start, request_fields_text, count_text};
 
 use crate::commands::command_fields;
 use crate::heading::{write_heading, write_message_name, write_state, write_token};
 use crate::literal::write_text;
 use crate::values::write_fields;
 use crate::words::write_words;
-use scmi_codec::{BASE_PROTOCOL, CLOCK_PROTOCOL, Command, Header, Message, POWER_PROTOCOL, Status};
+use scmi_codec::{Command, Header, Message, Status, wanted_words};
 use std::io;
 use std::io::Write;
 
@@ -63,26 +63,6 @@ fn write_count<W: Write>(
             write_text(writer, " belong")
         }
         _ => Ok(()),
-    }
-}
-
-/// The number of payload words of a command; 0 for an unknown message.
-fn wanted_words(protocol: u8, id: u8) -> usize
-    ensures { result ≡ wanted_words protocol id }
-{
-    match (protocol, id) {
-        (BASE_PROTOCOL | POWER_PROTOCOL | CLOCK_PROTOCOL, 0x2) => 1,
-        (BASE_PROTOCOL, 0x6 | 0x7) => 1,
-        (BASE_PROTOCOL, 0x9) => 3,
-        (BASE_PROTOCOL, 0xa) => 4,
-        (BASE_PROTOCOL, 0xb) => 2,
-        (POWER_PROTOCOL, 0x3 | 0x5) => 1,
-        (POWER_PROTOCOL, 0x4) => 3,
-        (POWER_PROTOCOL, 0x6) => 2,
-        (CLOCK_PROTOCOL, 0x3 | 0x6) => 1,
-        (CLOCK_PROTOCOL, 0x4 | 0x7) => 2,
-        (CLOCK_PROTOCOL, 0x5) => 4,
-        _ => 0,
     }
 }
 

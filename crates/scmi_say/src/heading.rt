@@ -5,9 +5,9 @@ ghost use Rattle.scmi_say.specs.Heading.{name_text, unknown_text, ids_text, id_d
 
 use crate::digits::write_two_digits;
 use crate::literal::write_text;
-use crate::names::{message_name, notification_name, protocol_name, status_name};
+use crate::names::{notification_name, protocol_name, status_name};
 use crate::values::write_reserved;
-use scmi_codec::{Header, Message, Status};
+use scmi_codec::{Header, Message, Status, message_name};
 use std::io;
 use std::io::Write;
 

@@ -30,7 +30,7 @@ pub use answering::{tell_answered, tell_written};
 pub use area::write_area;
 pub use commands::command_fields;
 pub use field::{FIELDS, Field, Fields};
-pub use names::{message_name, notification_name, protocol_name, status_name};
+pub use names::{notification_name, protocol_name, status_name};
 pub use reply::{reply_fields, response_status};
 pub use telling::tell;
 pub use text::write_told;

@@ -1,1 +1,4 @@
 pub mod StepLines
+pub mod SessionView
+pub mod Steps
+pub mod Run

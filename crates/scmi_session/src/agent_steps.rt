@@ -1,7 +1,8 @@
 //! What one agent does in a step, and the line that is written for it, by its own end and link.
 ghost use Rattle.scmi_ends.specs.AgentView.{IsOfLink, HasSameIdentities};
 ghost use Rattle.scmi_text.specs.declared.step.AgentStep.TheVariants as step;
-ghost use Rattle.scmi_session.specs.StepLines.{IsAgentLine};
+ghost use Rattle.scmi_ends.specs.Shut.{ShowsClose};
+ghost use Rattle.scmi_session.specs.Steps.{Makes};
 
 use scmi_codec::Message;
 use scmi_ends::{AgentEnd, Link};
@@ -17,7 +18,8 @@ pub fn make<C: Channel>(
 ) -> StepLine
     requires { IsOfLink (C.identity link.now.a2p) (C.identity link.now.p2a) end.old }
     ensures identities { HasSameIdentities end.old end.new }
-    ensures line { IsAgentLine agent step.now result }
+    ensures makes { Makes C.FULL (ShowsClose C.caller_view C.close_shows) agent step.now
+        result end.old end.new }
 {
     match step {
         AgentStep::Call(command) => call(agent, command, end, link),
@@ -40,7 +42,8 @@ pub fn call<C: Channel>(
 ) -> StepLine
     requires { IsOfLink (C.identity link.now.a2p) (C.identity link.now.p2a) end.old }
     ensures identities { HasSameIdentities end.old end.new }
-    ensures line { IsAgentLine agent (step.Call command.now) result }
+    ensures makes { Makes C.FULL (ShowsClose C.caller_view C.close_shows) agent (step.Call command.now)
+        result end.old end.new }
 {
     match end.call(link, command.protocol, command.message, &command.payload) {
         Ok(token) => StepLine::Token { agent, token },
@@ -56,7 +59,8 @@ fn post<C: Channel>(
 ) -> StepLine
     requires { IsOfLink (C.identity link.now.a2p) (C.identity link.now.p2a) end.old }
     ensures identities { HasSameIdentities end.old end.new }
-    ensures line { IsAgentLine agent (step.Raw message.now) result }
+    ensures makes { Makes C.FULL (ShowsClose C.caller_view C.close_shows) agent (step.Raw message.now)
+        result end.old end.new }
 {
     match end.post(link, message) {
         Ok(()) => StepLine::Posted { agent },
@@ -73,7 +77,8 @@ fn post_malformed<C: Channel>(
 ) -> StepLine
     requires { IsOfLink (C.identity link.now.a2p) (C.identity link.now.p2a) end.old }
     ensures identities { HasSameIdentities end.old end.new }
-    ensures line { IsAgentLine agent (step.Malformed length header) result }
+    ensures makes { Makes C.FULL (ShowsClose C.caller_view C.close_shows) agent (step.Malformed length header)
+        result end.old end.new }
 {
     match end.post_malformed(link, length, header) {
         Ok(()) => StepLine::Posted { agent },
@@ -85,7 +90,8 @@ fn post_malformed<C: Channel>(
 pub fn collect<C: Channel>(agent: u32, end: &mut AgentEnd<C>, link: &Link<C>) -> StepLine
     requires { IsOfLink (C.identity link.now.a2p) (C.identity link.now.p2a) end.old }
     ensures identities { HasSameIdentities end.old end.new }
-    ensures line { IsAgentLine agent step.Collect result }
+    ensures makes { Makes C.FULL (ShowsClose C.caller_view C.close_shows) agent step.Collect
+        result end.old end.new }
 {
     let collected = end.collect(link);
     StepLine::Collected { agent, collected }
@@ -94,7 +100,8 @@ pub fn collect<C: Channel>(agent: u32, end: &mut AgentEnd<C>, link: &Link<C>) ->
 fn next_p2a<C: Channel>(agent: u32, end: &mut AgentEnd<C>, link: &Link<C>) -> StepLine
     requires { IsOfLink (C.identity link.now.a2p) (C.identity link.now.p2a) end.old }
     ensures identities { HasSameIdentities end.old end.new }
-    ensures line { IsAgentLine agent step.P2a result }
+    ensures makes { Makes C.FULL (ShowsClose C.caller_view C.close_shows) agent step.P2a
+        result end.old end.new }
 {
     let frame = end.next_p2a(link);
     StepLine::P2a { agent, frame }
@@ -103,7 +110,8 @@ fn next_p2a<C: Channel>(agent: u32, end: &mut AgentEnd<C>, link: &Link<C>) -> St
 fn close<C: Channel>(agent: u32, end: &mut AgentEnd<C>, link: &Link<C>) -> StepLine
     requires { IsOfLink (C.identity link.now.a2p) (C.identity link.now.p2a) end.old }
     ensures identities { HasSameIdentities end.old end.new }
-    ensures line { IsAgentLine agent step.Close result }
+    ensures makes { Makes C.FULL (ShowsClose C.caller_view C.close_shows) agent step.Close
+        result end.old end.new }
 {
     match end.close(link) {
         Ok(closing) => StepLine::Closed {

@@ -10,8 +10,8 @@ use scmi_text::{AgentStep, Call, PlatformStep, Step, StepLine};
 use std::alloc::{AllocError, Global};
 use std::marker::Model;
 
-/// The controller of a board, its agents, and the channels between them. A contract sees how many
-/// agents there are.
+/// The controller of a board, its agents, and the channels between them. A contract sees the
+/// platform's side and each agent's ends.
 #[derive(Drop)]
 pub struct Session<C: Channel> {
     controller: Controller<C>,
@@ -20,25 +20,28 @@ pub struct Session<C: Channel> {
 }
 
 impl<C: Channel> Model for Session<C> {
-    ghost use Rattle.std.specs.Prelude.{ℕ, length};
     ghost use Rattle.scmi_ends.specs.Links.{BelongTogether};
+    ghost use Rattle.scmi_session.specs.SessionView.{SessionView};
 
-    ghost Value = { ℕ };
+    ghost Value = { SessionView };
 
-    ghost view = { λ s. length s.agents.items };
+    ghost view = { λ s. record { platform = s.controller; agents = s.agents.items } };
 
     ghost invariant = { λ s. BelongTogether C.identity s.links.items s.controller s.agents.items };
 }
 
 impl<C: Channel> Session<C> {
-    ghost use Rattle.std.specs.Prelude.{◌≡◌, length, IfOk};
+    ghost use Rattle.std.specs.Prelude.{◌≡◌, length, IfOk, OnErr};
     ghost use Rattle.scmi_plan.specs.Agent.{IsAgent};
     ghost use Rattle.scmi_text.specs.Step.{IsStepOf};
-    ghost use Rattle.scmi_session.specs.StepLines.{IsAgentLine, IsPlatformLine, IsLineOf};
+    ghost use Rattle.scmi_ends.specs.Shut.{ShowsClose};
+    ghost use Rattle.scmi_session.specs.Run.{IsNewSession, IsGathered};
+    ghost use Rattle.scmi_session.specs.StepLines.{IsLineOf};
+    ghost use Rattle.scmi_session.specs.Steps.{Makes, PlatformMakes, AtAgent, AtPlatform, Advances, Steps, StopsFor};
 
     /// Both sides of a board, over new channels.
     pub fn open(alloc: Global, plan: Plan) -> Result<Session<C>, AllocError>
-        ensures { IfOk result (λ session. session ≡ length plan.agents) }
+        ensures new { IfOk result (IsNewSession plan) }
     {
         match connect(alloc, Core::new(alloc, plan)) {
             Ok((controller, links, agents)) => Ok(Session {
@@ -52,7 +55,9 @@ impl<C: Channel> Session<C> {
 
     /// The platform of the session: its board, its history, and where it stands.
     pub fn core(&self) -> &Core
-        ensures agents { length result.now.board.agents ≡ self.now }
+        ensures board { result.now.board ≡ self.now.platform.board }
+        ensures history { result.now.history ≡ self.now.platform.history }
+        ensures agents { length result.now.board.agents ≡ length self.now.agents }
     {
         self.controller.core()
     }
@@ -60,9 +65,12 @@ impl<C: Channel> Session<C> {
     /// Makes one step, and gives its line of output. After an error nothing was taken, executed or
     /// posted by the call of the step that was refused.
     pub fn step(&mut self, step: &Step) -> Result<StepLine, AllocError>
-        requires { IsStepOf self.old step.now }
-        ensures agents { self.new ≡ self.old }
+        requires { IsStepOf (length self.old.agents) step.now }
+        ensures agents { length self.new.agents ≡ length self.old.agents }
         ensures line { IfOk result (λ line. IsLineOf step.now line) }
+        ensures steps { IfOk result (λ line.
+            Steps C.FULL (ShowsClose C.caller_view C.close_shows) step.now line self.old self.new) }
+        ensures stops { OnErr result (StopsFor step.now self.old self.new) }
     {
         match step {
             Step::Agent { agent, step } => Ok(self.of_agent(*agent, step)),
@@ -77,7 +85,10 @@ impl<C: Channel> Session<C> {
     }
 
     /// Gathers all ends, and gives the history.
-    pub fn retire(self) -> Trace {
+    pub fn retire(self) -> Trace
+        ensures history { result.events ≡ self.platform.history }
+        ensures gathered { IsGathered self }
+    {
         let Session {
             controller,
             links,
@@ -87,18 +98,23 @@ impl<C: Channel> Session<C> {
     }
 
     fn of_agent(&mut self, agent: u32, step: &AgentStep) -> StepLine
-        requires { IsAgent self.old agent }
-        ensures agents { self.new ≡ self.old }
-        ensures line { IsAgentLine agent step.now result }
+        requires { IsAgent (length self.old.agents) agent }
+        ensures agents { length self.new.agents ≡ length self.old.agents }
+        ensures step { AtAgent agent
+            (Makes C.FULL (ShowsClose C.caller_view C.close_shows) agent step.now result)
+            self.old self.new }
     {
         let index = agent as usize - 1;
         agent_steps::make(agent, step, &mut self.agents[index], &self.links[index])
     }
 
     fn serve(&mut self, agent: u32) -> Result<StepLine, AllocError>
-        requires { IsAgent self.old agent }
-        ensures agents { self.new ≡ self.old }
-        ensures line { IfOk result (λ line. IsPlatformLine agent PlatformStep.Serve line) }
+        requires { IsAgent (length self.old.agents) agent }
+        ensures agents { length self.new.agents ≡ length self.old.agents }
+        ensures step { IfOk result (λ line. AtPlatform
+            (PlatformMakes C.FULL (ShowsClose C.caller_view C.close_shows) agent PlatformStep.Serve line)
+            self.old self.new) }
+        ensures err { OnErr result (self.new ≡ self.old) }
     {
         match self.controller.serve(&self.links, agent) {
             Ok(served) => Ok(StepLine::Served { agent, served }),
@@ -107,9 +123,12 @@ impl<C: Channel> Session<C> {
     }
 
     fn flush(&mut self, agent: u32) -> Result<StepLine, AllocError>
-        requires { IsAgent self.old agent }
-        ensures agents { self.new ≡ self.old }
-        ensures line { IfOk result (λ line. IsPlatformLine agent PlatformStep.Flush line) }
+        requires { IsAgent (length self.old.agents) agent }
+        ensures agents { length self.new.agents ≡ length self.old.agents }
+        ensures step { IfOk result (λ line. AtPlatform
+            (PlatformMakes C.FULL (ShowsClose C.caller_view C.close_shows) agent PlatformStep.Flush line)
+            self.old self.new) }
+        ensures err { OnErr result (self.new ≡ self.old) }
     {
         match self.controller.flush(&self.links, agent) {
             Ok(flushed) => Ok(StepLine::Flushed { agent, flushed }),
@@ -118,9 +137,11 @@ impl<C: Channel> Session<C> {
     }
 
     fn shut(&mut self, agent: u32) -> StepLine
-        requires { IsAgent self.old agent }
-        ensures agents { self.new ≡ self.old }
-        ensures line { IsPlatformLine agent PlatformStep.Shut result }
+        requires { IsAgent (length self.old.agents) agent }
+        ensures agents { length self.new.agents ≡ length self.old.agents }
+        ensures step { AtPlatform
+            (PlatformMakes C.FULL (ShowsClose C.caller_view C.close_shows) agent PlatformStep.Shut result)
+            self.old self.new }
     {
         let shut = self.controller.close(&self.links, agent);
         StepLine::Shut {
@@ -130,8 +151,10 @@ impl<C: Channel> Session<C> {
     }
 
     fn advance(&mut self) -> Result<StepLine, AllocError>
-        ensures agents { self.new ≡ self.old }
-        ensures line { IfOk result (λ line. IsLineOf Step.Advance line) }
+        ensures agents { length self.new.agents ≡ length self.old.agents }
+        ensures step { IfOk result (λ line.
+            Steps C.FULL (ShowsClose C.caller_view C.close_shows) Step.Advance line self.old self.new) }
+        ensures err { OnErr result (self.new ≡ self.old) }
     {
         match self.controller.advance() {
             Ok(more) => Ok(StepLine::Advanced { more }),
@@ -141,9 +164,11 @@ impl<C: Channel> Session<C> {
 
     /// Calls, serves and collects in turn; only the line of the last that was done is given.
     fn exchange(&mut self, agent: u32, call: &Call) -> Result<StepLine, AllocError>
-        requires { IsAgent self.old agent }
-        ensures agents { self.new ≡ self.old }
-        ensures line { IfOk result (λ line. IsLineOf (Step.Do agent call.now) line) }
+        requires { IsAgent (length self.old.agents) agent }
+        ensures agents { length self.new.agents ≡ length self.old.agents }
+        ensures step { IfOk result (λ line.
+            Steps C.FULL (ShowsClose C.caller_view C.close_shows) (Step.Do agent call.now) line self.old self.new) }
+        ensures err { OnErr result (StopsFor (Step.Do agent call.now) self.old self.new) }
     {
         match self.call(agent, call) {
             StepLine::Token { .. } => {}
@@ -154,18 +179,22 @@ impl<C: Channel> Session<C> {
     }
 
     fn collect(&mut self, agent: u32) -> StepLine
-        requires { IsAgent self.old agent }
-        ensures agents { self.new ≡ self.old }
-        ensures line { IsAgentLine agent AgentStep.Collect result }
+        requires { IsAgent (length self.old.agents) agent }
+        ensures agents { length self.new.agents ≡ length self.old.agents }
+        ensures step { AtAgent agent
+            (Makes C.FULL (ShowsClose C.caller_view C.close_shows) agent AgentStep.Collect result)
+            self.old self.new }
     {
         let index = agent as usize - 1;
         agent_steps::collect(agent, &mut self.agents[index], &self.links[index])
     }
 
     fn call(&mut self, agent: u32, call: &Call) -> StepLine
-        requires { IsAgent self.old agent }
-        ensures agents { self.new ≡ self.old }
-        ensures line { IsAgentLine agent (AgentStep.Call call.now) result }
+        requires { IsAgent (length self.old.agents) agent }
+        ensures agents { length self.new.agents ≡ length self.old.agents }
+        ensures step { AtAgent agent
+            (Makes C.FULL (ShowsClose C.caller_view C.close_shows) agent (AgentStep.Call call.now) result)
+            self.old self.new }
     {
         let index = agent as usize - 1;
         agent_steps::call(agent, call, &mut self.agents[index], &self.links[index])

@@ -9,10 +9,11 @@ use Rattle.scmi_codec.specs.declared.header.TheConstants.{TOKENS}
 use Rattle.scmi_link.specs.View.{CallerView, CalleeView}
 use Rattle.scmi_plan.specs.Board.{Board}
 use Rattle.scmi_core.specs.declared.event.Event.{Event}
-use Rattle.scmi_core.specs.declared.event.Event.TheVariants.{Command, Advance, Sent}
+use Rattle.scmi_core.specs.declared.event.Event.TheVariants.{Command, Advance, Sent, CommandFailed, AdvanceFailed}
 use Rattle.scmi_core.specs.Deed.{fold_with_prefix}
 use Rattle.scmi_core.specs.History.{answer_to}
 use Rattle.scmi_core.specs.Agents.{frame_from, frames_of, answer_for, answers_to}
+use Rattle.scmi_core.specs.Reply.{failed_answer}
 use Rattle.scmi_ends.specs.AgentView.{AgentView}
 use Rattle.scmi_ends.specs.Headline.{Headline, Headlines}
 use Rattle.scmi_threads.specs.Logs.{IsLogOf}
@@ -51,9 +52,16 @@ module _ (board : Board) (a : ℕ) where
   by_own true b (Malformed length header) before rest h = absurd (All-head IsGood (Malformed length header) rest h)
   by_own false b f before rest h = (All-nil IsReply, h)
 
+  by_failed : (own : Bool) (f : Frame) (rest : List Frame) → All IsGood (cons_option (if own then Some f else None) rest) → All IsReply (if own then failed_answer f ∷ [] else []) × All IsGood rest
+  by_failed true (Good m) rest h = (All-cons IsReply (failed_answer (Good m)) [] tt (All-nil IsReply), All-tail IsGood (Good m) rest h)
+  by_failed true (Malformed length header) rest h = absurd (All-head IsGood (Malformed length header) rest h)
+  by_failed false f rest h = (All-nil IsReply, h)
+
   each : (before : List Event) (e : Event) (rest : List Frame) → All IsGood (cons_option (frame_from a e) rest) → All IsReply (answer_for board a before e) × All IsGood rest
   each before (Command b f) rest h = by_own (a == b) b f before rest h
+  each before (CommandFailed b f) rest h = by_failed (a == b) f rest h
   each before Advance rest h = (All-nil IsReply, h)
+  each before AdvanceFailed rest h = (All-nil IsReply, h)
   each before (Sent b) rest h = (All-nil IsReply, h)
 
   from : (before : List Event) (so_far : List Answer) (h : List Event) → All IsReply so_far → All IsGood (filter_map (frame_from a) h) → All IsReply (fold_with_prefix (λ b xs e. xs ++ answer_for board a b e) before so_far h)

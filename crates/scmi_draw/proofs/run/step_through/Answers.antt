@@ -1,18 +1,22 @@
 use Rattle.std.proofs.Common.{◌∙◌, ◌<◌, ◌≤◌, [], length, sym, subst, arith}
+use Rattle.scmi_ends.specs.Shut.{ShowsClose}
 use Rattle.scmi_draw.proofs.SoFar.{SoFar, all_steps, no_step, step_more}
 use Rattle.scmi_draw.proofs.run.step_through.Goals as goal
 
 pub steps-init : goal.steps-init
-steps-init g c = record { agents = c.in_ok-session.ensures; so_far = subst (SoFar []) (sym c.in_ok-recorder.ensures) no_step }
+steps-init g c = record {
+  agents = c.in_ok-session.ensures.new.count;
+  so_far = subst (SoFar g.C.Channel.FULL (ShowsClose g.C.Channel.caller_view g.C.Channel.close_shows) c.args.plan [] c.in_ok-session.session) (sym c.in_ok-recorder.ensures) (no_step _ _ _ _ c.in_ok-session.ensures.new);
+}
 
 pub steps-preserved : goal.steps-preserved
 steps-preserved g c =
     let below : c.steps.i < length c.args.steps.now = omega (arith, c.steps-test.true, c.len-i-end.ensures) in record {
       agents = c.step.ensures.agents ∙ c.steps.invariant.agents;
-      so_far = step_more _ c.steps.i c.read_into.new.step _ _ _ below c.read_into.ensures c.steps.invariant.so_far c.in_ok-came.ensures.line c.in_ok-record.ensures.marks;
+      so_far = step_more _ _ _ _ c.steps.i c.read_into.new.step _ _ _ _ _ below c.read_into.ensures c.steps.invariant.so_far c.in_ok-came.ensures.steps c.in_ok-came.ensures.line c.in_ok-record.ensures.marks;
     }
 
 pub returns : goal.returns
 returns g c =
     let all : length c.args.steps.now ≤ c.steps.i = omega (arith, c.steps-test.false, c.len-i-end.ensures) in
-    all_steps _ c.steps.i _ _ all c.steps.invariant.so_far c.in_ok-finish.ensures.marks
+    all_steps _ _ _ _ c.steps.i _ _ _ all c.steps.invariant.so_far c.in_ok-finish.ensures.marks

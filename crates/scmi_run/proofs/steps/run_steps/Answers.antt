@@ -1,7 +1,6 @@
-use Rattle.std.proofs.Common.{◌≡◌, ◌∙◌, [], ap, sym, length}
+use Rattle.std.proofs.Common.{◌≡◌, ◌∙◌, ap, sym, length}
 use Rattle.std.proofs.lemmas.List.{length-map}
 use Rattle.std.specs.Prelude.{string_bytes}
-use Rattle.scmi_run.proofs.RunLemmas.{first_steps, no_step}
 use Rattle.scmi_run.proofs.steps.run_steps.Goals as goal
 
 pub step_through-requires-after_bounds : goal.step_through-requires-after_bounds
@@ -13,15 +12,3 @@ pub step_through-requires-in-Words-after_bounds : goal.step_through-requires-in-
 step_through-requires-in-Words-after_bounds g c κs within =
     let same : length c.in_ok-plan.plan.agents ≡ c.in_ok-agent_count.field-0 = ap (λ b. length b.agents) c.in_ok-plan.ensures.ok ∙ length-map c.in_ok-board.board.agents.items string_bytes ∙ sym c.in_ok-agent_count.ensures.agents in
     rw same c.in_ok-steps.ensures.agents
-
-pub returns-in_err-bytes-clause-memory : goal.returns-in_err-bytes-clause-memory
-returns-in_err-bytes-clause-memory g c = λ memory. ([], first_steps [] 0 _ _ (no_step _))
-
-pub returns-in_err-board-clause-memory : goal.returns-in_err-board-clause-memory
-returns-in_err-board-clause-memory g c = λ memory. ([], first_steps [] 0 _ _ (no_step _))
-
-pub returns-in_err-steps-clause-memory : goal.returns-in_err-steps-clause-memory
-returns-in_err-steps-clause-memory g c = λ memory. ([], first_steps [] 0 _ _ (no_step _))
-
-pub returns-in_err-plan-clause-memory : goal.returns-in_err-plan-clause-memory
-returns-in_err-plan-clause-memory g c = λ memory. ([], first_steps [] 0 _ _ (no_step _))

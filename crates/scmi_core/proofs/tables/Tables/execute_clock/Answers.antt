@@ -1,5 +1,4 @@
-use Rattle.std.proofs.Common.{◌∙◌, ap}
-use Rattle.scmi_core.specs.Pending.{has_room_beside}
+use Rattle.std.proofs.Common.{◌∙◌}
 use Rattle.scmi_core.proofs.Situations.{clock-reply}
 use Rattle.scmi_core.proofs.ClockSteps.{clock-stepped}
 use Rattle.scmi_core.proofs.tables.Tables.execute_clock.Goals as goal
@@ -7,8 +6,8 @@ use Rattle.scmi_core.proofs.tables.Tables.execute_clock.Goals as goal
 pub returns-clause-reply : goal.returns-clause-reply
 returns-clause-reply c =
     c.execute-later.ensures.reply
-    ∙ clock-reply c.args.plan.now c.args.self.now c.args.agent c.clock_load-load.result c.args.command c.requires.lawful.few_clocks c.clock_load-load.ensures.busy
-    (c.clock_load-load.ensures.room ∙ ap (λ waiting. has_room_beside waiting c.args.agent c.args.self.now.pending) c.waiting-waiting.ensures.count)
+    ∙ clock-reply c.args.plan.now c.args.self.now c.args.agent c.clock_load-load.result c.args.command c.requires.lawful.few_clocks
+    c.clock_load-load.ensures.busy c.clock_load-load.ensures.room
 
 pub returns-clause-stepped : goal.returns-clause-stepped
 returns-clause-stepped c =

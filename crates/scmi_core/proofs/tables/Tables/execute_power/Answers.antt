@@ -1,5 +1,4 @@
-use Rattle.std.proofs.Common.{◌∙◌, ap, arith}
-use Rattle.scmi_core.specs.Pending.{has_room_beside}
+use Rattle.std.proofs.Common.{◌∙◌, arith}
 use Rattle.scmi_core.proofs.Situations.{power-reply}
 use Rattle.scmi_core.proofs.Steps.{power-stepped}
 use Rattle.scmi_core.proofs.tables.Tables.execute_power.Goals as goal
@@ -7,8 +6,8 @@ use Rattle.scmi_core.proofs.tables.Tables.execute_power.Goals as goal
 pub returns-clause-reply : goal.returns-clause-reply
 returns-clause-reply c =
     c.execute-done.ensures.reply
-    ∙ power-reply c.args.plan.now c.args.self.now c.args.agent c.domain_load-load.result c.args.command c.agents-agents.ensures.lawful.few_domains c.domain_load-load.ensures.busy
-    (c.domain_load-load.ensures.room ∙ ap (λ waiting. has_room_beside waiting c.args.agent c.args.self.now.pending) c.waiting-waiting.ensures.count)
+    ∙ power-reply c.args.plan.now c.args.self.now c.args.agent c.power_load-load.result c.args.command c.agents-agents.ensures.lawful.few_domains
+    c.power_load-load.ensures.busy c.power_load-load.ensures.room
 
 pub returns-clause-stepped : goal.returns-clause-stepped
 returns-clause-stepped c =

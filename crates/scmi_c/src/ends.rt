@@ -1,0 +1,78 @@
+//! What the first pending set is to change of the hardware, and its end where the hardware refuses.
+ghost use Rattle.std.specs.Prelude.{◌≡◌, ◌≢◌, ◌↔◌, ◌⊎◌, ◌≤◌, [], Some, None, IsSomeAnd, List, option_map};
+ghost use Rattle.scmi_core.specs.Effect.{effect_after};
+ghost use Rattle.scmi_core.specs.History.{deeds};
+ghost use Rattle.scmi_core.specs.Pending.{pending_sets};
+ghost use Rattle.scmi_core.specs.declared.event.Event.{Event};
+ghost use Rattle.scmi_core.specs.declared.event.Event.TheVariants.{Advance, AdvanceFailed};
+ghost use Rattle.scmi_c.specs.Effect.{numbers_of};
+ghost use Rattle.scmi_c.specs.Standing.{board_of, StandsAt, IsRecorded};
+ghost use Rattle.scmi_c.specs.Calls.{HasHappened};
+ghost use Rattle.scmi_c.specs.declared.code.TheConstants.{DONE, NOTHING, MEMORY, NO_PLATFORM};
+
+use crate::code::{DONE, MEMORY, NO_PLATFORM, NOTHING};
+use crate::effect::{EffectNumbers, numbers_of};
+use crate::handle::Handle;
+use std::alloc::Global;
+
+/// Gives what the completion of the first pending set is to change of the hardware. `DONE`;
+/// `NO_PLATFORM`; `NOTHING` where none is pending. The platform is as it was.
+#[unsafe(no_mangle)]
+pub extern "C" fn scmi_ask_advance(
+    alloc: Global,
+    platform: &mut Handle,
+    effect: &mut EffectNumbers,
+) -> u32
+    ensures done { result ≡ DONE →
+        IsSomeAnd platform.old.value (λ p.
+        (h : List Event) → StandsAt p h →
+        option_map numbers_of (effect_after (board_of p) h Advance) ≡ Some effect.new) }
+    ensures nothing { result ≡ NOTHING →
+        IsSomeAnd platform.old.value (λ p.
+        (h : List Event) → StandsAt p h → effect_after (board_of p) h Advance ≡ None) }
+    ensures platform { platform.new.value ≡ platform.old.value }
+    ensures no_platform { (result ≡ NO_PLATFORM) ↔ (platform.old.value ≡ None) }
+    ensures errors { (result ≤ NOTHING) ⊎ (result ≡ NO_PLATFORM) }
+    ensures kept { result ≢ DONE → effect.new ≡ effect.old }
+{
+    let Some(desk) = platform.take(alloc) else {
+        return NO_PLATFORM;
+    };
+    let given = desk.held.effect_of_advance();
+    platform.put(desk);
+    match given {
+        Some(change) => {
+            *effect = numbers_of(change);
+            DONE
+        }
+        None => NOTHING,
+    }
+}
+
+/// Takes the first pending set off, whose change the hardware refused. `DONE`; `NO_PLATFORM`; `NOTHING`
+/// where none is pending; `MEMORY`, of a platform that keeps its history alone. After another number
+/// than `DONE` nothing changed.
+#[unsafe(no_mangle)]
+pub extern "C" fn scmi_fail_advance(alloc: Global, platform: &mut Handle) -> u32
+    ensures done { result ≡ DONE →
+        IsSomeAnd platform.old.value (λ p.
+        IsSomeAnd platform.new.value (λ k. HasHappened p k AdvanceFailed)) }
+    ensures nothing { result ≡ NOTHING →
+        IsSomeAnd platform.old.value (λ p.
+        (h : List Event) → StandsAt p h → pending_sets (board_of p) (deeds (board_of p) h) ≡ []) }
+    ensures errors { (result ≤ MEMORY) ⊎ (result ≡ NO_PLATFORM) }
+    ensures no_platform { (result ≡ NO_PLATFORM) ↔ (platform.old.value ≡ None) }
+    ensures memory { result ≡ MEMORY → IsSomeAnd platform.old.value IsRecorded }
+    ensures kept { result ≢ DONE → platform.new.value ≡ platform.old.value }
+{
+    let Some(mut desk) = platform.take(alloc) else {
+        return NO_PLATFORM;
+    };
+    let given = desk.held.advance_failed();
+    platform.put(desk);
+    match given {
+        Ok(true) => DONE,
+        Ok(false) => NOTHING,
+        Err(_) => MEMORY,
+    }
+}

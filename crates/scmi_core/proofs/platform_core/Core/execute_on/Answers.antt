@@ -1,0 +1,46 @@
+use Rattle.std.proofs.Common.{◌++◌, inl, inr, Some, refl, sym, ap, subst, ◌∙◌}
+use Rattle.std.specs.Option.{option_to_list}
+use Rattle.std.proofs.lemmas.List.{append-nil}
+use Rattle.scmi_core.specs.declared.event.Event.TheVariants.{Command as Called, CommandFailed}
+use Rattle.scmi_core.specs.Driven.{HasMade, IsCommandOf}
+use Rattle.scmi_core.specs.Effect.{effect_after}
+use Rattle.scmi_core.proofs.EffectsMade.{failed-none, made-on}
+use Rattle.scmi_core.proofs.platform_core.Core.execute_on.Goals as goal
+
+pub returns-then-make-clause-executes : goal.returns-then-make-clause-executes
+returns-then-make-clause-executes g c = record {
+  happens = record {
+    event = Called c.args.agent c.args.frame.now;
+    is_one = inl refl;
+    history = c.execute.ensures.event;
+    hardware =
+        c.make.ensures.made c.if-make.true
+        ∙ ap (λ effect. g.H.Hardware.applied c.args.hardware.now ++ option_to_list effect)
+        (c.effect_in-effect.ensures.effect c.self.inside.trace.events c.self.invariant ∙ ap (λ p. effect_after p.board p.history (Called c.args.agent c.args.frame.now)) c.self.view_is);
+  };
+  answer = ap Some (sym c.execute.ensures.answer);
+}
+
+pub returns-then-make-clause-made : goal.returns-then-make-clause-made
+returns-then-make-clause-made g c = λ before made.
+    subst (λ board. HasMade before board c.execute.new.self.history (g.H.Hardware.applied c.make.new.hardware)) (sym c.execute.ensures.board)
+    (made-on c.args.self.now.board (IsCommandOf c.args.agent c.args.frame.now) c.args.self.now.history c.execute.new.self.history
+    (g.H.Hardware.applied c.args.hardware.now) (g.H.Hardware.applied c.make.new.hardware) before (returns-then-make-clause-executes g c).happens made)
+
+pub returns-else-make-clause-executes : goal.returns-else-make-clause-executes
+returns-else-make-clause-executes g c = record {
+  happens = record {
+    event = CommandFailed c.args.agent c.args.frame.now;
+    is_one = inr refl;
+    history = c.fail_command.ensures.event;
+    hardware = c.make.ensures.refused c.if-make.false ∙ sym (append-nil (g.H.Hardware.applied c.args.hardware.now))
+        ∙ ap (λ effect. g.H.Hardware.applied c.args.hardware.now ++ option_to_list effect) (sym (failed-none c.args.self.now.board c.args.self.now.history c.args.agent c.args.frame.now));
+  };
+  answer = ap Some (sym c.fail_command.ensures.answer);
+}
+
+pub returns-else-make-clause-made : goal.returns-else-make-clause-made
+returns-else-make-clause-made g c = λ before made.
+    subst (λ board. HasMade before board c.fail_command.new.self.history (g.H.Hardware.applied c.make.new.hardware)) (sym c.fail_command.ensures.board)
+    (made-on c.args.self.now.board (IsCommandOf c.args.agent c.args.frame.now) c.args.self.now.history c.fail_command.new.self.history
+    (g.H.Hardware.applied c.args.hardware.now) (g.H.Hardware.applied c.make.new.hardware) before (returns-else-make-clause-executes g c).happens made)

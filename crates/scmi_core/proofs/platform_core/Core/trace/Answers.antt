@@ -1,0 +1,8 @@
+use Rattle.std.proofs.Common.{subst}
+use Rattle.scmi_core.specs.Bounds.{HasResponses}
+use Rattle.scmi_core.specs.History.{deeds}
+use Rattle.scmi_core.proofs.Responses.{responses}
+use Rattle.scmi_core.proofs.platform_core.Core.trace.Goals as goal
+
+pub returns-clause-responses : goal.returns-clause-responses
+returns-clause-responses c = subst (λ p. HasResponses p.board (deeds p.board p.history)) c.self.view_is (responses c.self.inside.platform.board c.self.inside.trace.events c.self.invariant.legal)

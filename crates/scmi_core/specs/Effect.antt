@@ -1,0 +1,44 @@
+-- What a history changes of the hardware.
+use Rattle.std.specs.Prelude.{ℕ, ◌==◌, Bool, List, Option, None, option_map, map}
+use Rattle.std.specs.Option.{option_or}
+use Rattle.scmi_codec.specs.Command.{command_of}
+use Rattle.scmi_codec.specs.declared.frame.Frame.{Frame}
+use Rattle.scmi_codec.specs.declared.frame.Frame.TheVariants.{Good, Malformed}
+use Rattle.scmi_plan.specs.Board.{Board}
+use Rattle.scmi_core.specs.declared.effect.Effect.{Effect}
+use Rattle.scmi_core.specs.declared.effect.Effect.TheVariants as effect
+use Rattle.scmi_core.specs.declared.event.Event.{Event}
+use Rattle.scmi_core.specs.Deed.{success_of}
+use Rattle.scmi_core.specs.History.{deeds, deed_after}
+use Rattle.scmi_core.specs.Reply.{reply_words}
+use Rattle.scmi_core.specs.Situation.{Situation}
+use Rattle.scmi_core.specs.Value.{Change, Enabled, Rate, State, Thing, change_by, change_of, changes}
+
+-- a change as the hardware sees it: a thing and its new value, whoever caused it
+abbrev pub effect_of : Change → Effect
+effect_of change = given_to change.thing where
+  given_to : Thing → Effect
+  given_to (State d) = effect.State d change.value
+  given_to (Rate c) = effect.Rate c change.value
+  given_to (Enabled c) = effect.Enabled c (change.value == 1)
+
+-- a domain and a state that it is given
+abbrev pub state_effect : ℕ × ℕ → Effect
+state_effect set = effect.State set.0 set.1
+
+-- a clock that is given a rate, or else one that is enabled or disabled
+abbrev pub clock_effect : Option (ℕ × ℕ) → Option (ℕ × Bool) → Option Effect
+clock_effect rate enabled = option_or (option_map (λ set. effect.Rate set.0 set.1) rate) (option_map (λ set. effect.Enabled set.0 set.1) enabled)
+
+-- the effect that an event has after a history, if it has one
+abbrev pub effect_after : Board → List Event → Event → Option Effect
+effect_after board h event = option_map effect_of (change_by board (deeds board h) (deed_after board (deeds board h) event))
+
+-- the effects of a history, in order
+unfoldable pub effects : Board → List Event → List Effect
+effects board h = map effect_of (changes board (deeds board h))
+
+-- the effect of a frame of agent a, by the agent's situation
+abbrev pub effect_in : Board → ℕ → Frame → Situation → Option Effect
+effect_in board a (Good m) s = option_map effect_of (change_of board (success_of a m.header (command_of m) (reply_words board a s (command_of m))) None)
+effect_in board a (Malformed len header) s = None

@@ -1,0 +1,144 @@
+//! A platform that keeps its history, beside the hardware that it switches.
+ghost use Rattle.std.specs.Prelude.{◌≡◌, ◌≢◌, ◌<◌, ◌++◌, ◌∷◌, [], ◌↔◌, List, length, true, false, None, IfOk, OnErr, IfErr, Err};
+ghost use Rattle.scmi_codec.specs.declared.frame.Answer.TheVariants.{Reply};
+ghost use Rattle.scmi_plan.specs.Agent.{IsAgent, IsNoAgent};
+ghost use Rattle.scmi_core.specs.Driven.{ExecutesOn, HappensOn, HasMade, IsEnd};
+ghost use Rattle.scmi_core.specs.Effect.{effect_after};
+ghost use Rattle.scmi_core.specs.History.{IsIdle, answer_with};
+ghost use Rattle.scmi_core.specs.Legal.{IsLegal};
+ghost use Rattle.scmi_core.specs.Reply.{failed_answer};
+ghost use Rattle.scmi_core.specs.declared.effect.Effect.{Effect};
+ghost use Rattle.scmi_core.specs.declared.event.Event.TheVariants.{Command as Called, CommandFailed};
+
+use crate::answered::Answered;
+use crate::core_error::CoreError;
+use crate::hardware::{Hardware, make};
+use crate::platform_core::Core;
+use crate::platform_effects::set_failed_reply;
+use scmi_codec::{Frame, Message};
+
+impl Core {
+    /// As `command_into`, beside the hardware: what the command changes of it is made first, and
+    /// where the hardware refuses that the command has failed, and its reply is HARDWARE_ERROR. The
+    /// hardware is not asked where the call is refused.
+    pub fn command_on<H: Hardware>(
+        &mut self,
+        hardware: &mut H,
+        agent: u32,
+        frame: &Frame,
+        reply: &mut Message,
+    ) -> Result<Answered, CoreError>
+        ensures executes { IfOk result (λ x.
+            ExecutesOn self.old.board agent frame.now (answer_with x reply.new)
+            self.old.history (H.applied hardware.old) self.new.history (H.applied hardware.new)) }
+        ensures made { (before : List Effect)
+            → HasMade before self.old.board self.old.history (H.applied hardware.old)
+            → HasMade before self.new.board self.new.history (H.applied hardware.new) }
+        ensures board { self.new.board ≡ self.old.board }
+        ensures legal { IsLegal self.new.board self.new.history }
+        ensures no_agent { (result ≡ Err CoreError.NoAgent)
+            ↔ IsNoAgent (length self.old.board.agents) agent }
+        ensures memory { 0 < self.old.room → result ≢ Err CoreError.Memory }
+        ensures not_nothing { result ≢ Err CoreError.Nothing }
+        ensures err { OnErr result (self.new ≡ self.old) }
+        ensures kept { OnErr result (reply.new ≡ reply.old) }
+        ensures unasked { OnErr result (H.applied hardware.new ≡ H.applied hardware.old) }
+    {
+        self.platform.check_agent(agent)?;
+        self.trace.reserve()?;
+        Ok(self.execute_on(hardware, agent, frame, reply))
+    }
+
+    /// As `command_on`, for an agent of the board and with room in the trace, which `reserve`
+    /// makes; so it is never refused.
+    pub fn execute_on<H: Hardware>(
+        &mut self,
+        hardware: &mut H,
+        agent: u32,
+        frame: &Frame,
+        reply: &mut Message,
+    ) -> Answered
+        requires agent { IsAgent (length self.old.board.agents) agent }
+        requires room { 0 < self.old.room }
+        ensures executes { ExecutesOn self.old.board agent frame.now (answer_with result reply.new)
+            self.old.history (H.applied hardware.old) self.new.history (H.applied hardware.new) }
+        ensures made { (before : List Effect)
+            → HasMade before self.old.board self.old.history (H.applied hardware.old)
+            → HasMade before self.new.board self.new.history (H.applied hardware.new) }
+        ensures board { self.new.board ≡ self.old.board }
+        ensures legal { IsLegal self.new.board self.new.history }
+    {
+        let effect = self.platform.effect_in(agent, frame);
+        if make(hardware, effect) {
+            self.execute(agent, frame, reply)
+        } else {
+            self.fail_command(agent, frame, reply);
+            Answered::Reply
+        }
+    }
+
+    /// As `advance`, beside the hardware: what the completion changes of it is made first, and where
+    /// the hardware refuses that the set ends as failed. The hardware is not asked where the call is
+    /// refused.
+    pub fn advance_on<H: Hardware>(&mut self, hardware: &mut H) -> Result<bool, CoreError>
+        ensures waiting { IfOk result (λ did.
+            (did ≡ false) ↔ IsIdle self.old.board self.old.history) }
+        ensures happens { IfOk result (λ did.
+            did ≡ true → HappensOn self.old.board IsEnd
+            self.old.history (H.applied hardware.old) self.new.history (H.applied hardware.new)) }
+        ensures made { (before : List Effect)
+            → HasMade before self.old.board self.old.history (H.applied hardware.old)
+            → HasMade before self.new.board self.new.history (H.applied hardware.new) }
+        ensures same { IfOk result (λ did. did ≡ false → self.new ≡ self.old) }
+        ensures board { self.new.board ≡ self.old.board }
+        ensures legal { IsLegal self.new.board self.new.history }
+        ensures memory { IfErr result (λ e.
+            (e ≡ CoreError.Memory) × (self.old.room ≡ 0)
+            × ¬ (IsIdle self.old.board self.old.history)) }
+        ensures err { OnErr result (self.new ≡ self.old) }
+        ensures unasked { OnErr result (H.applied hardware.new ≡ H.applied hardware.old) }
+    {
+        if self.platform.is_idle() {
+            return Ok(false);
+        }
+        self.trace.reserve()?;
+        self.end_on(hardware);
+        Ok(true)
+    }
+
+    /// As `advance_on`, with a pending set and room in the trace.
+    fn end_on<H: Hardware>(&mut self, hardware: &mut H)
+        requires waiting { ¬ (IsIdle self.old.board self.old.history) }
+        requires room { 0 < self.old.room }
+        ensures happens { HappensOn self.old.board IsEnd
+            self.old.history (H.applied hardware.old) self.new.history (H.applied hardware.new) }
+        ensures board { self.new.board ≡ self.old.board }
+        ensures legal { IsLegal self.new.board self.new.history }
+    {
+        let effect = self.platform.effect_of_advance();
+        if make(hardware, effect) {
+            self.platform.complete();
+            self.trace.push_advance();
+        } else {
+            self.platform.fail();
+            self.trace.push_advance_failed();
+        }
+    }
+
+    /// Answers a command of an agent of the board whose change the hardware refused.
+    fn fail_command(&mut self, agent: u32, frame: &Frame, reply: &mut Message)
+        requires agent { IsAgent (length self.old.board.agents) agent }
+        requires room { 0 < self.old.room }
+        requires effect { effect_after self.old.board self.old.history (Called agent frame.now)
+            ≢ None }
+        ensures answer { Reply reply.new ≡ failed_answer frame.now }
+        ensures event { self.new.history ≡ self.old.history ++ CommandFailed agent frame.now ∷ [] }
+        ensures board { self.new.board ≡ self.old.board }
+        ensures legal { IsLegal self.new.board self.new.history }
+    {
+        if let Some(message) = self.platform.changing(agent, frame) {
+            set_failed_reply(message, reply);
+            self.trace.push_command_failed(agent, message);
+        }
+    }
+}

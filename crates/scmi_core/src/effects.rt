@@ -1,0 +1,92 @@
+//! What a command or a completion is to change of the hardware.
+ghost use Rattle.std.specs.Prelude.{◌≡◌, ◌≤◌, length, None, Ok, option_map};
+ghost use Rattle.scmi_codec.specs.Payload.{if_success};
+ghost use Rattle.scmi_codec.specs.declared.command.Command.TheVariants.{Power, Clock};
+ghost use Rattle.scmi_plan.specs.Plan.{IsLawful};
+ghost use Rattle.scmi_power.specs.PowerTable.{set_now};
+ghost use Rattle.scmi_clock.specs.ClockTable.{rate_now, enabled_now};
+ghost use Rattle.scmi_core.specs.Effect.{effect_in, effect_of, state_effect, clock_effect};
+ghost use Rattle.scmi_core.specs.Reply.{reply_words};
+ghost use Rattle.scmi_core.specs.Tables.{situation_in};
+ghost use Rattle.scmi_core.specs.Value.{set_to_change};
+
+use crate::effect::Effect;
+use crate::pending_set::Setting;
+use crate::tables::Tables;
+use scmi_codec::{ClockCommand, Command, Frame, PowerCommand};
+use scmi_plan::Plan;
+
+impl Tables {
+    /// The effect of a frame of an agent, if it has one.
+    pub fn effect_of(&self, plan: &Plan, agent: u32, frame: &Frame) -> Option<Effect>
+        requires first { 1 ≤ agent }
+        requires last { agent ≤ length plan.now.agents }
+        requires lawful { IsLawful plan.now }
+        ensures { result ≡ effect_in plan.now agent frame.now (situation_in agent self.now) }
+    {
+        match frame {
+            Frame::Good(message) => match Command::read(message) {
+                Ok(Command::Power(command)) => self.power_effect(plan, agent, command),
+                Ok(Command::Clock(command)) => self.clock_effect(plan, agent, command),
+                _ => None,
+            },
+            Frame::Malformed { .. } => None,
+        }
+    }
+
+    /// The effect of a command of the power domain protocol, if it has one.
+    fn power_effect(&self, plan: &Plan, agent: u32, command: PowerCommand) -> Option<Effect>
+        requires first { 1 ≤ agent }
+        requires last { agent ≤ length plan.now.agents }
+        requires lawful { IsLawful plan.now }
+        ensures { result ≡ option_map state_effect
+            (if_success
+            (reply_words plan.now agent (situation_in agent self.now) (Ok (Power command)))
+            (set_now command)) }
+    {
+        let load = self.power_load(agent, command);
+        match self.power.change_of(plan, &self.base, agent, command, load) {
+            Some((domain, state)) => Some(Effect::State { domain, state }),
+            None => None,
+        }
+    }
+
+    /// The effect of a command of the clock protocol, if it has one.
+    fn clock_effect(&self, plan: &Plan, agent: u32, command: ClockCommand) -> Option<Effect>
+        requires first { 1 ≤ agent }
+        requires last { agent ≤ length plan.now.agents }
+        requires lawful { IsLawful plan.now }
+        ensures { result ≡ clock_effect
+            (if_success
+            (reply_words plan.now agent (situation_in agent self.now) (Ok (Clock command)))
+            (rate_now plan.now command))
+            (if_success
+            (reply_words plan.now agent (situation_in agent self.now) (Ok (Clock command)))
+            (enabled_now command)) }
+    {
+        let load = self.clock_load(agent, command);
+        match self
+            .clocks
+            .rate_change_of(plan, &self.base, agent, command, load)
+        {
+            Some((clock, rate)) => Some(Effect::Rate { clock, rate }),
+            None => match self
+                .clocks
+                .enabled_change_of(plan, &self.base, agent, command, load)
+            {
+                Some((clock, enabled)) => Some(Effect::Enabled { clock, enabled }),
+                None => None,
+            },
+        }
+    }
+}
+
+/// The effect of a setting.
+pub(crate) fn effect_of_setting(setting: Setting) -> Effect
+    ensures { result ≡ effect_of (set_to_change 0 setting) }
+{
+    match setting {
+        Setting::State(domain, state) => Effect::State { domain, state },
+        Setting::Rate(clock, rate) => Effect::Rate { clock, rate },
+    }
+}

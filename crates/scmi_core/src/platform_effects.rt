@@ -1,0 +1,138 @@
+//! Changes of hardware: what they are to be, and what is left where the hardware refuses them.
+ghost use Rattle.std.specs.Prelude.{◌≡◌, ◌≢◌, ◌≤◌, ◌<◌, ◌↔◌, List, length, true, false, None, IfOk, IfSome, OnOk, OnErr, IfErr, Err};
+ghost use Rattle.scmi_codec.specs.declared.frame.Frame.TheVariants.{Good};
+ghost use Rattle.scmi_codec.specs.declared.frame.Answer.TheVariants.{Reply};
+ghost use Rattle.scmi_plan.specs.Plan.{IsLawful};
+ghost use Rattle.scmi_plan.specs.Agent.{IsAgent, IsNoAgent};
+ghost use Rattle.scmi_core.specs.Effect.{effect_after};
+ghost use Rattle.scmi_core.specs.History.{IsIdle};
+ghost use Rattle.scmi_core.specs.Outbox.{failed_words, message_with};
+ghost use Rattle.scmi_core.specs.Reply.{failed_answer};
+ghost use Rattle.scmi_core.specs.Standing.{MovesOn, StandsAfter};
+ghost use Rattle.scmi_core.specs.declared.event.Event.{Event};
+ghost use Rattle.scmi_core.specs.declared.event.Event.TheVariants.{Command as Called, Advance, CommandFailed, AdvanceFailed};
+
+use crate::core_error::CoreError;
+use crate::effect::Effect;
+use crate::effects::effect_of_setting;
+use crate::platform::Platform;
+use scmi_codec::{Frame, Message, Status, set_refusal};
+
+impl Platform {
+    /// What an agent's command is to change of the hardware, before it is executed; `None` where it
+    /// changes nothing of it. `NoAgent` where the board lacks the agent.
+    pub fn effect_of(&self, agent: u32, frame: &Frame) -> Result<Option<Effect>, CoreError>
+        ensures effect { (h : List Event) → StandsAfter self.now h
+            → IfOk result (λ effect.
+            effect ≡ effect_after self.now.board h (Called agent frame.now)) }
+        ensures no_agent { (result ≡ Err CoreError.NoAgent)
+            ↔ IsNoAgent (length self.now.board.agents) agent }
+        ensures errors { IfErr result (λ e. e ≡ CoreError.NoAgent) }
+    {
+        self.check_agent(agent)?;
+        Ok(self.effect_in(agent, frame))
+    }
+
+    /// What the completion of the first pending set is to change of the hardware, before it
+    /// completes; `None` where nothing is pending.
+    pub fn effect_of_advance(&self) -> Option<Effect>
+        ensures { (h : List Event) → StandsAfter self.now h
+            → result ≡ effect_after self.now.board h Advance }
+    {
+        match self.tables.pending.first() {
+            Some(set) => Some(effect_of_setting(set.setting)),
+            None => None,
+        }
+    }
+
+    /// Answers a command whose change the hardware refused: HARDWARE_ERROR, and nothing changed.
+    /// `NoAgent` where the board lacks the agent, and `Nothing` where the command changes nothing of
+    /// the hardware; then no event happened, and no reply was written.
+    pub fn command_failed(
+        &self,
+        agent: u32,
+        frame: &Frame,
+        reply: &mut Message,
+    ) -> Result<(), CoreError>
+        ensures answer { OnOk result (Reply reply.new ≡ failed_answer frame.now) }
+        ensures event { OnOk result (MovesOn self.now (CommandFailed agent frame.now) self.now) }
+        ensures no_agent { (result ≡ Err CoreError.NoAgent)
+            ↔ IsNoAgent (length self.now.board.agents) agent }
+        ensures nothing { (h : List Event) → StandsAfter self.now h
+            → (result ≡ Err CoreError.Nothing)
+            ↔ (IsAgent (length self.now.board.agents) agent
+            × (effect_after self.now.board h (Called agent frame.now) ≡ None)) }
+        ensures memory { result ≢ Err CoreError.Memory }
+        ensures kept { OnErr result (reply.new ≡ reply.old) }
+    {
+        self.check_agent(agent)?;
+        let Some(message) = self.changing(agent, frame) else {
+            return Err(CoreError::Nothing);
+        };
+        set_failed_reply(message, reply);
+        Ok(())
+    }
+
+    /// Takes the first pending set off, whose change the hardware refused: a delayed response of
+    /// HARDWARE_ERROR if one is wanted, no notification, and no value changed. `false` where nothing
+    /// is pending, and then nothing changed.
+    pub fn advance_failed(&mut self) -> bool
+        ensures waiting { (h : List Event) → StandsAfter self.old h
+            → (result ≡ false) ↔ IsIdle self.old.board h }
+        ensures event { result ≡ true → MovesOn self.old AdvanceFailed self.new }
+        ensures same { result ≡ false → self.new ≡ self.old }
+        ensures board { self.new.board ≡ self.old.board }
+    {
+        if self.is_idle() {
+            return false;
+        }
+        self.fail();
+        true
+    }
+
+    /// What the command of an agent of the board is to change of the hardware.
+    pub(crate) fn effect_in(&self, agent: u32, frame: &Frame) -> Option<Effect>
+        requires first { 1 ≤ agent }
+        requires last { agent ≤ length self.now.board.agents }
+        ensures lawful { IsLawful self.now.board }
+        ensures effect { (h : List Event) → StandsAfter self.now h
+            → result ≡ effect_after self.now.board h (Called agent frame.now) }
+    {
+        let _agents = self.plan.agents();
+        self.tables.effect_of(&self.plan, agent, frame)
+    }
+
+    /// The message of a frame of an agent of the board, if it is to change the hardware.
+    pub(crate) fn changing<'a>(&self, agent: u32, frame: &'a Frame) -> Option<&'a Message>
+        requires first { 1 ≤ agent }
+        requires last { agent ≤ length self.now.board.agents }
+        ensures none { (h : List Event) → StandsAfter self.now h
+            → (result ≡ None) ↔ (effect_after self.now.board h (Called agent frame.now) ≡ None) }
+        ensures message { IfSome result (λ message. frame.now ≡ Good message.now) }
+        ensures event { result ≢ None → MovesOn self.now (CommandFailed agent frame.now) self.now }
+        ensures lawful { IsLawful self.now.board }
+    {
+        let effect = self.effect_in(agent, frame);
+        match frame {
+            Frame::Good(message) if effect.is_some() => Some(message),
+            _ => None,
+        }
+    }
+
+    /// Takes the first of the sets that are pending off, as failed.
+    pub(crate) fn fail(&mut self)
+        requires waiting { 0 < length self.now.tables.pending }
+        ensures event { MovesOn self.old AdvanceFailed self.new }
+        ensures board { self.new.board ≡ self.old.board }
+    {
+        self.tables.fail(&self.plan);
+    }
+}
+
+/// Makes a reply that to a message whose change the hardware refused, where it stands.
+pub(crate) fn set_failed_reply(message: &Message, reply: &mut Message)
+    ensures { reply.new ≡ message_with message.now.header failed_words }
+{
+    reply.header = message.header;
+    set_refusal(&mut reply.payload, Status::HardwareError);
+}

@@ -1,0 +1,120 @@
+//! A platform beside the hardware that it switches.
+ghost use Rattle.std.specs.Prelude.{◌≡◌, ◌≢◌, ◌<◌, ◌≤◌, ◌↔◌, List, length, true, false, None, IfOk, OnErr, IfErr, Err};
+ghost use Rattle.scmi_codec.specs.declared.frame.Answer.TheVariants.{Reply};
+ghost use Rattle.scmi_plan.specs.Agent.{IsAgent, IsNoAgent};
+ghost use Rattle.scmi_core.specs.Driven.{ExecutesThere, HappensThere, IsDriven, IsEnd};
+ghost use Rattle.scmi_core.specs.Effect.{effect_after};
+ghost use Rattle.scmi_core.specs.History.{IsIdle, answer_with};
+ghost use Rattle.scmi_core.specs.Reply.{failed_answer};
+ghost use Rattle.scmi_core.specs.Standing.{MovesOn, StandsAfter};
+ghost use Rattle.scmi_core.specs.declared.event.Event.{Event};
+ghost use Rattle.scmi_core.specs.declared.event.Event.TheVariants.{Command as Called, CommandFailed};
+
+use crate::answered::Answered;
+use crate::core_error::CoreError;
+use crate::hardware::{Hardware, make};
+use crate::platform::Platform;
+use crate::platform_effects::set_failed_reply;
+use scmi_codec::{Frame, Message};
+
+impl Platform {
+    /// As `command`, beside the hardware: what the command changes of it is made first, and where
+    /// the hardware refuses that the command has failed, and its reply is HARDWARE_ERROR. The
+    /// hardware is not asked where the call is refused.
+    pub fn command_on<H: Hardware>(
+        &mut self,
+        hardware: &mut H,
+        agent: u32,
+        frame: &Frame,
+        reply: &mut Message,
+    ) -> Result<Answered, CoreError>
+        ensures executes { IfOk result (λ x.
+            ExecutesThere agent frame.now (answer_with x reply.new)
+            self.old (H.applied hardware.old) self.new (H.applied hardware.new)) }
+        ensures driven { IsDriven self.old (H.applied hardware.old)
+            → IsDriven self.new (H.applied hardware.new) }
+        ensures board { self.new.board ≡ self.old.board }
+        ensures no_agent { (result ≡ Err CoreError.NoAgent)
+            ↔ IsNoAgent (length self.old.board.agents) agent }
+        ensures errors { IfErr result (λ e. e ≡ CoreError.NoAgent) }
+        ensures err { OnErr result (self.new ≡ self.old) }
+        ensures kept { OnErr result (reply.new ≡ reply.old) }
+        ensures unasked { OnErr result (H.applied hardware.new ≡ H.applied hardware.old) }
+    {
+        self.check_agent(agent)?;
+        Ok(self.execute_on(hardware, agent, frame, reply))
+    }
+
+    /// As `advance`, beside the hardware: what the completion changes of it is made first, and where
+    /// the hardware refuses that the set ends as failed.
+    pub fn advance_on<H: Hardware>(&mut self, hardware: &mut H) -> bool
+        ensures waiting { (h : List Event) → StandsAfter self.old h
+            → (result ≡ false) ↔ IsIdle self.old.board h }
+        ensures happens { result ≡ true → HappensThere IsEnd
+            self.old (H.applied hardware.old) self.new (H.applied hardware.new) }
+        ensures driven { IsDriven self.old (H.applied hardware.old)
+            → IsDriven self.new (H.applied hardware.new) }
+        ensures same { result ≡ false → self.new ≡ self.old }
+        ensures unasked { result ≡ false → H.applied hardware.new ≡ H.applied hardware.old }
+        ensures board { self.new.board ≡ self.old.board }
+    {
+        if self.is_idle() {
+            return false;
+        }
+        self.end_on(hardware);
+        true
+    }
+
+    /// As `command_on`, for an agent of the board.
+    fn execute_on<H: Hardware>(
+        &mut self,
+        hardware: &mut H,
+        agent: u32,
+        frame: &Frame,
+        reply: &mut Message,
+    ) -> Answered
+        requires first { 1 ≤ agent }
+        requires last { agent ≤ length self.old.board.agents }
+        ensures executes { ExecutesThere agent frame.now (answer_with result reply.new)
+            self.old (H.applied hardware.old) self.new (H.applied hardware.new) }
+        ensures board { self.new.board ≡ self.old.board }
+    {
+        let effect = self.effect_in(agent, frame);
+        if make(hardware, effect) {
+            self.execute(agent, frame, reply)
+        } else {
+            self.answer_failed(agent, frame, reply);
+            Answered::Reply
+        }
+    }
+
+    /// As `advance_on`, with a pending set.
+    fn end_on<H: Hardware>(&mut self, hardware: &mut H)
+        requires waiting { 0 < length self.old.tables.pending }
+        ensures happens { HappensThere IsEnd
+            self.old (H.applied hardware.old) self.new (H.applied hardware.new) }
+        ensures board { self.new.board ≡ self.old.board }
+    {
+        let effect = self.effect_of_advance();
+        if make(hardware, effect) {
+            self.complete();
+        } else {
+            self.fail();
+        }
+    }
+
+    /// Answers a command of an agent of the board whose change the hardware refused.
+    fn answer_failed(&self, agent: u32, frame: &Frame, reply: &mut Message)
+        requires first { 1 ≤ agent }
+        requires last { agent ≤ length self.now.board.agents }
+        requires effect { (h : List Event) → StandsAfter self.now h
+            → effect_after self.now.board h (Called agent frame.now) ≢ None }
+        ensures answer { Reply reply.new ≡ failed_answer frame.now }
+        ensures event { MovesOn self.now (CommandFailed agent frame.now) self.now }
+    {
+        let _agents = self.plan.agents();
+        if let Some(message) = self.changing(agent, frame) {
+            set_failed_reply(message, reply);
+        }
+    }
+}
