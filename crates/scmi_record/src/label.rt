@@ -45,6 +45,7 @@ pub(crate) fn add_field(
             label.value = Vec::from_slice(alloc, switch_word(bits % 2 == 1))?;
         }
         Field::Device(device) => label.value = numbered_word(alloc, "device", *device)?,
+        Field::Protocol(protocol) => add_protocol(alloc, label, *protocol)?,
         Field::Name(words) => label.object = name_words(alloc, words)?,
         Field::By(agent) => {
             label.tag = Vec::from_slice(alloc, b"by ")?;
@@ -58,6 +59,22 @@ pub(crate) fn add_field(
         _ => add_flags(alloc, label, field)?,
     }
     Ok(())
+}
+
+/// Adds the protocol that a permission is about, behind its device.
+fn add_protocol(alloc: Global, label: &mut Label, protocol: u32) -> Result<(), AllocError> {
+    let name = match u8::try_from(protocol) {
+        Ok(id) => protocol_name(id),
+        Err(_) => None,
+    };
+    if !label.value.is_empty() {
+        label.value.extend_from_slice(b", ")?;
+    }
+    if let Some(name) = name {
+        return label.value.extend_from_slice(name.as_bytes());
+    }
+    let number = format!(in alloc; "protocol 0x{protocol:x}")?;
+    label.value.extend_from_slice(number.as_bytes())
 }
 
 /// Adds a state or a rate: what an object gets, or what there is where the message names none.
