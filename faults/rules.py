@@ -117,7 +117,7 @@ def decoded(crate):
     return Steps("areas in words", stdin, b"".join(lines[:end]))
 
 
-class Direct:
+class Probe:
     """The calls that are made one by one. A refused call is followed by the same call again."""
 
     # The calls that memory may be refused to.

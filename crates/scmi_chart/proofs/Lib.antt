@@ -1,1 +1,1 @@
-pub mod EscapeLemmas
+pub mod Same

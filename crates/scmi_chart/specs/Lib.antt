@@ -1,13 +1,2 @@
-pub mod Piece
-pub mod Escape
-pub mod Layout
-pub mod Shape
-pub mod Route
-pub mod Label
-pub mod Message
-pub mod Event
-pub mod Mark
-pub mod Lifeline
-pub mod Column
-pub mod Frame
-pub mod Chart
+pub mod Signs
+pub mod Standing

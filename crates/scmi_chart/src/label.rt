@@ -1,164 +1,138 @@
-//! What messages say, as words.
-ghost use Rattle.std.specs.Prelude.{◌≡◌, OnOk};
-ghost use Rattle.std.specs.Io.KnownBytes.{Appends};
-ghost use Rattle.scmi_chart.specs.Label.{label_text, front_text, back_text, value_text, tag_text, letters, part_letters, font_size, if_any_text, start_text, place_text, turn_text, turned_text};
+//! What messages are about, in words.
+use crate::board_names::{agent_name, clock_name, domain_name};
+use crate::words::{hex_words, name_words, numbered_word, rate_words, state_words, switch_word};
+use scmi_codec::message_name;
+use scmi_describe::{Field, protocol_name};
+use scmi_plan::RawPlan;
+use scmi_svg::Label;
+use std::alloc::{AllocError, Global};
 
-use crate::mark::Label;
-use crate::piece::{Piece, write_pieces};
-use crate::route::{Spot, Turn};
-use std::io;
-use std::io::Write;
-
-/// Writes what a message says.
-#[tactic(auto, unfolding(crate::specs::Label::label_text))]
-pub(crate) fn write_label<W: Write>(writer: &mut W, spot: &Spot, label: &Label) -> io::Result<()>
-    ensures { OnOk result (Appends (W.contents writer.old) (W.contents writer.new)
-        (label_text spot.now label.now)) }
-{
-    write_start(writer, spot, font_size(letters(label)))?;
-    write_front(writer, label)?;
-    write_back(writer, label)?;
-    write_pieces(writer, &[Piece::Fixed("</text>\n")])
-}
-
-/// Writes the name of a message, and what it is about.
-#[tactic(auto, unfolding(crate::specs::Label::front_text))]
-fn write_front<W: Write>(writer: &mut W, label: &Label) -> io::Result<()>
-    ensures { OnOk result (Appends (W.contents writer.old) (W.contents writer.new)
-        (front_text label.now)) }
-{
-    write_part(writer, "<tspan class=\"name\">", &label.name)?;
-    write_part(writer, "<tspan class=\"object\" dx=\"6\">", &label.object)
-}
-
-/// Writes the value of a message behind an arrow, and the remark.
-#[tactic(auto, unfolding(crate::specs::Label::back_text))]
-fn write_back<W: Write>(writer: &mut W, label: &Label) -> io::Result<()>
-    ensures { OnOk result (Appends (W.contents writer.old) (W.contents writer.new)
-        (back_text label.now)) }
-{
-    write_value(writer, &label.value)?;
-    write_tag(writer, &label.tag)
-}
-
-#[tactic(auto, unfolding(crate::specs::Label::value_text))]
-fn write_value<W: Write>(writer: &mut W, value: &[u8]) -> io::Result<()>
-    ensures { OnOk result (Appends (W.contents writer.old) (W.contents writer.new)
-        (value_text value.now)) }
-{
-    write_part(writer, "<tspan class=\"object\" dx=\"4\">&#8594; ", value)
-}
-
-#[tactic(auto, unfolding(crate::specs::Label::tag_text))]
-fn write_tag<W: Write>(writer: &mut W, tag: &[u8]) -> io::Result<()>
-    ensures { OnOk result (Appends (W.contents writer.old) (W.contents writer.new)
-        (tag_text tag.now)) }
-{
-    write_part(writer, "<tspan class=\"tag\" dx=\"6\">", tag)
-}
-
-/// The letters of a label.
-fn letters(label: &Label) -> u16
-    ensures { result ≡ letters label.now }
-{
-    let front = u16::from(part_letters(&label.name)) + u16::from(part_letters(&label.object));
-    front + u16::from(part_letters(&label.value)) + u16::from(part_letters(&label.tag))
-}
-
-/// The letters of a part of a label, as far as they matter for its size.
-fn part_letters(text: &[u8]) -> u8
-    ensures { result ≡ part_letters text.now }
-{
-    text.len().min(99) as u8
-}
-
-/// The size of words of so many letters between two lifelines: 12 pixels, or as many as there is room
-/// for, but no less than 9. A letter is 0.6 of its size wide.
-fn font_size(letters: u16) -> u32
-    ensures { result ≡ font_size letters }
-{
-    (430 / u32::from(letters).max(1)).min(12).max(9)
-}
-
-/// Writes a part of a label, if it has any letters.
-#[tactic(auto, unfolding(crate::specs::Label::if_any_text))]
-fn write_part<'a, W: Write>(writer: &mut W, start: &'a str, text: &'a [u8]) -> io::Result<()>
-    ensures { OnOk result (Appends (W.contents writer.old) (W.contents writer.new)
-        (if_any_text start.now text.now)) }
-{
-    match text {
-        [] => Ok(()),
-        _ => write_pieces(
-            writer,
-            &[
-                Piece::Fixed(start),
-                Piece::Outside(text),
-                Piece::Fixed("</tspan>"),
-            ],
-        ),
+/// A label of a name alone.
+pub(crate) fn name_label(alloc: Global, name: Vec<u8>) -> Label {
+    Label {
+        name,
+        object: Vec::new(alloc),
+        value: Vec::new(alloc),
+        tag: Vec::new(alloc),
     }
 }
 
-#[tactic(auto, unfolding(crate::specs::Label::start_text))]
-fn write_start<W: Write>(writer: &mut W, spot: &Spot, size: u32) -> io::Result<()>
-    ensures { OnOk result (Appends (W.contents writer.old) (W.contents writer.new)
-        (start_text spot.now size)) }
-{
-    write_place(writer, spot, size)?;
-    write_turn(writer, spot)
-}
-
-#[tactic(auto, unfolding(crate::specs::Label::place_text))]
-fn write_place<W: Write>(writer: &mut W, spot: &Spot, size: u32) -> io::Result<()>
-    ensures { OnOk result (Appends (W.contents writer.old) (W.contents writer.new)
-        (place_text spot.now size)) }
-{
-    write_pieces(
-        writer,
-        &[
-            Piece::Fixed("<text x=\""),
-            Piece::Number(spot.x),
-            Piece::Fixed("\" y=\""),
-            Piece::Number(spot.y),
-            Piece::Fixed("\" font-size=\""),
-            Piece::Number(size),
-            Piece::Fixed("\""),
-        ],
-    )
-}
-
-/// Writes how words are turned.
-fn write_turn<W: Write>(writer: &mut W, spot: &Spot) -> io::Result<()>
-    ensures { OnOk result (Appends (W.contents writer.old) (W.contents writer.new)
-        (turn_text spot.now)) }
-{
-    match spot.turn {
-        Turn::Level => write_pieces(writer, &[Piece::Fixed(">")]),
-        Turn::Down(hundredths) => write_turned(writer, " transform=\"rotate(", hundredths, spot),
-        Turn::Up(hundredths) => write_turned(writer, " transform=\"rotate(-", hundredths, spot),
+/// The name of a message; where the profile has none, its protocol and id.
+pub(crate) fn name_of(alloc: Global, protocol: u8, id: u8) -> Result<Vec<u8>, AllocError> {
+    if let Some(name) = message_name(protocol, id) {
+        return Vec::from_slice(alloc, name.as_bytes());
     }
+    let name = match protocol_name(protocol) {
+        Some(name) => format!(in alloc; "{name} 0x{id:x}")?,
+        None => format!(in alloc; "protocol 0x{protocol:x} 0x{id:x}")?,
+    };
+    Ok(name.into_bytes())
 }
 
-#[tactic(auto, unfolding(crate::specs::Label::turned_text))]
-fn write_turned<W: Write>(
-    writer: &mut W,
-    start: &str,
-    hundredths: u32,
-    spot: &Spot,
-) -> io::Result<()>
-    ensures { OnOk result (Appends (W.contents writer.old) (W.contents writer.new)
-        (turned_text start.now hundredths spot.now)) }
-{
-    write_pieces(
-        writer,
-        &[
-            Piece::Fixed(start),
-            Piece::Number(hundredths),
-            Piece::Fixed("e-2 "),
-            Piece::Number(spot.x),
-            Piece::Fixed(" "),
-            Piece::Number(spot.y),
-            Piece::Fixed(")\">"),
-        ],
-    )
+/// Adds a field of a message to its label.
+pub(crate) fn add_field(
+    alloc: Global,
+    board: &RawPlan,
+    label: &mut Label,
+    field: &Field,
+) -> Result<(), AllocError> {
+    match field {
+        Field::Domain(domain) => label.object = domain_name(alloc, board, *domain)?,
+        Field::Clock(clock) => label.object = clock_name(alloc, board, *clock)?,
+        Field::Agent(agent) => label.object = agent_name(alloc, board, *agent)?,
+        Field::State(_) | Field::Rate(_) => add_value(alloc, label, field)?,
+        Field::Enable(bits) | Field::ClockAttributes(bits) => {
+            label.value = Vec::from_slice(alloc, switch_word(bits % 2 == 1))?;
+        }
+        Field::Device(device) => label.value = numbered_word(alloc, "device", *device)?,
+        Field::Protocol(protocol) => add_protocol(alloc, label, *protocol)?,
+        Field::Name(words) => label.object = name_words(alloc, words)?,
+        Field::By(agent) => {
+            label.tag = Vec::from_slice(alloc, b"by ")?;
+            label
+                .tag
+                .extend_from_slice(&agent_name(alloc, board, *agent)?)?;
+        }
+        Field::Message(id) => label.object = hex_words(alloc, *id)?,
+        Field::Version(_) | Field::Counts(_) => add_counts(alloc, label, field)?,
+        Field::Index(index) => label.tag = numbered_word(alloc, "from", *index)?,
+        _ => add_flags(alloc, label, field)?,
+    }
+    Ok(())
+}
+
+/// Adds the protocol that a permission is about, behind its device.
+fn add_protocol(alloc: Global, label: &mut Label, protocol: u32) -> Result<(), AllocError> {
+    let name = match u8::try_from(protocol) {
+        Ok(id) => protocol_name(id),
+        Err(_) => None,
+    };
+    if !label.value.is_empty() {
+        label.value.extend_from_slice(b", ")?;
+    }
+    if let Some(name) = name {
+        return label.value.extend_from_slice(name.as_bytes());
+    }
+    let number = format!(in alloc; "protocol 0x{protocol:x}")?;
+    label.value.extend_from_slice(number.as_bytes())
+}
+
+/// Adds a state or a rate: what an object gets, or what there is where the message names none.
+fn add_value(alloc: Global, label: &mut Label, field: &Field) -> Result<(), AllocError> {
+    let words = match field {
+        Field::State(state) => state_words(alloc, *state)?,
+        Field::Rate(hertz) => rate_words(alloc, *hertz)?,
+        _ => return Ok(()),
+    };
+    if label.object.is_empty() {
+        label.object = words;
+    } else {
+        label.value = words;
+    }
+    Ok(())
+}
+
+/// Adds a version, or how many agents and protocols there are.
+fn add_counts(alloc: Global, label: &mut Label, field: &Field) -> Result<(), AllocError> {
+    let words = match field {
+        Field::Version(word) => format!(in alloc; "version {}.{}", word >> 16, word & 0xffff)?,
+        Field::Counts(word) => format!(in alloc;
+            "{} agents, {} protocols",
+            word >> 8 & 0xff,
+            word & 0xff
+        )?,
+        _ => return Ok(()),
+    };
+    label.object = words.into_bytes();
+    Ok(())
+}
+
+/// Adds flags, as a remark.
+fn add_flags(alloc: Global, label: &mut Label, field: &Field) -> Result<(), AllocError> {
+    let words: &[u8] = match field {
+        Field::PowerFlags(1) => b"async",
+        Field::RateFlags(bits) => rate_flags(*bits),
+        Field::PermitFlags(bits) if bits % 2 == 1 => b"allow",
+        Field::PermitFlags(_) => b"deny",
+        Field::ResetFlags(bits) if bits % 2 == 1 => b"and permissions",
+        _ => return Ok(()),
+    };
+    label.tag = Vec::from_slice(alloc, words)?;
+    Ok(())
+}
+
+/// The flags of a rate set: when it takes effect, then how the rate is rounded.
+fn rate_flags(bits: u32) -> &'static [u8] {
+    match bits {
+        0x0 => b"",
+        0x1 => b"async",
+        0x3 => b"async, no response",
+        0x4 => b"up",
+        0x5 => b"async, up",
+        0x7 => b"async, no response, up",
+        0x8 | 0xc => b"nearest",
+        0x9 | 0xd => b"async, nearest",
+        0xb | 0xf => b"async, no response, nearest",
+        _ => b"other flags",
+    }
 }

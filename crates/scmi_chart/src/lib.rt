@@ -1,28 +1,23 @@
-//! The sequence chart of a run, as an SVG: lifelines of agents and platform, messages by name and
-//! status between them, and beside them the states of domains, clocks and outboxes on the same axis.
+//! What a chart shows of a run, from the run's steps and their lines.
 //!
-//! The main type is `Chart`, which says what happened; `write_chart` draws it. The main theorem is its
-//! contract: the picture is the definition's to its last byte. By the contract of `write_escaped` no
-//! text of a board or a script in it can be read as a part of the drawing.
+//! The main type is `Recorder`, which is given one step after the other and looks at the platform
+//! after each. The main theorem is the contract of `Recorder::record`: the marks that a step adds are
+//! those of its line, in order, each of the agent that the line names, and no others.
 #![tactic(auto)]
 
-mod chart;
-mod column;
-mod event;
-mod frame;
+mod asked;
+mod board_names;
 mod label;
-mod layout;
-mod lifeline;
-mod mark;
+mod level;
+mod levels;
 mod marks;
-mod message;
-mod piece;
-mod route;
-mod shape;
-mod style;
-mod write;
+mod parties;
+mod recorder;
+mod reply_label;
+mod sign;
+mod subject;
+mod words;
 
-pub use chart::{Chart, Column, Kind, Lifeline, Span, State, Step};
-pub use mark::{Label, Mark, Message, Outcome, Side};
-pub use piece::write_escaped;
-pub use write::write_chart;
+pub use levels::Levels;
+pub use recorder::Recorder;
+pub use subject::Subject;

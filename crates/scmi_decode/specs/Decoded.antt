@@ -4,13 +4,13 @@ use Rattle.std.specs.List.{slice_split}
 use Rattle.std.specs.Io.KnownBytes.{Appends}
 use Rattle.scmi_codec.specs.declared.area.TheConstants.{AREA_BYTES}
 use Rattle.scmi_input.specs.Lines.{is_line_feed}
-use Rattle.scmi_say.specs.Told.{told_area}
-use Rattle.scmi_say.specs.Text.{told_text}
+use Rattle.scmi_describe.specs.Description.{described_area}
+use Rattle.scmi_describe.specs.Text.{description_text}
 use Rattle.scmi_decode.specs.Dump.{line_bytes}
 
 -- whether a line is neither empty nor begins with `#`
-abbrev pub is_told : List ℕ → Bool
-is_told line = nat_lt 0 (length line) && not (slice_index line 0 == 35)
+abbrev pub is_described : List ℕ → Bool
+is_described line = nat_lt 0 (length line) && not (slice_index line 0 == 35)
 
 -- bytes that are too few or too many for an area
 unfoldable pub other_size_text : ℕ → List ℕ
@@ -18,7 +18,7 @@ other_size_text count = codes "no area: " ++ decimal count ++ codes " bytes, not
 
 -- what bytes are
 abbrev pub bytes_text : List ℕ → List ℕ
-bytes_text bytes = if length bytes == AREA_BYTES then told_text (told_area bytes) else other_size_text (length bytes)
+bytes_text bytes = if length bytes == AREA_BYTES then description_text (described_area bytes) else other_size_text (length bytes)
 
 -- what a line is, if it has bytes
 abbrev pub found_text : Option (List ℕ) → List ℕ
@@ -31,7 +31,7 @@ numbered_text number found = decimal number ++ codes " " ++ found_text found
 
 -- what is written of a line
 abbrev pub line_text : ℕ → List ℕ → List ℕ
-line_text number line = if is_told line then numbered_text number (line_bytes line) else []
+line_text number line = if is_described line then numbered_text number (line_bytes line) else []
 
 -- what is written of lines that are numbered from n
 abbrev pub lines_text : ℕ → List (List ℕ) → List ℕ

@@ -6,9 +6,9 @@ ghost use Rattle.scmi_decode.specs.Decoded.{bytes_text, found_text, line_text, n
 
 use crate::decode_error::DecodeError;
 use crate::dump::line_bytes;
-use crate::lines::is_told;
+use crate::lines::is_described;
 use scmi_codec::AREA_BYTES;
-use scmi_say::write_area;
+use scmi_describe::write_area;
 use std::alloc::Global;
 use std::io;
 use std::io::Write;
@@ -25,7 +25,7 @@ pub fn write_line<W: Write>(
         line_text number line.now)) }
     ensures errors { IfErr result (λ e. (e ≡ DecodeError.Memory) ⊎ (e ≡ DecodeError.Write)) }
 {
-    if !is_told(line) {
+    if !is_described(line) {
         return Ok(());
     }
     let Ok(found) = line_bytes(alloc, line) else {

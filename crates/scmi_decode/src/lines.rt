@@ -3,7 +3,7 @@ ghost use Rattle.std.specs.Prelude.{◌≡◌, IfOk, map};
 ghost use Rattle.std.specs.List.{slice_split};
 ghost use Rattle.scmi_input.specs.Lines.{is_line_feed};
 ghost use Rattle.scmi_decode.specs.Dump.{is_gap};
-ghost use Rattle.scmi_decode.specs.Decoded.{is_told};
+ghost use Rattle.scmi_decode.specs.Decoded.{is_described};
 
 use std::alloc::{AllocError, Global};
 
@@ -24,9 +24,9 @@ pub fn items_of<'a>(alloc: Global, line: &'a [u8]) -> Result<Vec<&'a [u8]>, Allo
         .collect(alloc)
 }
 
-/// Whether a line is told of: it is neither empty nor begins with `#` (own).
-pub fn is_told(line: &[u8]) -> bool
-    ensures { result ≡ is_told line.now }
+/// Whether a line is described: it is neither empty nor begins with `#` (own).
+pub fn is_described(line: &[u8]) -> bool
+    ensures { result ≡ is_described line.now }
 {
     !line.is_empty() && line[0] != b'#'
 }

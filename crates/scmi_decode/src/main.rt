@@ -2,7 +2,7 @@
 //!
 //! The main theorem is the contract of `run_decode`: where the status is 0, what was written is the
 //! text of each line of the input that counts, in order and with its number, and that text says what
-//! `scmi_say` tells of the line's area, or that the line is none.
+//! `scmi_describe` describes the line's area, or says that the line is none.
 #![tactic(auto)]
 
 mod decode;

@@ -14,8 +14,8 @@ use Rattle.scmi_session.specs.SessionView.{SessionView}
 use Rattle.scmi_session.specs.Steps.{Steps}
 use Rattle.scmi_session.specs.Run.{Runs, IsNewSession}
 use Rattle.scmi_session.specs.StepLines.{AreLinesOf, IsLineOf}
-use Rattle.scmi_chart.specs.declared.chart.Chart.{Chart}
-use Rattle.scmi_record.specs.Signs.{Sign, sign_of, signs_of, run_signs}
+use Rattle.scmi_svg.specs.declared.chart.Chart.{Chart}
+use Rattle.scmi_chart.specs.Signs.{Sign, sign_of, signs_of, run_signs}
 use Rattle.scmi_draw.specs.Run.{ShowsRun}
 
 signs_more : (steps : List Step) (lines : List StepLine) (s : Step) (line : StepLine) → AreLinesOf steps lines → run_signs (steps ++ s ∷ []) (lines ++ line ∷ []) ≡ run_signs steps lines ++ signs_of s line

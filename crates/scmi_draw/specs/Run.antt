@@ -12,9 +12,9 @@ use Rattle.scmi_text.specs.declared.step.Step.{Step}
 use Rattle.scmi_text.specs.declared.step_line.StepLine.{StepLine}
 use Rattle.scmi_session.specs.SessionView.{SessionView}
 use Rattle.scmi_session.specs.Run.{Runs}
-use Rattle.scmi_chart.specs.Chart.{svg_text}
-use Rattle.scmi_chart.specs.declared.chart.Chart.{Chart}
-use Rattle.scmi_record.specs.Signs.{sign_of, run_signs}
+use Rattle.scmi_svg.specs.Chart.{svg_text}
+use Rattle.scmi_svg.specs.declared.chart.Chart.{Chart}
+use Rattle.scmi_chart.specs.Signs.{sign_of, run_signs}
 use Rattle.scmi_draw.specs.declared.kind.Kind.{Kind}
 use Rattle.scmi_draw.specs.declared.kind.Kind.TheVariants.{Rings, Words}
 

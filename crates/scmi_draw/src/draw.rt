@@ -7,8 +7,8 @@ ghost use Rattle.scmi_draw.specs.Run.{IsPicture};
 use crate::draw_error::DrawError;
 use crate::kind::Kind;
 use crate::run::chart_of;
-use scmi_chart::write_chart;
 use scmi_input::{CountedRead, CountedReader, Input, read_rest};
+use scmi_svg::write_chart;
 use std::alloc::Global;
 use std::io::{Read, Write};
 

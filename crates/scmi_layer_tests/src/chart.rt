@@ -1,6 +1,6 @@
 //! The picture of a small chart, and texts from outside.
 
-use scmi_chart::{
+use scmi_svg::{
     Chart, Column, Kind, Label, Lifeline, Mark, Message, Outcome, Span, State, Step, write_chart,
     write_escaped,
 };

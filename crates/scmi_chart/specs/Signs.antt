@@ -1,0 +1,140 @@
+-- What the marks of a chart say of a run.
+use Rattle.std.specs.Prelude.{ℕ, Bool, true, false, ◌==◌, if◌then◌else◌, List, [], ◌∷◌, ◌++◌, Option, Some, None, min, Result, Ok, Err}
+use Rattle.scmi_codec.specs.Header.{HeaderFields}
+use Rattle.scmi_codec.specs.Payload.{begins_with_success}
+use Rattle.scmi_codec.specs.declared.frame.Answer.{Answer}
+use Rattle.scmi_codec.specs.declared.frame.Answer.TheVariants.{Reply}
+use Rattle.scmi_codec.specs.declared.frame.Frame.{Frame}
+use Rattle.scmi_codec.specs.declared.frame.Frame.TheVariants.{Good}
+use Rattle.scmi_link.specs.declared.collected.Collected.{Collected}
+use Rattle.scmi_link.specs.declared.collected.Collected.TheVariants as collected
+use Rattle.scmi_link.specs.declared.closing.Closing.{Closing}
+use Rattle.scmi_link.specs.declared.close_error.CloseError.{CloseError}
+use Rattle.scmi_ends.specs.declared.served.Served.{Served}
+use Rattle.scmi_ends.specs.declared.served.Served.TheVariants as served
+use Rattle.scmi_ends.specs.declared.flushed.Flushed.{Flushed}
+use Rattle.scmi_ends.specs.declared.flushed.Flushed.TheVariants as flushed
+use Rattle.scmi_ends.specs.declared.shut_error.ShutError.{ShutError}
+use Rattle.scmi_text.specs.declared.step.Step.{Step}
+use Rattle.scmi_text.specs.declared.step.Step.TheVariants as step
+use Rattle.scmi_text.specs.declared.step.AgentStep.TheVariants as agent_step
+use Rattle.scmi_text.specs.declared.step_line.StepLine.{StepLine}
+use Rattle.scmi_text.specs.declared.step_line.StepLine.TheVariants as line
+use Rattle.scmi_svg.specs.declared.mark.Mark.{Mark}
+use Rattle.scmi_svg.specs.declared.mark.Mark.TheVariants as mark
+use Rattle.scmi_svg.specs.declared.mark.Outcome.{Outcome}
+use Rattle.scmi_svg.specs.declared.mark.Outcome.TheVariants as outcome
+use Rattle.scmi_svg.specs.declared.mark.Side.{Side}
+use Rattle.scmi_svg.specs.declared.mark.Side.TheVariants as side
+
+-- what a mark says: an agent posted a command, with its token where it has one; a post was refused; the platform executed a command; an agent read the answer to its command, and whether it was a success; an agent took a delayed response or a notification; the platform posted a message; it was to complete a pending set, and whether there was one; channels were closed; or a step of an agent's came to nothing
+pub data Sign : Type 0 where
+  sent : ℕ → Option ℕ → Sign
+  unsent : ℕ → Sign
+  executed : Sign
+  answered : ℕ → Bool → Sign
+  delayed : ℕ → ℕ → Sign
+  notified : ℕ → Sign
+  posted : Sign
+  advanced : Bool → Sign
+  closed : ℕ → Side → Sign
+  remarked : ℕ → Sign
+
+-- whether an outcome is a success
+abbrev pub succeeds : Outcome → Bool
+succeeds outcome.Success = true
+succeeds outcome.Pending = true
+succeeds outcome.Refusal = false
+
+-- what a mark says
+abbrev pub sign_of : Mark → Sign
+sign_of (mark.Command m token) = sent m.agent token
+sign_of (mark.Withdrawn m token) = sent m.agent token
+sign_of (mark.Refused m) = unsent m.agent
+sign_of (mark.Execution slot until) = executed
+sign_of (mark.Reply m outcome) = answered m.agent (succeeds outcome)
+sign_of (mark.Delayed m token) = delayed m.agent token
+sign_of (mark.Notification m) = notified m.agent
+sign_of (mark.Posted slot) = posted
+sign_of (mark.Advance slot effective text) = advanced effective
+sign_of (mark.Closed agent slot by text) = closed agent by
+sign_of (mark.Remark agent slot beside text) = remarked agent
+
+-- the lifeline of an agent: boards have 8 at most
+abbrev pub lane : ℕ → ℕ
+lane agent = min agent 255
+
+-- the token of a message that a step posts as it is
+abbrev pub raw_token : Step → Option ℕ
+raw_token (step.Agent a (agent_step.Raw m)) = Some m.header.token
+raw_token _ = None
+
+-- the token of the reply that was collected
+abbrev pub reply_token : Collected → Option ℕ
+reply_token (collected.Got (Reply m)) = Some m.header.token
+reply_token _ = None
+
+-- whether an answer is a reply with the status SUCCESS
+abbrev pub is_success : Answer → Bool
+is_success (Reply m) = begins_with_success m.payload.items
+is_success _ = false
+
+-- what stands of an agent that collected
+abbrev pub collected_signs : ℕ → Collected → List Sign
+collected_signs a collected.Nothing = remarked a ∷ []
+collected_signs a collected.Closed = remarked a ∷ []
+collected_signs a (collected.Got answer) = answered a (is_success answer) ∷ []
+
+-- what stands of an agent's command before it is collected in the same step
+abbrev pub exchange_signs : ℕ → Collected → List Sign
+exchange_signs a (collected.Got answer) = sent a (reply_token (collected.Got answer)) ∷ executed ∷ []
+exchange_signs a c = sent a (reply_token c) ∷ []
+
+-- what stands of an agent that took a message with this header
+abbrev pub posted_sign : ℕ → HeaderFields → Sign
+posted_sign a h = if h.kind == 3 then notified a else delayed a h.token
+
+-- what stands of an agent that was to take a message
+abbrev pub taken_signs : ℕ → Option Frame → List Sign
+taken_signs a (Some (Good m)) = posted_sign a m.header ∷ []
+taken_signs a _ = remarked a ∷ []
+
+-- what stands of an agent that was served
+abbrev pub served_signs : ℕ → Served → List Sign
+served_signs a served.Done = executed ∷ []
+served_signs a served.Nothing = remarked a ∷ []
+
+-- what stands of an agent to which a message was to be posted
+abbrev pub flushed_signs : ℕ → Flushed → List Sign
+flushed_signs a flushed.Posted = posted ∷ []
+flushed_signs a _ = remarked a ∷ []
+
+-- what stands of an agent that was to close its channels
+abbrev pub closed_signs : ℕ → Result Closing CloseError → List Sign
+closed_signs a (Ok closing) = closed a side.Agent ∷ []
+closed_signs a (Err refusal) = remarked a ∷ []
+
+-- what stands of an agent whose channels the platform was to close
+abbrev pub shut_signs : {T : Type 0} → ℕ → Result T ShutError → List Sign
+shut_signs a (Ok u) = closed a side.Platform ∷ []
+shut_signs a (Err refusal) = remarked a ∷ []
+
+-- what stands of a step that came to this line: each command that was posted, each that was refused, each execution, answer and message, each message that was posted, each advance and each close, by its agent, once; and what came to nothing
+abbrev pub signs_of : Step → StepLine → List Sign
+signs_of s (line.Token a token) = sent (lane a) (Some token) ∷ []
+signs_of s (line.Posted a) = sent (lane a) (raw_token s) ∷ []
+signs_of s (line.NotPosted a refusal) = unsent (lane a) ∷ []
+signs_of s (line.Served a served) = served_signs (lane a) served
+signs_of (step.Do b call) (line.Collected a c) = exchange_signs (lane a) c ++ collected_signs (lane a) c
+signs_of s (line.Collected a c) = collected_signs (lane a) c
+signs_of s (line.Advanced more) = advanced more ∷ []
+signs_of s (line.Flushed a flushed) = flushed_signs (lane a) flushed
+signs_of s (line.P2a a frame) = taken_signs (lane a) frame
+signs_of s (line.Closed a closing) = closed_signs (lane a) closing
+signs_of s (line.Shut a closing) = shut_signs (lane a) closing
+signs_of s (line.Trace events) = []
+
+-- what stands of a run of these steps, which came to these lines, one for each
+abbrev pub run_signs : List Step → List StepLine → List Sign
+run_signs (s ∷ steps) (l ∷ lines) = signs_of s l ++ run_signs steps lines
+run_signs _ _ = []

@@ -1,0 +1,89 @@
+//! What the agents' posts ask for, in words.
+use crate::label::{add_field, name_label, name_of};
+use crate::words::{numbered_word, payload_words};
+use scmi_codec::{ClockCommand, Command, Header, Message, Payload, PowerCommand};
+use scmi_describe::command_fields;
+use scmi_plan::RawPlan;
+use scmi_svg::Label;
+use scmi_text::{AgentStep, Call, Step};
+use std::alloc::{AllocError, Global};
+
+/// What the command of a step asks for. Nothing of a step that posts none.
+pub(crate) fn asked_label(
+    alloc: Global,
+    board: &RawPlan,
+    step: &Step,
+) -> Result<Label, AllocError> {
+    match step {
+        Step::Agent {
+            step: AgentStep::Malformed { length, .. },
+            ..
+        } => malformed_label(alloc, *length),
+        _ => match message_of(step) {
+            Some(message) => command_label(alloc, board, &message),
+            None => Ok(name_label(alloc, Vec::new(alloc))),
+        },
+    }
+}
+
+/// Whether a step posts an asynchronous set.
+pub(crate) fn sets_later(step: &Step) -> bool {
+    let Some(message) = message_of(step) else {
+        return false;
+    };
+    match Command::read(&message) {
+        Ok(Command::Power(PowerCommand::Set { flags, .. }))
+        | Ok(Command::Clock(ClockCommand::SetRate { flags, .. })) => flags % 2 == 1,
+        _ => false,
+    }
+}
+
+/// The message that a step posts, its token aside.
+fn message_of(step: &Step) -> Option<Message> {
+    match step {
+        Step::Do { call, .. }
+        | Step::Agent {
+            step: AgentStep::Call(call),
+            ..
+        } => Some(call_message(call)),
+        Step::Agent {
+            step: AgentStep::Raw(message),
+            ..
+        } => Some(message.copy()),
+        _ => None,
+    }
+}
+
+/// The message of a call, with token 0.
+fn call_message(call: &Call) -> Message {
+    let mut payload = Payload::new();
+    let _ = payload.try_extend_from_slice(call.payload.as_slice());
+    Message {
+        header: Header::unpack(u32::from(call.protocol) << 10 | u32::from(call.message)),
+        payload,
+    }
+}
+
+fn malformed_label(alloc: Global, length: u32) -> Result<Label, AllocError> {
+    let mut label = name_label(alloc, Vec::from_slice(alloc, b"malformed")?);
+    label.object = numbered_word(alloc, "length", length)?;
+    Ok(label)
+}
+
+/// What a message asks for: the fields of the command that it carries, or its words.
+fn command_label(alloc: Global, board: &RawPlan, message: &Message) -> Result<Label, AllocError> {
+    let header = message.header;
+    let mut label = name_label(alloc, name_of(alloc, header.protocol, header.id)?);
+    match Command::read(message) {
+        Ok(command) => {
+            for field in command_fields(&command).as_slice() {
+                add_field(alloc, board, &mut label, field)?;
+            }
+        }
+        Err(_) => label.object = payload_words(alloc, message.payload.as_slice())?,
+    }
+    if header.kind != 0 {
+        label.tag = numbered_word(alloc, "type", u32::from(header.kind))?;
+    }
+    Ok(label)
+}

@@ -1,0 +1,153 @@
+//! The states of a board's domains, clocks and outboxes along the time axis.
+use crate::board_names::{agent_name, clock_name, domain_name};
+use crate::level::Level;
+use crate::subject::Subject;
+use crate::words::{rate_words, state_words};
+use scmi_core::Core;
+use scmi_plan::RawPlan;
+use scmi_svg::{Column, Span, State};
+use std::alloc::{AllocError, Global};
+
+/// The states of one domain, clock or outbox.
+#[derive(Drop)]
+struct Track {
+    subject: Subject,
+    value: Level,
+    pending: Level,
+    spans: Vec<Span>,
+    // The time of the last change; 0 where there was none.
+    changed: u16,
+}
+
+/// The states of all domains, clocks and outboxes of a board.
+#[derive(Drop)]
+pub struct Levels {
+    tracks: Vec<Track>,
+}
+
+impl Levels {
+    /// The states with which a platform begins.
+    pub fn new(alloc: Global, core: &Core) -> Result<Levels, AllocError> {
+        let mut tracks = Vec::new(alloc);
+        let board = core.board();
+        for domain in 0..board.domains() {
+            tracks.push(Track::new(alloc, Subject::Domain(domain), core))?;
+        }
+        for clock in 0..board.clocks() {
+            tracks.push(Track::new(alloc, Subject::Clock(clock), core))?;
+        }
+        for agent in 1..=board.agents() {
+            tracks.push(Track::new(alloc, Subject::Outbox(agent), core))?;
+        }
+        Ok(Levels { tracks })
+    }
+
+    /// The states from this time on are those that the platform has now.
+    pub fn look(&mut self, core: &Core, time: u16) -> Result<(), AllocError> {
+        for track in &mut self.tracks {
+            track.look(core, time)?;
+        }
+        Ok(())
+    }
+
+    /// What changed at this time, in words: the first domain or clock that did.
+    pub fn news(&self, alloc: Global, board: &RawPlan, time: u16) -> Result<Vec<u8>, AllocError> {
+        for track in &self.tracks {
+            if track.changed == time {
+                return track.words(alloc, board);
+            }
+        }
+        Ok(Vec::new(alloc))
+    }
+
+    /// The columns of what changed in the run, up to this time.
+    pub fn columns(
+        self,
+        alloc: Global,
+        board: &RawPlan,
+        time: u16,
+    ) -> Result<Vec<Column>, AllocError> {
+        let mut columns = Vec::new(alloc);
+        for track in self.tracks {
+            if track.changed > 0 {
+                let place = columns.len().min(255) as u8;
+                columns.push(track.column(alloc, board, time, place)?)?;
+            }
+        }
+        Ok(columns)
+    }
+}
+
+impl Track {
+    fn new(alloc: Global, subject: Subject, core: &Core) -> Track {
+        Track {
+            subject,
+            value: Level {
+                since: 0,
+                state: subject.state(core),
+            },
+            pending: Level {
+                since: 0,
+                state: None,
+            },
+            spans: Vec::new(alloc),
+            changed: 0,
+        }
+    }
+
+    fn look(&mut self, core: &Core, time: u16) -> Result<(), AllocError> {
+        let state = self.subject.state(core);
+        let pending = if self.subject.is_pending(core) {
+            Some(State::Pending)
+        } else {
+            None
+        };
+        let is_new = self.value.change(&mut self.spans, time, state)?;
+        if self.pending.change(&mut self.spans, time, pending)? || is_new {
+            self.changed = time;
+        }
+        Ok(())
+    }
+
+    fn name(&self, alloc: Global, board: &RawPlan) -> Result<Vec<u8>, AllocError> {
+        match self.subject {
+            Subject::Domain(domain) => domain_name(alloc, board, domain),
+            Subject::Clock(clock) => clock_name(alloc, board, clock),
+            Subject::Outbox(agent) => agent_name(alloc, board, agent),
+        }
+    }
+
+    /// What it is now; nothing of an outbox.
+    fn words(&self, alloc: Global, board: &RawPlan) -> Result<Vec<u8>, AllocError> {
+        let value = match self.value.state {
+            Some(State::On) => state_words(alloc, 0)?,
+            Some(State::Off) => state_words(alloc, 0x4000_0000)?,
+            Some(State::Rate { hertz, .. }) => rate_words(alloc, hertz)?,
+            _ => return Ok(Vec::new(alloc)),
+        };
+        let mut words = self.name(alloc, board)?;
+        words.extend_from_slice(b" is ")?;
+        words.extend_from_slice(&value)?;
+        Ok(words)
+    }
+
+    /// The column of these states, up to a time.
+    fn column(
+        self,
+        alloc: Global,
+        board: &RawPlan,
+        time: u16,
+        place: u8,
+    ) -> Result<Column, AllocError> {
+        let name = self.name(alloc, board)?;
+        let mut spans = self.spans;
+        self.value.end(&mut spans, time)?;
+        self.pending.end(&mut spans, time)?;
+        Ok(Column {
+            place,
+            kind: self.subject.kind(),
+            name,
+            spans,
+        })
+    }
+}

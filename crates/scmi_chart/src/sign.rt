@@ -1,0 +1,93 @@
+//! What a step, and what came of it, say of a mark: its lane, token, outcome and words.
+ghost use Rattle.std.specs.Prelude.{◌≡◌};
+ghost use Rattle.scmi_chart.specs.Signs.{sign_of, lane, raw_token, reply_token, is_success, succeeds, posted_sign};
+
+use crate::parties::Outstanding;
+use scmi_codec::{Answer, Header, is_success};
+use scmi_link::{Collected, PostError};
+use scmi_svg::{Mark, Message, Outcome};
+use scmi_text::{AgentStep, Step};
+
+/// The lifeline of an agent.
+pub(crate) fn lane(agent: u32) -> u8
+    ensures { result ≡ lane agent }
+{
+    agent.min(255) as u8
+}
+
+/// The token of a message that is posted as it is.
+pub(crate) fn raw_token(step: &Step) -> Option<u16>
+    ensures { result ≡ raw_token step.now }
+{
+    match step {
+        Step::Agent {
+            step: AgentStep::Raw(message),
+            ..
+        } => Some(message.header.token),
+        _ => None,
+    }
+}
+
+/// The token of the reply that was collected.
+pub(crate) fn reply_token(collected: &Collected) -> Option<u16>
+    ensures { result ≡ reply_token collected.now }
+{
+    match collected {
+        Collected::Got(Answer::Reply(message)) => Some(message.header.token),
+        _ => None,
+    }
+}
+
+/// How a command was answered.
+pub(crate) fn outcome_of(answer: &Answer, command: Option<Outstanding>) -> Outcome
+    ensures { succeeds result ≡ is_success answer.now }
+{
+    match answer {
+        Answer::Reply(message) if is_success(&message.payload) => match command {
+            Some(
+                Outstanding {
+                    sets_later: true,
+                    ..
+                },
+            ) => Outcome::Pending,
+            _ => Outcome::Success,
+        },
+        _ => Outcome::Refusal,
+    }
+}
+
+/// The slot in which a command was answered.
+pub(crate) fn answered_slot(command: Option<Outstanding>, slot: u16) -> u16 {
+    match command {
+        Some(
+            Outstanding {
+                answered: Some(answered),
+                ..
+            },
+        ) => answered,
+        _ => slot,
+    }
+}
+
+/// The mark of a message that the platform sent of its own accord.
+pub(crate) fn posted_mark(message: Message, header: &Header) -> Mark
+    ensures { sign_of result ≡ posted_sign message.agent header.now }
+{
+    if header.kind == 3 {
+        Mark::Notification { message }
+    } else {
+        Mark::Delayed {
+            message,
+            token: header.token,
+        }
+    }
+}
+
+pub(crate) fn refusal_words(refusal: PostError) -> &'static str {
+    match refusal {
+        PostError::Outstanding => "not posted: outstanding",
+        PostError::Closed => "not posted: closed",
+        PostError::Full => "not posted: full",
+        PostError::WellFormed => "not posted: well formed",
+    }
+}

@@ -1,0 +1,142 @@
+-- The fields of messages, as they are written.
+use Rattle.std.specs.Prelude.{ℕ, ◌/◌, ◌*◌, ◌%◌, ◌^◌, ◌==◌, ◌&&◌, ◌||◌, nat_lt, Bool, if◌then◌else◌, List, [], ◌∷◌, ◌++◌, codes, decimal, flat_map, slice_index, false}
+use Rattle.std.specs.Fmt.{digits}
+use Rattle.scmi_describe.specs.Literal.{literal}
+use Rattle.scmi_describe.specs.Digits.{eight_digits}
+use Rattle.scmi_describe.specs.declared.field.Field.{Field}
+use Rattle.scmi_describe.specs.declared.field.Field.TheVariants as field
+
+-- the name of a field, filled with spaces to a column of eleven
+abbrev pub label_text : Field → List ℕ
+label_text (field.Version w) = codes "version    "
+label_text (field.Counts w) = codes "has        "
+label_text (field.Message w) = codes "message    "
+label_text (field.Attributes w) = codes "attributes "
+label_text (field.Name ws) = codes "name       "
+label_text (field.Implementation w) = codes "version    "
+label_text (field.Skip w) = codes "skip       "
+label_text (field.Agent w) = codes "agent      "
+label_text (field.Device w) = codes "device     "
+label_text (field.Protocol w) = codes "protocol   "
+label_text (field.PermitFlags w) = codes "flags      "
+label_text (field.ResetFlags w) = codes "flags      "
+label_text (field.Domains w) = codes "domains    "
+label_text (field.Statistics ws) = codes "statistics "
+label_text (field.Domain w) = codes "domain     "
+label_text (field.DomainAttributes w) = codes "supports   "
+label_text (field.PowerFlags w) = codes "flags      "
+label_text (field.State w) = codes "state      "
+label_text (field.Enable w) = codes "notify     "
+label_text (field.Clocks w) = codes "clocks     "
+label_text (field.Clock w) = codes "clock      "
+label_text (field.ClockAttributes w) = codes "attributes "
+label_text (field.Index w) = codes "index      "
+label_text (field.RateFlags w) = codes "flags      "
+label_text (field.Rate r) = codes "rate       "
+label_text (field.By w) = codes "by         "
+
+-- a text if a condition holds
+unfoldable pub if_text : Bool → List ℕ → List ℕ
+if_text holds text = if holds then text else []
+
+-- bits that have no meaning, if there are any
+unfoldable pub reserved_text : ℕ → List ℕ
+reserved_text bits = if bits == 0 then [] else codes " reserved 0x" ++ digits 16 false bits
+
+-- a word of flags of which bit 0 alone has a meaning
+unfoldable pub flag_text : ℕ → List ℕ → List ℕ → List ℕ
+flag_text w on off = if_text (w == 0) off ++ if_text (w % 2 == 1) on ++ reserved_text (w / 2 * 2)
+
+-- the flags of a rate set
+unfoldable pub rate_flags_text : ℕ → List ℕ
+rate_flags_text w =
+    if_text (w == 0) (codes " -") ++ if_text (w % 2 == 1) (codes " async") ++ if_text (w / 2 % 2 == 1) (codes " no-delayed-response")
+    ++ if_text (w / 4 % 2 == 1) (codes " round-up") ++ if_text (w / 8 % 2 == 1) (codes " round-nearest") ++ reserved_text (w / 16 * 16)
+
+-- what a domain supports, by the upper two of its bits
+unfoldable pub supports_start : ℕ → List ℕ
+supports_start w = if_text (w == 0) (codes " -") ++ if_text (w / 2 ^ 31 == 1) (codes " notifications") ++ if_text (w / 2 ^ 30 % 2 == 1) (codes " asynchronous")
+
+-- what a domain supports, by the other bits
+unfoldable pub supports_rest : ℕ → List ℕ
+supports_rest w = if_text (w / 2 ^ 29 % 2 == 1) (codes " synchronous") ++ reserved_text (w % 2 ^ 29)
+
+-- what a domain supports
+unfoldable pub supports_text : ℕ → List ℕ
+supports_text w = supports_start w ++ supports_rest w
+
+-- a power state
+unfoldable pub state_text : ℕ → List ℕ
+state_text w = if w == 0 then codes " ON" else if w == 0x40000000 then codes " OFF" else literal (codes " no state, 0x") ++ eight_digits w
+
+-- an agent
+unfoldable pub agent_text : ℕ → List ℕ
+agent_text w = if w == 0xFFFFFFFF then codes " the caller" else if w == 0 then codes " 0 (platform)" else codes " " ++ decimal w
+
+-- a word as a number in hexadecimal digits
+unfoldable pub hexadecimal : ℕ → List ℕ
+hexadecimal w = literal (codes " 0x") ++ eight_digits w
+
+-- an address of two words
+unfoldable pub address_text : ℕ → ℕ → List ℕ
+address_text high low = hexadecimal high ++ eight_digits low
+
+-- statistics memory, by its address and its length
+unfoldable pub statistics_text : List ℕ → List ℕ
+statistics_text ws =
+    if (slice_index ws 0 == 0) && (slice_index ws 1 == 0) && (slice_index ws 2 == 0) then codes " none"
+    else address_text (slice_index ws 1) (slice_index ws 0) ++ literal (codes ", ") ++ decimal (slice_index ws 2) ++ literal (codes " bytes")
+
+-- a byte of a name: a printable one of ASCII as it is, no zero, and `?` for any other
+abbrev pub character : ℕ → List ℕ
+character byte = if byte == 0 then [] else if nat_lt byte 0x20 || nat_lt 0x7E byte then codes "?" else byte ∷ []
+
+-- four bytes of a name, the lowest first
+unfoldable pub name_part : ℕ → List ℕ
+name_part w = character (w % 2 ^ 8) ++ character (w / 2 ^ 8 % 2 ^ 8) ++ character (w / 2 ^ 16 % 2 ^ 8) ++ character (w / 2 ^ 24)
+
+-- eight bytes of a name, those of the first word first
+unfoldable pub name_half : ℕ → ℕ → List ℕ
+name_half first second = name_part first ++ name_part second
+
+-- a name in quotation marks
+unfoldable pub name_text : List ℕ → List ℕ
+name_text ws =
+    literal (codes " \"") ++ name_half (slice_index ws 0) (slice_index ws 1) ++ name_half (slice_index ws 2) (slice_index ws 3) ++ literal (codes "\"")
+
+-- what a field says, behind a space
+abbrev pub value_text : Field → List ℕ
+value_text (field.Version w) = codes " " ++ decimal (w / 2 ^ 16) ++ codes "." ++ decimal (w % 2 ^ 16)
+value_text (field.Counts w) = codes " " ++ decimal (w / 2 ^ 8 % 2 ^ 8) ++ codes " agents, " ++ decimal (w % 2 ^ 8) ++ codes " protocols"
+value_text (field.Message w) = codes " 0x" ++ digits 16 false w
+value_text (field.Attributes w) = hexadecimal w
+value_text (field.Name ws) = name_text ws
+value_text (field.Implementation w) = hexadecimal w
+value_text (field.Skip w) = codes " " ++ decimal w
+value_text (field.Agent w) = agent_text w
+value_text (field.Device w) = codes " " ++ decimal w
+value_text (field.Protocol w) = codes " 0x" ++ digits 16 false w
+value_text (field.PermitFlags w) = flag_text w (codes " allow") (codes " deny")
+value_text (field.ResetFlags w) = flag_text w (codes " permissions") (codes " -")
+value_text (field.Domains w) = codes " " ++ decimal (w % 2 ^ 16)
+value_text (field.Statistics ws) = statistics_text ws
+value_text (field.Domain w) = codes " " ++ decimal w
+value_text (field.DomainAttributes w) = supports_text w
+value_text (field.PowerFlags w) = flag_text w (codes " async") (codes " -")
+value_text (field.State w) = state_text w
+value_text (field.Enable w) = flag_text w (codes " on") (codes " off")
+value_text (field.Clocks w) = codes " " ++ decimal (w % 2 ^ 16) ++ codes ", " ++ decimal (w / 2 ^ 16 % 2 ^ 8) ++ codes " pending"
+value_text (field.Clock w) = codes " " ++ decimal w
+value_text (field.ClockAttributes w) = flag_text w (codes " on") (codes " off")
+value_text (field.Index w) = codes " " ++ decimal w
+value_text (field.RateFlags w) = rate_flags_text w
+value_text (field.Rate r) = codes " " ++ decimal r ++ codes " Hz"
+value_text (field.By w) = if w == 0 then codes " platform" else codes " agent " ++ decimal w
+
+-- a field on a line of its own
+abbrev pub field_text : Field → List ℕ
+field_text f = codes "    " ++ label_text f ++ value_text f ++ codes "\n"
+
+-- fields, each on a line of its own
+abbrev pub fields_text : List Field → List ℕ
+fields_text fields = flat_map field_text fields

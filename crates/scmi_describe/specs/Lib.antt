@@ -1,0 +1,11 @@
+pub mod Alike
+pub mod Commands
+pub mod Digits
+pub mod Field
+pub mod Heading
+pub mod Literal
+pub mod Names
+pub mod Replies
+pub mod Text
+pub mod Description
+pub mod Words

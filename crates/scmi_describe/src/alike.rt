@@ -1,0 +1,40 @@
+//! Areas that are described with the same text.
+ghost use Rattle.std.specs.Prelude.{◌≡◌, ◌↔◌, IsTrue};
+ghost use Rattle.scmi_describe.specs.Alike.{state_of, StandAlike};
+ghost use Rattle.scmi_describe.specs.Description.{described_area};
+ghost use Rattle.scmi_describe.specs.Text.{description_text};
+
+use crate::describing::{STATUS_AT, standing_frame};
+use byteorder::{ByteOrder, LittleEndian};
+use scmi_codec::{AREA_BYTES, Frame};
+
+/// Whether two areas are described alike, with the same text. It is so exactly where they have the
+/// same frame (header and payload words, or the length and header word of a malformed one) and
+/// their channels are in the same state: busy, free, or free with the error bit. So the text
+/// loses nothing of these; of the other bytes of an area it says nothing.
+#[tactic(auto, using(crate::proofs::SameText::same_text))]
+pub fn are_described_alike(first: &[u8; AREA_BYTES], second: &[u8; AREA_BYTES]) -> bool
+    ensures area { IsTrue result ↔ StandAlike first.now second.now }
+    ensures description { IsTrue result ↔ (described_area first.now ≡ described_area second.now) }
+    ensures text { IsTrue result ↔
+        (description_text (described_area first.now) ≡ description_text (described_area second.now)) }
+{
+    let is_same_state = state_of(first) == state_of(second);
+    is_same_state && are_same(&standing_frame(first), &standing_frame(second))
+}
+
+/// The state of a channel by the status word of its area: 0 busy, 1 free, 3 free with the error
+/// bit.
+fn state_of(area: &[u8; AREA_BYTES]) -> u32
+    ensures { result ≡ state_of area.now }
+{
+    let status = LittleEndian::read_u32(&area[STATUS_AT..]);
+    if status % 2 == 1 { status % 4 } else { 0 }
+}
+
+/// Whether two frames are the same, word for word.
+fn are_same(first: &Frame, second: &Frame) -> bool
+    ensures { IsTrue result ↔ (first.now ≡ second.now) }
+{
+    first == second
+}

@@ -1,0 +1,123 @@
+//! What an area is, from its bytes.
+ghost use Rattle.std.specs.Prelude.{◌≡◌, ◌≢◌, ◌/◌, ◌%◌, ◌==◌, length};
+ghost use Rattle.scmi_codec.specs.Area.{frame_of, status_at, StandsForAnswer};
+ghost use Rattle.scmi_codec.specs.declared.frame.Frame.{Frame as FrameOf};
+ghost use Rattle.scmi_codec.specs.declared.frame.Answer.{Answer as AnswerOf};
+ghost use Rattle.scmi_describe.specs.Description.{described_area, described_posted, described_left, described_response, described_p2a, described_answer};
+
+use crate::description::Description;
+use crate::reply::response_status;
+use byteorder::{ByteOrder, LittleEndian};
+use scmi_codec::{AREA_BYTES, Command, Frame, Message, Status, read_area, write_word};
+
+// The place of the status word, in bytes (DEN0056B, shared memory transport).
+pub(crate) const STATUS_AT: usize = 4;
+
+/// What an area is. The status word decides first: of a busy channel its caller's message stands
+/// there. Of a free one a message of type 0 is a reply where it has the form of one, and else a command
+/// that was withdrawn (own).
+pub fn describe(area: &[u8; AREA_BYTES]) -> Description
+    ensures description { result ≡ described_area area.now }
+    ensures answer { (frame : FrameOf) → (answer : AnswerOf) →
+        StandsForAnswer area.now frame answer → result ≡ described_answer frame answer }
+{
+    match read_area(area) {
+        Ok(Some(frame)) => describe_posted(frame),
+        _ => describe_left(has_error(area), standing_frame(area)),
+    }
+}
+
+/// Whether the error bit of an area is set.
+fn has_error(area: &[u8; AREA_BYTES]) -> bool
+    ensures { result ≡ (status_at area.now / 2 % 2 == 1) }
+{
+    LittleEndian::read_u32(&area[STATUS_AT..]) / 2 % 2 == 1
+}
+
+/// The frame that stands in an area, whatever its status word.
+pub(crate) fn standing_frame(area: &[u8; AREA_BYTES]) -> Frame
+    ensures { result ≡ frame_of area.now }
+{
+    // The codec reads the frame of a busy channel alone.
+    let mut busy = *area;
+    write_word(&mut busy, STATUS_AT, 0);
+    match read_area(&busy) {
+        Ok(Some(frame)) => frame,
+        _ => Frame::Malformed {
+            length: 0,
+            header: 0,
+        },
+    }
+}
+
+/// What a frame is in a busy channel.
+fn describe_posted(frame: Frame) -> Description
+    ensures { result ≡ described_posted frame }
+{
+    match frame {
+        Frame::Malformed { length, header } => Description::Malformed {
+            is_free: false,
+            length,
+            header,
+        },
+        Frame::Good(message) => {
+            if message.header.kind == 0 {
+                let request = Command::read(&message);
+                return Description::Command { message, request };
+            }
+            describe_p2a(false, message)
+        }
+    }
+}
+
+/// What a frame is in a free channel, with or without the error bit.
+fn describe_left(is_error: bool, frame: Frame) -> Description
+    ensures { result ≡ described_left is_error frame }
+{
+    if is_error {
+        return Description::ChannelError { frame };
+    }
+    match frame {
+        Frame::Malformed { length, header } => {
+            if length == 0 && header == 0 {
+                return Description::Unused;
+            }
+            Description::Malformed {
+                is_free: true,
+                length,
+                header,
+            }
+        }
+        Frame::Good(message) => {
+            if message.header.kind == 0 {
+                return describe_response(message);
+            }
+            describe_p2a(true, message)
+        }
+    }
+}
+
+/// What a message of type 0 is in a free channel.
+fn describe_response(message: Message) -> Description
+    ensures { result ≡ described_response message }
+{
+    match response_status(&message) {
+        None => {
+            let request = Command::read(&message);
+            Description::Withdrawn { message, request }
+        }
+        Some(Status::Success) => Description::Reply { message },
+        Some(status) => Description::Refusal { message, status },
+    }
+}
+
+/// What a message of another type than 0 is.
+fn describe_p2a(is_free: bool, message: Message) -> Description
+    ensures { result ≡ described_p2a is_free message }
+{
+    match message.header.kind {
+        2 => Description::Delayed { is_free, message },
+        3 => Description::Notification { is_free, message },
+        _ => Description::Foreign { is_free, message },
+    }
+}

@@ -1,0 +1,57 @@
+//! What an area is.
+ghost use Rattle.std.specs.Prelude.{◌≡◌};
+
+use scmi_codec::{Command, Frame, Message, Status};
+
+/// What an area is. While a channel is busy its caller's message stands there; once it is free the
+/// answer does, or the message where no response was written over it.
+#[derive(Drop)]
+pub enum Description {
+    /// Free, with length and header 0: nothing was ever posted.
+    Unused,
+    /// Busy: a command that waits for its answer, and what it asks for. NOT_SUPPORTED stands for an
+    /// unknown message, PROTOCOL_ERROR for another number of payload words than the command has.
+    Command {
+        message: Message,
+        request: Result<Command, Status>,
+    },
+    /// Free, and no reply: a command that was withdrawn, and what it asked for.
+    Withdrawn {
+        message: Message,
+        request: Result<Command, Status>,
+    },
+    /// Free: a reply with status SUCCESS.
+    Reply {
+        message: Message,
+    },
+    /// Free: a reply with this other status.
+    Refusal {
+        message: Message,
+        status: Status,
+    },
+    /// A delayed response: free once its agent has taken it.
+    Delayed {
+        is_free: bool,
+        message: Message,
+    },
+    /// A notification: free once its agent has taken it.
+    Notification {
+        is_free: bool,
+        message: Message,
+    },
+    /// Free with the error bit, and the frame that was refused.
+    ChannelError {
+        frame: Frame,
+    },
+    /// A length in bytes that no frame has, and the header word.
+    Malformed {
+        is_free: bool,
+        length: u32,
+        header: u32,
+    },
+    /// A message of type 1, which SCMI does not have.
+    Foreign {
+        is_free: bool,
+        message: Message,
+    },
+}

@@ -1,0 +1,112 @@
+//! The fields of messages.
+ghost use Rattle.std.specs.Prelude.{◌≡◌, ◌≤◌, length};
+ghost use Rattle.scmi_describe.specs.Field.{label_text};
+ghost use Rattle.scmi_describe.specs.declared.field.TheConstants.{FIELDS};
+
+use arrayvec::ArrayVec;
+
+/// The most fields of a message.
+pub const FIELDS: usize = 4;
+
+/// The fields of a message, in their order.
+pub type Fields = ArrayVec<Field, FIELDS>;
+
+/// A field of a message and what stands there: a payload word, or the words that belong together.
+#[derive(Clone, Copy)]
+pub enum Field {
+    /// The version of a protocol: the major number in bits [31:16], the minor one in [15:0].
+    Version(u32),
+    /// The attributes of the base protocol: agents in bits [15:8], protocols in [7:0].
+    Counts(u32),
+    /// The id of a message.
+    Message(u32),
+    /// The attributes of a message, with no bit named.
+    Attributes(u32),
+    /// A name of 16 bytes, the first one lowest, zeros behind it.
+    Name([u32; 4]),
+    /// The version of an implementation, in its vendor's own form.
+    Implementation(u32),
+    /// How many protocols of the list to leave out.
+    Skip(u32),
+    /// An agent, 0xFFFFFFFF being the caller and 0 the platform.
+    Agent(u32),
+    Device(u32),
+    Protocol(u32),
+    /// Flags of a permission: bit 0 allows.
+    PermitFlags(u32),
+    /// Flags of a reset: bit 0 resets permissions too.
+    ResetFlags(u32),
+    /// The attributes of the power protocol: domains in bits [15:0].
+    Domains(u32),
+    /// Statistics memory: the address, its low word first, and the length in bytes.
+    Statistics([u32; 3]),
+    Domain(u32),
+    /// Attributes of a domain: bit 31 notifications, 30 asynchronous sets, 29 synchronous sets.
+    DomainAttributes(u32),
+    /// Flags of a power state set: bit 0 asynchronous.
+    PowerFlags(u32),
+    /// A power state: 0 is ON, 0x40000000 is OFF.
+    State(u32),
+    /// Whether to notify: bit 0.
+    Enable(u32),
+    /// The attributes of the clock protocol: pending sets in bits [23:16], clocks in [15:0].
+    Clocks(u32),
+    Clock(u32),
+    /// Attributes of a clock: bit 0 enables.
+    ClockAttributes(u32),
+    /// The first rate to describe.
+    Index(u32),
+    /// Flags of a rate set, as `scmi_codec::RateFlags`.
+    RateFlags(u32),
+    /// A rate in Hz.
+    Rate(u64),
+    /// The agent that caused a change, 0 being the platform.
+    By(u32),
+}
+
+// A vector of fixed room holds this in its unused places.
+impl Default for Field {
+    fn default() -> Field {
+        Field::Version(0)
+    }
+}
+
+/// These fields, at most `FIELDS` of them.
+pub(crate) fn fields_of(list: &[Field]) -> Fields
+    requires { length list.now ≤ FIELDS }
+    ensures { result.items ≡ list.now }
+{
+    let mut fields = ArrayVec::new();
+    let _ = fields.try_extend_from_slice(list);
+    fields
+}
+
+/// The name of a field, filled with spaces to a column of eleven.
+pub(crate) fn label(field: &Field) -> &'static str
+    ensures { result.now ≡ label_text field.now }
+{
+    match field {
+        Field::Version(_) | Field::Implementation(_) => "version    ",
+        Field::Counts(_) => "has        ",
+        Field::Message(_) => "message    ",
+        Field::Attributes(_) | Field::ClockAttributes(_) => "attributes ",
+        Field::Name(_) => "name       ",
+        Field::Skip(_) => "skip       ",
+        Field::Agent(_) => "agent      ",
+        Field::Device(_) => "device     ",
+        Field::Protocol(_) => "protocol   ",
+        Field::PermitFlags(_) | Field::ResetFlags(_) | Field::PowerFlags(_) | Field::RateFlags(_) =>
+            "flags      ",
+        Field::Domains(_) => "domains    ",
+        Field::Statistics(_) => "statistics ",
+        Field::Domain(_) => "domain     ",
+        Field::DomainAttributes(_) => "supports   ",
+        Field::State(_) => "state      ",
+        Field::Enable(_) => "notify     ",
+        Field::Clocks(_) => "clocks     ",
+        Field::Clock(_) => "clock      ",
+        Field::Index(_) => "index      ",
+        Field::Rate(_) => "rate       ",
+        Field::By(_) => "by         ",
+    }
+}

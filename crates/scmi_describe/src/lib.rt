@@ -1,0 +1,38 @@
+//! What an area of shared memory is, in words: messages, fields and statuses by their names (DEN0056B).
+//!
+//! The main type is `Description`, what an area is; `describe` makes it of the bytes, and
+//! `write_description` writes it. The main theorems are the contracts of `describe` (a description is
+//! the codec's frame and command, and an area that stands for an answer is described as that answer),
+//! of `write_description` (the text, to its last byte) and of `are_described_alike` (the text loses
+//! nothing of the frame and of the channel's state).
+#![tactic(auto)]
+
+mod alike;
+mod answering;
+mod area;
+mod command_text;
+mod commands;
+mod describing;
+mod description;
+mod digits;
+mod field;
+mod frame_text;
+mod heading;
+mod literal;
+mod names;
+mod reply;
+mod reply_text;
+mod text;
+mod values;
+mod words;
+
+pub use alike::are_described_alike;
+pub use answering::{describe_answered, describe_written};
+pub use area::write_area;
+pub use commands::command_fields;
+pub use describing::describe;
+pub use description::Description;
+pub use field::{FIELDS, Field, Fields};
+pub use names::{notification_name, protocol_name, status_name};
+pub use reply::{reply_fields, response_status};
+pub use text::write_description;

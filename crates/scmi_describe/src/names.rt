@@ -1,0 +1,47 @@
+//! The names of messages, protocols and statuses (DEN0056B).
+ghost use Rattle.std.specs.Prelude.{◌≡◌};
+ghost use Rattle.std.specs.Option.{option_copied};
+ghost use Rattle.scmi_describe.specs.Names.{status_text, protocol_text, notification_text};
+
+use scmi_codec::{BASE_PROTOCOL, CLOCK_PROTOCOL, POWER_PROTOCOL, Status};
+
+/// The name of a status.
+pub fn status_name(status: Status) -> &'static str
+    ensures { result.now ≡ status_text status }
+{
+    match status {
+        Status::Success => "SUCCESS",
+        Status::NotSupported => "NOT_SUPPORTED",
+        Status::InvalidParameters => "INVALID_PARAMETERS",
+        Status::Denied => "DENIED",
+        Status::NotFound => "NOT_FOUND",
+        Status::OutOfRange => "OUT_OF_RANGE",
+        Status::Busy => "BUSY",
+        Status::CommsError => "COMMS_ERROR",
+        Status::GenericError => "GENERIC_ERROR",
+        Status::HardwareError => "HARDWARE_ERROR",
+        Status::ProtocolError => "PROTOCOL_ERROR",
+    }
+}
+
+/// The short name of a protocol of the profile; `None` for any other.
+pub fn protocol_name(protocol: u8) -> Option<&'static str>
+    ensures { option_copied result ≡ protocol_text protocol }
+{
+    match protocol {
+        BASE_PROTOCOL => Some("base"),
+        POWER_PROTOCOL => Some("power"),
+        CLOCK_PROTOCOL => Some("clock"),
+        _ => None,
+    }
+}
+
+/// The name of a notification of the profile; `None` for any other.
+pub fn notification_name(protocol: u8, id: u8) -> Option<&'static str>
+    ensures { option_copied result ≡ notification_text protocol id }
+{
+    match (protocol, id) {
+        (POWER_PROTOCOL, 0x0) => Some("POWER_STATE_CHANGED"),
+        _ => None,
+    }
+}

@@ -1,0 +1,166 @@
+//! Replies, delayed responses and notifications: their forms and their fields.
+ghost use Rattle.std.specs.Prelude.{◌≡◌};
+ghost use Rattle.scmi_describe.specs.Replies.{response_status, has_reply_form, has_protocols, has_rates, reply_fields, base_fields, power_fields, clock_fields, delayed_fields, notification_fields};
+
+use crate::field::{Field, Fields, fields_of};
+use scmi_codec::{BASE_PROTOCOL, CLOCK_PROTOCOL, Message, POWER_PROTOCOL, Status, rate_of};
+
+/// The status of a message that has the form of a reply: its first word is a status, and what follows
+/// is nothing for a refusal, and for SUCCESS as many words as the reply to this message has; a list of
+/// rates has one at least. `None` for any other form.
+pub fn response_status(message: &Message) -> Option<Status>
+    ensures { result ≡ response_status message.now }
+{
+    let [word, words @ ..] = message.payload.as_slice() else {
+        return None;
+    };
+    let status = Status::of_word(*word)?;
+    let fits = match status {
+        Status::Success => has_reply_form(message.header.protocol, message.header.id, words),
+        _ => words.is_empty(),
+    };
+    if fits { Some(status) } else { None }
+}
+
+/// Whether these words may follow the status of a successful reply to this message.
+fn has_reply_form(protocol: u8, id: u8, words: &[u32]) -> bool
+    ensures { result ≡ has_reply_form protocol id words.now }
+{
+    if protocol == BASE_PROTOCOL && id == 0x6 {
+        return has_protocols(words);
+    }
+    if protocol == CLOCK_PROTOCOL && id == 0x4 {
+        return has_rates(words);
+    }
+    match reply_fields(protocol, id, words) {
+        Ok(_) => true,
+        Err(Status::NotSupported) => words.is_empty(),
+        Err(_) => false,
+    }
+}
+
+/// Whether words are a number and so many ids of protocols, four to a word.
+fn has_protocols(words: &[u32]) -> bool
+    ensures { result ≡ has_protocols words.now }
+{
+    match words {
+        [count, ids @ ..] => ids.len() == (*count as usize + 3) / 4,
+        [] => false,
+    }
+}
+
+/// Whether words are a flags word and as many rates as it says, one at least.
+fn has_rates(words: &[u32]) -> bool
+    ensures { result ≡ has_rates words.now }
+{
+    match words {
+        [flags, rates @ ..] => {
+            let count = *flags as usize % 4096;
+            count != 0 && rates.len() == 2 * count
+        }
+        [] => false,
+    }
+}
+
+/// The fields of a successful reply to this message behind its status: NOT_SUPPORTED for a message
+/// that is not of the profile or whose reply is a list, PROTOCOL_ERROR for another number of words
+/// than the reply has.
+pub fn reply_fields(protocol: u8, id: u8, words: &[u32]) -> Result<Fields, Status>
+    ensures { result ≡ reply_fields protocol id words.now }
+{
+    match protocol {
+        BASE_PROTOCOL => base_fields(id, words),
+        POWER_PROTOCOL => power_fields(id, words),
+        CLOCK_PROTOCOL => clock_fields(id, words),
+        _ => Err(Status::NotSupported),
+    }
+}
+
+fn base_fields(id: u8, words: &[u32]) -> Result<Fields, Status>
+    ensures { result ≡ base_fields id words.now }
+{
+    match (id, words) {
+        (0x0, [word]) => Ok(fields_of(&[Field::Version(*word)])),
+        (0x1, [word]) => Ok(fields_of(&[Field::Counts(*word)])),
+        (0x2, [word]) => Ok(fields_of(&[Field::Attributes(*word)])),
+        (0x3 | 0x4, [a, b, c, d]) => Ok(fields_of(&[Field::Name([*a, *b, *c, *d])])),
+        (0x5, [word]) => Ok(fields_of(&[Field::Implementation(*word)])),
+        (0x7, [agent, a, b, c, d]) => Ok(fields_of(&[
+            Field::Agent(*agent),
+            Field::Name([*a, *b, *c, *d]),
+        ])),
+        (0x9..=0xb, []) => Ok(fields_of(&[])),
+        (0x0..=0x5 | 0x7 | 0x9..=0xb, _) => Err(Status::ProtocolError),
+        _ => Err(Status::NotSupported),
+    }
+}
+
+fn power_fields(id: u8, words: &[u32]) -> Result<Fields, Status>
+    ensures { result ≡ power_fields id words.now }
+{
+    match (id, words) {
+        (0x0, [word]) => Ok(fields_of(&[Field::Version(*word)])),
+        (0x1, [word, low, high, length]) => Ok(fields_of(&[
+            Field::Domains(*word),
+            Field::Statistics([*low, *high, *length]),
+        ])),
+        (0x2, [word]) => Ok(fields_of(&[Field::Attributes(*word)])),
+        (0x3, [word, a, b, c, d]) => Ok(fields_of(&[
+            Field::DomainAttributes(*word),
+            Field::Name([*a, *b, *c, *d]),
+        ])),
+        (0x5, [state]) => Ok(fields_of(&[Field::State(*state)])),
+        (0x4 | 0x6, []) => Ok(fields_of(&[])),
+        (0x0..=0x6, _) => Err(Status::ProtocolError),
+        _ => Err(Status::NotSupported),
+    }
+}
+
+fn clock_fields(id: u8, words: &[u32]) -> Result<Fields, Status>
+    ensures { result ≡ clock_fields id words.now }
+{
+    match (id, words) {
+        (0x0, [word]) => Ok(fields_of(&[Field::Version(*word)])),
+        (0x1, [word]) => Ok(fields_of(&[Field::Clocks(*word)])),
+        (0x2, [word]) => Ok(fields_of(&[Field::Attributes(*word)])),
+        (0x3, [word, a, b, c, d]) => Ok(fields_of(&[
+            Field::ClockAttributes(*word),
+            Field::Name([*a, *b, *c, *d]),
+        ])),
+        (0x6, [low, high]) => Ok(fields_of(&[Field::Rate(rate_of(*low, *high))])),
+        (0x5 | 0x7, []) => Ok(fields_of(&[])),
+        (0x0..=0x3 | 0x5..=0x7, _) => Err(Status::ProtocolError),
+        _ => Err(Status::NotSupported),
+    }
+}
+
+/// The fields of a delayed response behind its status; none where it has another form.
+pub(crate) fn delayed_fields(message: &Message) -> Fields
+    ensures { result.items ≡ delayed_fields message.now }
+{
+    let header = message.header;
+    match (header.protocol, header.id, message.payload.as_slice()) {
+        (POWER_PROTOCOL, 0x4, [_, domain, state]) => {
+            fields_of(&[Field::Domain(*domain), Field::State(*state)])
+        }
+        (CLOCK_PROTOCOL, 0x5, [_, clock, low, high]) => {
+            fields_of(&[Field::Clock(*clock), Field::Rate(rate_of(*low, *high))])
+        }
+        _ => fields_of(&[]),
+    }
+}
+
+/// The fields of a notification; none where it has another form.
+pub(crate) fn notification_fields(message: &Message) -> Fields
+    ensures { result.items ≡ notification_fields message.now }
+{
+    let header = message.header;
+    match (header.protocol, header.id, message.payload.as_slice()) {
+        (POWER_PROTOCOL, 0x0, [agent, domain, state]) => fields_of(&[
+            Field::By(*agent),
+            Field::Domain(*domain),
+            Field::State(*state),
+        ]),
+        _ => fields_of(&[]),
+    }
+}

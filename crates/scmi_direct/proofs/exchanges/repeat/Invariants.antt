@@ -1,5 +1,0 @@
-use Rattle.std.proofs.Common.{◌≤◌}
-use Rattle.scmi_direct.proofs.exchanges.repeat.Given as goal
-
-abbrev pub invariant-exchanges : goal.invariant-exchanges
-invariant-exchanges g l = 1 ≤ l.session

@@ -1,8 +1,0 @@
-pub mod Backward
-pub mod Chains
-pub mod Figures
-pub mod Readable
-pub mod SameText
-pub mod StandingFrame
-pub mod TextMarks
-pub mod ToldAt

@@ -1,0 +1,110 @@
+-- The columns of states.
+use Rattle.std.specs.Prelude.{ℕ, ◌+◌, ◌-◌, ◌*◌, ◌/◌, ◌%◌, ◌==◌, ◌||◌, not, Bool, if◌then◌else◌, List, [], ◌∷◌, ◌++◌, codes, flat_map}
+use Rattle.scmi_svg.specs.Piece.{fixed, number, parts_text}
+use Rattle.scmi_svg.specs.Layout.{column_x, state_y}
+use Rattle.scmi_svg.specs.Shape.{box_text, words_text}
+use Rattle.scmi_svg.specs.declared.layout.Layout.{Layout}
+use Rattle.scmi_svg.specs.declared.shape.Point.{Point}
+use Rattle.scmi_svg.specs.declared.chart.Column.{Column}
+use Rattle.scmi_svg.specs.declared.chart.Span.{Span}
+use Rattle.scmi_svg.specs.declared.chart.Kind.{Kind}
+use Rattle.scmi_svg.specs.declared.chart.Kind.TheVariants as kind
+use Rattle.scmi_svg.specs.declared.chart.State.{State}
+use Rattle.scmi_svg.specs.declared.chart.State.TheVariants as state
+
+-- the name of what a column shows
+abbrev pub kind_name : Kind → List ℕ
+kind_name kind.Domain = codes "domain"
+kind_name kind.Clock = codes "clock"
+kind_name (kind.Outbox agent) = codes "outbox"
+
+-- the agent of an outbox, and 0 for another column
+abbrev pub agent_of : Kind → ℕ
+agent_of kind.Domain = 0
+agent_of kind.Clock = 0
+agent_of (kind.Outbox agent) = agent
+
+-- what a column shows
+unfoldable pub heading_text : ℕ → Column → List ℕ
+heading_text x c =
+    words_text (codes "track") (record { x = x - 6; y = 103 }) 0 0 c.name.items ++ words_text (codes "kind") (record { x = x - 6; y = 119 }) 0 0 (kind_name c.kind)
+
+-- so far to the left of a point
+abbrev pub left_of : Point → ℕ → Point
+left_of at distance = record { x = at.x - distance; y = at.y }
+
+-- a domain that is ON
+unfoldable pub on_text : Point → ℕ → List ℕ
+on_text at height = box_text (codes "on") (left_of at 5) 10 height ++ words_text (codes "on value") at 10 12 (codes "ON")
+
+-- a domain that is OFF
+unfoldable pub off_text : Point → ℕ → List ℕ
+off_text at height = box_text (codes "off") (left_of at 1) 2 height ++ words_text (codes "value") at 10 12 (codes "OFF")
+
+-- a set that is pending
+unfoldable pub pending_text : Point → ℕ → List ℕ
+pending_text at height = box_text (codes "held") (left_of at 13) 6 height
+
+-- how a clock's rate is drawn: hollow while the clock is disabled
+abbrev pub rate_class : Bool → List ℕ
+rate_class enabled = if enabled then codes "rate" else codes "rate idle"
+
+-- so many units of a rate
+unfoldable pub in_units : Point → ℕ → List ℕ → List ℕ
+in_units at count unit =
+    parts_text (fixed (codes "<text class=\"hertz\" dx=\"10\" dy=\"12\" x=\"") ∷ number at.x ∷ fixed (codes "\" y=\"") ∷ number at.y ∷
+    fixed (codes "\">") ∷ number count ∷ fixed unit ∷ fixed (codes "</text>\n") ∷ [])
+
+-- a rate in the largest unit that gives a whole number
+abbrev pub hertz_text : Point → ℕ → List ℕ
+hertz_text at hertz =
+    if not (hertz % 1000 == 0) || (hertz == 0) then in_units at hertz (codes " Hz") else if not (hertz % 1000000 == 0) then in_units at (hertz / 1000) (codes " kHz")
+    else if not (hertz % 1000000000 == 0) then in_units at (hertz / 1000000) (codes " MHz") else in_units at (hertz / 1000000000) (codes " GHz")
+
+-- a clock's rate
+unfoldable pub rate_text : Point → ℕ → ℕ → Bool → List ℕ
+rate_text at height hertz enabled = box_text (rate_class enabled) (left_of at 4) 8 height ++ hertz_text at hertz
+
+-- a bar in the colour of an agent
+unfoldable pub bar_text : Point → ℕ → ℕ → ℕ → List ℕ
+bar_text corner width height agent =
+    parts_text (fixed (codes "<rect class=\"a") ∷ number agent ∷ fixed (codes " queue\" x=\"") ∷ number corner.x ∷ fixed (codes "\" y=\"") ∷
+    number corner.y ∷ fixed (codes "\" width=\"") ∷ number width ∷ fixed (codes "\" height=\"") ∷ number height ∷ fixed (codes "\"/>\n") ∷ [])
+
+-- a count in the colour of an agent
+unfoldable pub count_text : Point → ℕ → ℕ → ℕ → List ℕ
+count_text corner right agent count =
+    parts_text (fixed (codes "<text class=\"a") ∷ number agent ∷ fixed (codes " count\" dy=\"12\" x=\"") ∷ number corner.x ∷ fixed (codes "\" y=\"") ∷
+    number corner.y ∷ fixed (codes "\" dx=\"") ∷ number right ∷ fixed (codes "\">") ∷ number count ∷ fixed (codes "</text>\n") ∷ [])
+
+-- an outbox that is not empty, as wide as it is long
+unfoldable pub queue_text : Point → ℕ → ℕ → ℕ → List ℕ
+queue_text corner height agent count = bar_text corner (2 + 3 * count) height agent ++ count_text corner (2 + 3 * count + 7) agent count
+
+-- an outbox
+abbrev pub waiting_text : Point → ℕ → ℕ → ℕ → List ℕ
+waiting_text at height agent count = if count == 0 then box_text (codes "none") (left_of at 1) 2 height else queue_text (left_of at 1) height agent count
+
+-- a state from a point down
+abbrev pub state_text : Kind → State → Point → ℕ → List ℕ
+state_text kind state.On at height = on_text at height
+state_text kind state.Off at height = off_text at height
+state_text kind (state.Rate hertz enabled) at height = rate_text at height hertz enabled
+state_text kind (state.Waiting count) at height = waiting_text at height (agent_of kind) count
+state_text kind state.Pending at height = pending_text at height
+
+-- a state along the time that it lasted
+unfoldable pub span_text : ℕ → Kind → Span → List ℕ
+span_text x kind s = state_text kind s.state (record { x = x; y = state_y s.since }) (state_y s.until - state_y s.since)
+
+-- the states of a column, in order
+abbrev pub spans_text : ℕ → Kind → List Span → List ℕ
+spans_text x kind spans = flat_map (span_text x kind) spans
+
+-- a column
+unfoldable pub column_text : Layout → Column → List ℕ
+column_text l c = heading_text (column_x l c.place) c ++ spans_text (column_x l c.place) c.kind c.spans.items
+
+-- columns
+abbrev pub columns_text : Layout → List Column → List ℕ
+columns_text l columns = flat_map (column_text l) columns

@@ -1,0 +1,76 @@
+-- What stands around the marks: the head of the file, title, script, border and legend.
+use Rattle.std.specs.Prelude.{ℕ, ◌+◌, ◌-◌, ◌*◌, ◌%◌, ◌==◌, if◌then◌else◌, List, [], ◌∷◌, ◌++◌, codes, flat_map, take, min, vec_len}
+use Rattle.scmi_svg.specs.Piece.{fixed, number, parts_text}
+use Rattle.scmi_svg.specs.Shape.{words_text}
+use Rattle.scmi_svg.specs.Layout.{width, bottom, border_x, slot_y}
+use Rattle.scmi_svg.specs.declared.layout.TheConstants.{SHOWN, SLOT}
+use Rattle.scmi_svg.specs.declared.style.TheConstants.{STYLE, LEGEND}
+use Rattle.scmi_svg.specs.declared.layout.Layout.{Layout}
+use Rattle.scmi_svg.specs.declared.chart.Chart.{Chart}
+use Rattle.scmi_svg.specs.declared.chart.Step.{Step}
+
+-- the head of a file of this size
+unfoldable pub sized_text : ℕ → ℕ → List ℕ
+sized_text width height =
+    parts_text (fixed (codes "<svg xmlns=\"http://www.w3.org/2000/svg\" width=\"") ∷ number width ∷ fixed (codes "\" height=\"") ∷ number height ∷
+    fixed (codes "\" viewBox=\"0 0 ") ∷ number width ∷ fixed (codes " ") ∷ number height ∷
+    fixed (codes "\" font-family=\"Inter,'Helvetica Neue','DejaVu Sans',sans-serif\" font-size=\"12\">\n") ∷ fixed STYLE.now ∷ [])
+
+-- the head of the file
+unfoldable pub head_text : Layout → List ℕ
+head_text l = sized_text (width l) (bottom l + 62)
+
+-- the paper
+unfoldable pub paper_text : List ℕ
+paper_text = parts_text (fixed (codes "<rect class=\"paper\" width=\"100%\" height=\"100%\"/>\n") ∷ [])
+
+-- the paper and the title
+unfoldable pub title_text : Chart → List ℕ
+title_text c =
+    paper_text ++ words_text (codes "title") (record { x = 24; y = 34 }) 0 0 c.title.items ++ words_text (codes "soft") (record { x = 24; y = 55 }) 0 0 c.subtitle.items
+
+-- a shade behind a step
+unfoldable pub shade_text : Layout → Step → List ℕ
+shade_text l s =
+    parts_text (fixed (codes "<rect class=\"band\" x=\"14\" rx=\"4\" y=\"") ∷ number (slot_y s.slot) ∷ fixed (codes "\" width=\"") ∷
+    number (width l - 28) ∷ fixed (codes "\" height=\"") ∷ number (SLOT * s.slots) ∷ fixed (codes "\"/>\n") ∷ [])
+
+-- each second step is shaded
+abbrev pub band_text : Layout → Step → List ℕ
+band_text l s = if s.number % 2 == 1 then [] else shade_text l s
+
+-- the number of a line of the script
+unfoldable pub number_text : ℕ → ℕ → List ℕ
+number_text y line =
+    parts_text (fixed (codes "<text class=\"mono line\" x=\"46\" dy=\"20\" y=\"") ∷ number y ∷ fixed (codes "\">") ∷ number line ∷
+    fixed (codes "</text>\n") ∷ [])
+
+-- the line of the script, up to its sixtieth character, behind its number
+unfoldable pub script_text : Step → List ℕ
+script_text s =
+    number_text (slot_y s.slot) s.line
+    ++ words_text (codes "mono") (record { x = 56; y = slot_y s.slot }) 0 20 (take (min (vec_len s.text) SHOWN) s.text.items)
+
+-- a step of the script
+unfoldable pub step_text : Layout → Step → List ℕ
+step_text l s = band_text l s ++ script_text s
+
+-- the steps of the script
+abbrev pub steps_text : Layout → List Step → List ℕ
+steps_text l steps = flat_map (step_text l) steps
+
+-- the line between the lifelines and the columns
+unfoldable pub border_text : Layout → List ℕ
+border_text l =
+    parts_text (fixed (codes "<line class=\"border\" y1=\"84\" x1=\"") ∷ number (border_x l) ∷ fixed (codes "\" x2=\"") ∷ number (border_x l) ∷ fixed (codes "\" y2=\"") ∷
+    number (bottom l) ∷ fixed (codes "\"/>\n") ∷ [])
+
+-- the legend at this height, and the end of the file
+unfoldable pub legend_at : ℕ → List ℕ
+legend_at y =
+    parts_text (fixed (codes "<svg class=\"legend\" x=\"24\" y=\"") ∷ number y ∷ fixed (codes "\">\n") ∷ fixed LEGEND.now ∷
+    fixed (codes "</svg>\n</svg>\n") ∷ [])
+
+-- the legend and the end of the file
+unfoldable pub legend_text : Layout → List ℕ
+legend_text l = legend_at (bottom l + 26)

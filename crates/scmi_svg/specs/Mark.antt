@@ -1,0 +1,58 @@
+-- Marks, as they are drawn.
+use Rattle.std.specs.Prelude.{ℕ, true, false, List, [], ◌∷◌, ◌++◌, codes, flat_map, Some, None}
+use Rattle.scmi_svg.specs.Piece.{fixed, parts_text}
+use Rattle.scmi_svg.specs.Message.{command_text, withdrawn_text, refused_text, answer_text, posted_text, post_text}
+use Rattle.scmi_svg.specs.Event.{execution_text, advance_text, closed_text, remark_text}
+use Rattle.scmi_svg.specs.declared.layout.Layout.{Layout}
+use Rattle.scmi_svg.specs.declared.mark.Mark.{Mark}
+use Rattle.scmi_svg.specs.declared.mark.Mark.TheVariants as mark
+use Rattle.scmi_svg.specs.declared.mark.Outcome.{Outcome}
+use Rattle.scmi_svg.specs.declared.mark.Outcome.TheVariants as outcome
+
+-- the classes of a reply
+abbrev pub reply_kind : Outcome → List ℕ
+reply_kind outcome.Success = codes "reply"
+reply_kind outcome.Pending = codes "reply pending"
+reply_kind outcome.Refusal = codes "reply refusal"
+
+-- the classes of a mark
+abbrev pub mark_kind : Mark → List ℕ
+mark_kind (mark.Command m token) = codes "command"
+mark_kind (mark.Withdrawn m token) = codes "withdrawn"
+mark_kind (mark.Refused m) = codes "refused"
+mark_kind (mark.Execution slot until) = codes "execution"
+mark_kind (mark.Reply m outcome) = reply_kind outcome
+mark_kind (mark.Delayed m token) = codes "delayed"
+mark_kind (mark.Notification m) = codes "notification"
+mark_kind (mark.Posted slot) = codes "posted"
+mark_kind (mark.Advance slot true text) = codes "advance"
+mark_kind (mark.Advance slot false text) = codes "advance idle"
+mark_kind (mark.Closed agent slot by text) = codes "closed"
+mark_kind (mark.Remark agent slot beside text) = codes "remark"
+
+-- the shapes of a mark
+abbrev pub shapes_text : Layout → Mark → List ℕ
+shapes_text l (mark.Command m token) = command_text l m token
+shapes_text l (mark.Withdrawn m token) = withdrawn_text l m token
+shapes_text l (mark.Refused m) = refused_text l m
+shapes_text l (mark.Execution slot until) = execution_text l slot until
+shapes_text l (mark.Reply m outcome) = answer_text l m
+shapes_text l (mark.Delayed m token) = posted_text l m (Some token)
+shapes_text l (mark.Notification m) = posted_text l m None
+shapes_text l (mark.Posted slot) = post_text l slot
+shapes_text l (mark.Advance slot effective text) = advance_text l slot text.items
+shapes_text l (mark.Closed agent slot by text) = closed_text l agent slot by text.items
+shapes_text l (mark.Remark agent slot beside text) = remark_text l agent slot beside text.items
+
+-- the beginning of a group
+unfoldable pub opening_text : List ℕ → List ℕ
+opening_text kind =
+    parts_text (fixed (codes "<g class=\"mark ") ∷ fixed kind ∷ fixed (codes "\">\n") ∷ [])
+
+-- a mark, as one group
+unfoldable pub mark_text : Layout → Mark → List ℕ
+mark_text l m = opening_text (mark_kind m) ++ shapes_text l m ++ parts_text (fixed (codes "</g>\n") ∷ [])
+
+-- marks, in order
+abbrev pub marks_text : Layout → List Mark → List ℕ
+marks_text l marks = flat_map (mark_text l) marks

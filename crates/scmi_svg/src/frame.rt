@@ -1,0 +1,208 @@
+//! What stands around the marks: the head of the file, title, script, border and legend.
+ghost use Rattle.std.specs.Prelude.{◌≡◌, OnOk};
+ghost use Rattle.std.specs.Io.KnownBytes.{Appends};
+ghost use Rattle.scmi_svg.specs.Frame.{head_text, sized_text, title_text, paper_text, steps_text, step_text, band_text, shade_text, script_text, number_text, border_text, legend_text, legend_at};
+
+use crate::chart::{Chart, Step};
+use crate::layout::{Layout, SHOWN, SLOT, slot_y};
+use crate::piece::{Piece, write_pieces};
+use crate::shape::{Point, write_words};
+use crate::style::{LEGEND, STYLE};
+use std::io;
+use std::io::Write;
+
+/// Writes the head of the file.
+#[tactic(auto, unfolding(crate::specs::Frame::head_text))]
+pub(crate) fn write_head<W: Write>(writer: &mut W, layout: &Layout) -> io::Result<()>
+    ensures { OnOk result (Appends (W.contents writer.old) (W.contents writer.new)
+        (head_text layout.now)) }
+{
+    let width = layout.width();
+    let height = layout.bottom() + 62;
+    write_sized(writer, width, height)
+}
+
+#[tactic(auto, unfolding(crate::specs::Frame::sized_text))]
+fn write_sized<W: Write>(writer: &mut W, width: u32, height: u32) -> io::Result<()>
+    ensures { OnOk result (Appends (W.contents writer.old) (W.contents writer.new)
+        (sized_text width height)) }
+{
+    write_pieces(
+        writer,
+        &[
+            Piece::Fixed("<svg xmlns=\"http://www.w3.org/2000/svg\" width=\""),
+            Piece::Number(width),
+            Piece::Fixed("\" height=\""),
+            Piece::Number(height),
+            Piece::Fixed("\" viewBox=\"0 0 "),
+            Piece::Number(width),
+            Piece::Fixed(" "),
+            Piece::Number(height),
+            Piece::Fixed(
+                "\" font-family=\"Inter,'Helvetica Neue','DejaVu Sans',sans-serif\" font-size=\"12\">\n",
+            ),
+            Piece::Fixed(STYLE),
+        ],
+    )
+}
+
+/// Writes the paper and the title.
+#[tactic(auto, unfolding(crate::specs::Frame::title_text))]
+pub(crate) fn write_title<W: Write>(writer: &mut W, chart: &Chart) -> io::Result<()>
+    ensures { OnOk result (Appends (W.contents writer.old) (W.contents writer.new)
+        (title_text chart.now)) }
+{
+    write_paper(writer)?;
+    write_words(writer, "title", Point { x: 24, y: 34 }, 0, 0, &chart.title)?;
+    write_words(
+        writer,
+        "soft",
+        Point { x: 24, y: 55 },
+        0,
+        0,
+        &chart.subtitle,
+    )
+}
+
+#[tactic(auto, unfolding(crate::specs::Frame::paper_text))]
+fn write_paper<W: Write>(writer: &mut W) -> io::Result<()>
+    ensures { OnOk result (Appends (W.contents writer.old) (W.contents writer.new) (paper_text)) }
+{
+    write_pieces(
+        writer,
+        &[Piece::Fixed("<rect class=\"paper\" width=\"100%\" height=\"100%\"/>\n")],
+    )
+}
+
+/// Writes the steps of the script.
+pub(crate) fn write_steps<W: Write>(
+    writer: &mut W,
+    layout: &Layout,
+    steps: &[Step],
+) -> io::Result<()>
+    ensures { OnOk result (Appends (W.contents writer.old) (W.contents writer.new)
+        (steps_text layout.now steps.now)) }
+{
+    'steps: for step in steps {
+        write_step(writer, layout, step)?;
+    }
+    Ok(())
+}
+
+#[tactic(auto, unfolding(crate::specs::Frame::step_text))]
+fn write_step<W: Write>(writer: &mut W, layout: &Layout, step: &Step) -> io::Result<()>
+    ensures { OnOk result (Appends (W.contents writer.old) (W.contents writer.new)
+        (step_text layout.now step.now)) }
+{
+    write_band(writer, layout, step)?;
+    write_script(writer, step)
+}
+
+/// Shades each second step.
+fn write_band<W: Write>(writer: &mut W, layout: &Layout, step: &Step) -> io::Result<()>
+    ensures { OnOk result (Appends (W.contents writer.old) (W.contents writer.new)
+        (band_text layout.now step.now)) }
+{
+    if step.number % 2 == 1 {
+        Ok(())
+    } else {
+        write_shade(writer, layout, step)
+    }
+}
+
+#[tactic(auto, unfolding(crate::specs::Frame::shade_text))]
+fn write_shade<W: Write>(writer: &mut W, layout: &Layout, step: &Step) -> io::Result<()>
+    ensures { OnOk result (Appends (W.contents writer.old) (W.contents writer.new)
+        (shade_text layout.now step.now)) }
+{
+    write_pieces(
+        writer,
+        &[
+            Piece::Fixed("<rect class=\"band\" x=\"14\" rx=\"4\" y=\""),
+            Piece::Number(slot_y(step.slot)),
+            Piece::Fixed("\" width=\""),
+            Piece::Number(layout.width().saturating_sub(28)),
+            Piece::Fixed("\" height=\""),
+            Piece::Number(SLOT * u32::from(step.slots)),
+            Piece::Fixed("\"/>\n"),
+        ],
+    )
+}
+
+/// Writes the line of the script, up to its sixtieth character, behind its number.
+#[tactic(auto, unfolding(crate::specs::Frame::script_text))]
+fn write_script<W: Write>(writer: &mut W, step: &Step) -> io::Result<()>
+    ensures { OnOk result (Appends (W.contents writer.old) (W.contents writer.new)
+        (script_text step.now)) }
+{
+    let at = Point {
+        x: 56,
+        y: slot_y(step.slot),
+    };
+    let shown = step.text.len().min(SHOWN);
+    write_line_number(writer, at.y, step.line)?;
+    write_words(writer, "mono", at, 0, 20, &step.text[..shown])
+}
+
+#[tactic(auto, unfolding(crate::specs::Frame::number_text))]
+fn write_line_number<W: Write>(writer: &mut W, y: u32, line: u32) -> io::Result<()>
+    ensures { OnOk result (Appends (W.contents writer.old) (W.contents writer.new)
+        (number_text y line)) }
+{
+    write_pieces(
+        writer,
+        &[
+            Piece::Fixed("<text class=\"mono line\" x=\"46\" dy=\"20\" y=\""),
+            Piece::Number(y),
+            Piece::Fixed("\">"),
+            Piece::Number(line),
+            Piece::Fixed("</text>\n"),
+        ],
+    )
+}
+
+/// Writes the line between the lifelines and the columns.
+#[tactic(auto, unfolding(crate::specs::Frame::border_text))]
+pub(crate) fn write_border<W: Write>(writer: &mut W, layout: &Layout) -> io::Result<()>
+    ensures { OnOk result (Appends (W.contents writer.old) (W.contents writer.new)
+        (border_text layout.now)) }
+{
+    let x = layout.border_x();
+    write_pieces(
+        writer,
+        &[
+            Piece::Fixed("<line class=\"border\" y1=\"84\" x1=\""),
+            Piece::Number(x),
+            Piece::Fixed("\" x2=\""),
+            Piece::Number(x),
+            Piece::Fixed("\" y2=\""),
+            Piece::Number(layout.bottom()),
+            Piece::Fixed("\"/>\n"),
+        ],
+    )
+}
+
+/// Writes the legend and the end of the file.
+#[tactic(auto, unfolding(crate::specs::Frame::legend_text))]
+pub(crate) fn write_legend<W: Write>(writer: &mut W, layout: &Layout) -> io::Result<()>
+    ensures { OnOk result (Appends (W.contents writer.old) (W.contents writer.new)
+        (legend_text layout.now)) }
+{
+    write_legend_at(writer, layout.bottom() + 26)
+}
+
+#[tactic(auto, unfolding(crate::specs::Frame::legend_at))]
+fn write_legend_at<W: Write>(writer: &mut W, y: u32) -> io::Result<()>
+    ensures { OnOk result (Appends (W.contents writer.old) (W.contents writer.new) (legend_at y)) }
+{
+    write_pieces(
+        writer,
+        &[
+            Piece::Fixed("<svg class=\"legend\" x=\"24\" y=\""),
+            Piece::Number(y),
+            Piece::Fixed("\">\n"),
+            Piece::Fixed(LEGEND),
+            Piece::Fixed("</svg>\n</svg>\n"),
+        ],
+    )
+}

@@ -1,0 +1,118 @@
+//! Marks, as they are drawn.
+ghost use Rattle.std.specs.Prelude.{◌≡◌, OnOk};
+ghost use Rattle.std.specs.Io.KnownBytes.{Appends};
+ghost use Rattle.scmi_svg.specs.Mark.{marks_text, mark_text, shapes_text, opening_text, mark_kind, reply_kind};
+
+use crate::event::{write_advance, write_closed, write_execution, write_remark};
+use crate::layout::Layout;
+use crate::mark::{Mark, Outcome};
+use crate::message::{
+    write_answer, write_command, write_post, write_posted, write_refused, write_withdrawn,
+};
+use crate::piece::{Piece, write_pieces};
+use std::io;
+use std::io::Write;
+
+/// Writes marks, in order.
+pub(crate) fn write_marks<W: Write>(
+    writer: &mut W,
+    layout: &Layout,
+    marks: &[Mark],
+) -> io::Result<()>
+    ensures { OnOk result (Appends (W.contents writer.old) (W.contents writer.new)
+        (marks_text layout.now marks.now)) }
+{
+    'marks: for mark in marks {
+        write_mark(writer, layout, mark)?;
+    }
+    Ok(())
+}
+
+/// Writes a mark, as one group.
+#[tactic(auto, unfolding(crate::specs::Mark::mark_text))]
+fn write_mark<W: Write>(writer: &mut W, layout: &Layout, mark: &Mark) -> io::Result<()>
+    ensures { OnOk result (Appends (W.contents writer.old) (W.contents writer.new)
+        (mark_text layout.now mark.now)) }
+{
+    write_opening(writer, mark_kind(mark))?;
+    write_shapes(writer, layout, mark)?;
+    write_pieces(writer, &[Piece::Fixed("</g>\n")])
+}
+
+#[tactic(auto, unfolding(crate::specs::Mark::opening_text))]
+fn write_opening<W: Write>(writer: &mut W, kind: &str) -> io::Result<()>
+    ensures { OnOk result (Appends (W.contents writer.old) (W.contents writer.new)
+        (opening_text kind.now)) }
+{
+    write_pieces(
+        writer,
+        &[
+            Piece::Fixed("<g class=\"mark "),
+            Piece::Fixed(kind),
+            Piece::Fixed("\">\n"),
+        ],
+    )
+}
+
+/// The classes of a mark.
+fn mark_kind(mark: &Mark) -> &'static str
+    ensures { result.now ≡ mark_kind mark.now }
+{
+    match mark {
+        Mark::Command { .. } => "command",
+        Mark::Withdrawn { .. } => "withdrawn",
+        Mark::Refused { .. } => "refused",
+        Mark::Execution { .. } => "execution",
+        Mark::Reply { outcome, .. } => reply_kind(*outcome),
+        Mark::Delayed { .. } => "delayed",
+        Mark::Notification { .. } => "notification",
+        Mark::Posted { .. } => "posted",
+        Mark::Advance {
+            is_effective: true,
+            ..
+        } => "advance",
+        Mark::Advance { .. } => "advance idle",
+        Mark::Closed { .. } => "closed",
+        Mark::Remark { .. } => "remark",
+    }
+}
+
+fn reply_kind(outcome: Outcome) -> &'static str
+    ensures { result.now ≡ reply_kind outcome }
+{
+    match outcome {
+        Outcome::Success => "reply",
+        Outcome::Pending => "reply pending",
+        Outcome::Refusal => "reply refusal",
+    }
+}
+
+/// Writes the shapes of a mark.
+fn write_shapes<W: Write>(writer: &mut W, layout: &Layout, mark: &Mark) -> io::Result<()>
+    ensures { OnOk result (Appends (W.contents writer.old) (W.contents writer.new)
+        (shapes_text layout.now mark.now)) }
+{
+    match mark {
+        Mark::Command { message, token } => write_command(writer, layout, message, *token),
+        Mark::Withdrawn { message, token } => write_withdrawn(writer, layout, message, *token),
+        Mark::Refused { message } => write_refused(writer, layout, message),
+        Mark::Execution { slot, until } => write_execution(writer, layout, *slot, *until),
+        Mark::Reply { message, .. } => write_answer(writer, layout, message),
+        Mark::Delayed { message, token } => write_posted(writer, layout, message, Some(*token)),
+        Mark::Notification { message } => write_posted(writer, layout, message, None),
+        Mark::Posted { slot } => write_post(writer, layout, *slot),
+        Mark::Advance { slot, text, .. } => write_advance(writer, layout, *slot, text),
+        Mark::Closed {
+            agent,
+            slot,
+            by,
+            text,
+        } => write_closed(writer, layout, *agent, *slot, *by, text),
+        Mark::Remark {
+            agent,
+            slot,
+            beside,
+            text,
+        } => write_remark(writer, layout, *agent, *slot, *beside, text),
+    }
+}
