@@ -20,9 +20,9 @@ class Edit:
     faults: list = field(default_factory=list)
 
 
-def read_edit(file, folder, is_unedited=False):
-    """The edit of a file, with the functions that it changes, or would change if it were not left unedited."""
-    edit, path, old = Edit(file.stem, is_unedited=is_unedited), "", ""
+def read_edit(file, folder):
+    """The edit of a file, with the functions that it changes."""
+    edit, path, old = Edit(file.stem), "", ""
     for line in file.read_text().split("\n"):
         word, _, rest = line.partition(":")
         rest = rest[1:]
@@ -38,9 +38,13 @@ def read_edit(file, folder, is_unedited=False):
         elif word == "new":
             edit.changes.append((path, old, rest))
     locate(edit, folder)
-    if is_unedited:
-        edit.changes = [(path, old, old) for path, old, _ in edit.changes[:1]]
     return edit
+
+
+def unedited_of(edits):
+    """An edit without a change, where it stands, of each function that these edits change."""
+    functions = {path: it for edit in edits for path, it in edit.functions.items()}
+    return [Edit(path, functions={path: it}, is_unedited=True) for path, it in functions.items()]
 
 
 def locate(edit, folder):
