@@ -19,6 +19,8 @@ mod exchanges;
 #[cfg(test)]
 mod gaps;
 #[cfg(test)]
+mod hardware;
+#[cfg(test)]
 mod messages;
 #[cfg(test)]
 mod output_lines;
@@ -34,3 +36,5 @@ mod readers;
 mod runs;
 #[cfg(test)]
 mod session;
+#[cfg(test)]
+mod switches;

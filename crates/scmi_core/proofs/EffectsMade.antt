@@ -1,7 +1,7 @@
 -- The effects of one more event.
-use Rattle.std.proofs.Common.{◌≡◌, ◌<◌, ◌==◌, ℕ, Bool, true, false, List, [], ◌∷◌, ◌++◌, length, map, option_map, slice_get, Option, Some, None, Ok, refl, sym, ap, ◌∙◌}
+use Rattle.std.proofs.Common.{◌≡◌, ◌<◌, ◌==◌, ℕ, Bool, true, false, List, [], ◌∷◌, ◌++◌, length, map, option_map, slice_get, Option, Some, None, IfSome, Ok, refl, sym, ap, subst, ◌∙◌}
 use Rattle.std.specs.Option.{option_and_then, option_or, option_to_list}
-use Rattle.std.proofs.lemmas.List.{append_assoc, map-append}
+use Rattle.std.proofs.lemmas.List.{append_assoc, append-nil, map-append}
 use Rattle.scmi_codec.specs.Header.{HeaderFields}
 use Rattle.scmi_codec.specs.declared.frame.Frame.{Frame}
 use Rattle.scmi_codec.specs.declared.frame.Frame.TheVariants.{Good, Malformed}
@@ -17,7 +17,7 @@ use Rattle.scmi_core.specs.declared.effect.Effect.{Effect}
 use Rattle.scmi_core.specs.declared.event.Event.{Event}
 use Rattle.scmi_core.specs.declared.effect.Effect.TheVariants as effect
 use Rattle.scmi_core.specs.Deed.{success_of}
-use Rattle.scmi_core.specs.Driven.{HappensOn, HappensThere, HasMade, IsDriven}
+use Rattle.scmi_core.specs.Driven.{HappensOn, HappensThere, HasMade, IsDriven, and_made}
 use Rattle.scmi_core.specs.Standing.{Standing}
 use Rattle.scmi_core.specs.Effect.{clock_effect, effect_after, effect_of, effects, state_effect}
 use Rattle.scmi_core.specs.History.{deeds, deed_after}
@@ -44,27 +44,38 @@ effects-push board h e =
     ∙ map-append effect_of (changes board (deeds board h)) (option_to_list change)
     ∙ ap (λ ys. map effect_of (changes board (deeds board h)) ++ ys) (map_one change)
 
+-- a list of what was made grows by what one event changes
+grows : (xs ys : List Effect) (o : Option Effect) (applied : Option (List Effect)) → ys ≡ xs ++ option_to_list o
+    → IfSome applied (λ made. made ≡ xs) → IfSome (and_made applied o) (λ made. made ≡ ys)
+grows xs ys None None is made = tt
+grows xs ys None (Some list) is made = made ∙ sym (append-nil xs) ∙ sym is
+grows xs ys (Some effect) None is made = tt
+grows xs ys (Some effect) (Some list) is made = ap (λ made. made ++ effect ∷ []) made ∙ sym is
+
 -- so hardware that has made the effects of a history goes on having made them
-pub made-on : (board : Board) (IsOne : Event → Type 0) (h h' : List Event) (applied applied' before : List Effect) → HappensOn board IsOne h applied h' applied'
+pub made-on : (board : Board) (IsOne : Event → Type 0) (h h' : List Event) (applied applied' : Option (List Effect)) (before : List Effect) → HappensOn board IsOne h applied h' applied'
     → HasMade before board h applied → HasMade before board h' applied'
 made-on board IsOne h h' applied applied' before happens made =
-    happens.hardware
-    ∙ ap (λ ys. ys ++ option_to_list (effect_after board h happens.event)) made
-    ∙ append_assoc before (effects board h) (option_to_list (effect_after board h happens.event))
-    ∙ ap (λ ys. before ++ ys) (sym (effects-push board h happens.event))
-    ∙ ap (λ k. before ++ effects board k) (sym happens.history)
+    let effect = effect_after board h happens.event in
+    let longer : before ++ effects board h' ≡ (before ++ effects board h) ++ option_to_list effect =
+    ap (λ k. before ++ effects board k) happens.history
+    ∙ ap (λ ys. before ++ ys) (effects-push board h happens.event)
+    ∙ sym (append_assoc before (effects board h) (option_to_list effect)) in
+    subst (λ applied. HasMade before board h' applied) (sym happens.hardware)
+    (grows (before ++ effects board h) (before ++ effects board h') effect applied longer made)
 
 -- and so of a platform without its history
-pub driven-on : (IsOne : Event → Type 0) (p k : Standing) (applied applied' : List Effect) → HappensThere IsOne p applied k applied' → k.board ≡ p.board
+pub driven-on : (IsOne : Event → Type 0) (p k : Standing) (applied applied' : Option (List Effect)) → HappensThere IsOne p applied k applied' → k.board ≡ p.board
     → IsDriven p applied → IsDriven k applied'
 driven-on IsOne p k applied applied' happens same driven =
-    let h = driven.0 in (
-      h ++ happens.event ∷ [],
+    let h = driven.0 in
+    let h' = h ++ happens.event ∷ [] in
+    let longer : effects k.board h' ≡ effects p.board h ++ option_to_list (effect_after p.board h happens.event) =
+    ap (λ board. effects board h') same ∙ effects-push p.board h happens.event in (
+      h',
       happens.moves h driven.1,
-      happens.hardware h driven.1
-          ∙ ap (λ ys. ys ++ option_to_list (effect_after p.board h happens.event)) driven.2
-          ∙ sym (effects-push p.board h happens.event)
-          ∙ ap (λ board. effects board (h ++ happens.event ∷ [])) (sym same),
+      subst (λ applied. IfSome applied (λ made. made ≡ effects k.board h')) (sym (happens.hardware h driven.1))
+          (grows (effects p.board h) (effects k.board h') (effect_after p.board h happens.event) applied longer driven.2),
     )
 
 -- what a command of each protocol changes

@@ -8,6 +8,8 @@ use Rattle.scmi_plan.specs.Board.{Board}
 use Rattle.scmi_core.specs.declared.effect.Effect.{Effect}
 use Rattle.scmi_core.specs.declared.effect.Effect.TheVariants as effect
 use Rattle.scmi_core.specs.declared.event.Event.{Event}
+use Rattle.scmi_core.specs.declared.pending_set.Setting.{Setting}
+use Rattle.scmi_core.specs.declared.pending_set.Setting.TheVariants as setting
 use Rattle.scmi_core.specs.Deed.{success_of}
 use Rattle.scmi_core.specs.History.{deeds, deed_after}
 use Rattle.scmi_core.specs.Reply.{reply_words}
@@ -21,6 +23,11 @@ effect_of change = given_to change.thing where
   given_to (State d) = effect.State d change.value
   given_to (Rate c) = effect.Rate c change.value
   given_to (Enabled c) = effect.Enabled c (change.value == 1)
+
+-- what a pending set changes when it completes
+abbrev pub setting_effect : Setting → Effect
+setting_effect (setting.State d state) = effect.State d state
+setting_effect (setting.Rate c rate) = effect.Rate c rate
 
 -- a domain and a state that it is given
 abbrev pub state_effect : ℕ × ℕ → Effect

@@ -2,13 +2,13 @@
 ghost use Rattle.std.specs.Prelude.{◌≡◌, ◌≢◌, ◌<◌, ◌++◌, ◌∷◌, [], ◌↔◌, List, length, true, false, None, IfOk, OnErr, IfErr, Err};
 ghost use Rattle.scmi_codec.specs.declared.frame.Answer.TheVariants.{Reply};
 ghost use Rattle.scmi_plan.specs.Agent.{IsAgent, IsNoAgent};
-ghost use Rattle.scmi_core.specs.Driven.{ExecutesOn, HappensOn, HasMade, IsEnd};
+ghost use Rattle.scmi_core.specs.Driven.{ExecutesOn, HappensOn, HasMade, IsEnd, IsExecuted};
 ghost use Rattle.scmi_core.specs.Effect.{effect_after};
 ghost use Rattle.scmi_core.specs.History.{IsIdle, answer_with};
 ghost use Rattle.scmi_core.specs.Legal.{IsLegal};
 ghost use Rattle.scmi_core.specs.Reply.{failed_answer};
 ghost use Rattle.scmi_core.specs.declared.effect.Effect.{Effect};
-ghost use Rattle.scmi_core.specs.declared.event.Event.TheVariants.{Command as Called, CommandFailed};
+ghost use Rattle.scmi_core.specs.declared.event.Event.TheVariants.{Command as Called, Advance, CommandFailed};
 
 use crate::answered::Answered;
 use crate::core_error::CoreError;
@@ -31,6 +31,9 @@ impl Core {
         ensures executes { IfOk result (λ x.
             ExecutesOn self.old.board agent frame.now (answer_with x reply.new)
             self.old.history (H.applied hardware.old) self.new.history (H.applied hardware.new)) }
+        ensures obeyed { H.REFUSES ≡ false → IfOk result (λ x.
+            IsExecuted self.old.board agent frame.now (answer_with x reply.new)
+            self.old.history self.new.history) }
         ensures made { (before : List Effect)
             → HasMade before self.old.board self.old.history (H.applied hardware.old)
             → HasMade before self.new.board self.new.history (H.applied hardware.new) }
@@ -62,6 +65,9 @@ impl Core {
         requires room { 0 < self.old.room }
         ensures executes { ExecutesOn self.old.board agent frame.now (answer_with result reply.new)
             self.old.history (H.applied hardware.old) self.new.history (H.applied hardware.new) }
+        ensures obeyed { H.REFUSES ≡ false
+            → IsExecuted self.old.board agent frame.now (answer_with result reply.new)
+            self.old.history self.new.history }
         ensures made { (before : List Effect)
             → HasMade before self.old.board self.old.history (H.applied hardware.old)
             → HasMade before self.new.board self.new.history (H.applied hardware.new) }
@@ -86,6 +92,8 @@ impl Core {
         ensures happens { IfOk result (λ did.
             did ≡ true → HappensOn self.old.board IsEnd
             self.old.history (H.applied hardware.old) self.new.history (H.applied hardware.new)) }
+        ensures obeyed { H.REFUSES ≡ false → IfOk result (λ did.
+            did ≡ true → self.new.history ≡ self.old.history ++ Advance ∷ []) }
         ensures made { (before : List Effect)
             → HasMade before self.old.board self.old.history (H.applied hardware.old)
             → HasMade before self.new.board self.new.history (H.applied hardware.new) }
@@ -112,6 +120,8 @@ impl Core {
         requires room { 0 < self.old.room }
         ensures happens { HappensOn self.old.board IsEnd
             self.old.history (H.applied hardware.old) self.new.history (H.applied hardware.new) }
+        ensures obeyed { H.REFUSES ≡ false
+            → self.new.history ≡ self.old.history ++ Advance ∷ [] }
         ensures board { self.new.board ≡ self.old.board }
         ensures legal { IsLegal self.new.board self.new.history }
     {

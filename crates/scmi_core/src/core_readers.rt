@@ -2,9 +2,11 @@
 ghost use Rattle.std.specs.Prelude.{◌≡◌, ◌≤◌, ◌↔◌, length, None, IfSome};
 ghost use Rattle.scmi_plan.specs.Agent.{IsNoAgent};
 ghost use Rattle.scmi_plan.specs.declared.resource.Resource.TheVariants as resource;
-ghost use Rattle.scmi_core.specs.History.{is_pending_after, outbox, value_after};
+ghost use Rattle.scmi_core.specs.History.{deeds, is_pending_after, outbox, value_after};
+ghost use Rattle.scmi_core.specs.Pending.{pending_sets};
 ghost use Rattle.scmi_core.specs.Value.{State, Rate, Enabled, bit_value};
 
+use crate::pending_set::PendingSet;
 use crate::platform_core::Core;
 use scmi_plan::Plan;
 
@@ -58,6 +60,15 @@ impl Core {
             ≡ is_pending_after self.now.board (resource.Clock clock) self.now.history }
     {
         self.platform.is_clock_pending(clock)
+    }
+
+    /// The pending sets, at most 8, in order of acceptance, in which they complete. Each says what it
+    /// will change (`PendingSet::effect`).
+    pub fn pending_sets(&self) -> &[PendingSet]
+        ensures { result.now
+            ≡ pending_sets self.now.board (deeds self.now.board self.now.history) }
+    {
+        self.platform.pending_sets()
     }
 
     /// How many messages wait in an agent's outbox, at most 16. `None` where the board lacks the

@@ -5,13 +5,11 @@ ghost use Rattle.scmi_codec.specs.declared.command.Command.TheVariants.{Power, C
 ghost use Rattle.scmi_plan.specs.Plan.{IsLawful};
 ghost use Rattle.scmi_power.specs.PowerTable.{set_now};
 ghost use Rattle.scmi_clock.specs.ClockTable.{rate_now, enabled_now};
-ghost use Rattle.scmi_core.specs.Effect.{effect_in, effect_of, state_effect, clock_effect};
+ghost use Rattle.scmi_core.specs.Effect.{effect_in, state_effect, clock_effect};
 ghost use Rattle.scmi_core.specs.Reply.{reply_words};
 ghost use Rattle.scmi_core.specs.Tables.{situation_in};
-ghost use Rattle.scmi_core.specs.Value.{set_to_change};
 
 use crate::effect::Effect;
-use crate::pending_set::Setting;
 use crate::tables::Tables;
 use scmi_codec::{ClockCommand, Command, Frame, PowerCommand};
 use scmi_plan::Plan;
@@ -78,15 +76,5 @@ impl Tables {
                 None => None,
             },
         }
-    }
-}
-
-/// The effect of a setting.
-pub(crate) fn effect_of_setting(setting: Setting) -> Effect
-    ensures { result ≡ effect_of (set_to_change 0 setting) }
-{
-    match setting {
-        Setting::State(domain, state) => Effect::State { domain, state },
-        Setting::Rate(clock, rate) => Effect::Rate { clock, rate },
     }
 }

@@ -79,6 +79,13 @@ impl Pending {
         self.sets.as_slice().first().copied()
     }
 
+    /// The sets, in order of acceptance.
+    pub fn as_slice(&self) -> &[PendingSet]
+        ensures { result.now ≡ self.now }
+    {
+        self.sets.as_slice()
+    }
+
     /// Whether a domain or clock has a pending set.
     pub fn is_pending(&self, resource: Resource) -> bool
         ensures { result ≡ has_set_of resource self.now }

@@ -1,11 +1,14 @@
 //! Sets that are accepted and not yet complete.
 ghost use Rattle.std.specs.Prelude.{◌≡◌};
+ghost use Rattle.scmi_core.specs.Effect.{setting_effect};
 ghost use Rattle.scmi_core.specs.Pending.{is_set_by};
 
+use crate::effect::Effect;
 use scmi_codec::Header;
 use scmi_plan::Resource;
 
-/// What a set changes: a domain and its state, or a clock and its rate in Hz.
+/// What a set changes: a domain and its state, as the word that a reply has, or a clock and its rate
+/// in Hz.
 #[derive(Clone, Copy, PartialEq, Eq, Debug)]
 pub enum Setting {
     State(u32, u32),
@@ -34,6 +37,18 @@ pub struct PendingSet {
     pub header: Header,
     /// Whether a delayed response is wanted.
     pub wanted: bool,
+}
+
+impl PendingSet {
+    /// What the set changes of the hardware when it completes.
+    pub fn effect(&self) -> Effect
+        ensures { result ≡ setting_effect self.now.setting }
+    {
+        match self.setting {
+            Setting::State(domain, state) => Effect::State { domain, state },
+            Setting::Rate(clock, rate) => Effect::Rate { clock, rate },
+        }
+    }
 }
 
 // The vector of pending sets holds this in its unused places.

@@ -14,7 +14,6 @@ ghost use Rattle.scmi_core.specs.declared.event.Event.TheVariants.{Command as Ca
 
 use crate::core_error::CoreError;
 use crate::effect::Effect;
-use crate::effects::effect_of_setting;
 use crate::platform::Platform;
 use scmi_codec::{Frame, Message, Status, set_refusal};
 
@@ -40,7 +39,7 @@ impl Platform {
             → result ≡ effect_after self.now.board h Advance }
     {
         match self.tables.pending.first() {
-            Some(set) => Some(effect_of_setting(set.setting)),
+            Some(set) => Some(set.effect()),
             None => None,
         }
     }

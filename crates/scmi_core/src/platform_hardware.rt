@@ -2,13 +2,13 @@
 ghost use Rattle.std.specs.Prelude.{◌≡◌, ◌≢◌, ◌<◌, ◌≤◌, ◌↔◌, List, length, true, false, None, IfOk, OnErr, IfErr, Err};
 ghost use Rattle.scmi_codec.specs.declared.frame.Answer.TheVariants.{Reply};
 ghost use Rattle.scmi_plan.specs.Agent.{IsAgent, IsNoAgent};
-ghost use Rattle.scmi_core.specs.Driven.{ExecutesThere, HappensThere, IsDriven, IsEnd};
+ghost use Rattle.scmi_core.specs.Driven.{ExecutesThere, HappensThere, IsDriven, IsEnd, IsExecutedThere};
 ghost use Rattle.scmi_core.specs.Effect.{effect_after};
 ghost use Rattle.scmi_core.specs.History.{IsIdle, answer_with};
 ghost use Rattle.scmi_core.specs.Reply.{failed_answer};
 ghost use Rattle.scmi_core.specs.Standing.{MovesOn, StandsAfter};
 ghost use Rattle.scmi_core.specs.declared.event.Event.{Event};
-ghost use Rattle.scmi_core.specs.declared.event.Event.TheVariants.{Command as Called, CommandFailed};
+ghost use Rattle.scmi_core.specs.declared.event.Event.TheVariants.{Command as Called, Advance, CommandFailed};
 
 use crate::answered::Answered;
 use crate::core_error::CoreError;
@@ -31,6 +31,8 @@ impl Platform {
         ensures executes { IfOk result (λ x.
             ExecutesThere agent frame.now (answer_with x reply.new)
             self.old (H.applied hardware.old) self.new (H.applied hardware.new)) }
+        ensures obeyed { H.REFUSES ≡ false → IfOk result (λ x.
+            IsExecutedThere agent frame.now (answer_with x reply.new) self.old self.new) }
         ensures driven { IsDriven self.old (H.applied hardware.old)
             → IsDriven self.new (H.applied hardware.new) }
         ensures board { self.new.board ≡ self.old.board }
@@ -52,6 +54,7 @@ impl Platform {
             → (result ≡ false) ↔ IsIdle self.old.board h }
         ensures happens { result ≡ true → HappensThere IsEnd
             self.old (H.applied hardware.old) self.new (H.applied hardware.new) }
+        ensures obeyed { H.REFUSES ≡ false → result ≡ true → MovesOn self.old Advance self.new }
         ensures driven { IsDriven self.old (H.applied hardware.old)
             → IsDriven self.new (H.applied hardware.new) }
         ensures same { result ≡ false → self.new ≡ self.old }
@@ -77,6 +80,8 @@ impl Platform {
         requires last { agent ≤ length self.old.board.agents }
         ensures executes { ExecutesThere agent frame.now (answer_with result reply.new)
             self.old (H.applied hardware.old) self.new (H.applied hardware.new) }
+        ensures obeyed { H.REFUSES ≡ false
+            → IsExecutedThere agent frame.now (answer_with result reply.new) self.old self.new }
         ensures board { self.new.board ≡ self.old.board }
     {
         let effect = self.effect_in(agent, frame);
@@ -93,6 +98,7 @@ impl Platform {
         requires waiting { 0 < length self.old.tables.pending }
         ensures happens { HappensThere IsEnd
             self.old (H.applied hardware.old) self.new (H.applied hardware.new) }
+        ensures obeyed { H.REFUSES ≡ false → MovesOn self.old Advance self.new }
         ensures board { self.new.board ≡ self.old.board }
     {
         let effect = self.effect_of_advance();

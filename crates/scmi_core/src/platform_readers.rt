@@ -2,11 +2,13 @@
 ghost use Rattle.std.specs.Prelude.{◌≡◌, ◌≤◌, ◌↔◌, List, length, None, IfSome};
 ghost use Rattle.scmi_plan.specs.Agent.{IsNoAgent};
 ghost use Rattle.scmi_plan.specs.declared.resource.Resource.TheVariants as resource;
-ghost use Rattle.scmi_core.specs.History.{is_pending_after, outbox, value_after};
+ghost use Rattle.scmi_core.specs.History.{deeds, is_pending_after, outbox, value_after};
 ghost use Rattle.scmi_core.specs.Standing.{StandsAfter};
+ghost use Rattle.scmi_core.specs.Pending.{pending_sets};
 ghost use Rattle.scmi_core.specs.Value.{State, Rate, Enabled, bit_value};
 ghost use Rattle.scmi_core.specs.declared.event.Event.{Event};
 
+use crate::pending_set::PendingSet;
 use crate::platform::Platform;
 use scmi_plan::{Plan, Resource};
 
@@ -73,6 +75,15 @@ impl Platform {
             → result ≡ is_pending_after self.now.board (resource.Clock clock) h }
     {
         self.tables.pending.is_pending(Resource::Clock(clock))
+    }
+
+    /// The pending sets, at most 8, in order of acceptance, in which they complete. Each says what it
+    /// will change (`PendingSet::effect`).
+    pub fn pending_sets(&self) -> &[PendingSet]
+        ensures { (h : List Event) → StandsAfter self.now h
+            → result.now ≡ pending_sets self.now.board (deeds self.now.board h) }
+    {
+        self.tables.pending.as_slice()
     }
 
     /// How many messages wait in an agent's outbox, at most 16. `None` where the board lacks the

@@ -182,7 +182,7 @@ module _ {D : Type 0} (f : D → CalleeView) (board : Board) (a i : ℕ) (ds : L
       (agrees_command s.frame (subst (λ k. IsLegal board k) s.event legal) s.unclosed s.end)
 
   -- and beside the hardware
-  pub agrees_serve_on : (h' : List Event) (applied applied' : List Effect) (r : Served) → IsLegal board h' → ServesOneOn board a h applied (f x) r h' applied' (f d) → EndsAgree board h' (map f (set ds i d)) cs ps
+  pub agrees_serve_on : (h' : List Event) (applied applied' : Option (List Effect)) (r : Served) → IsLegal board h' → ServesOneOn board a h applied (f x) r h' applied' (f d) → EndsAgree board h' (map f (set ds i d)) cs ps
   agrees_serve_on h' applied applied' served.Nothing legal s =
       subst (λ k. EndsAgree board k (map f (set ds i d)) cs ps) (sym s.0) (agrees_callee (ap (λ w. w.closed) s.2.same) (ap (λ w. w.taken) s.2.same) (ap (λ w. w.answered) s.2.same))
   agrees_serve_on h' applied applied' served.Done legal s =
@@ -201,9 +201,9 @@ module _ {D : Type 0} (f : D → CalleeView) (board : Board) (a i : ℕ) (ds : L
             (agrees_failed s.frame (subst (λ v. IsLegal board (h ++ v ∷ [])) is l) s.unclosed (with_answer (failed_answer s.frame) (subst (λ v. answer_of_event board h v ≡ Some s.answer) is answered)))
 
 -- hardware that has made the effects of the history goes on having made them
-pub made_serve : (board : Board) (a : ℕ) (h h' : List Event) (applied applied' before : List Effect) (old new : CalleeView) (r : Served) → ServesOneOn board a h applied old r h' applied' new
+pub made_serve : (board : Board) (a : ℕ) (h h' : List Event) (applied applied' : Option (List Effect)) (before : List Effect) (old new : CalleeView) (r : Served) → ServesOneOn board a h applied old r h' applied' new
     → HasMade before board h applied → HasMade before board h' applied'
-made_serve board a h h' applied applied' before old new served.Nothing s made = s.1 ∙ made ∙ ap (λ k. before ++ effects board k) (sym s.0)
+made_serve board a h h' applied applied' before old new served.Nothing s made = subst (λ k. HasMade before board k applied') (sym s.0) (subst (HasMade before board h) (sym s.1.0) made)
 made_serve board a h h' applied applied' before old new served.Done s made = made-on board (IsCommandOf a s.frame) h h' applied applied' before s.executes.happens made
 
 -- ADVANCE
@@ -236,7 +236,7 @@ agrees_end_of board h event vs cs ps (inr is) kept legal =
     })
 
 -- what `Core::advance_on` leaves, whatever it answers
-pub agrees_after_on : (old new : Platform) (applied applied' : List Effect) (vs : List CalleeView) (cs : List CallerView) (ps : List (Option ℕ)) (r : Result Bool CoreError) → EndsAgree old.board old.history vs cs ps → new.board ≡ old.board → IsLegal new.board new.history
+pub agrees_after_on : (old new : Platform) (applied applied' : Option (List Effect)) (vs : List CalleeView) (cs : List CallerView) (ps : List (Option ℕ)) (r : Result Bool CoreError) → EndsAgree old.board old.history vs cs ps → new.board ≡ old.board → IsLegal new.board new.history
     → IfOk r (λ did. did ≡ true → HappensOn old.board IsEnd old.history applied new.history applied') → IfOk r (λ did. did ≡ false → new ≡ old) → OnErr r (new ≡ old) → EndsAgree new.board new.history vs cs ps
 agrees_after_on old new applied applied' vs cs ps (Ok true) kept eb legal event same err =
     let happens = event refl in

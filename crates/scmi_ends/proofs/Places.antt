@@ -38,7 +38,7 @@ module _ {D : Type 0} (f : D → CalleeView) (ds : List D) (a : ℕ) (x d : D) (
   pub serves : (r : Served) → ServesOne board a h (f x) r h' (f d) → Serves a (whole board h (map f ds) cs ps an pn) r (whole board' h' (map f (set ds (a - 1) d)) cs ps an' pn)
   serves r s = rw (eb, ea, map_at_set f ds (a - 1) d) (record { callee = f d; step = rw (view_at f ds (a - 1) x new_callee lt is) s; same = refl })
 
-  pub serves_on : (applied applied' : List Effect) (r : Served) → ServesOneOn board a h applied (f x) r h' applied' (f d) → ServesOn a (whole board h (map f ds) cs ps an pn) applied r (whole board' h' (map f (set ds (a - 1) d)) cs ps an' pn) applied'
+  pub serves_on : (applied applied' : Option (List Effect)) (r : Served) → ServesOneOn board a h applied (f x) r h' applied' (f d) → ServesOn a (whole board h (map f ds) cs ps an pn) applied r (whole board' h' (map f (set ds (a - 1) d)) cs ps an' pn) applied'
   serves_on applied applied' r s = rw (eb, ea, map_at_set f ds (a - 1) d) (record { callee = f d; step = rw (view_at f ds (a - 1) x new_callee lt is) s; same = refl })
 
 module _ {D : Type 0} (f : D → CallerView) (ds : List D) (a : ℕ) (x d : D) (board board' : Board) (h h' : List Event) (vs : List CalleeView) (ps : List (Option ℕ)) (an pn pn' : List (List ℕ))

@@ -1,5 +1,5 @@
 -- What serving an agent and advancing leave, beside the hardware.
-use Rattle.std.specs.Prelude.{◌≡◌, ℕ, ◌-◌, false, List, [], ◌∷◌, ◌++◌, slice_set}
+use Rattle.std.specs.Prelude.{◌≡◌, ℕ, ◌-◌, false, List, [], ◌∷◌, ◌++◌, Option, slice_set}
 use Rattle.scmi_codec.specs.declared.frame.Frame.{Frame}
 use Rattle.scmi_codec.specs.declared.frame.Answer.{Answer}
 use Rattle.scmi_link.specs.View.{CalleeView, callee_knows_close, one_more}
@@ -13,7 +13,7 @@ use Rattle.scmi_ends.specs.declared.served.Served.TheVariants as served
 use Rattle.scmi_ends.specs.ControllerView.{ControllerView, callee_of}
 
 -- one `take` gave this frame, which is then in the history as a command of agent a, done or failed, and answered as the history says; and the hardware has made what it changes, and nothing else
-pub record TakesAndExecutes (board : Board) (a : ℕ) (h : List Event) (applied : List Effect) (old : CalleeView) (h' : List Event) (applied' : List Effect) (new : CalleeView) : Type 0 where
+pub record TakesAndExecutes (board : Board) (a : ℕ) (h : List Event) (applied : Option (List Effect)) (old : CalleeView) (h' : List Event) (applied' : Option (List Effect)) (new : CalleeView) : Type 0 where
   pub frame : Frame
   pub answer : Answer
   pub unclosed : callee_knows_close old ≡ false
@@ -21,12 +21,12 @@ pub record TakesAndExecutes (board : Board) (a : ℕ) (h : List Event) (applied 
   pub end : new ≡ record old { taken = old.taken ++ frame ∷ []; answered = old.answered ++ answer ∷ []; takes = one_more old.takes }
 
 -- one `take` at the end of an agent's A2P channel; where it gave nothing, the history and the hardware stay
-abbrev pub ServesOneOn : Board → ℕ → List Event → List Effect → CalleeView → Served → List Event → List Effect → CalleeView → Type 0
+abbrev pub ServesOneOn : Board → ℕ → List Event → Option (List Effect) → CalleeView → Served → List Event → Option (List Effect) → CalleeView → Type 0
 ServesOneOn board a h applied old served.Nothing h' applied' new = (h' ≡ h) × (applied' ≡ applied) × TakesNone old new
 ServesOneOn board a h applied old served.Done h' applied' new = TakesAndExecutes board a h applied old h' applied' new
 
 -- the same at the place of agent a, and nothing else changes
-pub record ServesOn (a : ℕ) (old : ControllerView) (applied : List Effect) (result : Served) (new : ControllerView) (applied' : List Effect) : Type 0 where
+pub record ServesOn (a : ℕ) (old : ControllerView) (applied : Option (List Effect)) (result : Served) (new : ControllerView) (applied' : Option (List Effect)) : Type 0 where
   pub callee : CalleeView
   pub step : ServesOneOn old.board a old.history applied (callee_of old a) result new.history applied' callee
   pub same : new ≡ record old { history = new.history; callees = slice_set old.callees (a - 1) callee }

@@ -126,6 +126,8 @@ impl<C: Channel> Controller<C> {
         ensures serves { IfOk result (λ served.
             ServesOn agent self.old (H.applied hardware.old) served
             self.new (H.applied hardware.new)) }
+        ensures obeyed { H.REFUSES ≡ false → IfOk result (λ served.
+            Serves agent self.old served self.new) }
         ensures made { (before : List Effect)
             → HasMade before self.old.board self.old.history (H.applied hardware.old)
             → HasMade before self.new.board self.new.history (H.applied hardware.new) }
@@ -161,6 +163,8 @@ impl<C: Channel> Controller<C> {
             IsTrue did →
             HappensOn self.old.board IsEnd self.old.history (H.applied hardware.old)
             self.new.history (H.applied hardware.new)) }
+        ensures obeyed { H.REFUSES ≡ false → IfOk result (λ did.
+            IsTrue did → self.new.history ≡ self.old.history ++ event.Advance ∷ []) }
         ensures rest { self.new ≡ record self.old { history = self.new.history } }
         ensures made { (before : List Effect)
             → HasMade before self.old.board self.old.history (H.applied hardware.old)

@@ -1,7 +1,8 @@
 //! The platform's answer to one agent, beside the hardware.
-ghost use Rattle.std.specs.Prelude.{◌≡◌, ◌<◌, length};
+ghost use Rattle.std.specs.Prelude.{◌≡◌, ◌<◌, false, length};
 ghost use Rattle.scmi_plan.specs.Agent.{IsAgent};
 ghost use Rattle.scmi_core.specs.Legal.{IsLegal};
+ghost use Rattle.scmi_ends.specs.Serve.{ServesOne};
 ghost use Rattle.scmi_ends.specs.ServeOn.{ServesOneOn};
 
 use crate::buffers::Buffers;
@@ -29,6 +30,8 @@ pub(crate) fn serve_one_on<C: Channel, H: Hardware>(
     ensures step { ServesOneOn core.old.board agent
         core.old.history (H.applied hardware.old) (C.callee_view callee.old) result
         core.new.history (H.applied hardware.new) (C.callee_view callee.new) }
+    ensures obeyed { H.REFUSES ≡ false → ServesOne core.old.board agent core.old.history
+        (C.callee_view callee.old) result core.new.history (C.callee_view callee.new) }
 {
     if !a2p.take_into(callee, &mut buffers.frame) {
         return Served::Nothing;

@@ -1,8 +1,6 @@
-use Rattle.std.proofs.Common.{◌++◌, inl, inr, Some, refl, sym, ap, subst, ◌∙◌}
-use Rattle.std.specs.Option.{option_to_list}
-use Rattle.std.proofs.lemmas.List.{append-nil}
+use Rattle.std.proofs.Common.{inl, inr, Some, refl, sym, ap, subst, ◌∙◌}
 use Rattle.scmi_core.specs.declared.event.Event.TheVariants.{Command as Called, CommandFailed}
-use Rattle.scmi_core.specs.Driven.{HasMade, IsCommandOf}
+use Rattle.scmi_core.specs.Driven.{HasMade, IsCommandOf, and_made}
 use Rattle.scmi_core.specs.Effect.{effect_after}
 use Rattle.scmi_core.proofs.EffectsMade.{failed-none, made-on}
 use Rattle.scmi_core.proofs.platform_core.Core.execute_on.Goals as goal
@@ -15,7 +13,7 @@ returns-then-make-clause-executes g c = record {
     history = c.execute.ensures.event;
     hardware =
         c.make.ensures.made c.if-make.true
-        ∙ ap (λ effect. g.H.Hardware.applied c.args.hardware.now ++ option_to_list effect)
+        ∙ ap (and_made (g.H.Hardware.applied c.args.hardware.now))
         (c.effect_in-effect.ensures.effect c.self.inside.trace.events c.self.invariant ∙ ap (λ p. effect_after p.board p.history (Called c.args.agent c.args.frame.now)) c.self.view_is);
   };
   answer = ap Some (sym c.execute.ensures.answer);
@@ -33,8 +31,8 @@ returns-else-make-clause-executes g c = record {
     event = CommandFailed c.args.agent c.args.frame.now;
     is_one = inr refl;
     history = c.fail_command.ensures.event;
-    hardware = c.make.ensures.refused c.if-make.false ∙ sym (append-nil (g.H.Hardware.applied c.args.hardware.now))
-        ∙ ap (λ effect. g.H.Hardware.applied c.args.hardware.now ++ option_to_list effect) (sym (failed-none c.args.self.now.board c.args.self.now.history c.args.agent c.args.frame.now));
+    hardware = c.make.ensures.refused c.if-make.false
+        ∙ ap (and_made (g.H.Hardware.applied c.args.hardware.now)) (sym (failed-none c.args.self.now.board c.args.self.now.history c.args.agent c.args.frame.now));
   };
   answer = ap Some (sym c.fail_command.ensures.answer);
 }

@@ -1,0 +1,43 @@
+//! Hardware of the tests.
+ghost use Rattle.std.specs.Prelude.{Some, true};
+
+use scmi_core::{Effect, Fault, Hardware};
+use std::alloc::Global;
+
+/// Hardware that refuses one of the changes that it is asked for, and keeps those that it made.
+#[derive(Drop)]
+pub struct Switches {
+    made: Vec<Effect>,
+    asked: u32,
+    refused: u32,
+}
+
+impl Switches {
+    /// Hardware that refuses the change of this number, the first being 1, or none where it is 0.
+    pub fn refusing(alloc: Global, refused: u32) -> Switches {
+        Switches {
+            made: Vec::new(alloc),
+            asked: 0,
+            refused,
+        }
+    }
+
+    /// The changes that were made, in order.
+    pub fn made(&self) -> &[Effect] {
+        self.made.as_slice()
+    }
+}
+
+impl Hardware for Switches {
+    ghost REFUSES = { true };
+
+    ghost applied = { λ switches. Some switches.made.items };
+
+    fn apply(&mut self, effect: Effect) -> Result<(), Fault> {
+        self.asked = self.asked.wrapping_add(1);
+        if self.asked == self.refused || self.made.push(effect).is_err() {
+            return Err(Fault);
+        }
+        Ok(())
+    }
+}
