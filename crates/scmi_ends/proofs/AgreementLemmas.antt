@@ -203,7 +203,7 @@ module _ {D : Type 0} (f : D → CalleeView) (board : Board) (a i : ℕ) (ds : L
 -- hardware that has made the effects of the history goes on having made them
 pub made_serve : (board : Board) (a : ℕ) (h h' : List Event) (applied applied' : Option (List Effect)) (before : List Effect) (old new : CalleeView) (r : Served) → ServesOneOn board a h applied old r h' applied' new
     → HasMade before board h applied → HasMade before board h' applied'
-made_serve board a h h' applied applied' before old new served.Nothing s made = subst (λ k. HasMade before board k applied') (sym s.0) (subst (HasMade before board h) (sym s.1.0) made)
+made_serve board a h h' applied applied' before old new served.Nothing s made = subst (λ k. HasMade before board k applied') (sym s.0) (subst (HasMade before board h) (sym s.1) made)
 made_serve board a h h' applied applied' before old new served.Done s made = made-on board (IsCommandOf a s.frame) h h' applied applied' before s.executes.happens made
 
 -- ADVANCE

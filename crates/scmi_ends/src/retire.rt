@@ -1,5 +1,5 @@
 //! How the ends of all channels are gathered.
-ghost use Rattle.std.specs.Prelude.{◌≡◌, List, map};
+ghost use Rattle.std.specs.Prelude.{◌≡◌, List, map, Option};
 ghost use Rattle.std.specs.List.{AllZip};
 ghost use Rattle.scmi_core.specs.Bounds.{HasBounds, HasResponses};
 ghost use Rattle.scmi_core.specs.Driven.{HasMade};
@@ -39,7 +39,7 @@ impl<C: Channel> Controller<C> {
         ensures headline { Headlines self.board result.events 1 agents.items self.callees
             self.callers }
         ensures shut { StayShut result.events self.callees self.closed_at }
-        ensures made { (before applied : List Effect)
+        ensures made { (before : List Effect) (applied : Option (List Effect))
             → HasMade before self.board self.history applied
             → HasMade before self.board result.events applied }
     {
