@@ -1,5 +1,8 @@
 -- What contracts see of the reads of an input.
-use Rattle.std.specs.Prelude.{◌≡◌, ℕ, List, Option, Result, Ok, Err, MatchResult, ◌⊎◌}
+use Rattle.std.specs.Prelude.{◌≡◌, ◌↔◌, ℕ, List, Option, Result, Ok, Err, IfErr, MatchResult, ◌⊎◌, IsErr}
+use Rattle.std.specs.IoError.{error_kind}
+use Rattle.std.specs.declared.io.Error.{Error}
+use Rattle.std.specs.declared.io.ErrorKind.TheVariants as kind
 use Rattle.scmi_input.specs.declared.input_error.InputError.{InputError}
 use Rattle.scmi_input.specs.declared.input_error.InputError.TheVariants.{Read}
 use Rattle.scmi_input.specs.declared.read_error.ReadError.{ReadError}
@@ -10,6 +13,28 @@ pub record ReadsView : Type 0 where
   pub left : Option (List ℕ)
   pub reads : ℕ
   pub since_failure : ℕ
+
+-- the bytes that a source has left, where they are known; how often it was read; and what it gave last
+pub record SourceView : Type 0 where
+  pub left : Option (List ℕ)
+  pub reads : ℕ
+  pub last : Result ℕ Error
+
+-- what contracts see of the reads of a reader, and what it gave last
+pub record CountedView : Type 0 where
+  pub left : Option (List ℕ)
+  pub reads : ℕ
+  pub since_failure : ℕ
+  pub last : Result ℕ Error
+
+-- of all errors of a reader, those of the kind `Interrupted` are interruptions, and all others failures
+abbrev pub IsReason : Error → ReadError → Type 0
+IsReason error reason = (reason ≡ Interrupted) ↔ (error_kind error ≡ kind.Interrupted)
+
+-- what is told of a read: as many bytes as the reader gave, or for its error the reason
+abbrev pub Tells : Result ℕ Error → Result ℕ ReadError → Type 0
+Tells (Ok count) told = told ≡ Ok count
+Tells (Err error) told = IsErr told × IfErr told (λ reason. IsReason error reason)
 
 -- how many reads that failed a read is: one that is interrupted did not fail
 abbrev pub failures : {T : Type 0} → Result T ReadError → ℕ

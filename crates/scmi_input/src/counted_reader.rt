@@ -2,30 +2,32 @@
 ghost use Rattle.std.specs.Prelude.{◌≡◌, ◌+◌, ◌<◌, ◌≤◌, ◌^◌};
 ghost use Rattle.std.specs.Io.{ReadsAtMost};
 ghost use Rattle.std.specs.Io.KnownBytes.{ReadConsumes};
-ghost use Rattle.scmi_input.specs.Reads.{failures};
+ghost use Rattle.scmi_input.specs.Reads.{IsReason, Tells, failures};
 
 use crate::counted_read::CountedRead;
 use crate::read_error::ReadError;
+use crate::source::Source;
 use std::io::{Error, ErrorKind, Read};
 use std::marker::Model;
 
-/// A reader that is read by `read` alone, which counts. The counts stop at `u64::MAX`.
+/// A reader that is read by `read` alone, which counts. The counts stop at `u64::MAX`. A contract sees
+/// what the reader gave last.
 #[derive(Drop)]
 pub struct CountedReader<'a, R: Read> {
-    reader: &'a mut R,
-    reads: u64,
+    source: Source<'a, R>,
     since_failure: u64,
 }
 
 impl<'a, R: Read> Model for CountedReader<'a, R> {
-    ghost use Rattle.scmi_input.specs.Reads.{ReadsView};
+    ghost use Rattle.scmi_input.specs.Reads.{CountedView};
 
-    ghost Value = { ReadsView };
+    ghost Value = { CountedView };
 
     ghost view = { λ r. record {
-      left = R.remaining r.reader.now;
-      reads = r.reads;
+      left = r.source.left;
+      reads = r.source.reads;
       since_failure = r.since_failure;
+      last = r.source.last;
     } };
 }
 
@@ -37,8 +39,7 @@ impl<'a, R: Read> CountedReader<'a, R> {
         ensures since_failure { result.since_failure ≡ 0 }
     {
         CountedReader {
-            reader,
-            reads: 0,
+            source: Source::new(reader),
             since_failure: 0,
         }
     }
@@ -57,9 +58,12 @@ impl<'a, R: Read> CountedRead for CountedReader<'a, R> {
         ensures reads { self.new.reads ≤ self.old.reads + 1 }
         ensures counted { self.old.reads + 1 < 2 ^ 64 → self.new.reads ≡ self.old.reads + 1 }
         ensures failure { self.old.since_failure ≡ 0 → self.new.since_failure ≡ failures result }
+        ensures told { Tells self.new.last result }
     {
-        self.reads = self.reads.saturating_add(1);
-        let result = self.reader.read(buffer).map_err(|error| read_error(&error));
+        let result = match self.source.read_once(buffer) {
+            Ok(count) => Ok(count),
+            Err(error) => Err(read_error(&error)),
+        };
         if self.since_failure > 0 || result == Err(ReadError::Failed) {
             self.since_failure = self.since_failure.saturating_add(1);
         }
@@ -67,8 +71,10 @@ impl<'a, R: Read> CountedRead for CountedReader<'a, R> {
     }
 }
 
-/// Why a read gave nothing.
-fn read_error(error: &Error) -> ReadError {
+/// Why a read gave nothing: it was interrupted, or else it failed.
+fn read_error(error: &Error) -> ReadError
+    ensures { IsReason error.now result }
+{
     if error.kind() == ErrorKind::Interrupted {
         ReadError::Interrupted
     } else {

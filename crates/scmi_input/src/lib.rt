@@ -13,6 +13,7 @@ mod input;
 mod input_error;
 mod read_error;
 mod rest;
+mod source;
 
 pub use counted_read::CountedRead;
 pub use counted_reader::CountedReader;
