@@ -31,10 +31,10 @@ pub record CountedView : Type 0 where
 abbrev pub IsReason : Error → ReadError → Type 0
 IsReason error reason = (reason ≡ Interrupted) ↔ (error_kind error ≡ kind.Interrupted)
 
--- what is told of a read: as many bytes as the reader gave, or for its error the reason
-abbrev pub Tells : Result ℕ Error → Result ℕ ReadError → Type 0
-Tells (Ok count) told = told ≡ Ok count
-Tells (Err error) told = IsErr told × IfErr told (λ reason. IsReason error reason)
+-- what is reported of a read: as many bytes as the reader gave, or for its error the reason
+abbrev pub Reports : Result ℕ Error → Result ℕ ReadError → Type 0
+Reports (Ok count) given = given ≡ Ok count
+Reports (Err error) given = IsErr given × IfErr given (λ reason. IsReason error reason)
 
 -- how many reads that failed a read is: one that is interrupted did not fail
 abbrev pub failures : {T : Type 0} → Result T ReadError → ℕ

@@ -2,7 +2,7 @@
 ghost use Rattle.std.specs.Prelude.{◌≡◌, ◌+◌, ◌<◌, ◌≤◌, ◌^◌};
 ghost use Rattle.std.specs.Io.{ReadsAtMost};
 ghost use Rattle.std.specs.Io.KnownBytes.{ReadConsumes};
-ghost use Rattle.scmi_input.specs.Reads.{IsReason, Tells, failures};
+ghost use Rattle.scmi_input.specs.Reads.{IsReason, Reports, failures};
 
 use crate::counted_read::CountedRead;
 use crate::read_error::ReadError;
@@ -58,7 +58,7 @@ impl<'a, R: Read> CountedRead for CountedReader<'a, R> {
         ensures reads { self.new.reads ≤ self.old.reads + 1 }
         ensures counted { self.old.reads + 1 < 2 ^ 64 → self.new.reads ≡ self.old.reads + 1 }
         ensures failure { self.old.since_failure ≡ 0 → self.new.since_failure ≡ failures result }
-        ensures told { Tells self.new.last result }
+        ensures reports { Reports self.new.last result }
     {
         let result = match self.source.read_once(buffer) {
             Ok(count) => Ok(count),
