@@ -13,6 +13,7 @@ pub mod Driven
 pub mod Agents
 pub mod Legal
 pub mod Bounds
+pub mod Laws
 pub mod Mark
 pub mod Trace
 pub mod Platform

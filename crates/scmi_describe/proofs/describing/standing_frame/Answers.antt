@@ -8,7 +8,7 @@ use Rattle.scmi_describe.proofs.describing.standing_frame.Goals as goal
 
 pub returns-in-Ok-Some : goal.returns-in-Ok-Some
 returns-in-Ok-Some c =
-    let size : length c.args.area.now ≡ AREA_BYTES = c.description-area in
+    let size : length c.args.area.now ≡ AREA_BYTES = c.told-area in
     let kept : length c.write_word.new.bytes ≡ AREA_BYTES = rw c.write_word.ensures (length-put_word 0x04 0 c.args.area.now (omega (arith, size)) ∙ size) in
     let read = c.in-Ok-Some.ensures.ok kept in
     let area_is = c.write_word.ensures in

@@ -1,0 +1,18 @@
+use Rattle.scmi_core.proofs.Bounds.{bounds}
+use Rattle.scmi_core.proofs.Causes.{integrity}
+use Rattle.scmi_core.proofs.EffectsMade.{effects-push}
+use Rattle.scmi_core.proofs.Isolation.{isolation, refused}
+use Rattle.scmi_core.proofs.Responses.{responses}
+use Rattle.scmi_core.proofs.Trusted.{permissions}
+use Rattle.scmi_core.proofs.legal_history.every_legal_history.Goals as goal
+
+pub returns : goal.returns
+returns c = record {
+  bounds = bounds;
+  responses = responses;
+  refused = refused;
+  isolation = isolation;
+  integrity = integrity;
+  permissions = λ board h legal. permissions board h;
+  effects = effects-push;
+}

@@ -1,0 +1,12 @@
+use Rattle.scmi_core.proofs.trace.Trace.laws.Goals as goal
+
+pub returns : goal.returns
+returns c =
+    let laws = c.every_legal_history.ensures in
+    record {
+      bounds = λ board legal. laws.bounds board _ legal;
+      responses = λ board legal. laws.responses board _ legal;
+      isolation = λ board legal. laws.isolation board _ legal;
+      integrity = λ board legal. laws.integrity board _ legal;
+      permissions = λ board legal. laws.permissions board _ legal;
+    }

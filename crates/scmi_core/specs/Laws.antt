@@ -1,0 +1,82 @@
+-- What every legal history keeps between its agents: who changed what, and what a refused command is to the others.
+use Rattle.std.specs.Prelude.{◌≡◌, ◌≢◌, ℕ, ◌&&◌, Bool, true, not, if◌then◌else◌, List, [], ◌∷◌, ◌++◌, length, Option, Some, None, option_map}
+use Rattle.std.specs.List.{All}
+use Rattle.std.specs.Option.{is_some, option_and_then, option_or}
+use Rattle.scmi_codec.specs.Payload.{begins_with_success}
+use Rattle.scmi_codec.specs.declared.message.Message.{Message}
+use Rattle.scmi_codec.specs.declared.frame.Frame.TheVariants.{Good}
+use Rattle.scmi_plan.specs.Agent.{IsAgent}
+use Rattle.scmi_plan.specs.Board.{Board}
+use Rattle.scmi_plan.specs.declared.resource.Resource.{Resource}
+use Rattle.scmi_plan.specs.declared.resource.Resource.TheVariants as resource
+use Rattle.scmi_base.specs.Permission.{may}
+use Rattle.scmi_base.specs.declared.scope.Scope.{Scope}
+use Rattle.scmi_core.specs.declared.event.Event.{Event}
+use Rattle.scmi_core.specs.declared.event.Event.TheVariants.{Command}
+use Rattle.scmi_core.specs.Agents.{answers_to, frame_from, frames_of}
+use Rattle.scmi_core.specs.Deed.{Success, flat_map_with_prefix, success_at, successes}
+use Rattle.scmi_core.specs.History.{deed_after, deeds, delivered_messages, made_for, scmi}
+use Rattle.scmi_core.specs.Legal.{IsLegal}
+use Rattle.scmi_core.specs.Outbox.{situation_after}
+use Rattle.scmi_core.specs.Pending.{acceptance}
+use Rattle.scmi_core.specs.Permissions.{has_permission, permission_in}
+use Rattle.scmi_core.specs.Value.{Change, Enabled, Rate, State, Thing, change_now, changes, completion}
+
+-- whether an event is a command of agent a, done or failed, that was answered with another status than 0, or was malformed
+abbrev pub is_refused : Board → ℕ → List Event → Event → Bool
+is_refused board a before event = is_some (frame_from a event) && not (begins_with_success (deed_after board (deeds board before) event).reply)
+
+-- a history without the refused commands of agent a, each judged at its place
+unfoldable pub without_refused : Board → ℕ → List Event → List Event
+without_refused board a h = flat_map_with_prefix (λ before event. if is_refused board a before event then [] else event ∷ []) h
+
+-- two histories differ by nothing but what agent a asked and was answered: each other agent asked the same and got the same answers,
+-- each agent was made and posted the same messages, the same was changed, and each agent stands where it stands in the other
+pub record AreAlikeBut (board : Board) (a : ℕ) (h k : List Event) : Type 0 where
+  pub frames : (b : ℕ) → b ≢ a → frames_of b h ≡ frames_of b k
+  pub answers : (b : ℕ) → b ≢ a → answers_to board b h ≡ answers_to board b k
+  pub made : (b : ℕ) → made_for board b h ≡ made_for board b k
+  pub delivered : (b : ℕ) → delivered_messages board b h ≡ delivered_messages board b k
+  pub changed : changes board (deeds board h) ≡ changes board (deeds board k)
+  pub situations : (b : ℕ) → situation_after board b (deeds board h) ≡ situation_after board b (deeds board k)
+
+-- without the refused commands of agent a this history is as legal, and the same to all others
+pub record HasIsolation (board : Board) (h : List Event) : Type 0 where
+  pub legal : (a : ℕ) → IsLegal board (without_refused board a h)
+  pub alike : (a : ℕ) → AreAlikeBut board a (without_refused board a h) h
+
+-- the domain or clock that a thing is of
+abbrev pub resource_of : Thing → Resource
+resource_of (State d) = resource.Domain d
+resource_of (Rate c) = resource.Clock c
+resource_of (Enabled c) = resource.Clock c
+
+-- whether agent a may change a thing after a history
+abbrev pub may_after : Board → List Event → ℕ → Thing → Bool
+may_after board h a x = may board (λ device scope. has_permission a device scope (deeds board h)) (resource_of x)
+
+-- the change that a success asks for: at once, or when its set completes
+abbrev pub change_asked : Board → Success → Option Change
+change_asked board s = option_or (change_now board s) (option_map completion (acceptance board s))
+
+-- the command that a change came of: it stands in the history, was its causer's, asked for this change and succeeded, and its agent might change that thing there
+pub record HasCause (board : Board) (h : List Event) (change : Change) : Type 0 where
+  pub before : List Event
+  pub message : Message
+  pub after : List Event
+  pub place : h ≡ before ++ Command change.causer (Good message) ∷ after
+  pub agent : IsAgent (length board.agents) change.causer
+  pub asked : option_and_then (change_asked board) (success_at (Command change.causer (Good message)) (scmi board change.causer message before).payload.items) ≡ Some change
+  pub allowed : may_after board before change.causer change.thing ≡ true
+
+-- each change came of such a command
+abbrev pub HasIntegrity : Board → List Event → Type 0
+HasIntegrity board h = All (HasCause board h) (changes board (deeds board h))
+
+-- a success that says what an agent may do is one of the trusted agent
+abbrev pub IsTrusted : Board → Success → Type 0
+IsTrusted board s = (a d : ℕ) (scope : Scope) → permission_in a d scope s.command ≢ None → s.caller ≡ board.trusted
+
+-- what agents may do is said by the trusted agent alone
+abbrev pub HasTrustedPermissions : Board → List Event → Type 0
+HasTrustedPermissions board h = All (IsTrusted board) (successes (deeds board h))

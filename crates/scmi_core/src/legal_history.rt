@@ -1,0 +1,60 @@
+//! What every legal history keeps.
+ghost use Rattle.std.specs.Prelude.{◌≡◌, ◌++◌, ◌∷◌, [], ℕ, List, true};
+ghost use Rattle.std.specs.Option.{option_to_list};
+ghost use Rattle.scmi_plan.specs.Board.{Board};
+ghost use Rattle.scmi_core.specs.Bounds.{HasBounds, HasResponses};
+ghost use Rattle.scmi_core.specs.Effect.{effect_after, effects};
+ghost use Rattle.scmi_core.specs.History.{deeds};
+ghost use Rattle.scmi_core.specs.Laws.{AreAlikeBut, HasIntegrity, HasIsolation, HasTrustedPermissions, is_refused};
+ghost use Rattle.scmi_core.specs.Legal.{IsLegal};
+ghost use Rattle.scmi_core.specs.declared.event.Event.{Event};
+
+use crate::trace::Trace;
+
+impl Trace {
+    /// What these events keep where they are a legal history of a board: the laws of
+    /// `every_legal_history`, of this one. It does nothing.
+    pub fn laws(&self)
+        ensures bounds { (board : Board) → IsLegal board self.now.events
+            → HasBounds board (deeds board self.now.events) }
+        ensures responses { (board : Board) → IsLegal board self.now.events
+            → HasResponses board (deeds board self.now.events) }
+        ensures isolation { (board : Board) → IsLegal board self.now.events
+            → HasIsolation board self.now.events }
+        ensures integrity { (board : Board) → IsLegal board self.now.events
+            → HasIntegrity board self.now.events }
+        ensures permissions { (board : Board) → IsLegal board self.now.events
+            → HasTrustedPermissions board self.now.events }
+    {
+        every_legal_history();
+    }
+}
+
+/// What every legal history of every board keeps, whoever made it. It does nothing: its clauses
+/// are the laws.
+///
+/// At most 8 sets are pending, an agent's outbox and its pending sets are at most 16 together, and
+/// no delayed response is lost. A command that is refused moves nobody. Without all the commands
+/// that an agent had refused, a history is as legal, and the same to every other agent. Each
+/// change came of a command whose agent might make that change there, and what agents may do is
+/// said by the trusted agent alone. What a history changes of the hardware is what each event
+/// changes, in order.
+pub fn every_legal_history()
+    ensures bounds { (board : Board) (h : List Event) → IsLegal board h
+        → HasBounds board (deeds board h) }
+    ensures responses { (board : Board) (h : List Event) → IsLegal board h
+        → HasResponses board (deeds board h) }
+    ensures refused { (board : Board) (h : List Event) (a : ℕ) (event : Event) → IsLegal board h
+        → is_refused board a h event ≡ true → AreAlikeBut board a (h ++ event ∷ []) h }
+    ensures isolation { (board : Board) (h : List Event) → IsLegal board h
+        → HasIsolation board h }
+    ensures integrity { (board : Board) (h : List Event) → IsLegal board h
+        → HasIntegrity board h }
+    ensures permissions { (board : Board) (h : List Event) → IsLegal board h
+        → HasTrustedPermissions board h }
+    ensures effects { (board : Board) (h : List Event) (event : Event)
+        → effects board (h ++ event ∷ [])
+        ≡ effects board h ++ option_to_list (effect_after board h event) }
+{
+    // Nothing to do: the clauses hold of every history.
+}
