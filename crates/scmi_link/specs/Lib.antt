@@ -1,5 +1,6 @@
 pub mod View
 pub mod Calls
+pub mod Steps
 pub mod Gathered
 pub mod Bit
 pub mod Envelope

@@ -6,6 +6,7 @@ ghost use Rattle.scmi_codec.specs.declared.frame.Answer.TheVariants.{Reply};
 ghost use Rattle.scmi_codec.specs.declared.message.Message.{Message};
 ghost use Rattle.scmi_link.specs.View.{CallerView, CalleeView, IsOutstanding, Owes, new_caller, new_callee, knows_close};
 ghost use Rattle.scmi_link.specs.Calls.{Posts, Collects, Takes, ClosesCaller, ClosesCallee, frame_if, collected_by};
+ghost use Rattle.scmi_link.specs.Steps.{call_post, call_collect, call_close, call_take, call_answer, call_close_callee};
 ghost use Rattle.scmi_link.specs.Gathered.{Agree, Closed};
 
 use crate::close_error::CloseError;
@@ -24,6 +25,7 @@ use std::alloc::Global;
 ///
 /// A contract sees an end as what it has done: the frames and answers that went through it, whether
 /// it has closed, whether it was told that the other end has, and how often it looked.
+/// Where the ends share words, the loads, stores and exchanges that one call makes are counted.
 pub trait Channel: Sync + Drop {
     /// The end that posts frames and collects their answers.
     type Caller: Send + Drop;
@@ -57,6 +59,14 @@ pub trait Channel: Sync + Drop {
     // What a close of the caller's end shows by its answer: each kind of channel says it.
     ghost close_shows: { Self.Caller → Result Closing CloseError → Type 0 };
 
+    ghost use Rattle.scmi_link.specs.Steps.{CallerCall, CalleeCall};
+
+    // How many accesses to shared words one call makes: each kind of channel says it. Two calls are
+    // not one, whatever they answer.
+    ghost caller_steps: { Self.Caller → CallerCall → Self.Caller → Type 0 };
+
+    ghost callee_steps: { Self.Callee → CalleeCall → Self.Callee → Type 0 };
+
     /// A channel and its two ends, with nothing posted. `Memory` where there was none for it.
     fn make(alloc: Global) -> Result<(Self, Self::Caller, Self::Callee), LinkError>
         ensures made { IfOk result (λ r.
@@ -75,6 +85,7 @@ pub trait Channel: Sync + Drop {
         ensures identity { caller_identity caller.new ≡ caller_identity caller.old }
         ensures posts { Posts FULL (caller_view caller.old) (Good message.now) result
             (caller_view caller.new) }
+        ensures steps { caller_steps caller.old (call_post (Good message.now) result) caller.new }
     {
         self.post_parts(caller, message.header, &message.payload)
     }
@@ -89,7 +100,9 @@ pub trait Channel: Sync + Drop {
         requires { caller_identity caller.old ≡ identity self.now }
         ensures identity { caller_identity caller.new ≡ caller_identity caller.old }
         ensures posts { let message : Message = record { header = header; payload = payload.now } in
-            Posts FULL (caller_view caller.old) (Good message) result (caller_view caller.new) };
+            Posts FULL (caller_view caller.old) (Good message) result (caller_view caller.new) }
+        ensures steps { let message : Message = record { header = header; payload = payload.now } in
+            caller_steps caller.old (call_post (Good message) result) caller.new };
 
     /// Posts a frame whose length in bytes is not well formed.
     ///
@@ -107,7 +120,9 @@ pub trait Channel: Sync + Drop {
             caller_view caller.new ≡ caller_view caller.old }
         ensures posts { is_well_formed length ≡ false
             → Posts FULL (caller_view caller.old) (Malformed length header) result
-            (caller_view caller.new) };
+            (caller_view caller.new) }
+        ensures steps { caller_steps caller.old (call_post (Malformed length header) result)
+            caller.new };
 
     /// Whether the answer to the last post was not collected, and the post was neither withdrawn nor
     /// given up.
@@ -125,6 +140,7 @@ pub trait Channel: Sync + Drop {
         ensures collects { Collects (caller_view caller.old) result (caller_view caller.new) }
         ensures known { knows_close (caller_view caller.old) ≡ true →
             ¬ IsOutstanding (caller_view caller.old) → result ≡ Collected.Closed }
+        ensures steps { caller_steps caller.old (call_collect result) caller.new }
     {
         let mut answer = Answer::Released;
         match self.collect_into(caller, &mut answer) {
@@ -143,7 +159,9 @@ pub trait Channel: Sync + Drop {
             (caller_view caller.new) }
         ensures stays { ¬ (result ≡ Looked.Got) → answer.new ≡ answer.old }
         ensures known { knows_close (caller_view caller.old) ≡ true →
-            ¬ IsOutstanding (caller_view caller.old) → result ≡ Looked.Closed };
+            ¬ IsOutstanding (caller_view caller.old) → result ≡ Looked.Closed }
+        ensures steps { caller_steps caller.old (call_collect (collected_by result answer.new))
+            caller.new };
 
     /// The frame that is posted. `None` where nothing is posted, an end has closed, or the callee
     /// still owes an answer.
@@ -151,6 +169,7 @@ pub trait Channel: Sync + Drop {
         requires { callee_identity callee.old ≡ identity self.now }
         ensures identity { callee_identity callee.new ≡ callee_identity callee.old }
         ensures takes { Takes (callee_view callee.old) result (callee_view callee.new) }
+        ensures steps { callee_steps callee.old (call_take result) callee.new }
     {
         let mut frame = Frame::Malformed {
             length: 0,
@@ -170,7 +189,8 @@ pub trait Channel: Sync + Drop {
         ensures identity { callee_identity callee.new ≡ callee_identity callee.old }
         ensures takes { Takes (callee_view callee.old) (frame_if result frame.new)
             (callee_view callee.new) }
-        ensures stays { result ≡ false → frame.new ≡ frame.old };
+        ensures stays { result ≡ false → frame.new ≡ frame.old }
+        ensures steps { callee_steps callee.old (call_take (frame_if result frame.new)) callee.new };
 
     /// Whether the last frame that was taken has no answer yet.
     fn owes(callee: &Self::Callee) -> bool
@@ -183,7 +203,8 @@ pub trait Channel: Sync + Drop {
         ensures identity { callee_identity callee.new ≡ callee_identity callee.old }
         ensures answered { callee_view callee.new ≡
             record (callee_view callee.old)
-            { answered = (callee_view callee.old).answered ++ answer.now ∷ [] } };
+            { answered = (callee_view callee.old).answered ++ answer.now ∷ [] } }
+        ensures steps { callee_steps callee.old (call_answer answer.now) callee.new };
 
     /// Answers the frame that was taken last by a reply, as `answer`.
     fn reply(&self, callee: &mut Self::Callee, message: &Message)
@@ -193,6 +214,7 @@ pub trait Channel: Sync + Drop {
         ensures answered { callee_view callee.new ≡
             record (callee_view callee.old)
             { answered = (callee_view callee.old).answered ++ Reply message.now ∷ [] } }
+        ensures steps { callee_steps callee.old (call_answer (Reply message.now)) callee.new }
     {
         self.answer(callee, &Answer::Reply(message.copy()));
     }
@@ -208,14 +230,16 @@ pub trait Channel: Sync + Drop {
         requires { caller_identity caller.old ≡ identity self.now }
         ensures identity { caller_identity caller.new ≡ caller_identity caller.old }
         ensures closes { ClosesCaller (caller_view caller.old) result (caller_view caller.new) }
-        ensures shows { close_shows caller.new result };
+        ensures shows { close_shows caller.new result }
+        ensures steps { caller_steps caller.old (call_close result) caller.new };
 
     /// Closes the callee's end. `InService` where the callee owes an answer, and then the end is not
     /// closed. Closing twice is `Ok`.
     fn close_callee(&self, callee: &mut Self::Callee) -> Result<(), CloseError>
         requires { callee_identity callee.old ≡ identity self.now }
         ensures identity { callee_identity callee.new ≡ callee_identity callee.old }
-        ensures closes { ClosesCallee (callee_view callee.old) result (callee_view callee.new) };
+        ensures closes { ClosesCallee (callee_view callee.old) result (callee_view callee.new) }
+        ensures steps { callee_steps callee.old (call_close_callee result) callee.new };
 
     /// Ends the channel, with both of its ends at hand: what each has done is then known to agree.
     fn gather(self, caller: Self::Caller, callee: Self::Callee) -> Self::Rest

@@ -46,8 +46,8 @@ impl Channel for RingChannel {
     type Rest = ();
 
     ghost use Rattle.scmi_link.specs.RingChannel.{ring_identity};
-    ghost use Rattle.scmi_link.specs.RingCaller.{ring_caller_view, ring_caller_identity, ring_close_shows};
-    ghost use Rattle.scmi_link.specs.RingCallee.{ring_callee_view, ring_callee_identity};
+    ghost use Rattle.scmi_link.specs.RingCaller.{ring_caller_view, ring_caller_identity, ring_close_shows, ring_caller_steps};
+    ghost use Rattle.scmi_link.specs.RingCallee.{ring_callee_view, ring_callee_identity, ring_callee_steps};
 
     ghost FULL = { true };
 
@@ -64,6 +64,10 @@ impl Channel for RingChannel {
     ghost callee_view = { ring_callee_view };
 
     ghost close_shows = { ring_close_shows };
+
+    ghost caller_steps = { ring_caller_steps };
+
+    ghost callee_steps = { ring_callee_steps };
 
     fn make(alloc: Global) -> Result<(RingChannel, RingCaller, RingCallee), LinkError> {
         let Ok((frames, posted)) = RingBuffer::<Box<Envelope>>::new(alloc, FRAME_PLACES) else {

@@ -46,6 +46,7 @@ remembers_after h h0 now free closed told n k r x was waits is status = record {
   free = status ∙ (ap (λ (o : Option Answer). status_word (settled_mark o) false) (sym (last_snoc None h0.state.read x)) ∙ sym (ap (λ (z : CallerHalf). status_word (settled_mark (last_or None z.state.read)) false) is));
   draft = λ _. ap (λ (z : CallerHalf). z.state.draft) is;
   settled = refl;
+  waits = λ e. absurd (let f : Idle ≡ Waiting = e in cc);
   counted = let old : length h0.state.posted ≡ length h0.state.read + 1 = was.counted ∙ ap (λ (z : Phase). length h0.state.read + unread z) waits in
       let a : length h.state.posted ≡ length h0.state.posted = ap (λ (z : CallerHalf). length z.state.posted) is in
       let b : length h.state.read ≡ length (h0.state.read ++ x ∷ []) = ap (λ (z : CallerHalf). length z.state.read) is in

@@ -9,6 +9,7 @@ mod Making
 mod CallerSteps
 mod CallerLooks
 mod CallerCloses
+mod Counted
 mod CalleeSteps
 mod CalleeCloses
 mod Collects

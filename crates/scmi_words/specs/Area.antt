@@ -83,3 +83,12 @@ frame_size (Malformed l h) = 0
 abbrev pub answer_size : Answer → ℕ
 answer_size (Reply m) = length m.payload.items
 answer_size _ = 0
+
+-- the accesses by which a frame is posted or taken: its length, its header, its payload, and one exchange of the status
+abbrev pub frame_steps : Frame → ℕ
+frame_steps f = frame_size f + 3
+
+-- the accesses by which an answer is given or collected: one of the status, and for a reply its length, its header and its payload
+abbrev pub answer_steps : Answer → ℕ
+answer_steps (Reply m) = length m.payload.items + 3
+answer_steps _ = 1

@@ -2,6 +2,7 @@
 use Rattle.std.specs.Prelude.{◌≡◌, ◌||◌, ℕ, ◌+◌, Bool, true, false, [], length, None}
 use Rattle.std.specs.List.{last_or}
 use Rattle.scmi_words.specs.declared.phase.Phase.{Phase}
+use Rattle.scmi_words.specs.declared.phase.Phase.TheVariants.{Waiting}
 use Rattle.scmi_words.specs.declared.view.CallerHalf.{CallerHalf}
 use Rattle.scmi_words.specs.declared.view.CalleeHalf.{CalleeHalf}
 use Rattle.scmi_words.specs.CalleeSteps.{IsOwing}
@@ -18,6 +19,8 @@ pub record CallerRemembers (h : CallerHalf) (now : Phase) (status : ℕ) (own kn
   pub draft : h.told ≡ false → h.state.draft ≡ []
   -- no close is under way
   pub settled : is_stranded now ≡ false
+  -- an end that waits for an answer knows of no close
+  pub waits : now ≡ Waiting → (own || known) ≡ false
   pub counted : length h.state.posted ≡ length h.state.read + unread now
   -- a post is withdrawn or given up by a close, or where the callee's is known
   pub gone : is_left now ≡ true → (own || known) ≡ true

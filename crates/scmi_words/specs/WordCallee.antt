@@ -1,11 +1,13 @@
 -- What a contract sees of the callee's end of a word channel.
-use Rattle.std.specs.Prelude.{◌≡◌, ◌≢◌, ◌⊎◌, ℕ, ◌+◌, true, List, Option, Some, None}
+use Rattle.std.specs.Prelude.{◌≡◌, ◌≢◌, ◌⊎◌, ◌||◌, ℕ, ◌+◌, Bool, cond, true, List, Option, Some, None}
 use Rattle.scmi_codec.specs.declared.frame.Frame.{Frame}
+use Rattle.scmi_codec.specs.declared.frame.Answer.{Answer}
 use Rattle.scmi_link.specs.View.{CalleeView, Owes, callee_knows_close}
+use Rattle.scmi_link.specs.Steps.{CalleeCall, call_take, call_answer, call_close_callee}
 use Rattle.scmi_words.specs.declared.status_word.TheConstants.{POSTED}
 use Rattle.scmi_words.specs.declared.view.CalleeHalf.{CalleeHalf}
 use Rattle.scmi_words.specs.declared.word_callee.WordCallee.{WordCallee}
-use Rattle.scmi_words.specs.Area.{frame_size}
+use Rattle.scmi_words.specs.Area.{frame_steps, answer_steps}
 use Rattle.scmi_words.specs.View.{callee_of}
 use Rattle.scmi_words.specs.WordChannel.{table_identity}
 
@@ -31,10 +33,20 @@ word_callee_identity callee = table_identity callee.seat.table_id
 abbrev pub IsSameCallee : WordCallee → WordCallee → Type 0
 IsSameCallee old new = (new.seat.table_id ≡ old.seat.table_id) × (new.seat.id ≡ old.seat.id)
 
--- the most steps that a take makes
-abbrev pub take_steps : Option Frame → ℕ
-take_steps (Some f) = frame_size f + 3
-take_steps None = 1
+-- how many accesses a take makes: none where the callee owed an answer or knew of a close
+abbrev pub take_steps : Bool → Option Frame → ℕ
+take_steps bars (Some f) = frame_steps f
+take_steps bars None = cond bars 0 1
+
+-- how many accesses a close makes: none where it is refused, or the end had closed
+abbrev pub close_callee_steps : Bool → Bool → ℕ
+close_callee_steps owed had_closed = cond (owed || had_closed) 0 1
+
+-- how many accesses a call of the callee makes
+abbrev pub word_callee_steps : WordCallee → CalleeCall → WordCallee → Type 0
+word_callee_steps old (call_take result) new = (callee_half new).steps ≡ (callee_half old).steps + take_steps (old.owes || callee_knows_close (word_callee_view old)) result
+word_callee_steps old (call_answer answer) new = (callee_half new).steps ≡ (callee_half old).steps + answer_steps answer
+word_callee_steps old (call_close_callee result) new = (callee_half new).steps ≡ (callee_half old).steps + close_callee_steps old.owes old.closed
 
 -- one look was made, which saw another status than posted
 pub record SawUnposted (old new : CalleeHalf) : Type 0 where

@@ -9,16 +9,16 @@ ghost use Rattle.scmi_codec.specs.declared.message.Message.{Message};
 ghost use Rattle.scmi_codec.specs.Header.{header_word};
 ghost use Rattle.scmi_codec.specs.declared.payload.TheConstants.{PAYLOAD_WORDS};
 ghost use Rattle.scmi_words.specs.declared.phase.Phase.TheVariants.{Idle};
-ghost use Rattle.scmi_words.specs.Area.{frame_words, IsLawful, IsLawfulAnswer, IsLawfulMessage, answer_size, frame_size};
+ghost use Rattle.scmi_words.specs.Area.{frame_words, IsLawful, IsLawfulAnswer, IsLawfulMessage, answer_steps, frame_size};
 ghost use Rattle.scmi_words.specs.StatusWord.{status_word, answer_mark};
 ghost use Rattle.scmi_words.specs.View.{HasCaller, HasCallee, CallerBecomes, CalleeBecomes, caller_of, callee_of};
 ghost use Rattle.scmi_words.specs.SharedTable.{IsSeatAt};
 ghost use Rattle.scmi_words.specs.CallerSteps.{caller_drafted, caller_after, answer_area};
 ghost use Rattle.scmi_words.specs.CalleeSteps.{callee_drafted, callee_after, frame_area, IsOwing};
 
+use crate::callee_steps::{load_frame_word, store_answer_word};
+use crate::caller_steps::{load_answer_word, store_frame_word};
 use crate::layout::{HEADER, LENGTH, PAYLOAD};
-use crate::shared_table::callee_steps::{load_frame_word, store_answer_word};
-use crate::shared_table::caller_steps::{load_answer_word, store_frame_word};
 use crate::shared_table::{SharedTable, TableSeat};
 use crate::status_word::{CHANNEL_ERROR, FREE};
 use scmi_codec::{
@@ -78,7 +78,7 @@ pub fn read_answer(table: &SharedTable, seat: &mut TableSeat, free: u64, answer:
         IsLawfulAnswer given }
     requires free { free ≡ status_word (answer_mark given) false }
     ensures value { answer.new ≡ given }
-    ensures view { (n : ℕ) × (n ≤ answer_size given + 2) ×
+    ensures view { (n : ℕ) × (n + 1 ≡ answer_steps given) ×
         CallerBecomes seat.old (caller_after (caller_of seat.old) n) seat.new }
 {
     match free {

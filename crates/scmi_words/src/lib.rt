@@ -6,6 +6,8 @@
 //! interleaving. At `gather` it gives the channel's contract, and what the bytes left stand for.
 #![tactic(auto)]
 
+mod callee_steps;
+mod caller_steps;
 mod frames;
 mod layout;
 mod mailbox;

@@ -3,8 +3,8 @@ ghost use Rattle.std.specs.Prelude.{◌≡◌, []};
 ghost use Rattle.scmi_words.specs.View.{HasCallee, callee_of};
 ghost use Rattle.scmi_words.specs.Remembers.{CalleeRemembers};
 
+use crate::callee_steps::{hand_back, set_callee_closed, take_over};
 use crate::frames::{read_frame, write_response};
-use crate::shared_table::callee_steps::{hand_back, set_callee_closed, take_over};
 use crate::shared_table::{SharedTable, TableSeat};
 use crate::status_word::{CHANNEL_ERROR, FREE, POSTED, RELEASED, told_after};
 use scmi_codec::{Answer, Frame, Message};
@@ -24,13 +24,13 @@ pub struct WordCallee {
 }
 
 impl WordCallee {
-    ghost use Rattle.std.specs.Prelude.{◌≡◌, ◌+◌, ◌≤◌, ◌↔◌, ◌∷◌, [], ◌++◌, true, false, length, IsTrue};
+    ghost use Rattle.std.specs.Prelude.{◌≡◌, ◌↔◌, ◌∷◌, [], ◌++◌, true, false, IsTrue};
     ghost use Rattle.scmi_codec.specs.declared.frame.Answer.TheVariants.{Reply};
     ghost use Rattle.scmi_link.specs.View.{Owes};
     ghost use Rattle.scmi_link.specs.Calls.{Takes, ClosesCallee, frame_if};
-    ghost use Rattle.scmi_words.specs.Area.{answer_size};
+    ghost use Rattle.scmi_link.specs.Steps.{call_take, call_answer, call_close_callee};
     ghost use Rattle.scmi_words.specs.SharedTable.{IsSeatAt};
-    ghost use Rattle.scmi_words.specs.WordCallee.{word_callee_view, callee_half, take_steps, WhyNone, IsSameCallee};
+    ghost use Rattle.scmi_words.specs.WordCallee.{word_callee_view, word_callee_steps, WhyNone, IsSameCallee};
 
     // Takes the frame that is posted, if there is one, into `frame`, and says whether there was one.
     pub(crate) fn take_into(&mut self, table: &SharedTable, frame: &mut Frame) -> bool
@@ -40,8 +40,7 @@ impl WordCallee {
             (word_callee_view self.new) }
         ensures stays { result ≡ false → frame.new ≡ frame.old }
         ensures none { WhyNone self.old (frame_if result frame.new) self.new }
-        ensures steps { (callee_half self.new).steps ≤ (callee_half self.old).steps + take_steps
-            (frame_if result frame.new) }
+        ensures steps { word_callee_steps self.old (call_take (frame_if result frame.new)) self.new }
     {
         self.takes = self.takes.wrapping_add(1);
         if self.owes || self.closed || self.told {
@@ -72,8 +71,7 @@ impl WordCallee {
         ensures answered { word_callee_view self.new ≡
             record (word_callee_view self.old)
             { answered = (word_callee_view self.old).answered ++ answer.now ∷ [] } }
-        ensures steps { (callee_half self.new).steps ≤ (callee_half self.old).steps +
-            (answer_size answer.now + 4) }
+        ensures steps { word_callee_steps self.old (call_answer answer.now) self.new }
     {
         let status = match answer {
             Answer::Reply(message) => return self.reply(table, message),
@@ -92,8 +90,7 @@ impl WordCallee {
         ensures answered { word_callee_view self.new ≡
             record (word_callee_view self.old)
             { answered = (word_callee_view self.old).answered ++ Reply message.now ∷ [] } }
-        ensures steps { (callee_half self.new).steps ≤ (callee_half self.old).steps +
-            (length message.now.payload.items + 4) }
+        ensures steps { word_callee_steps self.old (call_answer (Reply message.now)) self.new }
     {
         write_response(table, &mut self.seat, message);
         hand_back(table, &mut self.seat, FREE);
@@ -106,7 +103,7 @@ impl WordCallee {
         ensures seat { IsSameCallee self.old self.new }
         ensures closes { ClosesCallee (word_callee_view self.old) result
             (word_callee_view self.new) }
-        ensures steps { (callee_half self.new).steps ≤ (callee_half self.old).steps + 1 }
+        ensures steps { word_callee_steps self.old (call_close_callee result) self.new }
     {
         if self.owes {
             return Err(CloseError::InService);

@@ -2,12 +2,10 @@
 ghost use Rattle.scmi_words.specs.View.{HasCaller, caller_of};
 ghost use Rattle.scmi_words.specs.Remembers.{CallerRemembers};
 
+use crate::caller_steps::{hand_over, look, set_caller_closed, store_frame_word, withdraw};
 use crate::frames::{read_answer, write_command};
 use crate::layout::{HEADER, LENGTH};
 use crate::phase::Phase;
-use crate::shared_table::caller_steps::{
-    hand_over, look, set_caller_closed, store_frame_word, withdraw,
-};
 use crate::shared_table::{SharedTable, TableSeat};
 use crate::status_word::{CLOSED, FREE, POSTED, TAKEN, is_free, told_after, without_closed};
 use scmi_codec::{Answer, Header, Payload, is_well_formed};
@@ -28,15 +26,16 @@ pub struct WordCaller {
 }
 
 impl WordCaller {
-    ghost use Rattle.std.specs.Prelude.{◌≡◌, ◌≢◌, ◌+◌, ◌≤◌, cond, ◌↔◌, true, false, length, OnOk, IsTrue};
+    ghost use Rattle.std.specs.Prelude.{◌≡◌, ◌≢◌, cond, ◌↔◌, true, false, OnOk, IsTrue};
     ghost use Rattle.scmi_codec.specs.Area.{is_well_formed};
     ghost use Rattle.scmi_codec.specs.declared.frame.Frame.TheVariants.{Good, Malformed};
     ghost use Rattle.scmi_codec.specs.declared.message.Message.{Message};
     ghost use Rattle.scmi_link.specs.View.{IsOutstanding, knows_close};
     ghost use Rattle.scmi_link.specs.Calls.{Posts, Collects, ClosesCaller, collected_by};
+    ghost use Rattle.scmi_link.specs.Steps.{call_post, call_collect, call_close};
     ghost use Rattle.scmi_words.specs.declared.phase.Phase.TheVariants.{Idle, Waiting};
     ghost use Rattle.scmi_words.specs.SharedTable.{IsSeatAt};
-    ghost use Rattle.scmi_words.specs.WordCaller.{word_caller_view, caller_half, collect_steps, WhyNothing, CloseShows, HasNoDraft, IsWithdrawn, IsSameCaller};
+    ghost use Rattle.scmi_words.specs.WordCaller.{word_caller_view, word_caller_steps, WhyNothing, CloseShows, HasNoDraft, IsWithdrawn, IsSameCaller};
 
     // Posts a message of this header and payload.
     pub(crate) fn post_parts(
@@ -55,8 +54,8 @@ impl WordCaller {
         ensures draft { HasNoDraft self.old →
             (result ≡ Err PostError.Closed → knows_close (word_caller_view self.old) ≡ true) →
             HasNoDraft self.new }
-        ensures steps { (caller_half self.new).steps ≤ (caller_half self.old).steps +
-            (length payload.now.items + 4) }
+        ensures steps { let message : Message = record { header = header; payload = payload.now } in
+            word_caller_steps self.old (call_post (Good message) result) self.new }
     {
         self.may_post()?;
         write_command(table, &mut self.seat, header, payload);
@@ -89,7 +88,8 @@ impl WordCaller {
         ensures draft { HasNoDraft self.old →
             (result ≡ Err PostError.Closed → knows_close (word_caller_view self.old) ≡ true) →
             HasNoDraft self.new }
-        ensures steps { (caller_half self.new).steps ≤ (caller_half self.old).steps + 4 }
+        ensures steps { word_caller_steps self.old (call_post (Malformed length header) result)
+            self.new }
     {
         if is_well_formed(length) {
             return Err(PostError::WellFormed);
@@ -146,8 +146,8 @@ impl WordCaller {
         ensures nothing { WhyNothing self.old (collected_by result answer.new) self.new }
         ensures withdrawn_stays { IsWithdrawn self.old → IsWithdrawn self.new }
         ensures draft { HasNoDraft self.old → HasNoDraft self.new }
-        ensures steps { (caller_half self.new).steps ≤ (caller_half self.old).steps + collect_steps
-            (collected_by result answer.new) }
+        ensures steps { word_caller_steps self.old (call_collect (collected_by result answer.new))
+            self.new }
     {
         let Phase::Waiting = self.phase else {
             return if self.glance(table) {
@@ -185,7 +185,8 @@ impl WordCaller {
             (cond result Collected.Closed Collected.Nothing) self.new }
         ensures withdrawn_stays { IsWithdrawn self.old → IsWithdrawn self.new }
         ensures draft { HasNoDraft self.old → HasNoDraft self.new }
-        ensures steps { (caller_half self.new).steps ≤ (caller_half self.old).steps + 1 }
+        ensures steps { word_caller_steps self.old
+            (call_collect (cond result Collected.Closed Collected.Nothing)) self.new }
     {
         self.collects = self.collects.wrapping_add(1);
         if self.closed || self.told {
@@ -205,7 +206,7 @@ impl WordCaller {
         ensures shows { CloseShows self.new result }
         ensures withdrawn_stays { IsWithdrawn self.old → IsWithdrawn self.new }
         ensures draft { HasNoDraft self.old → HasNoDraft self.new }
-        ensures steps { (caller_half self.new).steps ≤ (caller_half self.old).steps + 2 }
+        ensures steps { word_caller_steps self.old (call_close result) self.new }
     {
         let Phase::Waiting = self.phase else {
             if !self.closed {

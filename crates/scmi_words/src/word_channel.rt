@@ -18,9 +18,13 @@ use std::alloc::Global;
 /// The words of a frame or an answer are stored one at a time. One exchange of the status hands them
 /// over, and it is tried once: no call waits, and none but `make` takes memory.
 ///
-/// Beyond what every channel promises (own): no post answers `Full`. `post_parts`, `post_malformed`,
-/// `collect_into`, `take_into`, `answer` and `reply` make at most k + 4 steps, k being the payload
-/// words of the message handed in or out, and each close at most 3. A `collect_into` that gives
+/// A step is one load, store or exchange of a shared word, and every one is counted. To post or to
+/// take a frame of k payload words makes k + 3 steps, and so does to answer or to collect a reply of
+/// k payload words. To answer otherwise or to collect that answer makes 1, and so does a look that
+/// finds nothing. What an end knew before may refuse a call, which then makes none. A close makes 1,
+/// or 2 where it withdraws, and none once the end has closed.
+///
+/// Beyond what every channel promises (own): no post answers `Full`. A `collect_into` that gives
 /// `Nothing` has looked at the status, and so has a `take_into` that gives nothing while no answer is
 /// owed and no close is known. A `close_caller` that withdraws leaves the phase `Withdrawn`, for which
 /// the area has status 1 and the frame; one that is refused shows that the post was taken and not
@@ -61,19 +65,19 @@ impl Channel for WordChannel {
 
     type Rest = WordImage;
 
-    ghost use Rattle.std.specs.Prelude.{◌≡◌, ◌≢◌, ◌+◌, ◌≤◌, ◌↔◌, ◌∷◌, [], ◌++◌, true, false, length, IfOk};
+    ghost use Rattle.std.specs.Prelude.{◌≡◌, ◌≢◌, ◌+◌, ◌≤◌, ◌↔◌, ◌||◌, ◌∷◌, [], ◌++◌, true, false, length, IfOk};
     ghost use Rattle.scmi_codec.specs.Area.{is_well_formed};
     ghost use Rattle.scmi_codec.specs.declared.frame.Frame.TheVariants.{Good, Malformed};
     ghost use Rattle.scmi_codec.specs.declared.frame.Answer.TheVariants.{Reply};
     ghost use Rattle.scmi_codec.specs.declared.message.Message.{Message};
-    ghost use Rattle.scmi_link.specs.View.{IsOutstanding, Owes, knows_close, new_caller, new_callee};
+    ghost use Rattle.scmi_link.specs.View.{IsOutstanding, Owes, knows_close, callee_knows_close, new_caller, new_callee};
     ghost use Rattle.scmi_link.specs.Calls.{Posts, Collects, Takes, ClosesCaller, ClosesCallee, frame_if, collected_by};
     ghost use Rattle.scmi_link.specs.Gathered.{Agree, Closed};
-    ghost use Rattle.scmi_words.specs.Area.{answer_size};
+    ghost use Rattle.scmi_words.specs.Area.{answer_steps};
     ghost use Rattle.scmi_words.specs.Mailbox.{Rule};
     ghost use Rattle.scmi_words.specs.View.{first_caller, first_callee};
-    ghost use Rattle.scmi_words.specs.WordCaller.{word_caller_view, word_caller_identity, caller_half, collect_steps, WhyNothing, CloseShows, HasNoDraft, IsWithdrawn};
-    ghost use Rattle.scmi_words.specs.WordCallee.{word_callee_view, word_callee_identity, callee_half, take_steps, WhyNone};
+    ghost use Rattle.scmi_words.specs.WordCaller.{word_caller_view, word_caller_identity, caller_half, word_caller_steps, post_steps, collect_steps, close_steps, WhyNothing, CloseShows, HasNoDraft, IsWithdrawn};
+    ghost use Rattle.scmi_words.specs.WordCallee.{word_callee_view, word_callee_identity, callee_half, word_callee_steps, take_steps, close_callee_steps, WhyNone};
     ghost use Rattle.scmi_words.specs.WordChannel.{word_channel_identity};
     ghost use Rattle.scmi_words.specs.WordImage.{StandsAtEnd, image_words, image_area};
 
@@ -92,6 +96,10 @@ impl Channel for WordChannel {
     ghost callee_view = { word_callee_view };
 
     ghost close_shows = { CloseShows };
+
+    ghost caller_steps = { word_caller_steps };
+
+    ghost callee_steps = { word_callee_steps };
 
     fn make(alloc: Global) -> Result<(WordChannel, WordCaller, WordCallee), LinkError>
         ensures made { IfOk result (λ r.
@@ -141,8 +149,9 @@ impl Channel for WordChannel {
         ensures draft { HasNoDraft caller.old →
             (result ≡ Err PostError.Closed → knows_close (word_caller_view caller.old) ≡ true) →
             HasNoDraft caller.new }
-        ensures steps { (caller_half caller.new).steps ≤ (caller_half caller.old).steps +
-            (length payload.now.items + 4) }
+        ensures steps { let message : Message = record { header = header; payload = payload.now } in
+            (caller_half caller.new).steps ≡ (caller_half caller.old).steps +
+            post_steps (knows_close (word_caller_view caller.old)) (Good message) result }
     {
         caller.post_parts(&self.table, header, payload)
     }
@@ -166,7 +175,8 @@ impl Channel for WordChannel {
         ensures draft { HasNoDraft caller.old →
             (result ≡ Err PostError.Closed → knows_close (word_caller_view caller.old) ≡ true) →
             HasNoDraft caller.new }
-        ensures steps { (caller_half caller.new).steps ≤ (caller_half caller.old).steps + 4 }
+        ensures steps { (caller_half caller.new).steps ≡ (caller_half caller.old).steps +
+            post_steps (knows_close (word_caller_view caller.old)) (Malformed length header) result }
     {
         caller.post_malformed(&self.table, length, header)
     }
@@ -186,8 +196,9 @@ impl Channel for WordChannel {
         ensures nothing { WhyNothing caller.old (collected_by result answer.new) caller.new }
         ensures withdrawn_stays { IsWithdrawn caller.old → IsWithdrawn caller.new }
         ensures draft { HasNoDraft caller.old → HasNoDraft caller.new }
-        ensures steps { (caller_half caller.new).steps ≤
-            (caller_half caller.old).steps + collect_steps (collected_by result answer.new) }
+        ensures steps { (caller_half caller.new).steps ≡ (caller_half caller.old).steps +
+            collect_steps (knows_close (word_caller_view caller.old))
+            (collected_by result answer.new) }
     {
         caller.collect_into(&self.table, answer)
     }
@@ -199,7 +210,8 @@ impl Channel for WordChannel {
             (word_callee_view callee.new) }
         ensures stays { result ≡ false → frame.new ≡ frame.old }
         ensures none { WhyNone callee.old (frame_if result frame.new) callee.new }
-        ensures steps { (callee_half callee.new).steps ≤ (callee_half callee.old).steps + take_steps
+        ensures steps { (callee_half callee.new).steps ≡ (callee_half callee.old).steps +
+            take_steps (callee.old.owes || callee_knows_close (word_callee_view callee.old))
             (frame_if result frame.new) }
     {
         callee.take_into(&self.table, frame)
@@ -216,8 +228,8 @@ impl Channel for WordChannel {
         ensures answered { word_callee_view callee.new ≡
             record (word_callee_view callee.old)
             { answered = (word_callee_view callee.old).answered ++ answer.now ∷ [] } }
-        ensures steps { (callee_half callee.new).steps ≤ (callee_half callee.old).steps +
-            (answer_size answer.now + 4) }
+        ensures steps { (callee_half callee.new).steps ≡ (callee_half callee.old).steps +
+            answer_steps answer.now }
     {
         callee.answer(&self.table, answer);
     }
@@ -229,8 +241,8 @@ impl Channel for WordChannel {
         ensures answered { word_callee_view callee.new ≡
             record (word_callee_view callee.old)
             { answered = (word_callee_view callee.old).answered ++ Reply message.now ∷ [] } }
-        ensures steps { (callee_half callee.new).steps ≤ (callee_half callee.old).steps +
-            (length message.now.payload.items + 4) }
+        ensures steps { (callee_half callee.new).steps ≡ (callee_half callee.old).steps +
+            (length message.now.payload.items + 3) }
     {
         callee.reply(&self.table, message);
     }
@@ -243,7 +255,8 @@ impl Channel for WordChannel {
         ensures shows { CloseShows caller.new result }
         ensures withdrawn_stays { IsWithdrawn caller.old → IsWithdrawn caller.new }
         ensures draft { HasNoDraft caller.old → HasNoDraft caller.new }
-        ensures steps { (caller_half caller.new).steps ≤ (caller_half caller.old).steps + 2 }
+        ensures steps { (caller_half caller.new).steps ≤ (caller_half caller.old).steps +
+            close_steps caller.old.closed result }
     {
         caller.close(&self.table)
     }
@@ -253,7 +266,8 @@ impl Channel for WordChannel {
         ensures identity { word_callee_identity callee.new ≡ word_callee_identity callee.old }
         ensures closes { ClosesCallee (word_callee_view callee.old) result
             (word_callee_view callee.new) }
-        ensures steps { (callee_half callee.new).steps ≤ (callee_half callee.old).steps + 1 }
+        ensures steps { (callee_half callee.new).steps ≡ (callee_half callee.old).steps +
+            close_callee_steps callee.old.owes callee.old.closed }
     {
         callee.close(&self.table)
     }
