@@ -11,6 +11,7 @@ from functions import calls_itself, function_at, functions_of, homes_of, proof_o
 class Edit:
     name: str
     clauses: list = field(default_factory=list)
+    pins: list = field(default_factory=list)
     aside: list = field(default_factory=list)
     changes: list = field(default_factory=list)
     functions: dict = field(default_factory=dict)
@@ -29,6 +30,8 @@ def read_edit(file, folder):
         if word == "refuses":
             function, *labels = rest.split()
             edit.clauses += [(function, it) for it in labels or ["result"]]
+        elif word == "pins":
+            edit.pins += [tuple(it.rsplit(".", 1)) for it in rest.split()]
         elif word == "aside":
             edit.aside.append(rest)
         elif word == "file":
@@ -66,8 +69,8 @@ def locate(edit, folder):
             for it in functions_of(file.relative_to(folder), file.read_text()):
                 if it.names & named:
                     edit.functions[it.path] = it
-    if not edit.changes or not edit.functions:
-        edit.faults.append("it changes no function")
+    if not edit.changes or not (edit.functions or edit.pins):
+        edit.faults.append("it changes no function, and pins nothing")
     if not edit.is_wide and not edit.aside and not edit.faults and len(edit.functions) == 1:
         edit.has_copy = copy_of(edit, 1, folder) is not None
 

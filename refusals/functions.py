@@ -127,10 +127,13 @@ def body_of(function, text):
     return function.start + first.end(), function.start + own.rindex("}")
 
 
-def empty_others(crate, folder, kept):
-    """Leaves each function of a copy of a crate, but those of the kept paths, no body, and a hole for its proof."""
-    homes = homes_of(folder)
-    put_anything(folder / "proofs")
+def empty_others(crate, folder, kept, pinned=()):
+    """Leaves each function of a copy of a crate, but those of the kept paths, no body, and a hole for its proof.
+
+    That lemma loads the pinned modules of proofs. Gives the paths of the functions that are left no body.
+    """
+    homes, emptied = homes_of(folder), []
+    put_anything(crate, folder / "proofs", pinned)
     for file in sorted(folder.glob("src/**/*.rt")):
         path, text = file.relative_to(folder), file.read_text()
         following = len(text)
@@ -142,13 +145,16 @@ def empty_others(crate, folder, kept):
                 continue
             text = f"{text[:body[0]]} unreachable!() {text[body[1]:]}"
             put_hole(crate, folder, proof)
+            emptied.append(function.path)
         file.write_text(text)
+    return emptied
 
 
-def put_anything(proofs):
+def put_anything(crate, proofs, pinned):
     """Puts a lemma of anything, with the one hole that all others cite, among the proofs of a copy of a crate."""
     proofs.mkdir(exist_ok=True)
-    (proofs / "Anything.antt").write_text(ANYTHING)
+    uses = [f"use Rattle.{crate}.proofs.{it} as pinned_{number}\n" for number, it in enumerate(sorted(pinned))]
+    (proofs / "Anything.antt").write_text("".join(uses) + ANYTHING)
     with (proofs / "Lib.antt").open("a") as lib:
         lib.write("mod Anything\n")
 

@@ -4,3 +4,4 @@ pub mod AreaLemmas
 pub mod ShortLemmas
 pub mod Listed
 pub mod Commands
+pub mod Numbers

@@ -1,0 +1,65 @@
+-- The numbers of the standard and of the profile that code and definitions share, each as it is written there.
+use Rattle.std.proofs.Common.{◌≡◌, ℕ, List, [], ◌∷◌, map, refl}
+use Rattle.scmi_codec.specs.Listing.{rows_of, words_of}
+use Rattle.scmi_codec.specs.Status.{status_word}
+use Rattle.scmi_codec.specs.declared.area.TheConstants.{AREA_BYTES}
+use Rattle.scmi_codec.specs.declared.base_command.TheConstants.{BASE_PROTOCOL}
+use Rattle.scmi_codec.specs.declared.clock_command.TheConstants.{CLOCK_PROTOCOL}
+use Rattle.scmi_codec.specs.declared.header.TheConstants.{TOKENS}
+use Rattle.scmi_codec.specs.declared.name.TheConstants.{NAME_BYTES}
+use Rattle.scmi_codec.specs.declared.payload.TheConstants.{PAYLOAD_WORDS, SUCCESS}
+use Rattle.scmi_codec.specs.declared.power_command.TheConstants.{POWER_PROTOCOL}
+use Rattle.scmi_codec.specs.declared.status.Status.TheVariants.{Success, NotSupported, InvalidParameters, Denied, NotFound, OutOfRange, Busy, CommsError, GenericError, HardwareError, ProtocolError}
+
+base_protocol : BASE_PROTOCOL ≡ 0x10
+base_protocol = refl
+
+power_protocol : POWER_PROTOCOL ≡ 0x11
+power_protocol = refl
+
+clock_protocol : CLOCK_PROTOCOL ≡ 0x14
+clock_protocol = refl
+
+tokens : TOKENS ≡ 1024
+tokens = refl
+
+payload_words : PAYLOAD_WORDS ≡ 64
+payload_words = refl
+
+area_bytes : AREA_BYTES ≡ 284
+area_bytes = refl
+
+name_bytes : NAME_BYTES ≡ 15
+name_bytes = refl
+
+success : SUCCESS ≡ 0
+success = refl
+
+status_words
+    : map status_word (Success ∷ NotSupported ∷ InvalidParameters ∷ Denied ∷ NotFound ∷ OutOfRange ∷ Busy ∷ CommsError ∷ GenericError ∷ HardwareError ∷ ProtocolError ∷ [])
+    ≡ 0 ∷ 0xffffffff ∷ 0xfffffffe ∷ 0xfffffffd ∷ 0xfffffffc ∷ 0xfffffffb ∷ 0xfffffffa ∷ 0xfffffff9 ∷ 0xfffffff8 ∷ 0xfffffff7 ∷ 0xfffffff6 ∷ []
+status_words = refl
+
+-- of each message its id, and the words of its payload, of its reply and of its delayed response behind their
+-- status; of a list as many as it has at least
+words_listed : ℕ → List (ℕ × ℕ × ℕ × ℕ)
+words_listed protocol = map (λ row. (row.id, words_of row.asks, words_of row.gives, words_of row.later)) (rows_of protocol)
+
+base_messages
+    : words_listed 0x10
+    ≡ (0x0, 0, 1, 0) ∷ (0x1, 0, 1, 0) ∷ (0x2, 1, 1, 0) ∷ (0x3, 0, 4, 0) ∷ (0x4, 0, 4, 0) ∷ (0x5, 0, 1, 0) ∷ (0x6, 1, 1, 0) ∷ (0x7, 1, 5, 0)
+    ∷ (0x9, 3, 0, 0) ∷ (0xa, 4, 0, 0) ∷ (0xb, 2, 0, 0) ∷ []
+unfolding words_listed rows_of
+base_messages = refl
+
+power_messages
+    : words_listed 0x11
+    ≡ (0x0, 0, 1, 0) ∷ (0x1, 0, 4, 0) ∷ (0x2, 1, 1, 0) ∷ (0x3, 1, 5, 0) ∷ (0x4, 3, 0, 2) ∷ (0x5, 1, 1, 0) ∷ (0x6, 2, 0, 0) ∷ []
+unfolding words_listed rows_of
+power_messages = refl
+
+clock_messages
+    : words_listed 0x14
+    ≡ (0x0, 0, 1, 0) ∷ (0x1, 0, 1, 0) ∷ (0x2, 1, 1, 0) ∷ (0x3, 1, 5, 0) ∷ (0x4, 2, 1, 0) ∷ (0x5, 4, 0, 3) ∷ (0x6, 1, 2, 0) ∷ (0x7, 2, 0, 0) ∷ []
+unfolding words_listed rows_of
+clock_messages = refl
