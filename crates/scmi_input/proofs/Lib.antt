@@ -1,3 +1,4 @@
 mod AheadLemmas
 pub mod FirstLine
 pub mod RestLemmas
+mod Numbers

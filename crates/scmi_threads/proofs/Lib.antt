@@ -11,3 +11,4 @@ pub mod Ready
 pub mod Opened
 pub mod Undisturbed
 pub mod Started
+pub mod Numbers

@@ -16,3 +16,4 @@ mod Collects
 mod Gathers
 mod AreaWords
 mod LastArea
+mod Numbers
