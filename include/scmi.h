@@ -42,6 +42,7 @@ enum {
     SCMI_NO_PLATFORM = 5, /* the handle holds no platform */
     SCMI_IN_USE = 6,      /* the handle holds a platform already */
     SCMI_NO_HISTORY = 7,  /* the platform keeps no history */
+    SCMI_NO_FRAME = 8,    /* the channel is free: its area holds no frame */
     SCMI_RULE = 16,       /* + N, from 1 to 5: the first rule that the board breaks */
     SCMI_LINE = 256       /* + L: line L of the board's text, from 1, has another form */
 };
@@ -50,6 +51,21 @@ enum {
 typedef struct scmi_platform {
     void *at;
 } scmi_platform;
+
+/* The kinds of a change of hardware. */
+enum {
+    SCMI_EFFECT_STATE = 1,  /* a domain is given a state */
+    SCMI_EFFECT_RATE = 2,   /* a clock is given a rate */
+    SCMI_EFFECT_ENABLED = 3 /* a clock is enabled or disabled */
+};
+
+/* A change of hardware. It may be to what the hardware has already. */
+typedef struct scmi_effect {
+    uint32_t kind; /* SCMI_EFFECT_STATE, SCMI_EFFECT_RATE or SCMI_EFFECT_ENABLED */
+    uint32_t id;   /* the number of the domain or of the clock */
+    uint32_t low;  /* the state, 0 ON and 0x40000000 OFF; the rate's lower word, in Hz; 1 enabled, 0 disabled */
+    uint32_t high; /* the rate's upper word; of a state or a bit 0 */
+} scmi_effect;
 
 /*
  * Makes a platform of a board's text (docs/SCRIPTS.md, "Boards"), which is `length` bytes. It keeps no history
@@ -70,10 +86,40 @@ uint32_t scmi_platform_new_recorded(scmi_platform *platform, const uint8_t *boar
 uint32_t scmi_answer(scmi_platform *platform, uint32_t agent, uint8_t area[SCMI_AREA_BYTES]);
 
 /*
+ * Gives what the frame that stands in an agent's area is to change of the hardware, before scmi_answer executes
+ * it; the platform and the area stay as they were. SCMI_DONE, SCMI_NO_PLATFORM, SCMI_NO_FRAME (the channel is
+ * free), SCMI_NO_AGENT, or SCMI_NOTHING (the frame changes nothing of the hardware). After SCMI_DONE the program
+ * makes the change, and then calls scmi_answer with the same area, or scmi_fail where the hardware refused; no
+ * other call on the platform may come between, or what was asked may no longer be so.
+ */
+uint32_t scmi_ask(scmi_platform *platform, uint32_t agent, const uint8_t area[SCMI_AREA_BYTES], scmi_effect *effect);
+
+/*
+ * Answers the frame that stands in an agent's area by HARDWARE_ERROR, in place: the hardware refused what
+ * scmi_ask gave, and every value stays as it was. SCMI_DONE, SCMI_NO_PLATFORM, SCMI_NO_FRAME, SCMI_NO_AGENT,
+ * SCMI_NOTHING (the frame changes nothing of the hardware), or SCMI_MEMORY of a platform that keeps its history.
+ */
+uint32_t scmi_fail(scmi_platform *platform, uint32_t agent, uint8_t area[SCMI_AREA_BYTES]);
+
+/*
  * Completes the first pending set. SCMI_DONE, SCMI_NO_PLATFORM, SCMI_NOTHING (none is pending), or SCMI_MEMORY
  * of a platform that keeps its history.
  */
 uint32_t scmi_advance(scmi_platform *platform);
+
+/*
+ * Gives what the completion of the first pending set is to change of the hardware; the platform stays as it was.
+ * SCMI_DONE, SCMI_NO_PLATFORM or SCMI_NOTHING (none is pending). The first set stays the first, whatever
+ * commands are answered, until scmi_advance or scmi_fail_advance takes it off.
+ */
+uint32_t scmi_ask_advance(scmi_platform *platform, scmi_effect *effect);
+
+/*
+ * Takes the first pending set off, whose change the hardware refused: its delayed response, if one is wanted, is
+ * HARDWARE_ERROR, and every value stays as it was. SCMI_DONE, SCMI_NO_PLATFORM, SCMI_NOTHING (none is pending),
+ * or SCMI_MEMORY of a platform that keeps its history.
+ */
+uint32_t scmi_fail_advance(scmi_platform *platform);
 
 /*
  * Writes the first message of an agent's outbox (a delayed response or a notification) into an area, with
@@ -106,7 +152,8 @@ _Static_assert(sizeof(scmi_platform) == sizeof(void *), "the size of a handle");
 /* The library's numbers: each is the macro or constant of its name above (scmi_header_fits). */
 typedef struct scmi_library {
     uint32_t area_bytes, payload_words;
-    uint32_t done, nothing, memory, no_agent, not_free, no_platform, in_use, no_history, rule, line;
+    uint32_t done, nothing, memory, no_agent, not_free, no_platform, in_use, no_history, no_frame, rule, line;
+    uint32_t effect_state, effect_rate, effect_enabled;
 } scmi_library;
 
 void scmi_numbers(scmi_library *library);
@@ -120,7 +167,9 @@ static inline int scmi_header_fits(void)
     return of.area_bytes == SCMI_AREA_BYTES && of.payload_words == SCMI_PAYLOAD_WORDS && of.done == SCMI_DONE &&
            of.nothing == SCMI_NOTHING && of.memory == SCMI_MEMORY && of.no_agent == SCMI_NO_AGENT &&
            of.not_free == SCMI_NOT_FREE && of.no_platform == SCMI_NO_PLATFORM && of.in_use == SCMI_IN_USE &&
-           of.no_history == SCMI_NO_HISTORY && of.rule == SCMI_RULE && of.line == SCMI_LINE;
+           of.no_history == SCMI_NO_HISTORY && of.no_frame == SCMI_NO_FRAME && of.rule == SCMI_RULE &&
+           of.line == SCMI_LINE && of.effect_state == SCMI_EFFECT_STATE && of.effect_rate == SCMI_EFFECT_RATE &&
+           of.effect_enabled == SCMI_EFFECT_ENABLED;
 }
 
 #ifdef __cplusplus

@@ -21,7 +21,11 @@ int main(void)
     FITS("SCMI_NO_PLATFORM", of.no_platform);
     FITS("SCMI_IN_USE", of.in_use);
     FITS("SCMI_NO_HISTORY", of.no_history);
+    FITS("SCMI_NO_FRAME", of.no_frame);
     FITS("SCMI_RULE", of.rule);
     FITS("SCMI_LINE", of.line);
+    FITS("SCMI_EFFECT_STATE", of.effect_state);
+    FITS("SCMI_EFFECT_RATE", of.effect_rate);
+    FITS("SCMI_EFFECT_ENABLED", of.effect_enabled);
     return 0;
 }

@@ -14,7 +14,7 @@ class Platform(ctypes.Structure):
 
 class Numbers(ctypes.Structure):
     NAMES = ("area_bytes payload_words done nothing memory no_agent not_free no_platform in_use no_history"
-             " rule line").split()
+             " no_frame rule line effect_state effect_rate effect_enabled").split()
     _fields_ = [(name, ctypes.c_uint32) for name in NAMES]
 
 

@@ -1,2 +1,3 @@
 pub mod HandleValues
 pub mod LooseValues
+mod Codes

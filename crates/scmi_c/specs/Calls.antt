@@ -1,11 +1,15 @@
--- What calls leave.
-use Rattle.std.specs.Prelude.{◌≡◌, ℕ, List, [], ◌∷◌, ◌++◌, Some, slice_get}
-use Rattle.scmi_codec.specs.Area.{area_after_answer, area_after_post}
+-- What calls leave, and when they leave all as it was.
+use Rattle.std.specs.Prelude.{◌≡◌, ◌≢◌, ℕ, List, [], ◌∷◌, ◌++◌, length, Some, None, slice_get}
+use Rattle.scmi_codec.specs.Area.{area_after_answer, area_after_post, frame_waiting}
 use Rattle.scmi_codec.specs.declared.frame.Frame.{Frame}
 use Rattle.scmi_codec.specs.declared.message.Message.{Message}
+use Rattle.scmi_plan.specs.Agent.{IsAgent}
+use Rattle.scmi_plan.specs.Board.{Board}
+use Rattle.scmi_core.specs.Effect.{effect_after}
 use Rattle.scmi_core.specs.History.{answer_to, outbox}
+use Rattle.scmi_core.specs.Reply.{failed_answer}
 use Rattle.scmi_core.specs.declared.event.Event.{Event}
-use Rattle.scmi_core.specs.declared.event.Event.TheVariants.{Command as Called}
+use Rattle.scmi_core.specs.declared.event.Event.TheVariants.{Command as Called, CommandFailed}
 use Rattle.scmi_c.specs.declared.held.Held.{Held}
 use Rattle.scmi_c.specs.Standing.{board_of, StandsAt}
 
@@ -19,8 +23,26 @@ pub record HasAnswered (p k : Held) (agent : ℕ) (frame : Frame) (before after 
   pub answer : (h : List Event) → StandsAt p h → after ≡ area_after_answer (answer_to (board_of p) agent frame h) before
   pub event : HasHappened p k (Called agent frame)
 
--- the first message of an agent's outbox stands in the area as posted
+-- an agent's frame failed, and the area is the answer HARDWARE_ERROR to it
+pub record HasFailed (p k : Held) (agent : ℕ) (frame : Frame) (before after : List ℕ) : Type 0 where
+  pub answer : after ≡ area_after_answer (failed_answer frame) before
+  pub event : HasHappened p k (CommandFailed agent frame)
+
+-- the first message of an agent's outbox stands in the area as posted, which held none before
 pub record HasPosted (p : Held) (agent : ℕ) (before after : List ℕ) : Type 0 where
   pub message : Message
   pub first : (h : List Event) → StandsAt p h → slice_get (outbox (board_of p) agent h) 0 ≡ Some message
+  pub free : frame_waiting before ≡ None
   pub area : after ≡ area_after_post message before
+
+-- no message waits for an agent of the board after a history
+abbrev pub LacksNext : Board → ℕ → List Event → Type 0
+LacksNext board agent h = IsAgent (length board.agents) agent × (slice_get (outbox board agent h) 0 ≡ None)
+
+-- a message waits for an agent of the board after a history
+abbrev pub HasNext : Board → ℕ → List Event → Type 0
+HasNext board agent h = IsAgent (length board.agents) agent × (slice_get (outbox board agent h) 0 ≢ None)
+
+-- a frame of an agent of the board is to change nothing of the hardware after a history
+abbrev pub ChangesNothing : Board → ℕ → Frame → List Event → Type 0
+ChangesNothing board agent frame h = IsAgent (length board.agents) agent × (effect_after board h (Called agent frame) ≡ None)

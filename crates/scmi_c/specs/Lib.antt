@@ -4,3 +4,4 @@ pub mod Calls
 pub mod Refusal
 pub mod Board
 pub mod Effect
+pub mod Numbers

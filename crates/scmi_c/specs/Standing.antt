@@ -1,5 +1,5 @@
 -- What a handle stands for, and after which histories.
-use Rattle.std.specs.Prelude.{◌≡◌, ℕ, List, length, ⊤}
+use Rattle.std.specs.Prelude.{◌≡◌, ℕ, ◌<◌, List, length, ⊤}
 use Rattle.scmi_plan.specs.Agent.{IsNoAgent}
 use Rattle.scmi_plan.specs.Board.{Board}
 use Rattle.scmi_core.specs.Standing.{StandsAfter}
@@ -20,6 +20,11 @@ StandsAt (Recorded c) h = c.history ≡ h
 -- a number is no agent's of the board
 abbrev pub LacksAgent : ℕ → Held → Type 0
 LacksAgent agent p = IsNoAgent (length (board_of p).agents) agent
+
+-- a platform records its history, and has no memory left for one more event
+abbrev pub HasNoRoom : Held → Type 0
+HasNoRoom (Endless p) = ⊥
+HasNoRoom (Recorded c) = ¬ (0 < c.room)
 
 -- a platform records its history
 abbrev pub IsRecorded : Held → Type 0

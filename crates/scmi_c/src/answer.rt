@@ -1,11 +1,10 @@
 //! Commands and completions.
-ghost use Rattle.std.specs.Prelude.{◌≡◌, ◌≢◌, ◌↔◌, ◌⊎◌, ◌≤◌, [], None, IsSomeAnd, List};
+ghost use Rattle.std.specs.Prelude.{◌≡◌, ◌≢◌, ◌↔◌, ◌⊎◌, ◌≤◌, None, IsSomeAnd, IfSome, List};
 ghost use Rattle.scmi_codec.specs.Area.{frame_waiting};
-ghost use Rattle.scmi_core.specs.Pending.{pending_sets};
-ghost use Rattle.scmi_core.specs.History.{deeds};
+ghost use Rattle.scmi_core.specs.History.{IsIdle};
 ghost use Rattle.scmi_core.specs.declared.event.Event.{Event};
 ghost use Rattle.scmi_core.specs.declared.event.Event.TheVariants.{Advance};
-ghost use Rattle.scmi_c.specs.Standing.{board_of, StandsAt, LacksAgent, IsRecorded};
+ghost use Rattle.scmi_c.specs.Standing.{board_of, StandsAt, LacksAgent, HasNoRoom};
 ghost use Rattle.scmi_c.specs.Calls.{HasAnswered, HasHappened};
 ghost use Rattle.scmi_c.specs.declared.code.TheConstants.{DONE, NOTHING, MEMORY, NO_AGENT, NO_PLATFORM};
 
@@ -31,10 +30,13 @@ pub extern "C" fn scmi_answer(
         IsSomeAnd (frame_waiting area.old)
         (λ frame. HasAnswered p k agent frame area.old area.new))) }
     ensures no_platform { (result ≡ NO_PLATFORM) ↔ (platform.old.value ≡ None) }
-    ensures free { result ≡ NOTHING → frame_waiting area.old ≡ None }
-    ensures no_agent { result ≡ NO_AGENT → IsSomeAnd platform.old.value (LacksAgent agent) }
+    ensures free { (result ≡ NOTHING) ↔
+        IsSomeAnd platform.old.value (λ _. frame_waiting area.old ≡ None) }
+    ensures no_agent { (result ≡ NO_AGENT) ↔
+        IsSomeAnd platform.old.value (λ p.
+        (frame_waiting area.old ≢ None) × LacksAgent agent p) }
     ensures errors { (result ≤ NO_AGENT) ⊎ (result ≡ NO_PLATFORM) }
-    ensures memory { result ≡ MEMORY → IsSomeAnd platform.old.value IsRecorded }
+    ensures memory { result ≡ MEMORY → IsSomeAnd platform.old.value HasNoRoom }
     ensures kept { result ≢ DONE →
         (platform.new.value ≡ platform.old.value) × (area.new ≡ area.old) }
 {
@@ -53,12 +55,11 @@ pub extern "C" fn scmi_advance(alloc: Global, platform: &mut Handle) -> u32
     ensures done { result ≡ DONE →
         IsSomeAnd platform.old.value (λ p.
         IsSomeAnd platform.new.value (λ k. HasHappened p k Advance)) }
-    ensures nothing { result ≡ NOTHING →
-        IsSomeAnd platform.old.value (λ p.
-        (h : List Event) → StandsAt p h → pending_sets (board_of p) (deeds (board_of p) h) ≡ []) }
+    ensures nothing { IfSome platform.old.value (λ p.
+        (h : List Event) → StandsAt p h → (result ≡ NOTHING) ↔ IsIdle (board_of p) h) }
     ensures errors { (result ≤ MEMORY) ⊎ (result ≡ NO_PLATFORM) }
     ensures no_platform { (result ≡ NO_PLATFORM) ↔ (platform.old.value ≡ None) }
-    ensures memory { result ≡ MEMORY → IsSomeAnd platform.old.value IsRecorded }
+    ensures memory { result ≡ MEMORY → IsSomeAnd platform.old.value HasNoRoom }
     ensures kept { result ≢ DONE → platform.new.value ≡ platform.old.value }
 {
     let Some(mut desk) = platform.take(alloc) else {

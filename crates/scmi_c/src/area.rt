@@ -1,11 +1,9 @@
 //! Areas that a platform answers and fills.
 ghost use Rattle.std.specs.Prelude.{◌≡◌, ◌≢◌, ◌↔◌, None, List, length, slice_get, IsSomeAnd, OnOk, OnErr, Err};
 ghost use Rattle.scmi_codec.specs.Area.{frame_waiting};
-ghost use Rattle.scmi_plan.specs.Agent.{IsNoAgent};
-ghost use Rattle.scmi_core.specs.History.{outbox};
 ghost use Rattle.scmi_core.specs.declared.event.Event.{Event};
-ghost use Rattle.scmi_c.specs.Standing.{board_of, StandsAt, IsRecorded};
-ghost use Rattle.scmi_c.specs.Calls.{HasAnswered, HasPosted};
+ghost use Rattle.scmi_c.specs.Standing.{board_of, StandsAt, LacksAgent, HasNoRoom};
+ghost use Rattle.scmi_c.specs.Calls.{HasAnswered, HasPosted, HasNext, LacksNext};
 
 use crate::desk::Desk;
 use crate::held::Held;
@@ -25,9 +23,9 @@ pub fn answer(desk: &mut Desk, agent: u32, area: &mut [u8; AREA_BYTES]) -> Resul
         (λ frame. HasAnswered desk.old desk.new agent frame area.old area.new)) }
     ensures free { (result ≡ Err Refusal.Nothing) ↔ (frame_waiting area.old ≡ None) }
     ensures no_agent { (result ≡ Err Refusal.NoAgent) ↔
-        ((frame_waiting area.old ≢ None) × (IsNoAgent (length (board_of desk.old).agents) agent)) }
-    ensures memory { result ≡ Err Refusal.Memory → IsRecorded desk.old }
-    ensures never { result ≢ Err Refusal.NotFree }
+        ((frame_waiting area.old ≢ None) × LacksAgent agent desk.old) }
+    ensures memory { result ≡ Err Refusal.Memory → HasNoRoom desk.old }
+    ensures never { (result ≢ Err Refusal.NotFree) × (result ≢ Err Refusal.NoFrame) }
     ensures err { OnErr result (desk.new ≡ desk.old) }
     ensures kept { OnErr result (area.new ≡ area.old) }
 {
@@ -47,13 +45,13 @@ pub fn answer(desk: &mut Desk, agent: u32, area: &mut [u8; AREA_BYTES]) -> Resul
 /// holds a message. Then nothing changed.
 pub fn post_next(held: &Held, agent: u32, area: &mut [u8; AREA_BYTES]) -> Result<(), Refusal>
     ensures ok { OnOk result (HasPosted held.now agent area.old area.new) }
-    ensures no_agent { (result ≡ Err Refusal.NoAgent) ↔
-        IsNoAgent (length (board_of held.now).agents) agent }
-    ensures nothing { result ≡ Err Refusal.Nothing → (h : List Event) → StandsAt held.now h →
-        slice_get (outbox (board_of held.now) agent h) 0 ≡ None }
-    ensures not_free { result ≡ Err Refusal.NotFree → frame_waiting area.old ≢ None }
-    ensures free { OnOk result (frame_waiting area.old ≡ None) }
-    ensures never { result ≢ Err Refusal.Memory }
+    ensures no_agent { (result ≡ Err Refusal.NoAgent) ↔ LacksAgent agent held.now }
+    ensures nothing { (h : List Event) → StandsAt held.now h →
+        (result ≡ Err Refusal.Nothing) ↔ LacksNext (board_of held.now) agent h }
+    ensures not_free { (h : List Event) → StandsAt held.now h →
+        (result ≡ Err Refusal.NotFree) ↔
+        (HasNext (board_of held.now) agent h × (frame_waiting area.old ≢ None)) }
+    ensures never { (result ≢ Err Refusal.Memory) × (result ≢ Err Refusal.NoFrame) }
     ensures kept { OnErr result (area.new ≡ area.old) }
 {
     let Some(message) = held.first(agent)? else {

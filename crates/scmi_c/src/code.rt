@@ -28,6 +28,9 @@ pub const IN_USE: u32 = 6;
 /// The platform keeps no history.
 pub const NO_HISTORY: u32 = 7;
 
+/// The area holds no frame.
+pub const NO_FRAME: u32 = 8;
+
 /// What a rule's number is added to.
 pub const RULE: u32 = 16;
 
@@ -44,5 +47,6 @@ pub fn code(given: Result<(), Refusal>) -> u32
         Err(Refusal::Memory) => MEMORY,
         Err(Refusal::NoAgent) => NO_AGENT,
         Err(Refusal::NotFree) => NOT_FREE,
+        Err(Refusal::NoFrame) => NO_FRAME,
     }
 }

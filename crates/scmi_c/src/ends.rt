@@ -1,12 +1,11 @@
 //! What the first pending set is to change of the hardware, and its end where the hardware refuses.
-ghost use Rattle.std.specs.Prelude.{◌≡◌, ◌≢◌, ◌↔◌, ◌⊎◌, ◌≤◌, [], Some, None, IsSomeAnd, List, option_map};
+ghost use Rattle.std.specs.Prelude.{◌≡◌, ◌≢◌, ◌↔◌, ◌⊎◌, ◌≤◌, Some, None, IsSomeAnd, IfSome, List, option_map};
 ghost use Rattle.scmi_core.specs.Effect.{effect_after};
-ghost use Rattle.scmi_core.specs.History.{deeds};
-ghost use Rattle.scmi_core.specs.Pending.{pending_sets};
+ghost use Rattle.scmi_core.specs.History.{IsIdle};
 ghost use Rattle.scmi_core.specs.declared.event.Event.{Event};
 ghost use Rattle.scmi_core.specs.declared.event.Event.TheVariants.{Advance, AdvanceFailed};
 ghost use Rattle.scmi_c.specs.Effect.{numbers_of};
-ghost use Rattle.scmi_c.specs.Standing.{board_of, StandsAt, IsRecorded};
+ghost use Rattle.scmi_c.specs.Standing.{board_of, StandsAt, HasNoRoom};
 ghost use Rattle.scmi_c.specs.Calls.{HasHappened};
 ghost use Rattle.scmi_c.specs.declared.code.TheConstants.{DONE, NOTHING, MEMORY, NO_PLATFORM};
 
@@ -27,9 +26,9 @@ pub extern "C" fn scmi_ask_advance(
         IsSomeAnd platform.old.value (λ p.
         (h : List Event) → StandsAt p h →
         option_map numbers_of (effect_after (board_of p) h Advance) ≡ Some effect.new) }
-    ensures nothing { result ≡ NOTHING →
-        IsSomeAnd platform.old.value (λ p.
-        (h : List Event) → StandsAt p h → effect_after (board_of p) h Advance ≡ None) }
+    ensures nothing { IfSome platform.old.value (λ p.
+        (h : List Event) → StandsAt p h →
+        (result ≡ NOTHING) ↔ (effect_after (board_of p) h Advance ≡ None)) }
     ensures platform { platform.new.value ≡ platform.old.value }
     ensures no_platform { (result ≡ NO_PLATFORM) ↔ (platform.old.value ≡ None) }
     ensures errors { (result ≤ NOTHING) ⊎ (result ≡ NO_PLATFORM) }
@@ -57,12 +56,11 @@ pub extern "C" fn scmi_fail_advance(alloc: Global, platform: &mut Handle) -> u32
     ensures done { result ≡ DONE →
         IsSomeAnd platform.old.value (λ p.
         IsSomeAnd platform.new.value (λ k. HasHappened p k AdvanceFailed)) }
-    ensures nothing { result ≡ NOTHING →
-        IsSomeAnd platform.old.value (λ p.
-        (h : List Event) → StandsAt p h → pending_sets (board_of p) (deeds (board_of p) h) ≡ []) }
+    ensures nothing { IfSome platform.old.value (λ p.
+        (h : List Event) → StandsAt p h → (result ≡ NOTHING) ↔ IsIdle (board_of p) h) }
     ensures errors { (result ≤ MEMORY) ⊎ (result ≡ NO_PLATFORM) }
     ensures no_platform { (result ≡ NO_PLATFORM) ↔ (platform.old.value ≡ None) }
-    ensures memory { result ≡ MEMORY → IsSomeAnd platform.old.value IsRecorded }
+    ensures memory { result ≡ MEMORY → IsSomeAnd platform.old.value HasNoRoom }
     ensures kept { result ≢ DONE → platform.new.value ≡ platform.old.value }
 {
     let Some(mut desk) = platform.take(alloc) else {

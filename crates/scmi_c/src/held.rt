@@ -1,16 +1,15 @@
 //! What a handle stands for.
 ghost use Rattle.std.specs.Prelude.{◌≡◌, ◌≢◌, ◌↔◌, ◌≤◌, [], List, length, true, false, slice_get, IfOk, OnOk, OnErr, IfErr, Ok, Err};
 ghost use Rattle.std.specs.Option.{option_copied};
-ghost use Rattle.scmi_plan.specs.Agent.{IsNoAgent};
-ghost use Rattle.scmi_core.specs.Pending.{pending_sets};
-ghost use Rattle.scmi_core.specs.History.{answer_to, answer_with, deeds, outbox};
+ghost use Rattle.scmi_plan.specs.Agent.{IsAgent, IsNoAgent};
+ghost use Rattle.scmi_core.specs.History.{IsIdle, HasNothingFor, answer_to, answer_with, outbox};
 ghost use Rattle.scmi_core.specs.declared.event.Event.{Event};
 ghost use Rattle.scmi_core.specs.declared.event.Event.TheVariants.{Command as Called, Advance, Sent, CommandFailed, AdvanceFailed};
 ghost use Rattle.scmi_codec.specs.declared.frame.Answer.TheVariants.{Reply};
 ghost use Rattle.scmi_core.specs.Effect.{effect_after};
 ghost use Rattle.scmi_core.specs.Reply.{failed_answer};
-ghost use Rattle.scmi_c.specs.Standing.{board_of, StandsAt, IsRecorded};
-ghost use Rattle.scmi_c.specs.Calls.{HasHappened};
+ghost use Rattle.scmi_c.specs.Standing.{board_of, StandsAt, HasNoRoom};
+ghost use Rattle.scmi_c.specs.Calls.{HasHappened, ChangesNothing};
 
 use scmi_codec::{Frame, Message};
 use scmi_core::{Answered, Core, CoreError, Effect, Platform};
@@ -40,7 +39,7 @@ impl Held {
         ensures no_agent { (result ≡ Err CoreError.NoAgent) ↔
             IsNoAgent (length (board_of self.old).agents) agent }
         ensures not_nothing { result ≢ Err CoreError.Nothing }
-        ensures memory { result ≡ Err CoreError.Memory → IsRecorded self.old }
+        ensures memory { result ≡ Err CoreError.Memory → HasNoRoom self.old }
         ensures err { OnErr result (self.new ≡ self.old) }
     {
         match self {
@@ -53,11 +52,12 @@ impl Held {
     /// not grow; then nothing changed.
     pub fn advance(&mut self) -> Result<bool, CoreError>
         ensures waiting { (h : List Event) → StandsAt self.old h →
-            IfOk result (λ did.
-            (did ≡ false) ↔ (pending_sets (board_of self.old) (deeds (board_of self.old) h) ≡ [])) }
+            IfOk result (λ did. (did ≡ false) ↔ IsIdle (board_of self.old) h) }
+        ensures err_waiting { (h : List Event) → StandsAt self.old h →
+            OnErr result (¬ (IsIdle (board_of self.old) h)) }
         ensures event { IfOk result (λ did. did ≡ true → HasHappened self.old self.new Advance) }
         ensures same { IfOk result (λ did. did ≡ false → self.new ≡ self.old) }
-        ensures memory { IfErr result (λ e. (e ≡ CoreError.Memory) × IsRecorded self.old) }
+        ensures memory { IfErr result (λ e. (e ≡ CoreError.Memory) × HasNoRoom self.old) }
         ensures err { OnErr result (self.new ≡ self.old) }
     {
         match self {
@@ -72,17 +72,29 @@ impl Held {
         ensures first { (h : List Event) → StandsAt self.now h →
             IfOk result (λ message.
             option_copied message ≡ slice_get (outbox (board_of self.now) agent h) 0) }
+        ensures agent { OnOk result (IsAgent (length (board_of self.now).agents) agent) }
         ensures no_agent { (result ≡ Err CoreError.NoAgent) ↔
             IsNoAgent (length (board_of self.now).agents) agent }
         ensures errors { IfErr result (λ e. e ≡ CoreError.NoAgent) }
     {
-        if agent == 0 || agent > self.agents() {
-            return Err(CoreError::NoAgent);
-        }
+        self.check_agent(agent)?;
         Ok(match self {
             Held::Endless(platform) => platform.first(agent),
             Held::Recorded(core) => core.first(agent),
         })
+    }
+
+    /// Refuses a number that is no agent's.
+    fn check_agent(&self, agent: u32) -> Result<(), CoreError>
+        ensures ok { OnOk result (IsAgent (length (board_of self.now).agents) agent) }
+        ensures no_agent { OnErr result (IsNoAgent (length (board_of self.now).agents) agent) }
+        ensures errors { IfErr result (λ e. e ≡ CoreError.NoAgent) }
+    {
+        if agent == 0 || agent > self.agents() {
+            Err(CoreError::NoAgent)
+        } else {
+            Ok(())
+        }
     }
 
     /// The number of agents of the board.
@@ -103,10 +115,8 @@ impl Held {
         ensures no_agent { (result ≡ Err CoreError.NoAgent) ↔
             IsNoAgent (length (board_of self.old).agents) agent }
         ensures nothing { (h : List Event) → StandsAt self.old h →
-            (result ≡ Err CoreError.Nothing) ↔
-            ((1 ≤ agent) × (agent ≤ length (board_of self.old).agents) ×
-            (outbox (board_of self.old) agent h ≡ [])) }
-        ensures memory { result ≡ Err CoreError.Memory → IsRecorded self.old }
+            (result ≡ Err CoreError.Nothing) ↔ HasNothingFor (board_of self.old) agent h }
+        ensures memory { result ≡ Err CoreError.Memory → HasNoRoom self.old }
         ensures err { OnErr result (self.new ≡ self.old) }
     {
         match self {
@@ -121,10 +131,12 @@ impl Held {
         ensures effect { (h : List Event) → StandsAt self.now h →
             IfOk result (λ effect.
             effect ≡ effect_after (board_of self.now) h (Called agent frame.now)) }
+        ensures agent { OnOk result (IsAgent (length (board_of self.now).agents) agent) }
         ensures no_agent { (result ≡ Err CoreError.NoAgent) ↔
             IsNoAgent (length (board_of self.now).agents) agent }
         ensures errors { IfErr result (λ e. e ≡ CoreError.NoAgent) }
     {
+        self.check_agent(agent)?;
         match self {
             Held::Endless(platform) => platform.effect_of(agent, frame),
             Held::Recorded(core) => core.effect_of(agent, frame),
@@ -154,9 +166,12 @@ impl Held {
     ) -> Result<(), CoreError>
         ensures answer { OnOk result (Reply reply.new ≡ failed_answer frame.now) }
         ensures event { OnOk result (HasHappened self.old self.new (CommandFailed agent frame.now)) }
+        ensures nothing { (h : List Event) → StandsAt self.old h →
+            (result ≡ Err CoreError.Nothing) ↔
+            ChangesNothing (board_of self.old) agent frame.now h }
         ensures no_agent { (result ≡ Err CoreError.NoAgent) ↔
             IsNoAgent (length (board_of self.old).agents) agent }
-        ensures memory { result ≡ Err CoreError.Memory → IsRecorded self.old }
+        ensures memory { result ≡ Err CoreError.Memory → HasNoRoom self.old }
         ensures err { OnErr result (self.new ≡ self.old) }
     {
         match self {
@@ -169,12 +184,13 @@ impl Held {
     /// pending. `Memory` where the history could not grow; then nothing changed.
     pub fn advance_failed(&mut self) -> Result<bool, CoreError>
         ensures waiting { (h : List Event) → StandsAt self.old h →
-            IfOk result (λ did.
-            (did ≡ false) ↔ (pending_sets (board_of self.old) (deeds (board_of self.old) h) ≡ [])) }
+            IfOk result (λ did. (did ≡ false) ↔ IsIdle (board_of self.old) h) }
+        ensures err_waiting { (h : List Event) → StandsAt self.old h →
+            OnErr result (¬ (IsIdle (board_of self.old) h)) }
         ensures event { IfOk result (λ did.
             did ≡ true → HasHappened self.old self.new AdvanceFailed) }
         ensures same { IfOk result (λ did. did ≡ false → self.new ≡ self.old) }
-        ensures memory { IfErr result (λ e. (e ≡ CoreError.Memory) × IsRecorded self.old) }
+        ensures memory { IfErr result (λ e. (e ≡ CoreError.Memory) × HasNoRoom self.old) }
         ensures err { OnErr result (self.new ≡ self.old) }
     {
         match self {

@@ -1,5 +1,5 @@
 //! The history that a platform keeps.
-ghost use Rattle.std.specs.Prelude.{◌⊎◌, ◌≡◌, ◌≢◌, ◌↔◌, None, IsSomeAnd, MatchOption, List, length};
+ghost use Rattle.std.specs.Prelude.{◌⊎◌, ◌≡◌, ◌≢◌, ◌↔◌, None, IsSomeAnd, OnSome, MatchOption, List, length};
 ghost use Rattle.scmi_core.specs.declared.event.Event.{Event};
 ghost use Rattle.scmi_c.specs.Standing.{StandsAt, IsRecorded};
 ghost use Rattle.scmi_c.specs.declared.code.TheConstants.{DONE, NO_PLATFORM, NO_HISTORY};
@@ -18,7 +18,7 @@ pub extern "C" fn scmi_history_length(alloc: Global, platform: &mut Handle, even
         (h : List Event) → StandsAt p h → events.new ≡ length h) }
     ensures platform { platform.new.value ≡ platform.old.value }
     ensures no_platform { (result ≡ NO_PLATFORM) ↔ (platform.old.value ≡ None) }
-    ensures no_history { result ≡ NO_HISTORY →
+    ensures no_history { (result ≡ NO_HISTORY) ↔
         IsSomeAnd platform.old.value (λ p. ¬ (IsRecorded p)) }
     ensures errors { (result ≡ DONE) ⊎ (result ≡ NO_PLATFORM) ⊎ (result ≡ NO_HISTORY) }
     ensures kept { result ≢ DONE → events.new ≡ events.old }
@@ -39,9 +39,10 @@ pub extern "C" fn scmi_history_length(alloc: Global, platform: &mut Handle, even
 
 /// The number of events of the history, where it is kept.
 fn length_of(held: &Held) -> Option<usize>
-    ensures { MatchOption result
+    ensures events { MatchOption result
         (¬ (IsRecorded held.now)) (λ count.
         (h : List Event) → StandsAt held.now h → count ≡ length h) }
+    ensures recorded { OnSome result (IsRecorded held.now) }
 {
     match held {
         Held::Endless(_) => None,

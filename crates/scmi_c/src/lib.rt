@@ -14,6 +14,7 @@ mod desk;
 mod effect;
 mod ends;
 mod handle;
+mod hardware;
 mod held;
 mod history;
 mod loose;

@@ -1,11 +1,12 @@
 //! The library's numbers, for `include/scmi.h` to be held against.
 ghost use Rattle.std.specs.Prelude.{◌≡◌};
-ghost use Rattle.scmi_codec.specs.declared.area.TheConstants.{AREA_BYTES};
-ghost use Rattle.scmi_codec.specs.declared.payload.TheConstants.{PAYLOAD_WORDS};
+ghost use Rattle.scmi_c.specs.Numbers.{numbers_of_library};
 
 use crate::code::{
-    DONE, IN_USE, LINE, MEMORY, NO_AGENT, NO_HISTORY, NO_PLATFORM, NOT_FREE, NOTHING, RULE,
+    DONE, IN_USE, LINE, MEMORY, NO_AGENT, NO_FRAME, NO_HISTORY, NO_PLATFORM, NOT_FREE, NOTHING,
+    RULE,
 };
+use crate::effect::{ENABLED, RATE, STATE};
 use scmi_codec::{AREA_BYTES, PAYLOAD_WORDS};
 
 /// The numbers that C is given or has to know.
@@ -22,15 +23,18 @@ pub struct Numbers {
     pub no_platform: u32,
     pub in_use: u32,
     pub no_history: u32,
+    pub no_frame: u32,
     pub rule: u32,
     pub line: u32,
+    pub effect_state: u32,
+    pub effect_rate: u32,
+    pub effect_enabled: u32,
 }
 
 /// Gives the library's numbers.
 #[unsafe(no_mangle)]
 pub extern "C" fn scmi_numbers(numbers: &mut Numbers)
-    ensures area { numbers.new.area_bytes ≡ AREA_BYTES }
-    ensures payload { numbers.new.payload_words ≡ PAYLOAD_WORDS }
+    ensures { numbers.new ≡ numbers_of_library }
 {
     *numbers = Numbers {
         area_bytes: AREA_BYTES as u32,
@@ -43,7 +47,11 @@ pub extern "C" fn scmi_numbers(numbers: &mut Numbers)
         no_platform: NO_PLATFORM,
         in_use: IN_USE,
         no_history: NO_HISTORY,
+        no_frame: NO_FRAME,
         rule: RULE,
         line: LINE,
+        effect_state: STATE,
+        effect_rate: RATE,
+        effect_enabled: ENABLED,
     };
 }

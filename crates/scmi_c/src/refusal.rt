@@ -20,6 +20,9 @@ pub enum Refusal {
     /// The channel is not free.
     #[error("the channel is not free")]
     NotFree = 4,
+    /// The channel is free, and so its area holds no frame.
+    #[error("the area holds no frame")]
+    NoFrame = 5,
 }
 
 impl From<CoreError> for Refusal {

@@ -1,11 +1,11 @@
 //! Messages of the platform to agents.
-ghost use Rattle.std.specs.Prelude.{◌⊎◌, ◌≤◌, [], ◌≡◌, ◌≢◌, ◌↔◌, None, IsSomeAnd, List, slice_get};
+ghost use Rattle.std.specs.Prelude.{◌⊎◌, ◌≤◌, ◌≡◌, ◌≢◌, ◌↔◌, None, IsSomeAnd, IfSome, List};
 ghost use Rattle.scmi_codec.specs.Area.{frame_waiting};
-ghost use Rattle.scmi_core.specs.History.{outbox};
+ghost use Rattle.scmi_core.specs.History.{HasNothingFor};
 ghost use Rattle.scmi_core.specs.declared.event.Event.{Event};
 ghost use Rattle.scmi_core.specs.declared.event.Event.TheVariants.{Sent};
-ghost use Rattle.scmi_c.specs.Standing.{board_of, StandsAt, LacksAgent, IsRecorded};
-ghost use Rattle.scmi_c.specs.Calls.{HasPosted, HasHappened};
+ghost use Rattle.scmi_c.specs.Standing.{board_of, StandsAt, LacksAgent, HasNoRoom};
+ghost use Rattle.scmi_c.specs.Calls.{HasPosted, HasHappened, HasNext, LacksNext};
 ghost use Rattle.scmi_c.specs.declared.code.TheConstants.{DONE, NOTHING, MEMORY, NO_AGENT, NOT_FREE, NO_PLATFORM};
 
 use crate::area::post_next;
@@ -29,11 +29,14 @@ pub extern "C" fn scmi_next(
         IsSomeAnd platform.old.value (λ p. HasPosted p agent area.old area.new) }
     ensures platform { platform.new.value ≡ platform.old.value }
     ensures no_platform { (result ≡ NO_PLATFORM) ↔ (platform.old.value ≡ None) }
-    ensures nothing { result ≡ NOTHING →
-        IsSomeAnd platform.old.value (λ p.
-        (h : List Event) → StandsAt p h → slice_get (outbox (board_of p) agent h) 0 ≡ None) }
-    ensures no_agent { result ≡ NO_AGENT → IsSomeAnd platform.old.value (LacksAgent agent) }
-    ensures not_free { result ≡ NOT_FREE → frame_waiting area.old ≢ None }
+    ensures nothing { IfSome platform.old.value (λ p.
+        (h : List Event) → StandsAt p h →
+        (result ≡ NOTHING) ↔ LacksNext (board_of p) agent h) }
+    ensures no_agent { (result ≡ NO_AGENT) ↔ IsSomeAnd platform.old.value (LacksAgent agent) }
+    ensures not_free { IfSome platform.old.value (λ p.
+        (h : List Event) → StandsAt p h →
+        (result ≡ NOT_FREE) ↔
+        (HasNext (board_of p) agent h × (frame_waiting area.old ≢ None))) }
     ensures errors { (result ≤ NO_PLATFORM) × (result ≢ MEMORY) }
     ensures kept { result ≢ DONE → area.new ≡ area.old }
 {
@@ -53,13 +56,13 @@ pub extern "C" fn scmi_sent(alloc: Global, platform: &mut Handle, agent: u32) ->
     ensures done { result ≡ DONE →
         IsSomeAnd platform.old.value (λ p.
         IsSomeAnd platform.new.value (λ k. HasHappened p k (Sent agent))) }
-    ensures nothing { result ≡ NOTHING →
-        IsSomeAnd platform.old.value (λ p.
-        (h : List Event) → StandsAt p h → outbox (board_of p) agent h ≡ []) }
-    ensures no_agent { result ≡ NO_AGENT → IsSomeAnd platform.old.value (LacksAgent agent) }
+    ensures nothing { IfSome platform.old.value (λ p.
+        (h : List Event) → StandsAt p h →
+        (result ≡ NOTHING) ↔ HasNothingFor (board_of p) agent h) }
+    ensures no_agent { (result ≡ NO_AGENT) ↔ IsSomeAnd platform.old.value (LacksAgent agent) }
     ensures errors { (result ≤ NO_AGENT) ⊎ (result ≡ NO_PLATFORM) }
     ensures no_platform { (result ≡ NO_PLATFORM) ↔ (platform.old.value ≡ None) }
-    ensures memory { result ≡ MEMORY → IsSomeAnd platform.old.value IsRecorded }
+    ensures memory { result ≡ MEMORY → IsSomeAnd platform.old.value HasNoRoom }
     ensures kept { result ≢ DONE → platform.new.value ≡ platform.old.value }
 {
     let Some(mut desk) = platform.take(alloc) else {

@@ -1,0 +1,24 @@
+-- The library's numbers, as `include/scmi.h` has them.
+use Rattle.scmi_c.specs.declared.numbers.Numbers.{Numbers}
+
+-- the size of an area and of its payload, the codes, and the kinds of a change of hardware
+abbrev pub numbers_of_library : Numbers
+numbers_of_library =
+    record {
+      area_bytes = 284;
+      payload_words = 64;
+      done = 0;
+      nothing = 1;
+      memory = 2;
+      no_agent = 3;
+      not_free = 4;
+      no_platform = 5;
+      in_use = 6;
+      no_history = 7;
+      no_frame = 8;
+      rule = 16;
+      line = 256;
+      effect_state = 1;
+      effect_rate = 2;
+      effect_enabled = 3;
+    }
