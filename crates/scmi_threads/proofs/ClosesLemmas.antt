@@ -1,14 +1,17 @@
 -- What the answer of the first close says, after each call.
-use Rattle.std.proofs.Common.{◌≡◌, ℕ, Bool, true, false, not, ◌||◌, Option, Some, None, refl, sym, ap, ◌∙◌, rules}
+use Rattle.std.proofs.Common.{◌≡◌, ℕ, length, arith, Bool, true, false, not, ◌||◌, Option, Some, None, Ok, refl, sym, ap, ◌∙◌, rules}
 use Rattle.std.specs.Option.{option_or}
-use Rattle.scmi_link.specs.View.{CallerView, IsOutstanding}
-use Rattle.scmi_link.specs.Calls.{with_word, IsRefused}
+use Rattle.scmi_link.specs.View.{CallerView, CalleeView, IsOutstanding, callee_knows_close}
+use Rattle.scmi_link.specs.Calls.{with_word, IsRefused, RefusesPost, ClosesCaller}
+use Rattle.scmi_link.specs.declared.post_error.PostError.{PostError}
+use Rattle.scmi_link.specs.declared.post_error.PostError.TheVariants as post
 use Rattle.scmi_link.specs.declared.closing.Closing.{Closing}
 use Rattle.scmi_link.specs.declared.closing.Closing.TheVariants.{Idle, Withdrawn}
 use Rattle.scmi_link.specs.declared.collected.Collected.{Collected}
 use Rattle.scmi_link.specs.declared.collected.Collected.TheVariants as collected
 use Rattle.scmi_ends.specs.Poll.{Waits}
 use Rattle.scmi_threads.specs.Closes.{IsClosedAs}
+use Rattle.scmi_threads.specs.Orders.{IsRefusal}
 
 not_both : {b : Bool} → b ≡ true → b ≡ false → ⊥
 not_both {b} t f = search (rules, t, f)
@@ -16,6 +19,22 @@ not_both {b} t f = search (rules, t, f)
 neither : (b c : Bool) → (b || c) ≡ false → b ≡ false
 neither false c h = refl
 neither true c h = absurd (not_both refl h)
+
+-- an end that takes a message has not closed
+pub takes_open : (v : CallerView) (d : CalleeView) → d.closed ≡ v.closed → callee_knows_close d ≡ false → v.closed ≡ false
+takes_open v d same is = sym same ∙ neither d.closed d.told is
+
+by_word : (told closed : Bool) → (told || not closed) ≡ false → closed ≡ true
+by_word told true h = refl
+by_word true false h = absurd (not_both refl h)
+by_word false false h = absurd (not_both refl h)
+
+-- a post that is refused, of an agent at rest that nothing has disturbed
+pub refusal_of : (full : Bool) (error : PostError) (v w : CallerView) → RefusesPost full v error w → length v.posted ≡ length v.read → w.told ≡ false → IsRefusal full v.closed error
+refusal_of full post.Outstanding v w r rest told = absurd (omega (arith, rest, r.0.unread))
+refusal_of full post.Closed v w r rest told = by_word v.told v.closed (sym (ap (λ u. u.told) r.1.told) ∙ told)
+refusal_of full post.Full v w r rest told = (neither v.closed v.told r.unclosed, r.may)
+refusal_of full post.WellFormed v w r rest told = absurd r
 
 -- the end is open, and neither closes nor is told of a close
 pub stays_open : (closing : Option Closing) (v w : CallerView) → v.closed ≡ false → w.closed ≡ v.closed → w.told ≡ v.told → w.left ≡ v.left → IsClosedAs closing v → IsClosedAs closing w
@@ -53,6 +72,11 @@ closes_idle closing closing' v w idle e n is = rw (e, n) (go closing is) where
   go None is = (refl, (λ out. idle (record { unread = out.unread; stays = out.stays })), is.1)
   go (Some Idle) is = (refl, (λ out. idle (record { unread = out.unread; stays = out.stays })), is.2)
   go (Some Withdrawn) is = (refl, is.1)
+
+-- a close that succeeds closes
+pub is_shut : (closing : Closing) (v w : CallerView) → ClosesCaller v (Ok closing) w → w.closed ≡ true
+is_shut Idle v w closes = ap (λ u. u.closed) closes.closed
+is_shut Withdrawn v w closes = ap (λ u. u.closed) closes.closed
 
 -- a close that takes a post back
 pub closes_withdrawn : (closing closing' : Option Closing) (v w : CallerView) → IsOutstanding v → w ≡ record v { closed = true; left = true } → closing' ≡ option_or closing (Some Withdrawn) → IsClosedAs closing v → IsClosedAs closing' w

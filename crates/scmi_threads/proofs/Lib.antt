@@ -4,6 +4,7 @@ pub mod ClosesLemmas
 pub mod ScriptRunLemmas
 pub mod OrderLemmas
 pub mod ScriptLemmas
+pub mod AfterCloseLemmas
 pub mod EachLemmas
 pub mod Moves
 pub mod LogLemmas

@@ -9,7 +9,7 @@ use Rattle.scmi_threads.specs.declared.line.Line.{Line}
 use Rattle.scmi_threads.specs.declared.line.Line.TheVariants as line
 use Rattle.scmi_threads.specs.Lines.{message_of, closing_of, messages_of, first_closing}
 
-or_again : (a b c : Option Closing) → option_or (option_or a b) c ≡ option_or a (option_or b c)
+pub or_again : (a b c : Option Closing) → option_or (option_or a b) c ≡ option_or a (option_or b c)
 or_again None b c = refl
 or_again (Some x) b c = refl
 

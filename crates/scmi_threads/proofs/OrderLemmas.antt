@@ -10,9 +10,11 @@ use Rattle.scmi_codec.specs.declared.frame.Answer.TheVariants.{Reply}
 use Rattle.scmi_link.specs.View.{CallerView, IsOutstanding}
 use Rattle.scmi_link.specs.declared.closing.Closing.TheVariants.{Idle, Withdrawn}
 use Rattle.scmi_link.specs.declared.closing.Closing.{Closing}
+use Rattle.scmi_link.specs.declared.post_error.PostError.{PostError}
+use Rattle.scmi_link.specs.declared.post_error.PostError.TheVariants as post
 use Rattle.scmi_threads.specs.Logs.{IsSameLog}
-use Rattle.scmi_threads.specs.Orders.{IsAtRest, LeavesRest, HasAsked, HasAskedFor, HasLooked, HasMore, HasDone, IsUnmoved, HasTaken, IsGot, ShowsState, ending, stop_of, stop_of_seen, lines_of_seen}
-use Rattle.scmi_threads.specs.Parts.{Part, HasState, Writes, command, state_commands, CallWrites, call_answered, call_refused, call_ran_out, UntilWrites, state_seen, state_not_seen, state_ran_out, state_refused, state_had_no_room, P2aWrites, messages_taken, messages_ran_out, messages_had_no_room, CloseWrites, close_done}
+use Rattle.scmi_threads.specs.Orders.{IsAtRest, LeavesRest, HasAsked, HasAskedFor, HasLooked, HasMore, HasDone, IsUnmoved, HasTaken, IsGot, IsRefusal, ShowsState, ending, stop_of, stop_of_seen, lines_of_seen}
+use Rattle.scmi_threads.specs.Parts.{Part, HasState, Writes, only_lines, command, state_commands, IsForNothing, CallWrites, call_answered, call_found_no_place, call_ran_out, call_had_no_room, UntilWrites, state_seen, state_not_seen, state_ran_out, state_found_no_place, state_had_no_room, P2aWrites, messages_taken, messages_ran_out, messages_had_no_room, CloseWrites, close_done, close_had_no_room, ClosedWrites, call_refused, state_refused, none_asked_for, none_came, closed_again, line_had_no_room}
 use Rattle.scmi_threads.specs.declared.agent_log.AgentLog.{AgentLog}
 use Rattle.scmi_threads.specs.declared.line.Line.{Line}
 use Rattle.scmi_threads.specs.declared.line.Line.TheVariants as line
@@ -34,11 +36,98 @@ all_last P (y ∷ xs) x h = all_last P xs x (All-tail P y (xs ++ x ∷ []) h)
 none_more : {X : Type 0} (xs ys : List X) → ys ≡ xs → ys ≡ xs ++ []
 none_more xs ys e = e ∙ sym (append-nil xs)
 
+no_true : {A : Type 0} → false ≡ true → A
+no_true e = absurd cc
+
+no_false : {A : Type 0} → true ≡ false → A
+no_false e = absurd cc
+
+not_both : {A : Type 0} (b : Bool) → b ≡ true → b ≡ false → A
+not_both true t f = no_false f
+not_both false t f = no_true t
+
+-- what an order writes, by whether the script has closed
+
+-- an order of a script that has not closed
+while_open : (full closed : Bool) (n : ℕ) (o : Order) (s : Option Stop) (part : Part) → closed ≡ false → Writes full false n o s part → Writes full closed n o s part
+while_open full closed n o s part is w = subst (λ b. Writes full b n o s part) (sym is) w
+
+-- nothing, for want of memory
+no_room : (full closed : Bool) (n : ℕ) (o : Order) → ¬ (IsForNothing o) → Writes full closed n o (Some stop.Memory) (only_lines [])
+no_room full true n o some = line_had_no_room o some
+no_room full false n (order.Call protocol id payload) some = call_had_no_room
+no_room full false n (order.Until domain state) some = state_had_no_room [] (omega arith) (All-nil (λ reply. ¬ (HasState state reply)))
+no_room full false n (order.P2a zero) some = absurd (some refl)
+no_room full false n (order.P2a (suc count)) some = messages_had_no_room [] (omega arith)
+no_room full false n order.Close some = close_had_no_room
+
+-- a call that was refused
+refused_call : (full closed : Bool) (n protocol id : ℕ) (payload : ArrayVec ℕ) (error : PostError) → IsRefusal full closed error → Writes full closed n (order.Call protocol id payload) None (only_lines (line.NotPosted error ∷ []))
+refused_call full true n protocol id payload post.Closed why = call_refused protocol id payload
+refused_call full false n protocol id payload post.Closed why = no_true why
+refused_call full true n protocol id payload post.Full why = no_false why.0
+refused_call full false n protocol id payload post.Full why = call_found_no_place why.1
+refused_call full closed n protocol id payload _ why = absurd why
+
+-- a close
+close_writes : (full closed : Bool) (n : ℕ) → Writes full closed n order.Close None (only_lines (line.Close Idle ∷ []))
+close_writes full true n = closed_again
+close_writes full false n = close_done
+
+-- so many messages, and then none where the script has closed
+messages_write : (full closed : Bool) (n count : ℕ) (messages : List Frame) → (closed ≡ true → count ≡ 0) → length messages ≡ count → Writes full closed n (order.P2a count) None (record { posted = []; read = []; taken = messages; lines = map line.P2a messages })
+messages_write full false n count messages unclosed many = messages_taken messages many
+messages_write full true n count [] unclosed many = none_asked_for count (unclosed refl)
+messages_write full true n count (m ∷ messages) unclosed many = absurd (omega (arith, many, unclosed refl))
+
+limit_writes : (full closed : Bool) (n count taken : ℕ) (messages : List Frame) → (closed ≡ true → taken ≡ 0) → length messages ≡ taken → taken < count → Writes full closed n (order.P2a count) (Some stop.Limit) (record { posted = []; read = []; taken = messages; lines = map line.P2a messages ++ line.Limit ∷ [] })
+limit_writes full false n count taken messages unclosed many below = messages_ran_out messages (omega (arith, many, below))
+limit_writes full true n count taken [] unclosed many below = none_came count (omega (arith, below))
+limit_writes full true n count taken (m ∷ messages) unclosed many below = absurd (omega (arith, many, unclosed refl))
+
+memory_writes : (full closed : Bool) (n count taken : ℕ) (messages : List Frame) → (closed ≡ true → taken ≡ 0) → length messages ≡ taken → taken < count → Writes full closed n (order.P2a count) (Some stop.Memory) (record { posted = []; read = []; taken = messages; lines = map line.P2a messages })
+memory_writes full false n count taken messages unclosed many below = messages_had_no_room messages (omega (arith, many, below))
+memory_writes full true n count taken [] unclosed many below = line_had_no_room (order.P2a count) (λ none. absurd (omega (arith, none, below)))
+memory_writes full true n count taken (m ∷ messages) unclosed many below = absurd (omega (arith, many, unclosed refl))
+
+-- so many calls that asked for a state, none of them once the script has closed
+module _ (full : Bool) (n domain state k : ℕ) where
+  refused_look : (closed : Bool) (others : List Message) (error : PostError) → (closed ≡ true → k ≡ 0) → length others ≡ k → k < 100_000 → All (λ reply. ¬ (HasState state reply)) others → IsRefusal full closed error → Writes full closed n (order.Until domain state) (Some stop.Limit) (record { posted = state_commands n domain (length others); read = map Reply others; taken = []; lines = line.UntilLimit ∷ [] })
+  refused_look false others post.Full unclosed many below none why = state_found_no_place others (omega (arith, many, below)) none why.1
+  refused_look true others post.Full unclosed many below none why = no_false why.0
+  refused_look false others post.Closed unclosed many below none why = no_true why
+  refused_look true [] post.Closed unclosed many below none why = state_refused domain state
+  refused_look true (m ∷ others) post.Closed unclosed many below none why = absurd (omega (arith, many, unclosed refl))
+  refused_look closed others _ unclosed many below none why = absurd why
+
+  last_look : (closed : Bool) (others : List Message) → (closed ≡ true → k ≡ 0) → length others ≡ k → k ≡ 100_000 → All (λ reply. ¬ (HasState state reply)) others → Writes full closed n (order.Until domain state) (Some stop.Limit) (record { posted = state_commands n domain (length others); read = map Reply others; taken = []; lines = line.UntilLimit ∷ [] })
+  last_look false others unclosed many is none = state_not_seen others (many ∙ is) none
+  last_look true others unclosed many is none = absurd (omega (arith, is, unclosed refl))
+
+  look_without_room : (closed : Bool) (others : List Message) → (closed ≡ true → k ≡ 0) → length others ≡ k → k < 100_000 → All (λ reply. ¬ (HasState state reply)) others → Writes full closed n (order.Until domain state) (Some stop.Memory) (record { posted = state_commands n domain (length others); read = map Reply others; taken = []; lines = [] })
+  look_without_room false others unclosed many below none = state_had_no_room others (omega (arith, many, below)) none
+  look_without_room true [] unclosed many below none = line_had_no_room (order.Until domain state) (λ x. x)
+  look_without_room true (m ∷ others) unclosed many below none = absurd (omega (arith, many, unclosed refl))
+
+-- nothing was posted, read or taken
+pub record IsStill (part : Part) : Type 0 where
+  pub posted : part.posted ≡ []
+  pub read : part.read ≡ []
+  pub taken : part.taken ≡ []
+
+pub stays_still : (o : Order) (s : Option Stop) (part : Part) → ClosedWrites o s part → IsStill part
+stays_still _ _ _ (call_refused protocol id payload) = record { posted = refl; read = refl; taken = refl }
+stays_still _ _ _ (state_refused domain state) = record { posted = refl; read = refl; taken = refl }
+stays_still _ _ _ (none_asked_for count none) = record { posted = refl; read = refl; taken = refl }
+stays_still _ _ _ (none_came count some) = record { posted = refl; read = refl; taken = refl }
+stays_still _ _ _ closed_again = record { posted = refl; read = refl; taken = refl }
+stays_still _ _ _ (line_had_no_room o some) = record { posted = refl; read = refl; taken = refl }
+
 -- nothing is outstanding where each post has its answer
 pub rests : (v : CallerView) → length v.posted ≡ length v.read → ¬ (IsOutstanding v)
 rests v h out = absurd (omega (arith, h, out.unread))
 
-nothing_more : (before after : AgentLog) → IsSameLog before after → HasMore (record { posted = []; read = []; taken = []; lines = [] }) before after
+nothing_more : (before after : AgentLog) → IsSameLog before after → HasMore (only_lines []) before after
 nothing_more before after same = record {
   posted = none_more before.posted.items after.posted.items same.posted;
   read = none_more before.read.items after.read.items same.read;
@@ -47,10 +136,10 @@ nothing_more before after same = record {
 }
 
 -- memory was refused before anything was done
-pub nothing_done : (full : Bool) (o : Order) (r : Result (Unit {0}) Stop) (v w : CallerView) (before after : AgentLog) → r ≡ Err stop.Memory → Writes full v.closed (length before.posted.items) o (Some stop.Memory) (record { posted = []; read = []; taken = []; lines = [] }) → IsSameLog before after → HasDone full o (stop_of r) v w before after
-nothing_done full o r v w before after is writes same = subst (λ x. HasDone full o (stop_of x) v w before after) (sym is) (record {
-  part = record { posted = []; read = []; taken = []; lines = [] };
-  writes = writes;
+pub nothing_done : (full : Bool) (o : Order) (r : Result (Unit {0}) Stop) (v w : CallerView) (before after : AgentLog) → r ≡ Err stop.Memory → ¬ (IsForNothing o) → IsSameLog before after → HasDone full o (stop_of r) v w before after
+nothing_done full o r v w before after is some same = subst (λ x. HasDone full o (stop_of x) v w before after) (sym is) (record {
+  part = only_lines [];
+  writes = no_room full v.closed (length before.posted.items) o some;
   more = nothing_more before after same;
   closed = λ s. absurd (search (rules, s));
   not_stopped = same.stopped;
@@ -96,21 +185,23 @@ noted_more : (l : Line) (before mid after : AgentLog) → mid.lines.items ≡ be
 noted_more l before mid after same noted = noted.lines ∙ ap (λ ls. ls ++ l ∷ []) same
 
 pub call_done : (full : Bool) (protocol id : ℕ) (payload : ArrayVec ℕ) (l : Line) (v w : CallerView) (before mid after : AgentLog) → HasAsked full v.closed (command (length before.posted.items) protocol id payload) l before mid → LeavesRest v w before mid → mid.lines.items ≡ before.lines.items → IsNoted l mid after → HasDone full (order.Call protocol id payload) (stop_of (ending l)) v w before after
-call_done full protocol id payload (line.Got words) v w before mid after asked rest same noted = record {
-  part = record { posted = command (length before.posted.items) protocol id payload ∷ []; read = Reply asked.1.0 ∷ []; taken = []; lines = line.Got asked.1.0.payload ∷ [] };
-  writes = call_answered asked.1.0;
-  more = record {
-    posted = noted.posted ∙ asked.0;
-    read = noted.read ∙ asked.1.2;
-    taken = none_more before.p2a.items after.p2a.items (noted.taken ∙ rest.taken);
-    lines = noted_more (line.Got words) before mid after same noted ∙ ap (λ ws. before.lines.items ++ line.Got ws ∷ []) asked.1.1;
-  };
-  closed = λ s. rest.closed;
-  not_stopped = noted.stopped ∙ rest.stopped;
-}
+call_done full protocol id payload (line.Got words) v w before mid after asked rest same noted =
+    let part : Part = record { posted = command (length before.posted.items) protocol id payload ∷ []; read = Reply asked.2.0 ∷ []; taken = []; lines = line.Got asked.2.0.payload ∷ [] } in
+    record {
+      part = part;
+      writes = while_open full v.closed (length before.posted.items) (order.Call protocol id payload) None part asked.0 (call_answered asked.2.0);
+      more = record {
+        posted = noted.posted ∙ asked.1;
+        read = noted.read ∙ asked.2.2;
+        taken = none_more before.p2a.items after.p2a.items (noted.taken ∙ rest.taken);
+        lines = noted_more (line.Got words) before mid after same noted ∙ ap (λ ws. before.lines.items ++ line.Got ws ∷ []) asked.2.1;
+      };
+      closed = λ s. rest.closed;
+      not_stopped = noted.stopped ∙ rest.stopped;
+    }
 call_done full protocol id payload (line.NotPosted error) v w before mid after asked rest same noted = record {
-  part = record { posted = []; read = []; taken = []; lines = line.NotPosted error ∷ [] };
-  writes = call_refused error asked.0;
+  part = only_lines (line.NotPosted error ∷ []);
+  writes = refused_call full v.closed (length before.posted.items) protocol id payload error asked.0;
   more = record {
     posted = none_more before.posted.items after.posted.items (noted.posted ∙ asked.1);
     read = none_more before.read.items after.read.items (noted.read ∙ asked.2);
@@ -120,27 +211,29 @@ call_done full protocol id payload (line.NotPosted error) v w before mid after a
   closed = λ s. rest.closed;
   not_stopped = noted.stopped ∙ rest.stopped;
 }
-call_done full protocol id payload line.Limit v w before mid after asked rest same noted = record {
-  part = record { posted = command (length before.posted.items) protocol id payload ∷ []; read = []; taken = []; lines = line.Limit ∷ [] };
-  writes = call_ran_out;
-  more = record {
-    posted = noted.posted ∙ asked.0;
-    read = none_more before.read.items after.read.items (noted.read ∙ asked.1);
-    taken = none_more before.p2a.items after.p2a.items (noted.taken ∙ rest.taken);
-    lines = noted_more line.Limit before mid after same noted;
-  };
-  closed = λ s. rest.closed;
-  not_stopped = noted.stopped ∙ rest.stopped;
-}
-call_done full protocol id payload _ v w before mid after asked rest same noted = absurd asked.1
+call_done full protocol id payload line.Limit v w before mid after asked rest same noted =
+    let part : Part = record { posted = command (length before.posted.items) protocol id payload ∷ []; read = []; taken = []; lines = line.Limit ∷ [] } in
+    record {
+      part = part;
+      writes = while_open full v.closed (length before.posted.items) (order.Call protocol id payload) (Some stop.Limit) part asked.0 call_ran_out;
+      more = record {
+        posted = noted.posted ∙ asked.1;
+        read = none_more before.read.items after.read.items (noted.read ∙ asked.2);
+        taken = none_more before.p2a.items after.p2a.items (noted.taken ∙ rest.taken);
+        lines = noted_more line.Limit before mid after same noted;
+      };
+      closed = λ s. rest.closed;
+      not_stopped = noted.stopped ∙ rest.stopped;
+    }
+call_done full protocol id payload _ v w before mid after asked rest same noted = absurd asked.2
 
 -- a close
 
 pub close_noted : (full : Bool) (closing : Closing) (v w : CallerView) (before after : AgentLog) → IsNoted (line.Close closing) before after → (closing ≡ Idle → w.closed ≡ true) → (closing ≡ Withdrawn → IsOutstanding v) → length v.posted ≡ length v.read → HasDone full order.Close None v w before after
 close_noted full Withdrawn v w before after noted idle withdrawn rest = absurd (rests v rest (withdrawn refl))
 close_noted full Idle v w before after noted idle withdrawn rest = record {
-  part = record { posted = []; read = []; taken = []; lines = line.Close Idle ∷ [] };
-  writes = close_done;
+  part = only_lines (line.Close Idle ∷ []);
+  writes = close_writes full v.closed (length before.posted.items);
   more = record {
     posted = none_more before.posted.items after.posted.items noted.posted;
     read = none_more before.read.items after.read.items noted.read;
@@ -153,36 +246,39 @@ close_noted full Idle v w before after noted idle withdrawn rest = record {
 
 -- messages
 
--- so many messages were taken, and each has its line
-pub record HasTakenMany (count : ℕ) (before after : AgentLog) : Type 0 where
+-- so many messages were taken, none of them by an end that has closed, and each has its line
+pub record HasTakenMany (closed : Bool) (count : ℕ) (before after : AgentLog) : Type 0 where
   pub messages : List Frame
   pub many : length messages ≡ count
+  pub unclosed : closed ≡ true → count ≡ 0
   pub taken : after.p2a.items ≡ before.p2a.items ++ messages
   pub lines : after.lines.items ≡ before.lines.items ++ map line.P2a messages
 
-pub none_taken : (before after : AgentLog) → after.p2a.items ≡ before.p2a.items → after.lines.items ≡ before.lines.items → HasTakenMany 0 before after
-none_taken before after taken lines = record {
+pub none_taken : (closed : Bool) (before after : AgentLog) → after.p2a.items ≡ before.p2a.items → after.lines.items ≡ before.lines.items → HasTakenMany closed 0 before after
+none_taken closed before after taken lines = record {
   messages = [];
   many = refl;
+  unclosed = λ is. refl;
   taken = none_more before.p2a.items after.p2a.items taken;
   lines = none_more before.lines.items after.lines.items lines;
 }
 
-pub one_taken : (count : ℕ) (before mid after : AgentLog) → HasTakenMany count before mid → HasTaken (Ok tt) mid after → HasTakenMany (count + 1) before after
-one_taken count before mid after so_far took = record {
-  messages = so_far.messages ++ took.0 ∷ [];
-  many = length-append so_far.messages (took.0 ∷ []) ∙ ap (λ n. n + 1) so_far.many;
-  taken = took.1 ∙ ap (λ xs. xs ++ took.0 ∷ []) so_far.taken ∙ append_assoc before.p2a.items so_far.messages (took.0 ∷ []);
-  lines = took.2 ∙ ap (λ xs. xs ++ line.P2a took.0 ∷ []) so_far.lines ∙ append_assoc before.lines.items (map line.P2a so_far.messages) (line.P2a took.0 ∷ []) ∙ ap (λ xs. before.lines.items ++ xs) (sym (map-append line.P2a so_far.messages (took.0 ∷ [])));
+pub one_taken : (closed mid_closed : Bool) (count : ℕ) (before mid after : AgentLog) → mid_closed ≡ closed → HasTakenMany closed count before mid → HasTaken mid_closed (Ok tt) mid after → HasTakenMany closed (count + 1) before after
+one_taken closed mid_closed count before mid after same so_far took = record {
+  messages = so_far.messages ++ took.1 ∷ [];
+  many = length-append so_far.messages (took.1 ∷ []) ∙ ap (λ n. n + 1) so_far.many;
+  unclosed = λ is. not_both closed is (sym same ∙ took.0);
+  taken = took.2 ∙ ap (λ xs. xs ++ took.1 ∷ []) so_far.taken ∙ append_assoc before.p2a.items so_far.messages (took.1 ∷ []);
+  lines = took.3 ∙ ap (λ xs. xs ++ line.P2a took.1 ∷ []) so_far.lines ∙ append_assoc before.lines.items (map line.P2a so_far.messages) (line.P2a took.1 ∷ []) ∙ ap (λ xs. before.lines.items ++ xs) (sym (map-append line.P2a so_far.messages (took.1 ∷ [])));
 }
 
 pub moved_on : (u v w : CallerView) (before mid after : AgentLog) → IsUnmoved u v before mid → IsUnmoved v w mid after → IsUnmoved u w before after
 moved_on u v w before mid after r s = record { posted = s.posted ∙ r.posted; read = s.read ∙ r.read; stopped = s.stopped ∙ r.stopped; closed = s.closed ∙ r.closed }
 
-pub all_taken : (full : Bool) (count : ℕ) (v w : CallerView) (before after : AgentLog) → IsUnmoved v w before after → HasTakenMany count before after → HasDone full (order.P2a count) None v w before after
+pub all_taken : (full : Bool) (count : ℕ) (v w : CallerView) (before after : AgentLog) → IsUnmoved v w before after → HasTakenMany v.closed count before after → HasDone full (order.P2a count) None v w before after
 all_taken full count v w before after unmoved took = record {
   part = record { posted = []; read = []; taken = took.messages; lines = map line.P2a took.messages };
-  writes = messages_taken took.messages took.many;
+  writes = messages_write full v.closed (length before.posted.items) count took.messages took.unclosed took.many;
   more = record {
     posted = none_more before.posted.items after.posted.items unmoved.posted;
     read = none_more before.read.items after.read.items unmoved.read;
@@ -193,15 +289,15 @@ all_taken full count v w before after unmoved took = record {
   not_stopped = unmoved.stopped;
 }
 
-pub taken_until : (full : Bool) (count taken : ℕ) (why : Stop) (r : Result (Unit {0}) Stop) (u v w : CallerView) (before mid after : AgentLog) → taken < count → r ≡ Err why → IsUnmoved u v before mid → HasTakenMany taken before mid → IsUnmoved v w mid after → HasTaken (Err why) mid after → HasDone full (order.P2a count) (stop_of r) u w before after
+pub taken_until : (full : Bool) (count taken : ℕ) (why : Stop) (r : Result (Unit {0}) Stop) (u v w : CallerView) (before mid after : AgentLog) → taken < count → r ≡ Err why → IsUnmoved u v before mid → HasTakenMany u.closed taken before mid → IsUnmoved v w mid after → HasTaken v.closed (Err why) mid after → HasDone full (order.P2a count) (stop_of r) u w before after
 taken_until full count taken why r u v w before mid after below is first so_far then' took = subst (λ x. HasDone full (order.P2a count) (stop_of x) u w before after) (sym is) (go why took) where
   same : IsUnmoved u w before after
   same = moved_on u v w before mid after first then'
 
-  go : (why : Stop) → HasTaken (Err why) mid after → HasDone full (order.P2a count) (Some why) u w before after
+  go : (why : Stop) → HasTaken v.closed (Err why) mid after → HasDone full (order.P2a count) (Some why) u w before after
   go stop.Limit took = record {
     part = record { posted = []; read = []; taken = so_far.messages; lines = map line.P2a so_far.messages ++ line.Limit ∷ [] };
-    writes = messages_ran_out so_far.messages (omega (arith, so_far.many));
+    writes = limit_writes full u.closed (length before.posted.items) count taken so_far.messages so_far.unclosed so_far.many below;
     more = record {
       posted = none_more before.posted.items after.posted.items same.posted;
       read = none_more before.read.items after.read.items same.read;
@@ -213,7 +309,7 @@ taken_until full count taken why r u v w before mid after below is first so_far 
   }
   go stop.Memory took = record {
     part = record { posted = []; read = []; taken = so_far.messages; lines = map line.P2a so_far.messages };
-    writes = messages_had_no_room so_far.messages (omega (arith, so_far.many));
+    writes = memory_writes full u.closed (length before.posted.items) count taken so_far.messages so_far.unclosed so_far.many below;
     more = record {
       posted = none_more before.posted.items after.posted.items same.posted;
       read = none_more before.read.items after.read.items same.read;
@@ -233,24 +329,25 @@ length-state_commands n domain (suc k) = length-append (state_commands n domain 
 state_commands_more : (n domain k : ℕ) → state_commands n domain (k + 1) ≡ state_commands n domain k ++ command (n + k) 0x11 0x5 (record { items = domain ∷ [] }) ∷ []
 state_commands_more n domain k = ap (state_commands n domain) (add-one k)
 
-pub none_asked : (domain state : ℕ) (before after : AgentLog) → IsSameLog before after → HasAskedFor domain state 0 before after
-none_asked domain state before after same = record {
+pub none_asked : (closed : Bool) (domain state : ℕ) (before after : AgentLog) → IsSameLog before after → HasAskedFor closed domain state 0 before after
+none_asked closed domain state before after same = record {
   others = [];
   many = refl;
+  unclosed = λ is. refl;
   none_has_it = All-nil (λ reply. ¬ (HasState state reply));
   posted = none_more before.posted.items after.posted.items same.posted;
   read = none_more before.read.items after.read.items same.read;
 }
 
-asked_posted : (domain state k : ℕ) (before mid : AgentLog) → HasAskedFor domain state k before mid → length mid.posted.items ≡ length before.posted.items + k
+asked_posted : {closed : Bool} (domain state k : ℕ) (before mid : AgentLog) → HasAskedFor closed domain state k before mid → length mid.posted.items ≡ length before.posted.items + k
 asked_posted domain state k before mid so_far = ap length so_far.posted ∙ length-append before.posted.items (state_commands (length before.posted.items) domain k) ∙ ap (λ m. length before.posted.items + m) (length-state_commands (length before.posted.items) domain k)
 
-pub asked_rests : (domain state k : ℕ) (before mid : AgentLog) → HasAskedFor domain state k before mid → IsAtRest before → IsAtRest mid
+pub asked_rests : {closed : Bool} (domain state k : ℕ) (before mid : AgentLog) → HasAskedFor closed domain state k before mid → IsAtRest before → IsAtRest mid
 asked_rests domain state k before mid so_far rest =
     asked_posted domain state k before mid so_far ∙ omega (arith, rest, so_far.many, ap length so_far.read, length-append before.read.items (map Reply so_far.others), length-map so_far.others Reply)
 
 -- the frame that the next call posts
-next_frame : (domain state k protocol id : ℕ) (payload : ArrayVec ℕ) (before mid : AgentLog) → HasAskedFor domain state k before mid → protocol ≡ 0x11 → id ≡ 0x5 → payload.items ≡ domain ∷ [] → command (length mid.posted.items) protocol id payload ≡ command (length before.posted.items + k) 0x11 0x5 (record { items = domain ∷ [] })
+next_frame : {closed : Bool} (domain state k protocol id : ℕ) (payload : ArrayVec ℕ) (before mid : AgentLog) → HasAskedFor closed domain state k before mid → protocol ≡ 0x11 → id ≡ 0x5 → payload.items ≡ domain ∷ [] → command (length mid.posted.items) protocol id payload ≡ command (length before.posted.items + k) 0x11 0x5 (record { items = domain ∷ [] })
 next_frame domain state k protocol id payload before mid so_far p i w =
     ap (λ n. command n protocol id payload) (asked_posted domain state k before mid so_far)
     ∙ ap (λ x. command (length before.posted.items + k) x id payload) p
@@ -258,75 +355,83 @@ next_frame domain state k protocol id payload before mid so_far p i w =
     ∙ ap (λ ws. command (length before.posted.items + k) 0x11 0x5 (record { items = ws })) w
 
 -- so many calls asked, and a further one was posted
-module _ (full : Bool) (domain state k protocol id : ℕ) (payload : ArrayVec ℕ) (closed : Bool) (before mid after : AgentLog) (so_far : HasAskedFor domain state k before mid) (p : protocol ≡ 0x11) (i : id ≡ 0x5) (w : payload.items ≡ domain ∷ []) where
+module _ (full : Bool) (domain state k protocol id : ℕ) (payload : ArrayVec ℕ) (closed : Bool) (before mid after : AgentLog) (so_far : HasAskedFor closed domain state k before mid) (p : protocol ≡ 0x11) (i : id ≡ 0x5) (w : payload.items ≡ domain ∷ []) where
   further : after.posted.items ≡ mid.posted.items ++ command (length mid.posted.items) protocol id payload ∷ [] → after.posted.items ≡ before.posted.items ++ state_commands (length before.posted.items) domain (k + 1)
   further e = e ∙ ap (λ f. mid.posted.items ++ f ∷ []) (next_frame domain state k protocol id payload before mid so_far p i w) ∙ ap (λ xs. xs ++ command (length before.posted.items + k) 0x11 0x5 (record { items = domain ∷ [] }) ∷ []) so_far.posted ∙ append_assoc before.posted.items (state_commands (length before.posted.items) domain k) (command (length before.posted.items + k) 0x11 0x5 (record { items = domain ∷ [] }) ∷ []) ∙ ap (λ xs. before.posted.items ++ xs) (sym (state_commands_more (length before.posted.items) domain k))
 
   further_read : (reply : Message) → after.read.items ≡ mid.read.items ++ Reply reply ∷ [] → after.read.items ≡ before.read.items ++ (map Reply so_far.others ++ Reply reply ∷ [])
   further_read reply e = e ∙ ap (λ xs. xs ++ Reply reply ∷ []) so_far.read ∙ append_assoc before.read.items (map Reply so_far.others) (Reply reply ∷ [])
 
-  pub one_asked : (l : Line) → HasAsked full closed (command (length mid.posted.items) protocol id payload) l mid after → IsGot l → ¬ (ShowsState state l) → HasAskedFor domain state (k + 1) before after
+  pub one_asked : (l : Line) → HasAsked full closed (command (length mid.posted.items) protocol id payload) l mid after → IsGot l → ¬ (ShowsState state l) → HasAskedFor closed domain state (k + 1) before after
   one_asked (line.Got words) asked got not = record {
-    others = so_far.others ++ asked.1.0 ∷ [];
-    many = length-append so_far.others (asked.1.0 ∷ []) ∙ ap (λ n. n + 1) so_far.many;
-    none_has_it = All-push (λ reply. ¬ (HasState state reply)) so_far.others asked.1.0 so_far.none_has_it (λ has. not (ap (λ ws. ws.items) asked.1.1 ∙ has));
-    posted = further asked.0;
-    read = further_read asked.1.0 asked.1.2 ∙ ap (λ xs. before.read.items ++ xs) (sym (map-append Reply so_far.others (asked.1.0 ∷ [])));
+    others = so_far.others ++ asked.2.0 ∷ [];
+    many = length-append so_far.others (asked.2.0 ∷ []) ∙ ap (λ n. n + 1) so_far.many;
+    unclosed = λ is. not_both closed is asked.0;
+    none_has_it = All-push (λ reply. ¬ (HasState state reply)) so_far.others asked.2.0 so_far.none_has_it (λ has. not (ap (λ ws. ws.items) asked.2.1 ∙ has));
+    posted = further asked.1;
+    read = further_read asked.2.0 asked.2.2 ∙ ap (λ xs. before.read.items ++ xs) (sym (map-append Reply so_far.others (asked.2.0 ∷ [])));
   }
   one_asked _ asked got not = absurd got
 
   pub looked_seen : (l : Line) → k < 100_000 → HasAsked full closed (command (length mid.posted.items) protocol id payload) l mid after → ShowsState state l → HasLooked full closed domain state (Ok true) before after
-  looked_seen (line.Got words) below asked shows = record {
-    part = record { posted = state_commands (length before.posted.items) domain (length so_far.others + 1); read = map Reply so_far.others ++ Reply asked.1.0 ∷ []; taken = []; lines = line.UntilOk ∷ [] };
-    writes = state_seen so_far.others asked.1.0 (omega (arith, so_far.many)) so_far.none_has_it (sym (ap (λ ws. ws.items) asked.1.1) ∙ shows);
-    posted = further asked.0 ∙ ap (λ m. before.posted.items ++ state_commands (length before.posted.items) domain (m + 1)) (sym so_far.many);
-    read = further_read asked.1.0 asked.1.2;
-    lines = refl;
-  }
+  looked_seen (line.Got words) below asked shows =
+      let part : Part = record { posted = state_commands (length before.posted.items) domain (length so_far.others + 1); read = map Reply so_far.others ++ Reply asked.2.0 ∷ []; taken = []; lines = line.UntilOk ∷ [] } in
+      record {
+        part = part;
+        writes = while_open full closed (length before.posted.items) (order.Until domain state) None part asked.0 (state_seen so_far.others asked.2.0 (omega (arith, so_far.many)) so_far.none_has_it (sym (ap (λ ws. ws.items) asked.2.1) ∙ shows));
+        posted = further asked.1 ∙ ap (λ m. before.posted.items ++ state_commands (length before.posted.items) domain (m + 1)) (sym so_far.many);
+        read = further_read asked.2.0 asked.2.2;
+        lines = refl;
+      }
   looked_seen _ below asked shows = absurd shows
 
   pub looked_in_vain : (l : Line) → k < 100_000 → HasAsked full closed (command (length mid.posted.items) protocol id payload) l mid after → ¬ (IsGot l) → HasLooked full closed domain state (Ok false) before after
   looked_in_vain (line.Got words) below asked not = absurd (not tt)
   looked_in_vain (line.NotPosted error) below asked not = record {
     part = record { posted = state_commands (length before.posted.items) domain (length so_far.others); read = map Reply so_far.others; taken = []; lines = line.UntilLimit ∷ [] };
-    writes = state_refused so_far.others error (omega (arith, so_far.many)) so_far.none_has_it asked.0;
+    writes = refused_look full (length before.posted.items) domain state k closed so_far.others error so_far.unclosed so_far.many below so_far.none_has_it asked.0;
     posted = asked.1 ∙ so_far.posted ∙ ap (λ m. before.posted.items ++ state_commands (length before.posted.items) domain m) (sym so_far.many);
     read = asked.2 ∙ so_far.read;
     lines = refl;
   }
-  looked_in_vain line.Limit below asked not = record {
-    part = record { posted = state_commands (length before.posted.items) domain (length so_far.others + 1); read = map Reply so_far.others; taken = []; lines = line.UntilLimit ∷ [] };
-    writes = state_ran_out so_far.others (omega (arith, so_far.many)) so_far.none_has_it;
-    posted = further asked.0 ∙ ap (λ m. before.posted.items ++ state_commands (length before.posted.items) domain (m + 1)) (sym so_far.many);
-    read = asked.1 ∙ so_far.read;
-    lines = refl;
-  }
-  looked_in_vain _ below asked not = absurd asked.1
+  looked_in_vain line.Limit below asked not =
+      let part : Part = record { posted = state_commands (length before.posted.items) domain (length so_far.others + 1); read = map Reply so_far.others; taken = []; lines = line.UntilLimit ∷ [] } in
+      record {
+        part = part;
+        writes = while_open full closed (length before.posted.items) (order.Until domain state) (Some stop.Limit) part asked.0 (state_ran_out so_far.others (omega (arith, so_far.many)) so_far.none_has_it);
+        posted = further asked.1 ∙ ap (λ m. before.posted.items ++ state_commands (length before.posted.items) domain (m + 1)) (sym so_far.many);
+        read = asked.2 ∙ so_far.read;
+        lines = refl;
+      }
+  looked_in_vain _ below asked not = absurd asked.2
 
-pub looked_to_the_end : (full closed : Bool) (domain state k : ℕ) (before after : AgentLog) → k ≡ 100_000 → HasAskedFor domain state k before after → HasLooked full closed domain state (Ok false) before after
+pub looked_to_the_end : (full closed : Bool) (domain state k : ℕ) (before after : AgentLog) → k ≡ 100_000 → HasAskedFor closed domain state k before after → HasLooked full closed domain state (Ok false) before after
 looked_to_the_end full closed domain state k before after is so_far = record {
   part = record { posted = state_commands (length before.posted.items) domain (length so_far.others); read = map Reply so_far.others; taken = []; lines = line.UntilLimit ∷ [] };
-  writes = state_not_seen so_far.others (so_far.many ∙ is) so_far.none_has_it;
+  writes = last_look full (length before.posted.items) domain state k closed so_far.others so_far.unclosed so_far.many is so_far.none_has_it;
   posted = so_far.posted ∙ ap (λ m. before.posted.items ++ state_commands (length before.posted.items) domain m) (sym so_far.many);
   read = so_far.read;
   lines = refl;
 }
 
-pub looked_without_room : (full closed : Bool) (domain state k : ℕ) (r : Result Bool Stop) (before mid after : AgentLog) → k < 100_000 → r ≡ Err stop.Memory → HasAskedFor domain state k before mid → IsSameLog mid after → HasLooked full closed domain state r before after
+pub looked_without_room : (full closed : Bool) (domain state k : ℕ) (r : Result Bool Stop) (before mid after : AgentLog) → k < 100_000 → r ≡ Err stop.Memory → HasAskedFor closed domain state k before mid → IsSameLog mid after → HasLooked full closed domain state r before after
 looked_without_room full closed domain state k r before mid after below is so_far same = subst (λ x. HasLooked full closed domain state x before after) (sym is) (record {
   part = record { posted = state_commands (length before.posted.items) domain (length so_far.others); read = map Reply so_far.others; taken = []; lines = [] };
-  writes = state_had_no_room so_far.others (omega (arith, so_far.many)) so_far.none_has_it;
+  writes = look_without_room full (length before.posted.items) domain state k closed so_far.others so_far.unclosed so_far.many below so_far.none_has_it;
   posted = same.posted ∙ so_far.posted ∙ ap (λ m. before.posted.items ++ state_commands (length before.posted.items) domain m) (sym so_far.many);
   read = same.read ∙ so_far.read;
   lines = refl;
 })
 
-no_messages : (full closed : Bool) (n domain state : ℕ) (s : Option Stop) (part : Part) → UntilWrites full closed n domain state s part → part.taken ≡ []
-no_messages full closed n domain state _ _ (state_seen others last below not has) = refl
-no_messages full closed n domain state _ _ (state_not_seen others all not) = refl
-no_messages full closed n domain state _ _ (state_ran_out others below not) = refl
-no_messages full closed n domain state _ _ (state_refused others error below not why) = refl
-no_messages full closed n domain state _ _ (state_had_no_room others below not) = refl
+no_messages : (full closed : Bool) (n domain state : ℕ) (s : Option Stop) (part : Part) → Writes full closed n (order.Until domain state) s part → part.taken ≡ []
+no_messages full true n domain state s part w = (stays_still (order.Until domain state) s part w).taken
+no_messages full false n domain state s part w = open_none s part w where
+  open_none : (s : Option Stop) (part : Part) → UntilWrites full n domain state s part → part.taken ≡ []
+  open_none _ _ (state_seen others last below not has) = refl
+  open_none _ _ (state_not_seen others all not) = refl
+  open_none _ _ (state_ran_out others below not) = refl
+  open_none _ _ (state_found_no_place others below not why) = refl
+  open_none _ _ (state_had_no_room others below not) = refl
 
 -- the line of an order to wait for a state, if it has one
 pub until_noted : (full : Bool) (domain state : ℕ) (seen : Result Bool Stop) (l : Line) (v w : CallerView) (before mid after : AgentLog) → HasLooked full v.closed domain state seen before mid → lines_of_seen seen ≡ l ∷ [] → LeavesRest v w before mid → mid.lines.items ≡ before.lines.items → IsNoted l mid after → HasDone full (order.Until domain state) (stop_of_seen seen) v w before after
@@ -363,16 +468,17 @@ left_rest u v w before mid after r s = record { taken = s.taken ∙ r.taken; sto
 
 -- an order that did not end the script has read an answer for each frame that it posted
 pub writes_rest : (full closed : Bool) (n : ℕ) (o : Order) (part : Part) → Writes full closed n o None part → length part.posted ≡ length part.read
-writes_rest full closed n (order.Call protocol id payload) part w = call_rest part w where
-  call_rest : (part : Part) → CallWrites full closed n protocol id payload None part → length part.posted ≡ length part.read
+writes_rest full true n o part w = let still = stays_still o None part w in ap length still.posted ∙ sym (ap length still.read)
+writes_rest full false n (order.Call protocol id payload) part w = call_rest part w where
+  call_rest : (part : Part) → CallWrites full n protocol id payload None part → length part.posted ≡ length part.read
   call_rest _ (call_answered reply) = refl
-  call_rest _ (call_refused error why) = refl
-writes_rest full closed n (order.Until domain state) part w = until_rest part w where
-  until_rest : (part : Part) → UntilWrites full closed n domain state None part → length part.posted ≡ length part.read
+  call_rest _ (call_found_no_place why) = refl
+writes_rest full false n (order.Until domain state) part w = until_rest part w where
+  until_rest : (part : Part) → UntilWrites full n domain state None part → length part.posted ≡ length part.read
   until_rest _ (state_seen others last below not has) = length-state_commands n domain (length others + 1) ∙ sym (length-append (map Reply others) (Reply last ∷ []) ∙ ap (λ m. m + 1) (length-map others Reply))
-writes_rest full closed n (order.P2a count) part w = p2a_rest part w where
+writes_rest full false n (order.P2a count) part w = p2a_rest part w where
   p2a_rest : (part : Part) → P2aWrites count None part → length part.posted ≡ length part.read
   p2a_rest _ (messages_taken messages many) = refl
-writes_rest full closed n order.Close part w = close_rest part w where
+writes_rest full false n order.Close part w = close_rest part w where
   close_rest : (part : Part) → CloseWrites None part → length part.posted ≡ length part.read
   close_rest _ close_done = refl

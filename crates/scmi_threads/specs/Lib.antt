@@ -5,6 +5,7 @@ pub mod Closes
 pub mod Logs
 pub mod Parts
 pub mod ScriptLogs
+pub mod AfterClose
 pub mod Orders
 pub mod ScriptRuns
 pub mod Rounds

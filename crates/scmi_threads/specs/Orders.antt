@@ -6,12 +6,15 @@ use Rattle.scmi_codec.specs.declared.frame.Frame.{Frame}
 use Rattle.scmi_codec.specs.declared.frame.Answer.{Answer}
 use Rattle.scmi_codec.specs.declared.frame.Answer.TheVariants.{Reply}
 use Rattle.scmi_link.specs.View.{CallerView}
-use Rattle.scmi_threads.specs.Parts.{Part, HasState, IsRefusal, UntilWrites, Writes, state_commands}
+use Rattle.scmi_link.specs.declared.post_error.PostError.{PostError}
+use Rattle.scmi_link.specs.declared.post_error.PostError.TheVariants as post
+use Rattle.scmi_threads.specs.Parts.{Part, HasState, Writes, state_commands}
 use Rattle.scmi_threads.specs.ScriptLogs.{is_close}
 use Rattle.scmi_threads.specs.declared.agent_log.AgentLog.{AgentLog}
 use Rattle.scmi_threads.specs.declared.line.Line.{Line}
 use Rattle.scmi_threads.specs.declared.line.Line.TheVariants as line
 use Rattle.scmi_threads.specs.declared.order.Order.{Order}
+use Rattle.scmi_threads.specs.declared.order.Order.TheVariants as order
 use Rattle.scmi_threads.specs.declared.stop.Stop.{Stop}
 use Rattle.scmi_threads.specs.declared.stop.Stop.TheVariants as stop
 
@@ -41,10 +44,16 @@ HasAwaited (line.Got words) old new = (reply : Message) × (words ≡ reply.payl
 HasAwaited line.Limit old new = new ≡ old
 HasAwaited _ old new = ⊥
 
--- a call of a command, by its line: it was refused, or posted and waited for
+-- what a post can be refused for: the script has closed, or it has not and the kind of channel may have no place
+abbrev pub IsRefusal : Bool → Bool → PostError → Type 0
+IsRefusal full closed post.Closed = closed ≡ true
+IsRefusal full closed post.Full = (closed ≡ false) × (full ≡ true)
+IsRefusal full closed _ = ⊥
+
+-- a call of a command, by its line: it was refused, or the script had not closed, and it was posted and waited for
 abbrev pub HasAsked : Bool → Bool → Frame → Line → AgentLog → AgentLog → Type 0
 HasAsked full closed command (line.NotPosted error) before after = IsRefusal full closed error × (after.posted.items ≡ before.posted.items) × (after.read.items ≡ before.read.items)
-HasAsked full closed command line before after = (after.posted.items ≡ before.posted.items ++ command ∷ []) × HasAwaited line before.read.items after.read.items
+HasAsked full closed command line before after = (closed ≡ false) × (after.posted.items ≡ before.posted.items ++ command ∷ []) × HasAwaited line before.read.items after.read.items
 
 -- the line says that a reply came
 abbrev pub IsGot : Line → Type 0
@@ -61,10 +70,11 @@ abbrev pub ending : Line → Result (Unit {0}) Stop
 ending line.Limit = Err stop.Limit
 ending _ = Ok tt
 
--- so many calls asked for the state of a domain, and none of the replies had the state
-pub record HasAskedFor (domain state count : ℕ) (before after : AgentLog) : Type 0 where
+-- so many calls asked for the state of a domain, none of them after the script's close, and none of the replies had the state
+pub record HasAskedFor (closed : Bool) (domain state count : ℕ) (before after : AgentLog) : Type 0 where
   pub others : List Message
   pub many : length others ≡ count
+  pub unclosed : closed ≡ true → count ≡ 0
   pub none_has_it : All (λ reply. ¬ (HasState state reply)) others
   pub posted : after.posted.items ≡ before.posted.items ++ state_commands (length before.posted.items) domain count
   pub read : after.read.items ≡ before.read.items ++ map Reply others
@@ -84,7 +94,7 @@ lines_of_seen (Err why) = []
 -- what asking for a state until it is seen leaves, without the line
 pub record HasLooked (full closed : Bool) (domain state : ℕ) (seen : Result Bool Stop) (before after : AgentLog) : Type 0 where
   pub part : Part
-  pub writes : UntilWrites full closed (length before.posted.items) domain state (stop_of_seen seen) part
+  pub writes : Writes full closed (length before.posted.items) (order.Until domain state) (stop_of_seen seen) part
   pub posted : after.posted.items ≡ before.posted.items ++ part.posted
   pub read : after.read.items ≡ before.read.items ++ part.read
   pub lines : part.lines ≡ lines_of_seen seen
@@ -101,11 +111,11 @@ pub record IsUnmoved (old new : CallerView) (before after : AgentLog) : Type 0 w
   pub stopped : after.stopped ≡ before.stopped
   pub closed : new.closed ≡ old.closed
 
--- one more message was taken and has its line, or none: the turns ran out, or memory was refused
-abbrev pub HasTaken : Result (Unit {0}) Stop → AgentLog → AgentLog → Type 0
-HasTaken (Ok done) before after = (message : Frame) × (after.p2a.items ≡ before.p2a.items ++ message ∷ []) × (after.lines.items ≡ before.lines.items ++ line.P2a message ∷ [])
-HasTaken (Err stop.Limit) before after = (after.p2a.items ≡ before.p2a.items) × (after.lines.items ≡ before.lines.items ++ line.Limit ∷ [])
-HasTaken (Err stop.Memory) before after = (after.p2a.items ≡ before.p2a.items) × (after.lines.items ≡ before.lines.items)
+-- one more message was taken, by an end that has not closed, and has its line, or none: the turns ran out, or memory was refused
+abbrev pub HasTaken : Bool → Result (Unit {0}) Stop → AgentLog → AgentLog → Type 0
+HasTaken closed (Ok done) before after = (closed ≡ false) × (message : Frame) × (after.p2a.items ≡ before.p2a.items ++ message ∷ []) × (after.lines.items ≡ before.lines.items ++ line.P2a message ∷ [])
+HasTaken closed (Err stop.Limit) before after = (after.p2a.items ≡ before.p2a.items) × (after.lines.items ≡ before.lines.items ++ line.Limit ∷ [])
+HasTaken closed (Err stop.Memory) before after = (after.p2a.items ≡ before.p2a.items) × (after.lines.items ≡ before.lines.items)
 
 -- the log has this part more
 pub record HasMore (part : Part) (before after : AgentLog) : Type 0 where

@@ -1,5 +1,5 @@
 -- What each order of a script writes into its agent's log.
-use Rattle.std.specs.Prelude.{◌≡◌, ℕ, zero, suc, ◌+◌, ◌%◌, ◌<◌, Bool, true, List, [], ◌∷◌, ◌++◌, length, map, Option, Some, None}
+use Rattle.std.specs.Prelude.{◌≡◌, ℕ, zero, suc, ◌+◌, ◌%◌, ◌<◌, Bool, true, false, List, [], ◌∷◌, ◌++◌, length, map, Option, Some, None}
 use Rattle.std.specs.List.{All}
 use Rattle.arrayvec.specs.ArrayVec.{ArrayVec}
 use Rattle.scmi_codec.specs.declared.message.Message.{Message}
@@ -9,7 +9,6 @@ use Rattle.scmi_codec.specs.declared.frame.Answer.{Answer}
 use Rattle.scmi_codec.specs.declared.frame.Answer.TheVariants.{Reply}
 use Rattle.scmi_codec.specs.declared.header.TheConstants.{TOKENS}
 use Rattle.scmi_link.specs.declared.closing.Closing.TheVariants.{Idle}
-use Rattle.scmi_link.specs.declared.post_error.PostError.{PostError}
 use Rattle.scmi_link.specs.declared.post_error.PostError.TheVariants as post
 use Rattle.scmi_threads.specs.declared.line.Line.{Line}
 use Rattle.scmi_threads.specs.declared.line.Line.TheVariants as line
@@ -38,35 +37,33 @@ state_commands n domain (suc k) = state_commands n domain k ++ command (n + k) 0
 abbrev pub HasState : ℕ → Message → Type 0
 HasState state reply = reply.payload.items ≡ 0 ∷ state ∷ []
 
--- what a post can be refused for: the script has closed, or the kind of channel may have no place
-abbrev pub IsRefusal : Bool → Bool → PostError → Type 0
-IsRefusal full closed post.Closed = closed ≡ true
-IsRefusal full closed post.Full = full ≡ true
-IsRefusal full closed _ = ⊥
+-- a part of lines alone: nothing was posted, read or taken
+abbrev pub only_lines : List Line → Part
+only_lines lines = record { posted = []; read = []; taken = []; lines = lines }
 
 -- a call, by how it ended
-pub data CallWrites (full closed : Bool) (n protocol id : ℕ) (payload : ArrayVec ℕ) : Option Stop → Part → Type 0 where
+pub data CallWrites (full : Bool) (n protocol id : ℕ) (payload : ArrayVec ℕ) : Option Stop → Part → Type 0 where
   -- its frame was posted, and its line has the payload of the reply that was read for it
-  call_answered : (reply : Message) → CallWrites full closed n protocol id payload None (record { posted = command n protocol id payload ∷ []; read = Reply reply ∷ []; taken = []; lines = line.Got reply.payload ∷ [] })
-  -- its post was refused
-  call_refused : (error : PostError) → IsRefusal full closed error → CallWrites full closed n protocol id payload None (record { posted = []; read = []; taken = []; lines = line.NotPosted error ∷ [] })
+  call_answered : (reply : Message) → CallWrites full n protocol id payload None (record { posted = command n protocol id payload ∷ []; read = Reply reply ∷ []; taken = []; lines = line.Got reply.payload ∷ [] })
+  -- the channel had no place for it
+  call_found_no_place : full ≡ true → CallWrites full n protocol id payload None (only_lines (line.NotPosted post.Full ∷ []))
   -- its turns ran out, and the script ended
-  call_ran_out : CallWrites full closed n protocol id payload (Some stop.Limit) (record { posted = command n protocol id payload ∷ []; read = []; taken = []; lines = line.Limit ∷ [] })
+  call_ran_out : CallWrites full n protocol id payload (Some stop.Limit) (record { posted = command n protocol id payload ∷ []; read = []; taken = []; lines = line.Limit ∷ [] })
   -- memory was refused before it posted, and the script ended
-  call_had_no_room : CallWrites full closed n protocol id payload (Some stop.Memory) (record { posted = []; read = []; taken = []; lines = [] })
+  call_had_no_room : CallWrites full n protocol id payload (Some stop.Memory) (only_lines [])
 
 -- an order to wait for a state, by how it ended. All replies but the last that is named say another state
-pub data UntilWrites (full closed : Bool) (n domain state : ℕ) : Option Stop → Part → Type 0 where
+pub data UntilWrites (full : Bool) (n domain state : ℕ) : Option Stop → Part → Type 0 where
   -- the last of at most 100,000 replies has the state
-  state_seen : (others : List Message) (last : Message) → length others < 100_000 → All (λ reply. ¬ (HasState state reply)) others → HasState state last → UntilWrites full closed n domain state None (record { posted = state_commands n domain (length others + 1); read = map Reply others ++ Reply last ∷ []; taken = []; lines = line.UntilOk ∷ [] })
+  state_seen : (others : List Message) (last : Message) → length others < 100_000 → All (λ reply. ¬ (HasState state reply)) others → HasState state last → UntilWrites full n domain state None (record { posted = state_commands n domain (length others + 1); read = map Reply others ++ Reply last ∷ []; taken = []; lines = line.UntilOk ∷ [] })
   -- none of 100,000 replies has it
-  state_not_seen : (others : List Message) → length others ≡ 100_000 → All (λ reply. ¬ (HasState state reply)) others → UntilWrites full closed n domain state (Some stop.Limit) (record { posted = state_commands n domain (length others); read = map Reply others; taken = []; lines = line.UntilLimit ∷ [] })
+  state_not_seen : (others : List Message) → length others ≡ 100_000 → All (λ reply. ¬ (HasState state reply)) others → UntilWrites full n domain state (Some stop.Limit) (record { posted = state_commands n domain (length others); read = map Reply others; taken = []; lines = line.UntilLimit ∷ [] })
   -- the turns of a wait ran out
-  state_ran_out : (others : List Message) → length others < 100_000 → All (λ reply. ¬ (HasState state reply)) others → UntilWrites full closed n domain state (Some stop.Limit) (record { posted = state_commands n domain (length others + 1); read = map Reply others; taken = []; lines = line.UntilLimit ∷ [] })
-  -- a post was refused
-  state_refused : (others : List Message) (error : PostError) → length others < 100_000 → All (λ reply. ¬ (HasState state reply)) others → IsRefusal full closed error → UntilWrites full closed n domain state (Some stop.Limit) (record { posted = state_commands n domain (length others); read = map Reply others; taken = []; lines = line.UntilLimit ∷ [] })
+  state_ran_out : (others : List Message) → length others < 100_000 → All (λ reply. ¬ (HasState state reply)) others → UntilWrites full n domain state (Some stop.Limit) (record { posted = state_commands n domain (length others + 1); read = map Reply others; taken = []; lines = line.UntilLimit ∷ [] })
+  -- the channel had no place for a command
+  state_found_no_place : (others : List Message) → length others < 100_000 → All (λ reply. ¬ (HasState state reply)) others → full ≡ true → UntilWrites full n domain state (Some stop.Limit) (record { posted = state_commands n domain (length others); read = map Reply others; taken = []; lines = line.UntilLimit ∷ [] })
   -- memory was refused before a post
-  state_had_no_room : (others : List Message) → length others < 100_000 → All (λ reply. ¬ (HasState state reply)) others → UntilWrites full closed n domain state (Some stop.Memory) (record { posted = state_commands n domain (length others); read = map Reply others; taken = []; lines = [] })
+  state_had_no_room : (others : List Message) → length others < 100_000 → All (λ reply. ¬ (HasState state reply)) others → UntilWrites full n domain state (Some stop.Memory) (record { posted = state_commands n domain (length others); read = map Reply others; taken = []; lines = [] })
 
 -- an order to take so many P2A messages, by how it ended: each message has its line
 pub data P2aWrites (count : ℕ) : Option Stop → Part → Type 0 where
@@ -78,12 +75,33 @@ pub data P2aWrites (count : ℕ) : Option Stop → Part → Type 0 where
 
 -- an order to close, by how it ended: nothing of the script is outstanding there
 pub data CloseWrites : Option Stop → Part → Type 0 where
-  close_done : CloseWrites None (record { posted = []; read = []; taken = []; lines = line.Close Idle ∷ [] })
-  close_had_no_room : CloseWrites (Some stop.Memory) (record { posted = []; read = []; taken = []; lines = [] })
+  close_done : CloseWrites None (only_lines (line.Close Idle ∷ []))
+  close_had_no_room : CloseWrites (Some stop.Memory) (only_lines [])
 
--- what an order writes after n commands were posted: `full` says whether the channels may have no place, `closed` whether the script has closed; with why it ended the script, if it did
+-- the order is to take no message
+abbrev pub IsForNothing : Order → Type 0
+IsForNothing (order.P2a count) = count ≡ 0
+IsForNothing _ = ⊥
+
+-- an order of a script that has closed, by how it ended: it posts nothing, reads no answer and takes no message
+pub data ClosedWrites : Order → Option Stop → Part → Type 0 where
+  -- a call is refused
+  call_refused : (protocol id : ℕ) (payload : ArrayVec ℕ) → ClosedWrites (order.Call protocol id payload) None (only_lines (line.NotPosted post.Closed ∷ []))
+  -- so is the first call of a wait for a state, and the script ends
+  state_refused : (domain state : ℕ) → ClosedWrites (order.Until domain state) (Some stop.Limit) (only_lines (line.UntilLimit ∷ []))
+  -- there is nothing to take where no message is asked for
+  none_asked_for : (count : ℕ) → count ≡ 0 → ClosedWrites (order.P2a count) None (only_lines [])
+  -- the turns for a message run out, and the script ends
+  none_came : (count : ℕ) → 0 < count → ClosedWrites (order.P2a count) (Some stop.Limit) (only_lines (line.Limit ∷ []))
+  -- the end stays closed
+  closed_again : ClosedWrites order.Close None (only_lines (line.Close Idle ∷ []))
+  -- memory was refused for its line, and the script ended
+  line_had_no_room : (o : Order) → ¬ (IsForNothing o) → ClosedWrites o (Some stop.Memory) (only_lines [])
+
+-- what an order writes after n commands were posted: `full` says whether the channels may have no place, the second whether the script has closed; with why it ended the script, if it did
 abbrev pub Writes : Bool → Bool → ℕ → Order → Option Stop → Part → Type 0
-Writes full closed n (order.Call protocol id payload) = CallWrites full closed n protocol id payload
-Writes full closed n (order.Until domain state) = UntilWrites full closed n domain state
-Writes full closed n (order.P2a count) = P2aWrites count
-Writes full closed n order.Close = CloseWrites
+Writes full true n o = ClosedWrites o
+Writes full false n (order.Call protocol id payload) = CallWrites full n protocol id payload
+Writes full false n (order.Until domain state) = UntilWrites full n domain state
+Writes full false n (order.P2a count) = P2aWrites count
+Writes full false n order.Close = CloseWrites

@@ -39,8 +39,8 @@ impl<'a, C: Channel> ScriptRun<'a, C> {
     ghost use Rattle.scmi_link.specs.View.{knows_close};
     ghost use Rattle.scmi_threads.specs.Lines.{IsOfCall};
     ghost use Rattle.scmi_threads.specs.Logs.{IsSameLog};
-    ghost use Rattle.scmi_threads.specs.Orders.{HasAsked, HasAwaited, HasDone, IsAtRest, IsUndisturbed, LeavesRest, stop_of};
-    ghost use Rattle.scmi_threads.specs.Parts.{IsRefusal, command};
+    ghost use Rattle.scmi_threads.specs.Orders.{HasAsked, HasAwaited, HasDone, IsAtRest, IsRefusal, IsUndisturbed, LeavesRest, stop_of};
+    ghost use Rattle.scmi_threads.specs.Parts.{command};
     ghost use Rattle.scmi_threads.specs.ScriptRuns.{HasRun};
     ghost use Rattle.scmi_threads.specs.declared.order.Order.TheVariants as order;
     ghost use Rattle.scmi_threads.specs.declared.stop.Stop.TheVariants as stop;

@@ -4,7 +4,7 @@
 //! `run_agents`: whatever the threads' order, the outcome's trace is a legal history of the plan,
 //! and each agent's log agrees with it: its commands were executed in order, each once, at most the
 //! last left out, and each answer that it read is the one at its command's place. And each log
-//! follows its agent's script, order by order.
+//! follows its agent's script, order by order, and nothing is done after a close.
 #![tactic(auto)]
 
 mod agent_log;

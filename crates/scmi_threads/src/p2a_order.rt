@@ -32,7 +32,7 @@ impl<'a, C: Channel> ScriptRun<'a, C> {
         ensures ran { HasRun self.old self.new }
         ensures unmoved { IsUnmoved self.old.end.caller self.new.end.caller self.old.log
             self.new.log }
-        ensures taken { HasTaken result self.old.log self.new.log }
+        ensures taken { HasTaken self.old.end.caller.closed result self.old.log self.new.log }
     {
         self.log.reserve_message()?;
         let mut pause = Pause::new();
@@ -47,13 +47,15 @@ impl<'a, C: Channel> ScriptRun<'a, C> {
     }
 
     // Looks once for a message, and notes it, for which there is room. Says whether one came.
+    #[tactic(auto, using(crate::proofs::ClosesLemmas::takes_open))]
     fn look(&mut self) -> bool
         requires p2a { vec_len self.old.log.p2a < vec_capacity self.old.log.p2a }
         requires lines { vec_len self.old.log.lines < vec_capacity self.old.log.lines }
         ensures ran { HasRun self.old self.new }
         ensures unmoved { IsUnmoved self.old.end.caller self.new.end.caller self.old.log
             self.new.log }
-        ensures taken { IsTrue result → HasTaken (Ok tt) self.old.log self.new.log }
+        ensures taken { IsTrue result →
+            HasTaken self.old.end.caller.closed (Ok tt) self.old.log self.new.log }
         ensures none { ¬ (IsTrue result) → self.new.log ≡ self.old.log }
     {
         match self.end.next_p2a(self.link) {

@@ -6,6 +6,7 @@ ghost use Rattle.scmi_core.specs.History.{deeds};
 ghost use Rattle.scmi_core.specs.Legal.{IsLegal};
 ghost use Rattle.scmi_ends.specs.Each.{AllFrom};
 ghost use Rattle.scmi_ends.specs.Links.{HasLinks, AreEndsOf};
+ghost use Rattle.scmi_threads.specs.AfterClose.{EndsAtClose};
 ghost use Rattle.scmi_threads.specs.Logs.{IsLogOf, LogHeadline};
 ghost use Rattle.scmi_threads.specs.Rounds.{IsOpenToAll, GoesOn};
 ghost use Rattle.scmi_threads.specs.Orders.{IsUndisturbed};
@@ -45,7 +46,9 @@ use std::thread::{Threads, join};
 /// took are those delivered, at most the last left out, and with its outbox they are all that was
 /// made for it, where no delayed response is lost; and its n-th command has token (n - 1) modulo
 /// 1,024. Each log follows its agent's script order by order, and to its end where it was not
-/// stopped. Want of memory before the scripts start is the only refusal.
+/// stopped. After a close that succeeded no further command of the script is executed: its other
+/// orders post nothing, read no answer and take no message. Want of memory before the scripts start
+/// is the only refusal.
 pub fn run_agents<C: Channel, G: Gate, R: Threads + Wait + Sync>(
     rt: &R,
     alloc: Global,
@@ -63,6 +66,9 @@ pub fn run_agents<C: Channel, G: Gate, R: Threads + Wait + Sync>(
         AllFrom (λ a log. IsScriptLog C.FULL (orders_of scripts.now a) log) 1 outcome.logs.items) }
     ensures headline { IfOk result (λ outcome.
         AllFrom (λ a log. LogHeadline plan outcome.trace.events a log) 1 outcome.logs.items) }
+    ensures closed { IfOk result (λ outcome. AllFrom (λ a log.
+        EndsAtClose C.FULL (orders_of scripts.now a) outcome.trace.events a log)
+        1 outcome.logs.items) }
 {
     let core = Core::new(alloc, plan);
     let agents = core.agents();

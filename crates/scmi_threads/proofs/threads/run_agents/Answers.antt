@@ -9,6 +9,7 @@ use Rattle.scmi_ends.specs.Links.{identities_of_a2p, identities_of_p2a}
 use Rattle.scmi_threads.specs.Orders.{IsUndisturbed}
 use Rattle.scmi_threads.specs.ScriptLogs.{IsScriptLog, orders_of}
 use Rattle.scmi_threads.specs.declared.agent_log.AgentLog.{AgentLog}
+use Rattle.scmi_threads.proofs.AfterCloseLemmas.{all_end_at_close}
 use Rattle.scmi_threads.proofs.Started.{all_follow}
 use Rattle.scmi_threads.proofs.Moves.{zip_maps}
 use Rattle.scmi_threads.proofs.threads.run_agents.Goals as goal
@@ -55,3 +56,13 @@ returns-clause-scripts g c =
     (subst follows (sym c.end_runs-ends.ensures.same.1)
     (all_follow g.C.Channel.FULL c.args.scripts.now 1 c.in_ok-script_runs.script_runs.items c.run_beside-controller.result.1.items c.in_ok-script_runs.ensures.started c.run_beside-controller.ensures.ran
     (subst (All (λ agent. IsUndisturbed agent.caller)) c.end_runs-ends.ensures.same.0 c.conclude.ensures.undisturbed)))
+
+pub returns-clause-closed : goal.returns-clause-closed
+returns-clause-closed g c =
+    let follows = λ (logs : List AgentLog). AllFrom (λ a log. IsScriptLog g.C.Channel.FULL (orders_of c.args.scripts.now a) log) 1 logs in
+    all_end_at_close g.C.Channel.FULL (orders_of c.args.scripts.now) _ _ 1 _
+    (subst (λ logs. follows logs.items) (sym c.conclude.ensures.logs)
+    (subst follows (sym c.end_runs-ends.ensures.same.1)
+    (all_follow g.C.Channel.FULL c.args.scripts.now 1 c.in_ok-script_runs.script_runs.items c.run_beside-controller.result.1.items c.in_ok-script_runs.ensures.started c.run_beside-controller.ensures.ran
+    (subst (All (λ agent. IsUndisturbed agent.caller)) c.end_runs-ends.ensures.same.0 c.conclude.ensures.undisturbed))))
+    c.conclude.ensures.headline

@@ -1,12 +1,11 @@
 use Rattle.std.proofs.Common.{ap, rules, subst, sym}
 use Rattle.scmi_threads.specs.Orders.{HasDone, stop_of, ending}
-use Rattle.scmi_threads.specs.Parts.{call_had_no_room}
 use Rattle.scmi_threads.specs.declared.order.Order.TheVariants as order
 use Rattle.scmi_threads.proofs.OrderLemmas.{nothing_done, done_since, call_done, still_rests}
 use Rattle.scmi_threads.proofs.script_run.ScriptRun.call.Goals as goal
 
 pub returns-in_err-reserve_line-clause-done : goal.returns-in_err-reserve_line-clause-done
-returns-in_err-reserve_line-clause-done g c = λ u rest. nothing_done g.C.Channel.FULL (order.Call c.args.protocol c.args.id c.args.payload.now) c.from_residual.result c.args.self.now.end.caller c.args.self.now.end.caller c.args.self.now.log c.reserve_line.new.self (search rules) call_had_no_room c.reserve_line.ensures.same
+returns-in_err-reserve_line-clause-done g c = λ u rest. nothing_done g.C.Channel.FULL (order.Call c.args.protocol c.args.id c.args.payload.now) c.from_residual.result c.args.self.now.end.caller c.args.self.now.end.caller c.args.self.now.log c.reserve_line.new.self (search rules) (λ x. x) c.reserve_line.ensures.same
 
 pub returns-in_err-line-clause-done : goal.returns-in_err-line-clause-done
 returns-in_err-line-clause-done g c = λ u rest.
@@ -14,7 +13,7 @@ returns-in_err-line-clause-done g c = λ u rest.
     let reserved = c.reserve_line.new.self in
     let called = order.Call c.args.protocol c.args.id c.args.payload.now in
     done_since g.C.Channel.FULL called (stop_of c.from_residual-in_err-line.result) old.end.caller c.ask.new.self.end.caller old.log reserved c.ask.new.self.log c.reserve_line.ensures.same
-    (nothing_done g.C.Channel.FULL called c.from_residual-in_err-line.result old.end.caller c.ask.new.self.end.caller reserved c.ask.new.self.log (search rules) call_had_no_room c.in_err-line.ensures.same)
+    (nothing_done g.C.Channel.FULL called c.from_residual-in_err-line.result old.end.caller c.ask.new.self.end.caller reserved c.ask.new.self.log (search rules) (λ x. x) c.in_err-line.ensures.same)
 
 pub returns-clause-done : goal.returns-clause-done
 returns-clause-done g c = λ u rest.

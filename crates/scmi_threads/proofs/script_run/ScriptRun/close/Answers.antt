@@ -3,13 +3,12 @@ use Rattle.scmi_link.specs.declared.closing.Closing.{Closing}
 use Rattle.scmi_link.specs.declared.closing.Closing.TheVariants as closing
 use Rattle.scmi_link.specs.Calls.{ClosesCaller}
 use Rattle.scmi_threads.specs.declared.line.Line.TheVariants as line
-use Rattle.scmi_threads.specs.Parts.{close_had_no_room}
 use Rattle.scmi_threads.specs.declared.order.Order.TheVariants as order
 use Rattle.scmi_threads.proofs.OrderLemmas.{nothing_done, noted_since, close_noted}
 use Rattle.scmi_threads.proofs.script_run.ScriptRun.close.Goals as goal
 
 pub returns-in_err-reserve_line-clause-done : goal.returns-in_err-reserve_line-clause-done
-returns-in_err-reserve_line-clause-done g c = λ rest. nothing_done g.C.Channel.FULL order.Close c.from_residual.result c.args.self.now.end.caller c.args.self.now.end.caller c.args.self.now.log c.reserve_line.new.self (search rules) close_had_no_room c.reserve_line.ensures.same
+returns-in_err-reserve_line-clause-done g c = λ rest. nothing_done g.C.Channel.FULL order.Close c.from_residual.result c.args.self.now.end.caller c.args.self.now.end.caller c.args.self.now.log c.reserve_line.new.self (search rules) (λ x. x) c.reserve_line.ensures.same
 
 pub returns-in-Ok-clause-done : goal.returns-in-Ok-clause-done
 returns-in-Ok-clause-done g c = λ rest.

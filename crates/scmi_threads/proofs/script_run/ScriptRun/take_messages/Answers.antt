@@ -7,7 +7,7 @@ pub messages-init : goal.messages-init
 messages-init g c = record {
   ran = record { a2p = refl; p2a = refl; script = refl; undisturbed = λ u. u };
   unmoved = record { posted = refl; read = refl; stopped = refl; closed = refl };
-  taken = none_taken c.args.self.now.log c.args.self.now.log refl refl;
+  taken = none_taken c.args.self.now.end.caller.closed c.args.self.now.log c.args.self.now.log refl refl;
 }
 
 pub messages-preserved : goal.messages-preserved
@@ -18,7 +18,7 @@ messages-preserved g c =
     record {
       ran = has_run before mid after c.messages.invariant.ran c.take_message.ensures.ran;
       unmoved = moved_on before.end.caller mid.end.caller after.end.caller before.log mid.log after.log c.messages.invariant.unmoved c.take_message.ensures.unmoved;
-      taken = one_taken c.messages._taken before.log mid.log after.log c.messages.invariant.taken c.in_ok-take_message.ensures.taken;
+      taken = one_taken before.end.caller.closed mid.end.caller.closed c.messages._taken before.log mid.log after.log c.messages.invariant.unmoved.closed c.messages.invariant.taken c.in_ok-take_message.ensures.taken;
     }
 
 pub returns-in_err-take_message-clause-done : goal.returns-in_err-take_message-clause-done
@@ -33,4 +33,4 @@ returns-clause-done g c =
     let before = c.args.self.now in
     let after = c.messages.self in
     let is : c.messages._taken ≡ c.args.count = omega arith in
-    all_taken g.C.Channel.FULL c.args.count before.end.caller after.end.caller before.log after.log c.messages.invariant.unmoved (subst (λ n. HasTakenMany n before.log after.log) is c.messages.invariant.taken)
+    all_taken g.C.Channel.FULL c.args.count before.end.caller after.end.caller before.log after.log c.messages.invariant.unmoved (subst (λ n. HasTakenMany before.end.caller.closed n before.log after.log) is c.messages.invariant.taken)

@@ -7,5 +7,5 @@ abbrev pub invariant-messages : goal.invariant-messages
 invariant-messages g l = record {
   ran : HasRun l.fn.self l.self;
   unmoved : IsUnmoved l.fn.self.end.caller l.self.end.caller l.fn.self.log l.self.log;
-  taken : HasTakenMany l._taken l.fn.self.log l.self.log;
+  taken : HasTakenMany l.fn.self.end.caller.closed l._taken l.fn.self.log l.self.log;
 }

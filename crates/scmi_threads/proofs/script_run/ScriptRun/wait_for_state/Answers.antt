@@ -1,19 +1,15 @@
-use Rattle.std.proofs.Common.{◌<◌, true, false, [], ap, arith, refl, rules, subst, length, Ok}
-use Rattle.std.proofs.lemmas.List.Elements.{All-nil}
+use Rattle.std.proofs.Common.{true, false, ap, refl, rules, subst, Ok}
 use Rattle.scmi_threads.specs.Orders.{HasLooked, stop_of}
-use Rattle.scmi_threads.specs.Parts.{HasState, state_had_no_room}
 use Rattle.scmi_threads.specs.declared.line.Line.TheVariants as line
 use Rattle.scmi_threads.specs.declared.order.Order.TheVariants as order
 use Rattle.scmi_threads.specs.declared.stop.Stop.TheVariants as stop
-use Rattle.scmi_codec.specs.declared.message.Message.{Message}
 use Rattle.std.proofs.Common.{None, Some}
 use Rattle.scmi_threads.proofs.OrderLemmas.{nothing_done, done_since, still_rests, until_noted, until_ended}
 use Rattle.scmi_threads.proofs.script_run.ScriptRun.wait_for_state.Goals as goal
 
 pub returns-in_err-reserve_line-clause-done : goal.returns-in_err-reserve_line-clause-done
 returns-in_err-reserve_line-clause-done g c = λ u rest.
-    let below : length {A = Message} [] < 100_000 = omega arith in
-    nothing_done g.C.Channel.FULL (order.Until c.args.domain c.args.state) c.from_residual.result c.args.self.now.end.caller c.args.self.now.end.caller c.args.self.now.log c.reserve_line.new.self (search rules) (state_had_no_room [] below (All-nil (λ reply. ¬ (HasState c.args.state reply)))) c.reserve_line.ensures.same
+    nothing_done g.C.Channel.FULL (order.Until c.args.domain c.args.state) c.from_residual.result c.args.self.now.end.caller c.args.self.now.end.caller c.args.self.now.log c.reserve_line.new.self (search rules) (λ x. x) c.reserve_line.ensures.same
 
 pub returns-in_err-sees_state-clause-done : goal.returns-in_err-sees_state-clause-done
 returns-in_err-sees_state-clause-done g c = λ u rest.
