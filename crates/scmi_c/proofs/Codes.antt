@@ -1,5 +1,5 @@
 -- What a code tells of what a call gave.
-use Rattle.std.proofs.Common.{rules, ◌≡◌, ◌↔◌, ℕ, List, Option, Some, None, Result, Ok, Err, IfSome, refl, sym, subst}
+use Rattle.std.proofs.Common.{rules, ◌≡◌, ◌↔◌, ℕ, List, Option, Some, None, Result, Ok, Err, IfSome, sym, subst}
 use Rattle.scmi_codec.specs.declared.frame.Frame.{Frame}
 use Rattle.scmi_core.specs.declared.event.Event.{Event}
 use Rattle.scmi_c.specs.declared.held.Held.{Held}

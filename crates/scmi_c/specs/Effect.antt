@@ -1,5 +1,5 @@
 -- Changes of hardware, as numbers for C.
-use Rattle.std.specs.Prelude.{ℕ, ◌/◌, ◌%◌, ◌^◌}
+use Rattle.std.specs.Prelude.{◌/◌, ◌%◌, ◌^◌}
 use Rattle.scmi_core.specs.declared.effect.Effect.{Effect}
 use Rattle.scmi_core.specs.declared.effect.Effect.TheVariants.{State, Rate, Enabled}
 use Rattle.scmi_core.specs.Value.{bit_value}

@@ -1,5 +1,5 @@
 //! Areas that a platform answers and fills.
-ghost use Rattle.std.specs.Prelude.{◌≡◌, ◌≢◌, ◌↔◌, None, List, length, slice_get, IsSomeAnd, OnOk, OnErr, Err};
+ghost use Rattle.std.specs.Prelude.{◌≡◌, ◌≢◌, ◌↔◌, None, List, IsSomeAnd, OnOk, OnErr, Err};
 ghost use Rattle.scmi_codec.specs.Area.{frame_waiting};
 ghost use Rattle.scmi_core.specs.declared.event.Event.{Event};
 ghost use Rattle.scmi_c.specs.Standing.{board_of, StandsAt, LacksAgent, HasNoRoom};

@@ -1,5 +1,5 @@
 //! What a handle stands for.
-ghost use Rattle.std.specs.Prelude.{◌≡◌, ◌≢◌, ◌↔◌, ◌≤◌, [], List, length, true, false, slice_get, IfOk, OnOk, OnErr, IfErr, Ok, Err};
+ghost use Rattle.std.specs.Prelude.{◌≡◌, ◌≢◌, ◌↔◌, List, length, true, false, slice_get, IfOk, OnOk, OnErr, IfErr, Ok, Err};
 ghost use Rattle.std.specs.Option.{option_copied};
 ghost use Rattle.scmi_plan.specs.Agent.{IsAgent, IsNoAgent};
 ghost use Rattle.scmi_core.specs.History.{IsIdle, HasNothingFor, answer_to, answer_with, outbox};
