@@ -35,7 +35,7 @@ extern "C" {
 
 enum {
     SCMI_DONE = 0,
-    SCMI_NOTHING = 1,     /* the channel is free, no set is pending, or the outbox is empty */
+    SCMI_NOTHING = 1,     /* no frame to answer, no hardware to change, no set pending, or no message to post */
     SCMI_MEMORY = 2,      /* memory was refused */
     SCMI_NO_AGENT = 3,    /* the board has no agent of this number */
     SCMI_NOT_FREE = 4,    /* the area still holds a message */
@@ -90,7 +90,7 @@ uint32_t scmi_answer(scmi_platform *platform, uint32_t agent, uint8_t area[SCMI_
  * it; the platform and the area stay as they were. SCMI_DONE, SCMI_NO_PLATFORM, SCMI_NO_FRAME (the channel is
  * free), SCMI_NO_AGENT, or SCMI_NOTHING (the frame changes nothing of the hardware). After SCMI_DONE the program
  * makes the change, and then calls scmi_answer with the same area, or scmi_fail where the hardware refused; no
- * other call on the platform may come between, or what was asked may no longer be so.
+ * call that changes the platform may come between, or what was asked may no longer be so.
  */
 uint32_t scmi_ask(scmi_platform *platform, uint32_t agent, const uint8_t area[SCMI_AREA_BYTES], scmi_effect *effect);
 
