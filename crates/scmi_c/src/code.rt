@@ -7,7 +7,7 @@ use crate::refusal::Refusal;
 /// The call did what it is for.
 pub const DONE: u32 = 0;
 
-/// The channel is free, no set is pending, or the outbox is empty.
+/// No frame to answer, no hardware to change, no set pending, or no message to post.
 pub const NOTHING: u32 = 1;
 
 /// Memory was refused.
