@@ -67,7 +67,7 @@ fn hardware_is_given_what_the_history_changes(rt: HostRuntime) -> Result<(), Fai
     assert!(rt; core.advance_on(&mut switches) == Ok(true));
     assert!(rt; answers(&mut core, &mut switches, (0x0000_5007, &[0, 0]), &[0]));
     assert!(rt; core.advance_on(&mut switches) == Ok(false));
-    assert!(rt; switches.made() == [gpu, bus, cpu, stop]);
+    assert!(rt; switches.made() == [gpu, bus, cpu, stop].as_slice());
     Ok(())
 }
 
