@@ -2,6 +2,7 @@
 #ifndef AREA_H
 #define AREA_H
 #include <stdint.h>
+#include <stdio.h>
 
 #include "scmi.h"
 
@@ -33,5 +34,13 @@ static inline void area_post(uint8_t *area, uint32_t header, unsigned count, con
     for (unsigned i = 0; i < count; i++)
         area_set_word(area, AREA_PAYLOAD + 4 * i, words[i]);
     area_set_word(area, AREA_STATUS, STATUS_BUSY);
+}
+
+/* Prints the payload words of an area, and ends the line. */
+static inline void area_print_words(const uint8_t *area)
+{
+    for (unsigned i = 0; 4 * i + 4 < area_word(area, AREA_LENGTH); i++)
+        printf(" 0x%08x", (unsigned)area_word(area, AREA_PAYLOAD + 4 * i));
+    printf("\n");
 }
 #endif

@@ -47,13 +47,6 @@ static uint32_t complete(scmi_platform *platform)
     return scmi_advance(platform);
 }
 
-static void print_words(const uint8_t *area)
-{
-    for (unsigned i = 0; 4 * i + 4 < area_word(area, AREA_LENGTH); i++)
-        printf(" 0x%08x", (unsigned)area_word(area, AREA_PAYLOAD + 4 * i));
-    printf("\n");
-}
-
 static void call(scmi_platform *platform, uint32_t agent, uint32_t header, unsigned count, const uint32_t *words)
 {
     uint8_t area[SCMI_AREA_BYTES] = { 0 };
@@ -63,7 +56,7 @@ static void call(scmi_platform *platform, uint32_t agent, uint32_t header, unsig
     given = serve(platform, agent, area);
     printf("agent %u header 0x%08x -> %u: status word %u, words", (unsigned)agent, (unsigned)header, (unsigned)given,
            (unsigned)area_word(area, AREA_STATUS));
-    print_words(area);
+    area_print_words(area);
 }
 
 static void tell(scmi_platform *platform, uint32_t agent)
@@ -73,7 +66,7 @@ static void tell(scmi_platform *platform, uint32_t agent)
     area_set_word(area, AREA_STATUS, STATUS_FREE);
     while (scmi_next(platform, agent, area) == SCMI_DONE) {
         printf("to agent %u: header 0x%08x, words", (unsigned)agent, (unsigned)area_word(area, AREA_HEADER));
-        print_words(area);
+        area_print_words(area);
         scmi_sent(platform, agent);
         area_set_word(area, AREA_STATUS, STATUS_FREE);
     }

@@ -16,13 +16,6 @@ static const char board[] = "board Acme Lab 0x00010000 1\n"
                             "end\n";
 static uint8_t memory[64 * 1024];
 
-static void print_words(const uint8_t *area)
-{
-    for (unsigned i = 0; 4 * i + 4 < area_word(area, AREA_LENGTH); i++)
-        printf(" 0x%08x", (unsigned)area_word(area, AREA_PAYLOAD + 4 * i));
-    printf("\n");
-}
-
 static void call(scmi_platform *platform, uint32_t agent, uint32_t header, unsigned count, const uint32_t *words)
 {
     uint8_t area[SCMI_AREA_BYTES] = { 0 };
@@ -33,7 +26,7 @@ static void call(scmi_platform *platform, uint32_t agent, uint32_t header, unsig
     printf("agent %u header 0x%08x -> %u: status word %u, length %u, header 0x%08x, words", (unsigned)agent,
            (unsigned)header, (unsigned)given, (unsigned)area_word(area, AREA_STATUS),
            (unsigned)area_word(area, AREA_LENGTH), (unsigned)area_word(area, AREA_HEADER));
-    print_words(area);
+    area_print_words(area);
 }
 
 static void tell(scmi_platform *platform, uint32_t agent)
@@ -45,7 +38,7 @@ static void tell(scmi_platform *platform, uint32_t agent)
         printf("to agent %u: header 0x%08x", (unsigned)agent, (unsigned)area_word(area, AREA_HEADER));
         printf(", again %u", (unsigned)scmi_next(platform, agent, area));
         printf(", sent %u, words", (unsigned)scmi_sent(platform, agent));
-        print_words(area);
+        area_print_words(area);
         area_set_word(area, AREA_STATUS, STATUS_FREE);
     }
 }
