@@ -1,7 +1,6 @@
 -- The history of a platform: a list of events, oldest first. Each event is judged at its prefix, the events before it.
-use Rattle.std.specs.Prelude.{◌≡◌, ℕ, Bool, List, [], ◌∷◌, ◌++◌, length, take, slice_get, Option, Some, None}
+use Rattle.std.specs.Prelude.{◌≡◌, ℕ, Bool, List, [], ◌∷◌, ◌++◌, length, take, Option, Some, None}
 use Rattle.std.specs.List.{fold}
-use Rattle.std.specs.Option.{option_and_then}
 use Rattle.scmi_codec.specs.Command.{command_of}
 use Rattle.scmi_codec.specs.declared.message.Message.{Message}
 use Rattle.scmi_codec.specs.declared.frame.Frame.{Frame}
@@ -49,10 +48,6 @@ abbrev pub answer_of_event : Board → List Event → Event → Option Answer
 answer_of_event board h (Command a frame) = Some (answer_to board a frame h)
 answer_of_event board h (CommandFailed a frame) = Some (failed_answer frame)
 answer_of_event board h _ = None
-
--- the answer to the event at index n of a history, if it is a command
-abbrev pub answer_at : Board → List Event → ℕ → Option Answer
-answer_at board h n = option_and_then (answer_of_event board (take n h)) (slice_get h n)
 
 -- all messages made for agent a in a history, in order
 unfoldable pub made_for : Board → ℕ → List Event → List Message

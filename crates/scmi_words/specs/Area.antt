@@ -79,11 +79,6 @@ abbrev pub frame_size : Frame → ℕ
 frame_size (Good m) = length m.payload.items
 frame_size (Malformed l h) = 0
 
--- the payload words of an answer
-abbrev pub answer_size : Answer → ℕ
-answer_size (Reply m) = length m.payload.items
-answer_size _ = 0
-
 -- the accesses by which a frame is posted or taken: its length, its header, its payload, and one exchange of the status
 abbrev pub frame_steps : Frame → ℕ
 frame_steps f = frame_size f + 3
