@@ -1,0 +1,308 @@
+/*
+ * The areas of shared memory between a platform and its agents, for either side: a frame is copied in, each word
+ * once, and an answer out, and the status word alone hands them over.
+ *
+ * The other processor may be hostile, and write what it likes into the area whenever it likes. So what the calls
+ * below do is the same whatever it writes: no word of the area is read twice in one call, a length is bounded before
+ * it is used, no word outside the channel is touched, and what the program works on is a copy that it alone has. The
+ * status word is read with acquire and written with release, last; every other word of the area is a relaxed atomic
+ * access of 32 bits, once. No call waits.
+ *
+ * One side of a channel is used by one thread at a time. The memory is coherent between the two processors, and the
+ * doorbell, where there is one, is the program's, after the call. It needs no C library.
+ */
+#ifndef SCMI_MAILBOX_H
+#define SCMI_MAILBOX_H
+
+#include "scmi.h"
+
+#if !defined(__BYTE_ORDER__) || __BYTE_ORDER__ != __ORDER_LITTLE_ENDIAN__
+#error "scmi_mailbox.h takes the machine's words for the area's, which are little-endian"
+#endif
+
+#ifdef __cplusplus
+extern "C" {
+#endif
+
+/* Fewest payload words of a channel. */
+#define SCMI_MAILBOX_LEAST_WORDS 8
+
+/* Numbers of the calls below beside those of scmi.h. */
+enum {
+    SCMI_MAILBOX_LENGTH = 32, /* a length that the channel has no room for, or that is none */
+    SCMI_MAILBOX_REFUSED = 33 /* the answer is a channel error: the platform could not read the frame */
+};
+
+/* The status word. */
+enum {
+    SCMI_MAILBOX_BUSY = 0,
+    SCMI_MAILBOX_FREE = 1,       /* bit 0, which alone says whether the channel is free */
+    SCMI_MAILBOX_FREE_ERROR = 3, /* bit 1 beside it */
+    SCMI_MAILBOX_ERROR_BIT = 2
+};
+
+/* A word that the other processor may write at any time. */
+typedef volatile uint32_t __attribute__((__may_alias__)) scmi_shared_word;
+
+/* A channel: where its area begins, and how many payload words it has. The area has 28 + 4 * payload_words bytes. */
+typedef struct scmi_mailbox {
+    scmi_shared_word *words;
+    uint32_t payload_words; /* SCMI_MAILBOX_LEAST_WORDS to SCMI_PAYLOAD_WORDS */
+} scmi_mailbox;
+
+/* An area that this program alone has, its words in the order of the standard. */
+typedef struct scmi_area {
+    uint32_t reserved;
+    uint32_t status;
+    uint32_t reserved_too[2];
+    uint32_t flags;
+    uint32_t length; /* of header and payload, in bytes */
+    uint32_t header;
+    uint32_t payload[SCMI_PAYLOAD_WORDS];
+} scmi_area;
+
+#if defined(__cplusplus) && __cplusplus >= 201103L
+static_assert(sizeof(scmi_area) == SCMI_AREA_BYTES, "a copy has the size of an area");
+#elif defined(__STDC_VERSION__) && __STDC_VERSION__ >= 201112L
+_Static_assert(sizeof(scmi_area) == SCMI_AREA_BYTES, "a copy has the size of an area");
+#endif
+
+/* The bytes of a copy, for the calls of scmi.h. */
+static inline uint8_t *scmi_area_bytes(scmi_area *area)
+{
+    return (uint8_t *)area;
+}
+
+/* ---- What the calls are made of. */
+
+/* The places of the words in an area. */
+enum {
+    SCMI_AT_STATUS = 1,
+    SCMI_AT_FLAGS = 4,
+    SCMI_AT_LENGTH = 5,
+    SCMI_AT_HEADER = 6,
+    SCMI_AT_PAYLOAD = 7
+};
+
+static inline uint32_t scmi_shared_load(const scmi_mailbox *box, uint32_t at)
+{
+    return __atomic_load_n(&box->words[at], __ATOMIC_RELAXED);
+}
+
+static inline void scmi_shared_store(const scmi_mailbox *box, uint32_t at, uint32_t word)
+{
+    __atomic_store_n(&box->words[at], word, __ATOMIC_RELAXED);
+}
+
+/* What the other side wrote before it handed over is seen by what follows. */
+static inline uint32_t scmi_shared_status(const scmi_mailbox *box)
+{
+    return __atomic_load_n(&box->words[SCMI_AT_STATUS], __ATOMIC_ACQUIRE);
+}
+
+/* All that was read and written before is done when the other side sees the status. */
+static inline void scmi_shared_hand_over(const scmi_mailbox *box, uint32_t status)
+{
+    __atomic_store_n(&box->words[SCMI_AT_STATUS], status, __ATOMIC_RELEASE);
+}
+
+/* Whether a length is 4 + 4k bytes with k up to a number of words. */
+static inline int scmi_length_fits(uint32_t length, uint32_t payload_words)
+{
+    return length >= 4 && length % 4 == 0 && length / 4 - 1 <= payload_words;
+}
+
+/*
+ * Copies flags and frame of a channel, each word once; what the length does not name is zeros. SCMI_DONE, or
+ * SCMI_MAILBOX_LENGTH where the length does not fit the channel: then it is all that the copy has beside the flags,
+ * and where the library would take it for well formed it is 0 there, so that the frame is malformed to all.
+ */
+static inline uint32_t scmi_mailbox_copy(const scmi_mailbox *box, uint32_t status, scmi_area *area)
+{
+    uint32_t length = scmi_shared_load(box, SCMI_AT_LENGTH), count = 0, i;
+    int fits = scmi_length_fits(length, box->payload_words);
+
+    area->reserved = area->reserved_too[0] = area->reserved_too[1] = area->header = 0;
+    area->status = status;
+    area->flags = scmi_shared_load(box, SCMI_AT_FLAGS);
+    area->length = fits || !scmi_length_fits(length, SCMI_PAYLOAD_WORDS) ? length : 0;
+    if (fits) {
+        area->header = scmi_shared_load(box, SCMI_AT_HEADER);
+        for (count = length / 4 - 1, i = 0; i < count; i++)
+            area->payload[i] = scmi_shared_load(box, SCMI_AT_PAYLOAD + i);
+    }
+    for (i = count; i < SCMI_PAYLOAD_WORDS; i++)
+        area->payload[i] = 0;
+    if (!fits)
+        return SCMI_MAILBOX_LENGTH;
+    return SCMI_DONE;
+}
+
+/* Writes length, header and payload of a copy whose length fits, and then hands over. */
+static inline void scmi_mailbox_write(const scmi_mailbox *box, const scmi_area *area, uint32_t status)
+{
+    uint32_t i;
+
+    scmi_shared_store(box, SCMI_AT_LENGTH, area->length);
+    scmi_shared_store(box, SCMI_AT_HEADER, area->header);
+    for (i = 0; i < area->length / 4 - 1; i++)
+        scmi_shared_store(box, SCMI_AT_PAYLOAD + i, area->payload[i]);
+    scmi_shared_hand_over(box, status);
+}
+
+/* ---- Either side. */
+
+/*
+ * A mailbox over `bytes` bytes of shared memory, which it does not touch. SCMI_DONE; SCMI_MAILBOX_LENGTH where they
+ * are too few for SCMI_MAILBOX_LEAST_WORDS payload words or do not begin at a word. Of more than SCMI_AREA_BYTES the
+ * first are used.
+ */
+static inline uint32_t scmi_mailbox_over(scmi_mailbox *box, void *at, size_t bytes)
+{
+    size_t words = bytes < SCMI_AREA_BYTES ? bytes / 4 : SCMI_AREA_BYTES / 4;
+
+    if (words < SCMI_AT_PAYLOAD + SCMI_MAILBOX_LEAST_WORDS || (uintptr_t)at % 4 != 0)
+        return SCMI_MAILBOX_LENGTH;
+    box->words = (scmi_shared_word *)at;
+    box->payload_words = (uint32_t)words - SCMI_AT_PAYLOAD;
+    return SCMI_DONE;
+}
+
+/* Makes a channel free, at the start, by the side that sets the memory up. */
+static inline void scmi_mailbox_start(const scmi_mailbox *box)
+{
+    scmi_shared_hand_over(box, SCMI_MAILBOX_FREE);
+}
+
+static inline int scmi_mailbox_is_free(const scmi_mailbox *box)
+{
+    return (scmi_shared_status(box) & SCMI_MAILBOX_FREE) != 0;
+}
+
+/* ---- The platform's side. */
+
+/*
+ * Copies the command that stands in a channel (A2P), for scmi_ask, scmi_answer and scmi_fail; the channel stays
+ * busy. SCMI_DONE, of a malformed frame too, which scmi_answer answers; SCMI_NOTHING where the channel is free, and
+ * then the copy is as it was.
+ */
+static inline uint32_t scmi_mailbox_take(const scmi_mailbox *box, scmi_area *area)
+{
+    if (scmi_mailbox_is_free(box))
+        return SCMI_NOTHING;
+    scmi_mailbox_copy(box, SCMI_MAILBOX_BUSY, area);
+    return SCMI_DONE;
+}
+
+/*
+ * Writes the answer that scmi_answer or scmi_fail left in a copy into its channel, which is free then. SCMI_DONE;
+ * SCMI_NOTHING where the copy holds no answer, and then nothing is written; SCMI_MAILBOX_LENGTH where the channel
+ * has fewer words than the reply, and then the agent has a channel error.
+ */
+static inline uint32_t scmi_mailbox_answer(const scmi_mailbox *box, const scmi_area *area)
+{
+    if (!(area->status & SCMI_MAILBOX_FREE))
+        return SCMI_NOTHING;
+    if (area->status & SCMI_MAILBOX_ERROR_BIT) {
+        scmi_shared_hand_over(box, SCMI_MAILBOX_FREE_ERROR);
+        return SCMI_DONE;
+    }
+    if (!scmi_length_fits(area->length, box->payload_words)) {
+        scmi_shared_hand_over(box, SCMI_MAILBOX_FREE_ERROR);
+        return SCMI_MAILBOX_LENGTH;
+    }
+    scmi_mailbox_write(box, area, SCMI_MAILBOX_FREE);
+    return SCMI_DONE;
+}
+
+/*
+ * Looks for a command of an agent, and has it executed and answered. SCMI_DONE; SCMI_NOTHING where the channel is
+ * free; SCMI_MAILBOX_LENGTH where the channel has fewer words than the reply, which was a channel error then; or
+ * another number of scmi_answer, and then nothing has changed and the channel is busy: after SCMI_MEMORY the call may
+ * be made again.
+ */
+static inline uint32_t scmi_mailbox_serve(const scmi_mailbox *box, scmi_platform *platform, uint32_t agent)
+{
+    scmi_area area;
+    uint32_t given = scmi_mailbox_take(box, &area);
+
+    if (given == SCMI_DONE)
+        given = scmi_answer(platform, agent, scmi_area_bytes(&area));
+    return given == SCMI_DONE ? scmi_mailbox_answer(box, &area) : given;
+}
+
+/*
+ * Posts the first message of an agent's outbox on its channel (P2A), and takes it off. SCMI_DONE; SCMI_NOT_FREE
+ * where the agent has not taken the message before; SCMI_MAILBOX_LENGTH where the channel has fewer words than the
+ * message; or another number of scmi_next or scmi_sent. After any but SCMI_DONE nothing has changed.
+ */
+static inline uint32_t scmi_mailbox_tell(const scmi_mailbox *box, scmi_platform *platform, uint32_t agent)
+{
+    scmi_area area = { 0, 0, { 0, 0 }, 0, 0, 0, { 0 } };
+    uint32_t given;
+
+    area.status = scmi_shared_status(box) & SCMI_MAILBOX_FREE;
+    given = scmi_next(platform, agent, scmi_area_bytes(&area));
+    if (given == SCMI_DONE && !scmi_length_fits(area.length, box->payload_words))
+        given = SCMI_MAILBOX_LENGTH;
+    if (given == SCMI_DONE)
+        given = scmi_sent(platform, agent);
+    if (given == SCMI_DONE)
+        scmi_mailbox_write(box, &area, SCMI_MAILBOX_BUSY);
+    return given;
+}
+
+/* ---- The agent's side. */
+
+/*
+ * Posts flags, length, header and payload of a copy as a command (A2P). SCMI_DONE; SCMI_MAILBOX_LENGTH where the
+ * channel has no room for the length; SCMI_NOT_FREE where the command before has no answer yet. After these nothing
+ * is written.
+ */
+static inline uint32_t scmi_mailbox_post(const scmi_mailbox *box, const scmi_area *area)
+{
+    if (!scmi_length_fits(area->length, box->payload_words))
+        return SCMI_MAILBOX_LENGTH;
+    if (!scmi_mailbox_is_free(box))
+        return SCMI_NOT_FREE;
+    scmi_shared_store(box, SCMI_AT_FLAGS, area->flags);
+    scmi_mailbox_write(box, area, SCMI_MAILBOX_BUSY);
+    return SCMI_DONE;
+}
+
+/*
+ * Copies the reply to the command that was posted (A2P): to be called until there is one, and once then; the header
+ * is the command's, if the platform keeps its side. SCMI_DONE; SCMI_NOTHING where there is no answer yet;
+ * SCMI_MAILBOX_REFUSED where it is a channel error; SCMI_MAILBOX_LENGTH where its length fits no channel of this size.
+ * After SCMI_NOTHING and SCMI_MAILBOX_REFUSED the copy is as it was.
+ */
+static inline uint32_t scmi_mailbox_collect(const scmi_mailbox *box, scmi_area *area)
+{
+    uint32_t status = scmi_shared_status(box);
+
+    if (!(status & SCMI_MAILBOX_FREE))
+        return SCMI_NOTHING;
+    if (status & SCMI_MAILBOX_ERROR_BIT)
+        return SCMI_MAILBOX_REFUSED;
+    return scmi_mailbox_copy(box, SCMI_MAILBOX_FREE, area);
+}
+
+/*
+ * Takes a message of the platform (P2A), whose channel is free then. SCMI_DONE; SCMI_NOTHING where there is none, and
+ * then the copy is as it was; SCMI_MAILBOX_LENGTH where its length fits no channel of this size.
+ */
+static inline uint32_t scmi_mailbox_receive(const scmi_mailbox *box, scmi_area *area)
+{
+    uint32_t given;
+
+    if (scmi_mailbox_is_free(box))
+        return SCMI_NOTHING;
+    given = scmi_mailbox_copy(box, SCMI_MAILBOX_BUSY, area);
+    scmi_shared_hand_over(box, SCMI_MAILBOX_FREE);
+    return given;
+}
+
+#ifdef __cplusplus
+}
+#endif
+#endif
