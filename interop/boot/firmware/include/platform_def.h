@@ -1,0 +1,27 @@
+/* TF-A's own numbers for QEMU's machine, and what differs: the firmware speaks on the secure serial port. */
+#ifndef SCMI_PLATFORM_DEF_H
+#define SCMI_PLATFORM_DEF_H
+#include_next <platform_def.h>
+
+#undef PLAT_QEMU_BOOT_UART_BASE
+#define PLAT_QEMU_BOOT_UART_BASE UART1_BASE
+
+/* One region more than QEMU's: the shared memory. */
+#undef MAX_MMAP_REGIONS
+#define MAX_MMAP_REGIONS 13
+#undef MAX_XLAT_TABLES
+#define MAX_XLAT_TABLES 8
+
+/* As in the device tree (tree.dtsi): agent 1 has the first function and the first page, agent 2 the second. */
+#define SCMI_SMC_ID U(0x82000010)
+#define SCMI_SHARED_BASE ULL(0x50000000)
+#define SCMI_SHARED_EACH ULL(0x1000)
+/* The interrupt that announces an answer to agent 2. */
+#define SCMI_INTERRUPT 132
+
+/* Secure memory that BL31 has mapped and nothing else uses, as there is no BL32. */
+#define SCMI_STACK_BASE SEC_DRAM_BASE
+#define SCMI_STACK_SIZE 0x7000
+#define SCMI_HEAP_BASE (SEC_DRAM_BASE + 0x10000)
+#define SCMI_HEAP_SIZE 0x4000
+#endif
