@@ -26,6 +26,8 @@ pub(crate) struct RateSet {
 
 /// The checks of 0x5 (DEN0056B, clock management protocol): clock, flags and rate, permission,
 /// pending sets.
+// It has two callers, and costs each no more than one that is alone.
+#[inline(always)]
 pub(crate) fn check_set(
     plan: &Plan,
     base: &BaseState,
@@ -56,6 +58,7 @@ pub(crate) fn check_set(
 
 /// What flags and a rate ask for; INVALID_PARAMETERS for unknown flags, and where no supported rate
 /// lies in the asked direction.
+#[inline(always)]
 fn rounded_set(rates: &Rates, flags: u32, rate: u64) -> Result<RateSet, Status>
     requires { HasLawfulRates rates.now }
     ensures known { OnOk result (has_unknown_flags flags ≡ false) }

@@ -76,6 +76,15 @@ impl ClockState {
         self.rates[clock as usize] = rate;
     }
 
+    /// Enables or disables a clock.
+    pub fn set_enabled(&mut self, clock: u32, enabled: bool)
+        requires { clock < CLOCKS }
+        ensures rates { self.new.rates ≡ self.old.rates }
+        ensures enabled { HasConfigured (Some (clock, enabled)) self.old self.new }
+    {
+        self.enabled[clock as usize] = enabled;
+    }
+
     /// Executes a command of a caller, writes the reply, and names the set that it accepted for
     /// later: clock, rate in Hz, and whether a delayed response is wanted. The reply begins with a
     /// status: NOT_FOUND for an unknown clock or message id; then OUT_OF_RANGE for an index past a
@@ -261,7 +270,7 @@ impl ClockState {
     {
         match check_config(plan, base, caller, clock, attributes) {
             Ok(enable) => {
-                self.enabled[clock as usize] = enable;
+                self.set_enabled(clock, enable);
                 set_payload(reply, &[SUCCESS]);
             }
             Err(status) => set_refusal(reply, status),

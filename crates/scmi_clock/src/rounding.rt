@@ -21,6 +21,7 @@ pub enum Rounding {
 /// supported rate is above it, rounding down, or below it, rounding up; a nearest rate there always
 /// is.
 #[tactic(auto, using(crate::proofs::Rounds::rounded_is, crate::proofs::Rounds::rounded_none))]
+#[inline(always)]
 pub fn round(rates: &Rates, asked: u64, rounding: Rounding) -> Option<u64>
     requires { HasLawfulRates rates.now }
     ensures rounded { IfSome result (λ rate. IsRounded rounding rates.now asked rate) }
@@ -55,6 +56,7 @@ fn above(rates: &Rates, asked: u64) -> Option<u64>
 }
 
 #[tactic(auto, using(crate::proofs::Rounds::below_low, crate::proofs::Rounds::above_high))]
+#[inline(always)]
 fn nearest(rates: &Rates, asked: u64) -> Option<u64>
     requires { HasLawfulRates rates.now }
     ensures { result ≡ nearer asked (rate_below rates.now asked) (rate_above rates.now asked) }
