@@ -1,5 +1,7 @@
 -- A text as a number.
-use Rattle.std.proofs.Common.{ℕ, ◌<◌, ◌≤◌, ◌^◌, ◌≡◌, ◌≢◌, true, false, List, length, drop, Option, Some, None, SomeIff, Result, Ok, Err, slice_index, arith}
+use Rattle.std.proofs.Common.{ℕ, ◌<◌, ◌≤◌, ◌^◌, ◌≡◌, ◌≢◌, true, false, List, ◌-◌, length, drop, take, Option, Some, None, SomeIff, Result, Ok, Err, slice_index, arith}
+use Rattle.std.proofs.lemmas.List.{length-drop}
+use Rattle.std.proofs.Math.Seq.{take-length}
 use Rattle.std.specs.Result.{OkIff, result_ok}
 use Rattle.std.specs.Str.Parse.{IsNumeral, digits_value}
 use Rattle.scmi_board.specs.Number.{IsNumber, has_hexadecimal_mark, number_value}
@@ -30,3 +32,7 @@ none_of_fewer bits text fewer none is = none (record { digits = is.digits; form 
 pub of_fewer : {E : Type 0} (bits : ℕ) (text : List ℕ) (n : ℕ) (r : Result ℕ E) → IsNumber 64 text → n ≡ number_value text → OkIff r (n < 2 ^ bits) n → SomeIff (result_ok r) (IsNumber bits text) (number_value text)
 of_fewer bits text n (Err e) number is gives = λ few. gives (rw is few.fits)
 of_fewer bits text n (Ok m) number is gives = (record { digits = number.digits; form = number.form; fits = rw is at gives.0 }, rw is at gives.1)
+
+-- all that stands behind `0x`
+pub behind_mark : (text : List ℕ) → take (length text - 2) (drop 2 text) ≡ drop 2 text
+behind_mark text = rw (← (length-drop 2 text)) (take-length (drop 2 text))

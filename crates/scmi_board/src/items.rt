@@ -1,9 +1,12 @@
 //! The items of a line.
 ghost use Rattle.std.specs.Prelude.{◌≡◌, ◌<◌, ◌≤◌, ◌==◌, length, is_ok, IfOk, OnOk};
+ghost use Rattle.scmi_board.specs.Items.{behind_spaces, first_item, first_number, item_at, items_left, no_item};
+ghost use Rattle.scmi_board.specs.LineError.{Gives};
 ghost use Rattle.scmi_plan.specs.Agent.{IsAgent};
 
 use crate::line_error::LineError;
 use crate::numbers::{byte, number, word};
+use crate::places::{first_other_place, first_place};
 use arrayvec::ArrayVec;
 use scmi_codec::Payload;
 use std::marker::Model;
@@ -43,7 +46,8 @@ impl<'a> Items<'a> {
 
     /// `Form` where an item is left.
     pub fn finish(&self) -> Result<(), LineError>
-        ensures { is_ok result ≡ (length self.now == 0) }
+        ensures ok { is_ok result ≡ (length self.now == 0) }
+        ensures items { Gives (λ _. tt) result (no_item (items_left self.now)) }
     {
         if self.is_done() {
             Ok(())
@@ -54,36 +58,53 @@ impl<'a> Items<'a> {
 
     /// The next item. `Form` where a space stands before it, or only spaces behind it.
     pub fn next_item(&mut self) -> Result<&'a [u8], LineError>
-        ensures { OnOk result (length self.new < length self.old) }
+        ensures smaller { OnOk result (length self.new < length self.old) }
+        ensures item { Gives (λ item. (item.now, self.new)) result (item_at self.old) }
+        ensures items { Gives (λ item. (item.now, items_left self.new)) result
+            (first_item (items_left self.old)) }
+    {
+        self.cut()
+    }
+
+    #[tactic(auto, unfolding(crate::specs::Items::item_at))]
+    fn cut(&mut self) -> Result<&'a [u8], LineError>
+        ensures { Gives (λ item. (item.now, self.new)) result (item_at self.old) }
     {
         let rest = self.rest;
-        let end = rest.iter().position(|byte| *byte == b' ');
-        let (item, behind) = rest.split_at(end.unwrap_or(rest.len()));
-        let spaces = behind.iter().position(|byte| *byte != b' ').unwrap_or(0);
-        if item.is_empty() || (spaces == 0 && !behind.is_empty()) {
+        let (item, behind) = rest.split_at(first_place(rest, b' '));
+        if item.is_empty() {
             return Err(LineError::Form);
         }
-        self.rest = &behind[spaces..];
+        self.rest = behind_spaces(behind)?;
         Ok(item)
     }
 
     /// The next item as a number of 64 bits.
+    #[tactic(auto, unfolding(crate::specs::Items::first_number))]
     pub fn next_number(&mut self) -> Result<u64, LineError>
-        ensures { OnOk result (length self.new < length self.old) }
+        ensures smaller { OnOk result (length self.new < length self.old) }
+        ensures number { Gives (λ number. (number, items_left self.new)) result
+            (first_number 64 (items_left self.old)) }
     {
         number(self.next_item()?).ok_or(LineError::Form)
     }
 
     /// The next item as a number of 32 bits.
+    #[tactic(auto, unfolding(crate::specs::Items::first_number))]
     pub fn next_word(&mut self) -> Result<u32, LineError>
-        ensures { OnOk result (length self.new < length self.old) }
+        ensures smaller { OnOk result (length self.new < length self.old) }
+        ensures number { Gives (λ number. (number, items_left self.new)) result
+            (first_number 32 (items_left self.old)) }
     {
         word(self.next_item()?).ok_or(LineError::Form)
     }
 
     /// The next item as a number of 8 bits.
+    #[tactic(auto, unfolding(crate::specs::Items::first_number))]
     pub fn next_byte(&mut self) -> Result<u8, LineError>
-        ensures { OnOk result (length self.new < length self.old) }
+        ensures smaller { OnOk result (length self.new < length self.old) }
+        ensures number { Gives (λ number. (number, items_left self.new)) result
+            (first_number 8 (items_left self.old)) }
     {
         byte(self.next_item()?).ok_or(LineError::Form)
     }
@@ -112,4 +133,16 @@ impl<'a> Items<'a> {
         }
         Ok(payload)
     }
+}
+
+/// What stands behind the spaces that a text begins with. `Form` where nothing else stands there.
+#[tactic(auto, unfolding(crate::specs::Items::behind_spaces))]
+fn behind_spaces(text: &[u8]) -> Result<&[u8], LineError>
+    ensures { Gives (λ rest. rest.now) result (behind_spaces text.now) }
+{
+    let (_, rest) = text.split_at(first_other_place(text, b' '));
+    if rest.is_empty() && !text.is_empty() {
+        return Err(LineError::Form);
+    }
+    Ok(rest)
 }

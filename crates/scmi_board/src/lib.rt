@@ -7,11 +7,17 @@
 
 mod board;
 mod clock_line;
+mod device_line;
+mod domain_line;
+mod fields;
 mod items;
 mod line_error;
 mod lines;
 mod numbers;
+mod places;
+mod row;
 mod text_error;
+mod words;
 
 pub use board::read_board;
 pub use items::Items;

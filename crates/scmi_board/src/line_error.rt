@@ -1,6 +1,7 @@
 //! Why one line was not read.
 ghost use Rattle.std.specs.Prelude.{◌≡◌};
 ghost use Rattle.scmi_board.specs.LineError.{board_refusal, script_refusal};
+ghost use Rattle.scmi_board.specs.declared.line_error.LineError.TheVariants.{Memory};
 
 use crate::text_error::TextError;
 use std::alloc::AllocError;
@@ -18,6 +19,8 @@ pub enum LineError {
 }
 
 impl From<AllocError> for LineError {
+    ghost from_gives = { λ _ error. error ≡ Memory };
+
     fn from(_error: AllocError) -> LineError {
         LineError::Memory
     }

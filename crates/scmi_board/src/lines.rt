@@ -1,7 +1,8 @@
 //! The lines of an input, with their numbers.
-ghost use Rattle.std.specs.Prelude.{◌≡◌, ◌<◌, length, OnSome, IfSome, true, []};
-ghost use Rattle.scmi_board.specs.Lines.{is_significant};
+ghost use Rattle.std.specs.Prelude.{◌≡◌, ◌<◌, ◌∷◌, length, OnSome, IfSome, MatchOption, ⊤, true, []};
+ghost use Rattle.scmi_board.specs.Lines.{is_significant, last_number, line_of, lines_left, lines_of, number_behind};
 
+use crate::places::{behind_first, first_place};
 use std::marker::Model;
 
 /// A line that is neither empty nor begins with `#`.
@@ -55,6 +56,10 @@ impl<'a> Lines<'a> {
         ensures smaller { OnSome result (length self.new.rest < length self.old.rest) }
         ensures number { IfSome result (λ line. line.number ≡ self.new.number) }
         ensures counts { IfSome result (λ line. is_significant line.text.now ≡ true) }
+        ensures lines { MatchOption result (lines_left self.old ≡ [])
+            (λ line. lines_left self.old ≡ line_of line ∷ lines_left self.new) }
+        ensures last { last_number self.new ≡ last_number self.old }
+        ensures end { MatchOption result (self.new.rest ≡ []) (λ _. ⊤) }
     {
         while let Some(text) = self.cut() {
             if is_significant(text) {
@@ -70,19 +75,17 @@ impl<'a> Lines<'a> {
     /// The next line of any kind.
     fn cut(&mut self) -> Option<&'a [u8]>
         ensures smaller { OnSome result (length self.new.rest < length self.old.rest) }
+        ensures lines { MatchOption result ((self.old.rest ≡ []) × (self.new ≡ self.old))
+            (λ text. lines_of self.old.rest ≡ text.now ∷ lines_of self.new.rest) }
+        ensures number { OnSome result (self.new.number ≡ number_behind self.old.number) }
     {
         if self.rest.is_empty() {
             return None;
         }
         let rest = self.rest;
         self.number = self.number.saturating_add(1);
-        let end = rest.iter().position(|byte| *byte == b'\n');
-        let end = end.unwrap_or(rest.len());
-        let (text, behind) = rest.split_at(end);
-        self.rest = match behind {
-            [_, behind @ ..] => behind,
-            [] => behind,
-        };
+        let (text, behind) = rest.split_at(first_place(rest, b'\n'));
+        self.rest = behind_first(behind);
         Some(text)
     }
 }

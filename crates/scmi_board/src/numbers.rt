@@ -1,12 +1,13 @@
 //! Numbers as texts write them.
 ghost use Rattle.std.specs.Prelude.{◌≡◌, ◌<◌, ◌≤◌, ◌^◌, SomeIff};
 ghost use Rattle.std.specs.Str.Parse.{IsNumeral, digits_value};
-ghost use Rattle.scmi_board.specs.Number.{IsNumber, has_hexadecimal_mark, number_value};
+ghost use Rattle.scmi_board.specs.Number.{IsNumber, has_hexadecimal_mark, number_of, number_value};
 
 /// The value of a number of 64 bits (own): decimal digits with no zero before others, or `0x` and 1
 /// to 16 hexadecimal digits of either case. `None` for any other text, and above 2^64 - 1.
 pub fn number(text: &[u8]) -> Option<u64>
-    ensures { SomeIff result (IsNumber 64 text.now) (number_value text.now) }
+    ensures form { SomeIff result (IsNumber 64 text.now) (number_value text.now) }
+    ensures number { result ≡ number_of 64 text.now }
 {
     if has_hexadecimal_mark(text) {
         // The mark and 16 digits.
@@ -23,14 +24,16 @@ pub fn number(text: &[u8]) -> Option<u64>
 
 /// The same of a number of 32 bits: `None` above 2^32 - 1.
 pub fn word(text: &[u8]) -> Option<u32>
-    ensures { SomeIff result (IsNumber 32 text.now) (number_value text.now) }
+    ensures form { SomeIff result (IsNumber 32 text.now) (number_value text.now) }
+    ensures number { result ≡ number_of 32 text.now }
 {
     u32::try_from(number(text)?).ok()
 }
 
 /// The same of a number of 8 bits: `None` above 255.
 pub fn byte(text: &[u8]) -> Option<u8>
-    ensures { SomeIff result (IsNumber 8 text.now) (number_value text.now) }
+    ensures form { SomeIff result (IsNumber 8 text.now) (number_value text.now) }
+    ensures number { result ≡ number_of 8 text.now }
 {
     u8::try_from(number(text)?).ok()
 }

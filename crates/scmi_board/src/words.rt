@@ -1,0 +1,29 @@
+//! The words of a board's text.
+
+/// The first word of a board's heading.
+pub(crate) const BOARD: &[u8] = b"board";
+
+/// The first words of the rows.
+pub(crate) const AGENT: &[u8] = b"agent";
+
+pub(crate) const DOMAIN: &[u8] = b"domain";
+
+pub(crate) const CLOCK: &[u8] = b"clock";
+
+pub(crate) const DEVICE: &[u8] = b"device";
+
+/// The line behind the last row.
+pub(crate) const END: &[u8] = b"end";
+
+/// Whether a domain or a clock is on.
+pub(crate) const ON: &[u8] = b"on";
+
+pub(crate) const OFF: &[u8] = b"off";
+
+/// What the rates of a clock are.
+pub(crate) const LIST: &[u8] = b"list";
+
+pub(crate) const STEPS: &[u8] = b"steps";
+
+/// In place of kinds or numbers, where there are none.
+pub(crate) const NONE: &[u8] = b"-";
