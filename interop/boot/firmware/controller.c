@@ -86,9 +86,9 @@ static void complete(uint32_t agent)
             return;
         hardware_say_change(agent, &effect, made);
     }
-    for (agent = LINUX; agent < FIRMWARE; agent++)
-        while (scmi_sent(&platform, agent) == SCMI_DONE)
-            printf("SCMI: agent %u: a message that has no way\n", agent);
+    for (uint32_t to = LINUX; to < FIRMWARE; to++)
+        while (scmi_sent(&platform, to) == SCMI_DONE)
+            printf("SCMI: agent %u: a message that has no way\n", to);
 }
 
 bool controller_serve(uint32_t agent, uint8_t *area)

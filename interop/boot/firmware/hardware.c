@@ -74,11 +74,9 @@ static bool change(hardware_state *state, const scmi_effect *effect)
 bool hardware_make(const scmi_effect *effect)
 {
     hardware_state state;
-    unsigned int loads;
 
     hardware_read(&state);
-    loads = load(&state);
-    if (!change(&state, effect) || (load(&state) > SUPPLY && load(&state) > loads))
+    if (!change(&state, effect) || load(&state) > SUPPLY)
         return false;
     if (effect->kind == SCMI_EFFECT_STATE)
         return set_switch(effect->id, state.domains[effect->id]);
