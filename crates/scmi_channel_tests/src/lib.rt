@@ -21,6 +21,8 @@ mod gaps;
 #[cfg(test)]
 mod hardware;
 #[cfg(test)]
+mod hardware_runs;
+#[cfg(test)]
 mod messages;
 #[cfg(test)]
 mod output_lines;

@@ -29,7 +29,7 @@ fn run_scripts<C: Channel, G: Gate, R: Threads + Wait + Sync>(
 }
 
 /// The lines of two agents as text.
-fn text_of(alloc: Global, logs: &[AgentLog]) -> Result<Vec<u8>, Fail> {
+pub fn text_of(alloc: Global, logs: &[AgentLog]) -> Result<Vec<u8>, Fail> {
     let mut output = Vec::new(alloc);
     for (agent, log) in [1, 2].iter().zip(logs) {
         write_script_lines(&mut output, *agent, &log.lines)?;

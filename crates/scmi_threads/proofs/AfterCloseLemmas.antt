@@ -1,5 +1,5 @@
 -- Nothing is done after a script's close.
-use Rattle.std.proofs.Common.{◌≡◌, ℕ, zero, suc, ◌+◌, Bool, true, false, ◌||◌, if◌then◌else◌, List, [], ◌∷◌, ◌++◌, length, map, Option, Some, None, refl, sym, ap, ap₂, ◌∙◌, subst}
+use Rattle.std.proofs.Common.{◌≡◌, ℕ, ◌+◌, Bool, true, false, ◌||◌, List, [], ◌∷◌, ◌++◌, length, map, Option, Some, None, refl, sym, ap, ap₂, ◌∙◌, subst}
 use Rattle.std.specs.List.{All, flat_map}
 use Rattle.std.specs.Option.{option_or}
 use Rattle.std.proofs.lemmas.List.{append-nil}
@@ -7,10 +7,6 @@ use Rattle.std.proofs.lemmas.List.Elements.{All-nil, All-cons, All-append}
 use Rattle.std.proofs.lemmas.Grind.{flat_map-append}
 use Rattle.arrayvec.specs.ArrayVec.{ArrayVec}
 use Rattle.scmi_codec.specs.declared.frame.Frame.{Frame}
-use Rattle.scmi_codec.specs.declared.frame.Answer.{Answer}
-use Rattle.scmi_codec.specs.declared.frame.Answer.TheVariants.{Reply}
-use Rattle.scmi_codec.specs.declared.message.Message.{Message}
-use Rattle.scmi_link.specs.declared.closing.Closing.{Closing}
 use Rattle.scmi_link.specs.declared.closing.Closing.TheVariants.{Idle}
 use Rattle.scmi_link.specs.declared.post_error.PostError.TheVariants as post
 use Rattle.scmi_plan.specs.Board.{Board}
@@ -20,16 +16,15 @@ use Rattle.scmi_threads.specs.Lines.{closing_of, first_closing}
 use Rattle.scmi_threads.specs.Logs.{LogHeadline}
 use Rattle.scmi_threads.specs.Parts.{Part, Writes, CallWrites, call_answered, call_found_no_place, call_ran_out, call_had_no_room, UntilWrites, state_seen, state_not_seen, state_ran_out, state_found_no_place, state_had_no_room, P2aWrites, messages_taken, messages_ran_out, messages_had_no_room, CloseWrites, close_done, close_had_no_room, ClosedWrites, call_refused, state_refused, none_asked_for, none_came, closed_again, line_had_no_room}
 use Rattle.scmi_threads.specs.ScriptLogs.{Follows, all_done, ends_here, goes_on, IsScriptLog, is_close}
-use Rattle.scmi_threads.specs.AfterClose.{up_to_close, SaysNothing, IsDoneAtClose, EndsAtClose}
+use Rattle.scmi_threads.specs.AfterClose.{up_to_close, SaysNothing, EndsAtClose}
 use Rattle.scmi_threads.specs.declared.agent_log.AgentLog.{AgentLog}
 use Rattle.scmi_threads.specs.declared.line.Line.{Line}
 use Rattle.scmi_threads.specs.declared.line.Line.TheVariants as line
 use Rattle.scmi_threads.specs.declared.order.Order.{Order}
 use Rattle.scmi_threads.specs.declared.order.Order.TheVariants as order
-use Rattle.scmi_threads.specs.declared.script.Script.{Script}
 use Rattle.scmi_threads.specs.declared.stop.Stop.{Stop}
 use Rattle.scmi_threads.proofs.LineLemmas.{or_again}
-use Rattle.scmi_threads.proofs.OrderLemmas.{IsStill, stays_still}
+use Rattle.scmi_threads.proofs.OrderLemmas.{stays_still}
 
 -- the parts behind the close
 

@@ -10,6 +10,7 @@ pub mod Moves
 pub mod LogLemmas
 pub mod Ready
 pub mod Opened
+pub mod RoundLemmas
 pub mod Undisturbed
 pub mod Started
 pub mod Numbers

@@ -1,6 +1,8 @@
--- What the platform's rounds leave as it was.
-use Rattle.std.specs.Prelude.{◌≡◌, ℕ, false, List}
+-- What the platform's rounds leave. They serve, advance and flush beside the hardware, so a command or a completion that it refused is an event of the history as any other.
+use Rattle.std.specs.Prelude.{◌≡◌, ℕ, false, List, Option}
 use Rattle.std.specs.List.{All}
+use Rattle.scmi_core.specs.Driven.{HasMade}
+use Rattle.scmi_core.specs.declared.effect.Effect.{Effect}
 use Rattle.scmi_ends.specs.declared.link.Link.{Link}
 use Rattle.scmi_ends.specs.ControllerView.{ControllerView}
 use Rattle.scmi_ends.specs.Links.{HasLinks}
@@ -9,8 +11,9 @@ use Rattle.scmi_ends.specs.Links.{HasLinks}
 abbrev pub IsOpenToAll : ControllerView → Type 0
 IsOpenToAll platform = All (λ callee. callee.closed ≡ false) platform.callees
 
--- what a round leaves as it was: the links whose ends the platform has, the board, and that the ends are open
-pub record GoesOn {C Caller Callee Rest : Type 0} (identity : C → List ℕ) (links : List (Link C Caller Callee Rest)) (old new : ControllerView) : Type 0 where
+-- what rounds leave as it was: the links whose ends the platform has, the board, and that the ends are open; and hardware that keeps a list goes on having made what the history changes
+pub record GoesOn {C Caller Callee Rest : Type 0} (identity : C → List ℕ) (links : List (Link C Caller Callee Rest)) (old : ControllerView) (applied : Option (List Effect)) (new : ControllerView) (applied' : Option (List Effect)) : Type 0 where
   pub has_links : HasLinks identity links new
   pub board : new.board ≡ old.board
   pub open_ends : IsOpenToAll new
+  pub made : (before : List Effect) → HasMade before old.board old.history applied → HasMade before new.board new.history applied'

@@ -9,8 +9,10 @@
 
 mod agent_log;
 mod agents_side;
+mod both_sides;
 mod call_order;
 mod close_order;
+mod concluding;
 mod gate;
 mod limits;
 mod line;
@@ -33,4 +35,4 @@ pub use order::Order;
 pub use outcome::Outcome;
 pub use script::Script;
 pub use stop::Stop;
-pub use threads::run_agents;
+pub use threads::{run_agents, run_agents_on};

@@ -1,7 +1,9 @@
 //! The platform's side of a run: the controller's rounds.
+ghost use Rattle.std.specs.Prelude.{◌≡◌, IfErr};
 ghost use Rattle.scmi_ends.specs.Links.{HasLinks};
 ghost use Rattle.scmi_threads.specs.Rounds.{IsOpenToAll, GoesOn};
 
+use scmi_core::Hardware;
 use scmi_ends::{Controller, Link, ServeError};
 use scmi_link::Channel;
 use std::sync::Wait;
@@ -9,43 +11,46 @@ use std::sync::atomic::{AtomicUsize, Ordering};
 
 /// Runs rounds until one after all scripts have ended, or one that was refused memory. Says whether
 /// memory was refused.
-pub(crate) fn run_rounds<C: Channel, R: Wait>(
+pub(crate) fn run_rounds<C: Channel, H: Hardware, R: Wait>(
     rt: &R,
     links: &[Link<C>],
     ended: &AtomicUsize,
     mut controller: Controller<C>,
-    agents: u32,
-) -> (Controller<C>, bool)
+    mut hardware: H,
+) -> (Controller<C>, bool, H)
     requires links { HasLinks C.identity links.now controller }
     requires open_ends { IsOpenToAll controller }
-    ensures { GoesOn C.identity links.now controller result.0 }
+    ensures { GoesOn C.identity links.now controller (H.applied hardware)
+        result.0 (H.applied result.2) }
 {
     let mut refused = false;
     'rounds: for _ in rt.forever() {
         let last = ended.load(Ordering::SeqCst) >= links.len();
-        refused = run_round(&mut controller, links, agents).is_err();
+        refused = run_round(&mut controller, links, &mut hardware).is_err();
         if refused || last {
             break;
         }
     }
-    (controller, refused)
+    (controller, refused, hardware)
 }
 
 // Serves each agent, completes one pending set, and flushes each agent's outbox.
-#[tactic(auto, using(crate::proofs::Opened::serves_open, crate::proofs::Opened::flushes_open))]
-fn run_round<C: Channel>(
+#[tactic(auto, using(crate::proofs::RoundLemmas::and_served, crate::proofs::RoundLemmas::and_advanced))]
+fn run_round<C: Channel, H: Hardware>(
     controller: &mut Controller<C>,
     links: &[Link<C>],
-    agents: u32,
+    hardware: &mut H,
 ) -> Result<(), ServeError>
     requires links { HasLinks C.identity links.now controller.old }
     requires open_ends { IsOpenToAll controller.old }
-    ensures { GoesOn C.identity links.now controller.old controller.new }
+    ensures goes_on { GoesOn C.identity links.now controller.old (H.applied hardware.old)
+        controller.new (H.applied hardware.new) }
 {
+    let agents = controller.core().agents();
     'served: for agent in 1..agents.saturating_add(1) {
-        controller.serve(links, agent)?;
+        controller.serve_on(links, agent, hardware)?;
     }
-    controller.advance()?;
+    controller.advance_on(hardware)?;
     'flushed: for agent in 1..agents.saturating_add(1) {
         controller.flush(links, agent)?;
     }

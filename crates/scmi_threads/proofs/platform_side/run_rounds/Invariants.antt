@@ -3,5 +3,5 @@ use Rattle.scmi_threads.proofs.platform_side.run_rounds.Given as goal
 
 abbrev pub invariant-rounds : goal.invariant-rounds
 invariant-rounds g l = record {
-  goes_on : GoesOn g.C.Channel.identity l.links l.fn.controller l.controller;
+  goes_on : GoesOn g.C.Channel.identity l.links l.fn.controller (g.H.Hardware.applied l.fn.hardware) l.controller (g.H.Hardware.applied l.hardware);
 }

@@ -12,14 +12,15 @@ use Rattle.scmi_threads.specs.declared.agent_log.AgentLog.{AgentLog}
 use Rattle.scmi_threads.proofs.AfterCloseLemmas.{all_end_at_close}
 use Rattle.scmi_threads.proofs.Started.{all_follow}
 use Rattle.scmi_threads.proofs.Moves.{zip_maps}
-use Rattle.scmi_threads.proofs.threads.run_agents.Goals as goal
-use Rattle.scmi_threads.proofs.threads.run_agents.Goals.{After-end_runs-ends}
+use Rattle.scmi_threads.proofs.RoundLemmas.{made_of_run}
+use Rattle.scmi_threads.proofs.threads.run_agents_on.Goals as goal
+use Rattle.scmi_threads.proofs.threads.run_agents_on.Goals.{After-end_runs-ends}
 
 a2p_identities : (g : _) (c : After-end_runs-ends g) → map (λ agent. agent.a2p_identity) c.end_runs-ends.result.0.items ≡ identities_of_a2p g.C.Channel.identity c.in-Ok.links.items
-a2p_identities g c = c.end_runs-ends.ensures.a2p ∙ zip_maps (HasPlayed g.C.Channel.FULL) (λ script_run. script_run.end.a2p_identity) (λ a b r. r.ran.a2p) c.in_ok-script_runs.script_runs.items c.run_beside-controller.result.1.items c.run_beside-controller.ensures.ran ∙ c.in_ok-script_runs.ensures.a2p ∙ ap (identities_of_a2p g.C.Channel.identity) c.deref.ensures.value
+a2p_identities g c = c.end_runs-ends.ensures.a2p ∙ zip_maps (HasPlayed g.C.Channel.FULL) (λ script_run. script_run.end.a2p_identity) (λ a b r. r.ran.a2p) c.in-Ok-start_runs.script_runs.items c.run_beside-controller.result.1.items c.run_beside-controller.ensures.ran ∙ c.in-Ok-start_runs.ensures.a2p ∙ ap (identities_of_a2p g.C.Channel.identity) c.deref.ensures.value
 
 p2a_identities : (g : _) (c : After-end_runs-ends g) → map (λ agent. agent.p2a_identity) c.end_runs-ends.result.0.items ≡ identities_of_p2a g.C.Channel.identity c.in-Ok.links.items
-p2a_identities g c = c.end_runs-ends.ensures.p2a ∙ zip_maps (HasPlayed g.C.Channel.FULL) (λ script_run. script_run.end.p2a_identity) (λ a b r. r.ran.p2a) c.in_ok-script_runs.script_runs.items c.run_beside-controller.result.1.items c.run_beside-controller.ensures.ran ∙ c.in_ok-script_runs.ensures.p2a ∙ ap (identities_of_p2a g.C.Channel.identity) c.deref.ensures.value
+p2a_identities g c = c.end_runs-ends.ensures.p2a ∙ zip_maps (HasPlayed g.C.Channel.FULL) (λ script_run. script_run.end.p2a_identity) (λ a b r. r.ran.p2a) c.in-Ok-start_runs.script_runs.items c.run_beside-controller.result.1.items c.run_beside-controller.ensures.ran ∙ c.in-Ok-start_runs.ensures.p2a ∙ ap (identities_of_p2a g.C.Channel.identity) c.deref.ensures.value
 
 pub start_runs-requires-clause-ends : goal.start_runs-requires-clause-ends
 start_runs-requires-clause-ends g c κs within = rw c.deref.ensures.value c.in-Ok.ensures.ends
@@ -28,10 +29,10 @@ pub run_beside-controller-requires-clause-links : goal.run_beside-controller-req
 run_beside-controller-requires-clause-links g c κs within = rw c.deref-2.ensures.value c.in-Ok.ensures.links
 
 pub end_runs-ends-requires-clause-ends : goal.end_runs-ends-requires-clause-ends
-end_runs-ends-requires-clause-ends g c κs within = omega (arith, AllZip-long (HasPlayed g.C.Channel.FULL) c.in_ok-script_runs.script_runs.items c.run_beside-controller.result.1.items c.run_beside-controller.ensures.ran, c.in_ok-script_runs.script_runs.ok.0, c.run_beside-controller.result.1.ok.0, c.in_ok-room.ensures.exact, c.len.ensures)
+end_runs-ends-requires-clause-ends g c κs within = omega (arith, AllZip-long (HasPlayed g.C.Channel.FULL) c.in-Ok-start_runs.script_runs.items c.run_beside-controller.result.1.items c.run_beside-controller.ensures.ran, c.in-Ok-start_runs.script_runs.ok.0, c.run_beside-controller.result.1.ok.0, c.in-Ok-with_capacity.ensures.exact, c.len.ensures)
 
 pub end_runs-ends-requires-clause-logs : goal.end_runs-ends-requires-clause-logs
-end_runs-ends-requires-clause-logs g c κs within = omega (arith, AllZip-long (HasPlayed g.C.Channel.FULL) c.in_ok-script_runs.script_runs.items c.run_beside-controller.result.1.items c.run_beside-controller.ensures.ran, c.in_ok-script_runs.script_runs.ok.0, c.run_beside-controller.result.1.ok.0, c.in_ok-logs.ensures.exact, c.len-2.ensures)
+end_runs-ends-requires-clause-logs g c κs within = omega (arith, AllZip-long (HasPlayed g.C.Channel.FULL) c.in-Ok-start_runs.script_runs.items c.run_beside-controller.result.1.items c.run_beside-controller.ensures.ran, c.in-Ok-start_runs.script_runs.ok.0, c.run_beside-controller.result.1.ok.0, c.in-Ok-with_capacity-2.ensures.exact, c.len-2.ensures)
 
 pub conclude-requires-clause-links : goal.conclude-requires-clause-links
 conclude-requires-clause-links g c κs within = rw (← c.deref-2.ensures.value) c.run_beside-controller.ensures.goes_on.has_links
@@ -54,7 +55,7 @@ returns-clause-scripts g c =
     let follows = λ (logs : List AgentLog). AllFrom (λ a log. IsScriptLog g.C.Channel.FULL (orders_of c.args.scripts.now a) log) 1 logs in
     subst (λ logs. follows logs.items) (sym c.conclude.ensures.logs)
     (subst follows (sym c.end_runs-ends.ensures.same.1)
-    (all_follow g.C.Channel.FULL c.args.scripts.now 1 c.in_ok-script_runs.script_runs.items c.run_beside-controller.result.1.items c.in_ok-script_runs.ensures.started c.run_beside-controller.ensures.ran
+    (all_follow g.C.Channel.FULL c.args.scripts.now 1 c.in-Ok-start_runs.script_runs.items c.run_beside-controller.result.1.items c.in-Ok-start_runs.ensures.started c.run_beside-controller.ensures.ran
     (subst (All (λ agent. IsUndisturbed agent.caller)) c.end_runs-ends.ensures.same.0 c.conclude.ensures.undisturbed)))
 
 pub returns-clause-closed : goal.returns-clause-closed
@@ -63,6 +64,10 @@ returns-clause-closed g c =
     all_end_at_close g.C.Channel.FULL (orders_of c.args.scripts.now) _ _ 1 _
     (subst (λ logs. follows logs.items) (sym c.conclude.ensures.logs)
     (subst follows (sym c.end_runs-ends.ensures.same.1)
-    (all_follow g.C.Channel.FULL c.args.scripts.now 1 c.in_ok-script_runs.script_runs.items c.run_beside-controller.result.1.items c.in_ok-script_runs.ensures.started c.run_beside-controller.ensures.ran
+    (all_follow g.C.Channel.FULL c.args.scripts.now 1 c.in-Ok-start_runs.script_runs.items c.run_beside-controller.result.1.items c.in-Ok-start_runs.ensures.started c.run_beside-controller.ensures.ran
     (subst (All (λ agent. IsUndisturbed agent.caller)) c.end_runs-ends.ensures.same.0 c.conclude.ensures.undisturbed))))
     c.conclude.ensures.headline
+
+pub returns-clause-made : goal.returns-clause-made
+returns-clause-made g c = made_of_run c.args.plan c.in-Ok.controller.board c.run_beside-controller.result.0.0.board c.in-Ok.controller.history c.run_beside-controller.result.0.0.history c.conclude.result.trace.events (g.H.Hardware.applied c.args.hardware) (g.H.Hardware.applied c.run_beside-controller.result.0.2)
+    (c.in-Ok.ensures.controller.0 ∙ c.new-core.ensures.board) c.in-Ok.ensures.controller.1 c.run_beside-controller.ensures.goes_on.board c.conclude.ensures.history c.run_beside-controller.ensures.goes_on.made

@@ -1,0 +1,53 @@
+//! Both sides of a run at the same time.
+ghost use Rattle.std.specs.List.{AllZip};
+ghost use Rattle.scmi_ends.specs.Links.{HasLinks};
+ghost use Rattle.scmi_threads.specs.Rounds.{IsOpenToAll, GoesOn};
+ghost use Rattle.scmi_threads.specs.ScriptRuns.{HasPlayed};
+
+use crate::agents_side::run_scripts;
+use crate::gate::Gate;
+use crate::platform_side::run_rounds;
+use crate::script_run::ScriptRun;
+use scmi_core::Hardware;
+use scmi_ends::{Controller, Link};
+use scmi_link::Channel;
+use std::sync::Wait;
+use std::sync::atomic::AtomicUsize;
+use std::thread::{Threads, join};
+
+/// Runs the scripts of all agents beside the controller's rounds, whose thread has the hardware. Says
+/// whether the rounds were refused memory.
+pub(crate) fn run_beside<
+    'a,
+    C: Channel,
+    G: Gate,
+    H: Hardware + Send + Drop,
+    R: Threads + Wait + Sync,
+>(
+    rt: &R,
+    gate: &G,
+    hardware: H,
+    links: &[Link<C>],
+    controller: Controller<C>,
+    script_runs: Vec<ScriptRun<'a, C>>,
+) -> ((Controller<C>, bool, H), Vec<ScriptRun<'a, C>>)
+    requires links { HasLinks C.identity links.now controller }
+    requires open_ends { IsOpenToAll controller }
+    ensures goes_on { GoesOn C.identity links.now controller (H.applied hardware)
+        result.0.0 (H.applied result.0.2) }
+    ensures ran { AllZip (HasPlayed C.FULL) script_runs.entry.items result.1.items }
+{
+    let ended = AtomicUsize::new(0);
+    join(
+        rt,
+        || -> (Controller<C>, bool, H)
+            requires links { HasLinks C.identity links.now controller }
+            requires open_ends { IsOpenToAll controller }
+            ensures { GoesOn C.identity links.entry.now controller (H.applied hardware)
+                result.0 (H.applied result.2) }
+        { run_rounds(rt, links, &ended, controller, hardware) },
+        || -> Vec<ScriptRun<C>>
+            ensures { AllZip (HasPlayed C.FULL) script_runs.entry.items result.items }
+        { run_scripts(rt, gate, &ended, script_runs) },
+    )
+}
