@@ -1,5 +1,5 @@
 -- What each step of a session leaves, and what its line says of it.
-use Rattle.std.specs.Prelude.{◌≡◌, ℕ, ◌+◌, ◌-◌, ◌%◌, ◌<◌, Bool, true, false, List, [], ◌∷◌, ◌++◌, length, slice_get, slice_set, Option, Some, Result, Ok, Err}
+use Rattle.std.specs.Prelude.{◌≡◌, ◌≢◌, ℕ, ◌+◌, ◌-◌, ◌%◌, ◌<◌, Bool, true, false, List, [], ◌∷◌, ◌++◌, length, slice_get, slice_set, Option, Some, None, Result, Ok, Err}
 use Rattle.scmi_codec.specs.Area.{is_well_formed}
 use Rattle.scmi_codec.specs.Command.{protocol_header}
 use Rattle.scmi_codec.specs.declared.frame.Frame.{Frame}
@@ -13,6 +13,7 @@ use Rattle.scmi_link.specs.declared.collected.Collected.{Collected}
 use Rattle.scmi_link.specs.declared.collected.Collected.TheVariants as collected
 use Rattle.scmi_link.specs.declared.post_error.PostError.{PostError}
 use Rattle.scmi_link.specs.declared.post_error.PostError.TheVariants as refused
+use Rattle.scmi_core.specs.Effect.{effect_after}
 use Rattle.scmi_core.specs.History.{deeds}
 use Rattle.scmi_core.specs.Pending.{pending_sets}
 use Rattle.scmi_core.specs.declared.event.Event.TheVariants as event
@@ -20,6 +21,7 @@ use Rattle.scmi_ends.specs.AgentView.{AgentView}
 use Rattle.scmi_ends.specs.ControllerView.{ControllerView}
 use Rattle.scmi_ends.specs.Poll.{Receives}
 use Rattle.scmi_ends.specs.Serve.{Serves}
+use Rattle.scmi_ends.specs.ServeOn.{ServesOn}
 use Rattle.scmi_ends.specs.Flush.{Flushes}
 use Rattle.scmi_ends.specs.Shut.{Shuts}
 use Rattle.scmi_ends.specs.declared.served.Served.{Served}
@@ -29,7 +31,7 @@ use Rattle.scmi_text.specs.declared.step.AgentStep.TheVariants as agent
 use Rattle.scmi_text.specs.declared.step.PlatformStep.{PlatformStep}
 use Rattle.scmi_text.specs.declared.step.PlatformStep.TheVariants as platform
 use Rattle.scmi_text.specs.declared.step.Step.{Step}
-use Rattle.scmi_text.specs.declared.step.Step.TheVariants.{Agent, Platform, Do, Advance}
+use Rattle.scmi_text.specs.declared.step.Step.TheVariants.{Agent, Platform, Do, Advance, Fail, AdvanceFailed}
 use Rattle.scmi_text.specs.declared.step_line.StepLine.{StepLine}
 use Rattle.scmi_text.specs.declared.step_line.StepLine.TheVariants as line
 use Rattle.scmi_session.specs.SessionView.{SessionView}
@@ -88,6 +90,17 @@ abbrev pub Advances : ControllerView → Bool → ControllerView → Type 0
 Advances old true new = (0 < length (pending_sets old.board (deeds old.board old.history))) × (new ≡ record old { history = old.history ++ event.Advance ∷ [] })
 Advances old false new = (pending_sets old.board (deeds old.board old.history) ≡ []) × (new ≡ old)
 
+-- one pending set is ended as failed, if there is one: the hardware refused its change
+abbrev pub AdvancesRefused : ControllerView → Bool → ControllerView → Type 0
+AdvancesRefused old true new = (0 < length (pending_sets old.board (deeds old.board old.history))) × (new ≡ record old { history = old.history ++ event.AdvanceFailed ∷ [] })
+AdvancesRefused old false new = (pending_sets old.board (deeds old.board old.history) ≡ []) × (new ≡ old)
+
+-- agent a is served beside hardware that has made no change: a command that is then in the history was to make none, and one that failed was to make one
+pub record ServesRefused (a : ℕ) (old : ControllerView) (served : Served) (new : ControllerView) : Type 0 where
+  pub serves : ServesOn a old (Some []) served new (Some [])
+  pub done : (frame : Frame) → new.history ≡ old.history ++ event.Command a frame ∷ [] → effect_after old.board old.history (event.Command a frame) ≡ None
+  pub failed : (frame : Frame) → new.history ≡ old.history ++ event.CommandFailed a frame ∷ [] → effect_after old.board old.history (event.Command a frame) ≢ None
+
 -- a post is refused at the agent's end of A2P, and nothing else changes
 pub record IsRefusedAt (full : Bool) (old : AgentView) (refusal : PostError) (new : AgentView) : Type 0 where
   pub refuses : RefusesPost full old.caller refusal new.caller
@@ -98,14 +111,14 @@ abbrev pub RefusesMalformed : Bool → AgentView → ℕ → PostError → Agent
 RefusesMalformed full old len refused.WellFormed new = (is_well_formed len ≡ true) × (new ≡ old)
 RefusesMalformed full old len refusal new = (is_well_formed len ≡ false) × IsRefusedAt full old refusal new
 
--- agent a calls and is given a token, is served, and collects this
-pub record Exchanges (a : ℕ) (call : Call) (answer : Collected) (old new : SessionView) : Type 0 where
+-- agent a calls and is given a token, is served in this way, and collects this
+pub record Exchanges (Serve : ControllerView → Served → ControllerView → Type 0) (a : ℕ) (call : Call) (answer : Collected) (old new : SessionView) : Type 0 where
   pub token : ℕ
   pub posted : SessionView
   pub served : Served
   pub executed : SessionView
   pub calls : AtAgent a (λ before after. CallsAt before call token after) old posted
-  pub serves : AtPlatform (λ before after. Serves a before served after) posted executed
+  pub serves : AtPlatform (λ before after. Serve before served after) posted executed
   pub collects : AtAgent a (λ before after. CollectsAt before answer after) executed new
 
 -- a kind of channel: whether a post may find no place, and what a close shows, by the view after it
@@ -141,14 +154,24 @@ module _ (full : Bool) (Shows : CallerView → Result Closing CloseError → Typ
   Steps (Agent a step) l old new = AtAgent a (Makes a step l) old new
   Steps (Platform a step) l old new = AtPlatform (PlatformMakes a step l) old new
   Steps (Do a call) (line.NotPosted b refusal) old new = (b ≡ a) × AtAgent a (λ before after. IsRefusedAt full before refusal after) old new
-  Steps (Do a call) (line.Collected b answer) old new = (b ≡ a) × Exchanges a call answer old new
+  Steps (Do a call) (line.Collected b answer) old new = (b ≡ a) × Exchanges (Serves a) a call answer old new
   Steps Advance (line.Advanced more) old new = AtPlatform (λ before after. Advances before more after) old new
+  Steps (Fail a call) (line.NotPosted b refusal) old new = (b ≡ a) × AtAgent a (λ before after. IsRefusedAt full before refusal after) old new
+  Steps (Fail a call) (line.Collected b answer) old new = (b ≡ a) × Exchanges (ServesRefused a) a call answer old new
+  Steps AdvanceFailed (line.AdvanceFailed more) old new = AtPlatform (λ before after. AdvancesRefused before more after) old new
   Steps _ _ old new = ⊥
 
--- what is left where memory was refused: nothing was taken, executed or posted but the command of a `do`
+-- agent a calls and is given a token, and nothing else is done
+pub record OnlyCalls (a : ℕ) (call : Call) (old new : SessionView) : Type 0 where
+  pub token : ℕ
+  pub calls : AtAgent a (λ before after. CallsAt before call token after) old new
+
+-- what is left where memory was refused: nothing was taken, executed or posted but the command of a `do` or a `fail`
 abbrev pub StopsFor : Step → SessionView → SessionView → Type 0
-StopsFor (Do a call) old new = (token : ℕ) × AtAgent a (λ before after. CallsAt before call token after) old new
+StopsFor (Do a call) old new = OnlyCalls a call old new
+StopsFor (Fail a call) old new = OnlyCalls a call old new
 StopsFor (Platform a platform.Serve) old new = new ≡ old
 StopsFor (Platform a platform.Flush) old new = new ≡ old
 StopsFor Advance old new = new ≡ old
+StopsFor AdvanceFailed old new = new ≡ old
 StopsFor _ old new = ⊥

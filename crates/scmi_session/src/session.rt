@@ -1,9 +1,9 @@
 //! Both sides of a board on one thread.
 ghost use Rattle.std.specs.Prelude.{◌≡◌};
 
-use crate::agent_steps;
+use crate::{agent_steps, refused_steps};
 use scmi_core::{Core, Trace};
-use scmi_ends::{AgentEnd, Controller, Link, connect};
+use scmi_ends::{AgentEnd, Controller, Link, Served, connect};
 use scmi_link::Channel;
 use scmi_plan::Plan;
 use scmi_text::{AgentStep, Call, PlatformStep, Step, StepLine};
@@ -37,7 +37,7 @@ impl<C: Channel> Session<C> {
     ghost use Rattle.scmi_ends.specs.Shut.{ShowsClose};
     ghost use Rattle.scmi_session.specs.Run.{IsNewSession, IsGathered};
     ghost use Rattle.scmi_session.specs.StepLines.{IsLineOf};
-    ghost use Rattle.scmi_session.specs.Steps.{Makes, PlatformMakes, AtAgent, AtPlatform, Advances, Steps, StopsFor};
+    ghost use Rattle.scmi_session.specs.Steps.{Makes, PlatformMakes, AtAgent, AtPlatform, Advances, ServesRefused, Steps, StopsFor};
 
     /// Both sides of a board, over new channels.
     pub fn open(alloc: Global, plan: Plan) -> Result<Session<C>, AllocError>
@@ -81,6 +81,8 @@ impl<C: Channel> Session<C> {
             },
             Step::Do { agent, call } => self.exchange(*agent, call),
             Step::Advance => self.advance(),
+            Step::Fail { agent, call } => self.exchange_refused(*agent, call),
+            Step::AdvanceFailed => self.advance_refused(),
         }
     }
 
@@ -176,6 +178,42 @@ impl<C: Channel> Session<C> {
         }
         self.serve(agent)?;
         Ok(self.collect(agent))
+    }
+
+    /// As `exchange`, beside hardware that refuses each change.
+    fn exchange_refused(&mut self, agent: u32, call: &Call) -> Result<StepLine, AllocError>
+        requires { IsAgent (length self.old.agents) agent }
+        ensures agents { length self.new.agents ≡ length self.old.agents }
+        ensures step { IfOk result (λ line.
+            Steps C.FULL (ShowsClose C.caller_view C.close_shows) (Step.Fail agent call.now) line self.old self.new) }
+        ensures err { OnErr result (StopsFor (Step.Fail agent call.now) self.old self.new) }
+    {
+        match self.call(agent, call) {
+            StepLine::Token { .. } => {}
+            refused => return Ok(refused),
+        }
+        self.serve_refused(agent)?;
+        Ok(self.collect(agent))
+    }
+
+    fn serve_refused(&mut self, agent: u32) -> Result<Served, AllocError>
+        requires { IsAgent (length self.old.agents) agent }
+        ensures agents { length self.new.agents ≡ length self.old.agents }
+        ensures step { IfOk result (λ served. AtPlatform
+            (λ before after. ServesRefused agent before served after) self.old self.new) }
+        ensures err { OnErr result (self.new ≡ self.old) }
+    {
+        refused_steps::serve(agent, &mut self.controller, &self.links)
+    }
+
+    fn advance_refused(&mut self) -> Result<StepLine, AllocError>
+        ensures agents { length self.new.agents ≡ length self.old.agents }
+        ensures step { IfOk result (λ line.
+            Steps C.FULL (ShowsClose C.caller_view C.close_shows) Step.AdvanceFailed line self.old self.new) }
+        ensures err { OnErr result (self.new ≡ self.old) }
+    {
+        let more = refused_steps::advance(&mut self.controller)?;
+        Ok(StepLine::AdvanceFailed { more })
     }
 
     fn collect(&mut self, agent: u32) -> StepLine

@@ -5,9 +5,10 @@ use Rattle.std.proofs.lemmas.List.Elements.{All-head, All-push, All-tail}
 use Rattle.std.specs.List.{All}
 use Rattle.std.specs.Prelude.{map}
 use Rattle.scmi_text.specs.PackedStep.{IsPacked, IsStartOf, step_of, step_with}
-use Rattle.scmi_text.specs.Step.{AddsStepOf, IsStepOf}
+use Rattle.scmi_text.specs.Step.{AddsStepOf, Allows, IsStepOf}
 use Rattle.scmi_text.specs.declared.packed_step.PackedStep.{PackedStep}
 use Rattle.scmi_text.specs.declared.step.Step.{Step}
+use Rattle.scmi_text.specs.declared.step_kinds.StepKinds.{StepKinds}
 
 module _ (old new : List ℕ) (keeps : IsStartOf old new) where
   -- words that are kept are no fewer
@@ -45,14 +46,23 @@ pub IsStartOf-push : (old new : List ℕ) (word : ℕ) → IsStartOf old new →
 IsStartOf-push old new word keeps = take-append-le (length old) new (word ∷ []) (length_kept old new keeps) ∙ keeps
 
 -- one step more
-pub adds : (agents : ℕ) (old new : List ℕ) (steps after : List PackedStep) (p : PackedStep) → IsStartOf old new → All (IsPacked old) steps → after ≡ steps ++ p ∷ [] → IsStepOf agents (step_of new p)
-    → AddsStepOf agents (map (step_of old) steps) (map (step_of new) after)
-adds agents old new steps after p keeps all pushed of_agent = record {
+pub adds : (kinds : StepKinds) (agents : ℕ) (old new : List ℕ) (steps after : List PackedStep) (p : PackedStep) → IsStartOf old new → All (IsPacked old) steps → after ≡ steps ++ p ∷ [] → IsStepOf agents (step_of new p) → Allows kinds (step_of new p)
+    → AddsStepOf kinds agents (map (step_of old) steps) (map (step_of new) after)
+adds kinds agents old new steps after p keeps all pushed of_agent allowed = record {
   step = step_of new p;
+  allowed = allowed;
   of_agent = of_agent;
   added = ap (map (step_of new)) pushed ∙ map-append (step_of new) steps (p ∷ []) ∙ ap (λ ss. ss ++ step_of new p ∷ []) (steps_kept old new keeps steps all);
 }
 
--- the agents of one step more
-pub all_more : (agents : ℕ) (old new : List Step) → AddsStepOf agents old new → All (IsStepOf agents) old → All (IsStepOf agents) new
-all_more agents old new more all = rw more.added (All-push (IsStepOf agents) old more.step all more.of_agent)
+-- the steps of a script are of these kinds, and their agents the board's
+pub record AreSteps (kinds : StepKinds) (agents : ℕ) (steps : List Step) : Type 0 where
+  pub of_agents : All (IsStepOf agents) steps
+  pub allowed : All (Allows kinds) steps
+
+-- and so they are with one step more
+pub all_more : (kinds : StepKinds) (agents : ℕ) (old new : List Step) → AddsStepOf kinds agents old new → AreSteps kinds agents old → AreSteps kinds agents new
+all_more kinds agents old new more all = record {
+  of_agents = rw more.added (All-push (IsStepOf agents) old more.step all.of_agents more.of_agent);
+  allowed = rw more.added (All-push (Allows kinds) old more.step all.allowed more.allowed);
+}

@@ -62,3 +62,8 @@ shut_text (Err error) = shut_error_text error
 abbrev pub advanced_text : Bool → List ℕ
 advanced_text true = codes "yes"
 advanced_text false = codes "no"
+
+-- whether a pending set was ended as failed
+abbrev pub failed_text : Bool → List ℕ
+failed_text true = codes "failed yes"
+failed_text false = codes "failed no"

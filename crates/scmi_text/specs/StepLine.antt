@@ -6,9 +6,9 @@ use Rattle.scmi_codec.specs.declared.frame.Answer.TheVariants.{Reply, Released, 
 use Rattle.scmi_link.specs.declared.collected.Collected.{Collected}
 use Rattle.scmi_link.specs.declared.collected.Collected.TheVariants.{Nothing, Got, Closed as CollectedClosed}
 use Rattle.scmi_text.specs.Words.{message_text}
-use Rattle.scmi_text.specs.Names.{refusal_text, served_text, flushed_text, close_text, shut_text, advanced_text}
+use Rattle.scmi_text.specs.Names.{refusal_text, served_text, flushed_text, close_text, shut_text, advanced_text, failed_text}
 use Rattle.scmi_text.specs.declared.step_line.StepLine.{StepLine}
-use Rattle.scmi_text.specs.declared.step_line.StepLine.TheVariants.{Token, Posted, NotPosted, Served, Collected as StepCollected, Advanced, Flushed, P2a, Closed, Shut, Trace}
+use Rattle.scmi_text.specs.declared.step_line.StepLine.TheVariants.{Token, Posted, NotPosted, Served, Collected as StepCollected, Advanced, AdvanceFailed, Flushed, P2a, Closed, Shut, Trace}
 
 -- what an agent collected, as the rest of its line
 abbrev pub collected_text : Collected → List ℕ
@@ -36,6 +36,7 @@ step_text (NotPosted agent refusal) = decimal agent ++ codes " post " ++ refusal
 step_text (Served agent served) = codes "serve " ++ decimal agent ++ codes " " ++ served_text served ++ codes "\n"
 step_text (StepCollected agent collected) = decimal agent ++ collected_text collected ++ codes "\n"
 step_text (Advanced more) = codes "advance " ++ advanced_text more ++ codes "\n"
+step_text (AdvanceFailed more) = codes "advance " ++ failed_text more ++ codes "\n"
 step_text (Flushed agent flushed) = codes "flush " ++ decimal agent ++ codes " " ++ flushed_text flushed ++ codes "\n"
 step_text (P2a agent frame) = decimal agent ++ codes " p2a" ++ p2a_text frame ++ codes "\n"
 step_text (Closed agent closing) = decimal agent ++ codes " close " ++ close_text closing ++ codes "\n"

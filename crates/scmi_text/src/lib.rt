@@ -2,8 +2,9 @@
 //!
 //! The main types are `StepList`, the steps of a script, and `StepLine`, a line of a run's output.
 //! The main theorem is the contract of `write_step_line` (and of `write_script_line`): what is
-//! written is the text of the line, to the last byte. Each agent that `read_steps` and
-//! `read_scripts` give is an agent of the board. The rest of reading is tested.
+//! written is the text of the line, to the last byte. Each agent that `read_steps`,
+//! `read_hardware_steps` and `read_scripts` give is an agent of the board, and no step that
+//! `read_steps` gives is one beside hardware. The rest of reading is tested.
 #![tactic(auto)]
 
 mod names;
@@ -12,6 +13,7 @@ mod script_line;
 mod script_list;
 mod scripts;
 mod step;
+mod step_kinds;
 mod step_line;
 mod step_list;
 mod steps;
@@ -22,4 +24,4 @@ pub use scripts::read_scripts;
 pub use step::{AgentStep, Call, PlatformStep, Step};
 pub use step_line::{StepLine, write_step_line};
 pub use step_list::StepList;
-pub use steps::read_steps;
+pub use steps::{read_hardware_steps, read_steps};

@@ -1,6 +1,6 @@
 //! What calls answered, each as one item of a line.
 ghost use Rattle.std.specs.Prelude.{◌≡◌};
-ghost use Rattle.scmi_text.specs.Names.{refusal_text, served_text, flushed_text, closing_text, close_error_text, shut_error_text, close_text, shut_text, advanced_text};
+ghost use Rattle.scmi_text.specs.Names.{refusal_text, served_text, flushed_text, closing_text, close_error_text, shut_error_text, close_text, shut_text, advanced_text, failed_text};
 
 use scmi_ends::{Flushed, Served, ShutError};
 use scmi_link::{CloseError, Closing, PostError};
@@ -78,4 +78,10 @@ pub(crate) fn advanced_name(more: bool) -> &'static str
     ensures { result.now ≡ advanced_text more }
 {
     if more { "yes" } else { "no" }
+}
+
+pub(crate) fn failed_name(more: bool) -> &'static str
+    ensures { result.now ≡ failed_text more }
+{
+    if more { "failed yes" } else { "failed no" }
 }

@@ -43,6 +43,12 @@ pub(crate) enum Head {
         step: PlatformStep,
     },
     Advance,
+    Fail {
+        agent: u32,
+        protocol: u8,
+        message: u8,
+    },
+    AdvanceFailed,
 }
 
 /// A step whose payload is so many words of a list, from a place on.
@@ -55,7 +61,10 @@ pub(crate) struct PackedStep {
 
 /// Whether payload words belong to a step.
 pub(crate) fn has_payload(head: Head) -> bool {
-    matches!(head, Head::Do { .. } | Head::Call { .. } | Head::Raw { .. })
+    matches!(
+        head,
+        Head::Do { .. } | Head::Call { .. } | Head::Raw { .. } | Head::Fail { .. }
+    )
 }
 
 /// Makes `step` the step with this head and these payload words, of which there are at most
@@ -158,6 +167,15 @@ fn step_with(head: Head, payload: &[u32]) -> Step
         },
         Head::Platform { agent, step } => Step::Platform { agent, step },
         Head::Advance => Step::Advance,
+        Head::Fail {
+            agent,
+            protocol,
+            message,
+        } => Step::Fail {
+            agent,
+            call: call_with(protocol, message, payload),
+        },
+        Head::AdvanceFailed => Step::AdvanceFailed,
     }
 }
 

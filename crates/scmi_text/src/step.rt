@@ -12,6 +12,10 @@ pub enum Step {
     Do { agent: u32, call: Call },
     /// The platform completes one pending set.
     Advance,
+    /// Call, serve and collect in turn, beside hardware that refuses each change.
+    Fail { agent: u32, call: Call },
+    /// The platform ends one pending set, whose change the hardware refuses.
+    AdvanceFailed,
 }
 
 /// A call that an agent makes.

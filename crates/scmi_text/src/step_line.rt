@@ -3,7 +3,9 @@ ghost use Rattle.std.specs.Prelude.{◌≡◌, OnOk, ◌++◌, codes, decimal};
 ghost use Rattle.std.specs.Io.KnownBytes.{Appends};
 ghost use Rattle.scmi_text.specs.StepLine.{step_text, collected_text, frame_text, p2a_text};
 
-use crate::names::{advanced_name, close_name, flushed_name, refusal_name, served_name, shut_name};
+use crate::names::{
+    advanced_name, close_name, failed_name, flushed_name, refusal_name, served_name, shut_name,
+};
 use crate::words::write_message;
 use scmi_codec::{Answer, Frame};
 use scmi_ends::{Flushed, Served, ShutError};
@@ -40,6 +42,11 @@ pub enum StepLine {
     },
     /// The platform was to complete a pending set; `more` says whether there was one.
     Advanced {
+        more: bool,
+    },
+    /// The platform was to end a pending set, whose change the hardware refuses; `more` says whether
+    /// there was one.
+    AdvanceFailed {
         more: bool,
     },
     /// The platform was to post the first message of the agent's outbox.
@@ -85,6 +92,7 @@ pub fn write_step_line<W: Write>(writer: &mut W, line: &StepLine) -> io::Result<
         }
         StepLine::Collected { agent, collected } => write_collected(writer, *agent, collected),
         StepLine::Advanced { more } => writeln!(writer, "advance {}", advanced_name(*more)),
+        StepLine::AdvanceFailed { more } => writeln!(writer, "advance {}", failed_name(*more)),
         StepLine::Flushed { agent, flushed } => {
             writeln!(writer, "flush {agent} {}", flushed_name(*flushed))
         }

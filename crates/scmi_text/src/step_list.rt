@@ -4,6 +4,7 @@ ghost use Rattle.scmi_text.specs.Step.{AddsStepOf};
 
 use crate::packed_step::{PackedStep, set_step};
 use crate::step::Step;
+use crate::step_kinds::StepKinds;
 use crate::steps::read_step;
 use scmi_board::LineError;
 use std::alloc::Global;
@@ -58,13 +59,18 @@ impl StepList {
         set_step(step, packed.head, payload);
     }
 
-    /// Adds the step of a line. `Form` where the line is none of a script, has more payload words
-    /// than `PAYLOAD_WORDS`, or is of an agent that the board lacks, which has this many. `Memory`
-    /// where memory is refused.
-    pub(crate) fn add(&mut self, text: &[u8], agents: u32) -> Result<(), LineError>
-        ensures { OnOk result (AddsStepOf agents self.old self.new) }
+    /// Adds the step of a line. `Form` where the line is none of a script of these kinds of steps,
+    /// has more payload words than `PAYLOAD_WORDS`, or is of an agent that the board lacks, which
+    /// has this many. `Memory` where memory is refused.
+    pub(crate) fn add(
+        &mut self,
+        text: &[u8],
+        agents: u32,
+        kinds: StepKinds,
+    ) -> Result<(), LineError>
+        ensures { OnOk result (AddsStepOf kinds agents self.old self.new) }
     {
-        let step = read_step(text, agents, &mut self.words)?;
+        let step = read_step(text, agents, kinds, &mut self.words)?;
         let Ok(()) = self.steps.push(step) else {
             return Err(LineError::Memory);
         };
