@@ -56,3 +56,13 @@ remark_text l agent slot beside text =
 -- a close, on the lifeline of the end that closes
 unfoldable pub closed_text : Layout → ℕ → ℕ → Side → List ℕ → List ℕ
 closed_text l agent slot by text = cross_text (codes "shut") (record { x = closed_x l agent by; y = line_y slot - 4 }) ++ remark_text l agent slot by text
+
+-- so far beside the platform's lifeline, away from an agent's
+abbrev pub fault_x : Layout → ℕ → ℕ → ℕ
+fault_x l agent distance = if is_left l agent then platform_x l + distance else platform_x l - distance
+
+-- a change that the hardware refused: a cross beside the platform's lifeline, away from the agent's, and words behind it
+unfoldable pub fault_text : Layout → ℕ → ℕ → List ℕ → List ℕ
+fault_text l agent slot text =
+    cross_text (codes "lost") (record { x = fault_x l agent 14; y = line_y slot - 4 })
+    ++ words_text (remark_class l agent side.Agent) (record { x = fault_x l agent 26; y = line_y slot }) 0 0 text

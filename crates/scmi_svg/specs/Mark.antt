@@ -2,7 +2,7 @@
 use Rattle.std.specs.Prelude.{ℕ, true, false, List, [], ◌∷◌, ◌++◌, codes, flat_map, Some, None}
 use Rattle.scmi_svg.specs.Piece.{fixed, parts_text}
 use Rattle.scmi_svg.specs.Message.{command_text, withdrawn_text, refused_text, answer_text, posted_text, post_text}
-use Rattle.scmi_svg.specs.Event.{execution_text, advance_text, closed_text, remark_text}
+use Rattle.scmi_svg.specs.Event.{execution_text, advance_text, closed_text, remark_text, fault_text}
 use Rattle.scmi_svg.specs.declared.layout.Layout.{Layout}
 use Rattle.scmi_svg.specs.declared.mark.Mark.{Mark}
 use Rattle.scmi_svg.specs.declared.mark.Mark.TheVariants as mark
@@ -29,6 +29,8 @@ mark_kind (mark.Advance slot true text) = codes "advance"
 mark_kind (mark.Advance slot false text) = codes "advance idle"
 mark_kind (mark.Closed agent slot by text) = codes "closed"
 mark_kind (mark.Remark agent slot beside text) = codes "remark"
+mark_kind (mark.Failed slot text) = codes "advance refusal"
+mark_kind (mark.Fault agent slot text) = codes "fault"
 
 -- the shapes of a mark
 abbrev pub shapes_text : Layout → Mark → List ℕ
@@ -43,6 +45,8 @@ shapes_text l (mark.Posted slot) = post_text l slot
 shapes_text l (mark.Advance slot effective text) = advance_text l slot text.items
 shapes_text l (mark.Closed agent slot by text) = closed_text l agent slot by text.items
 shapes_text l (mark.Remark agent slot beside text) = remark_text l agent slot beside text.items
+shapes_text l (mark.Failed slot text) = advance_text l slot text.items
+shapes_text l (mark.Fault agent slot text) = fault_text l agent slot text.items
 
 -- the beginning of a group
 unfoldable pub opening_text : List ℕ → List ℕ

@@ -1,7 +1,7 @@
 //! Marks that are no messages.
 ghost use Rattle.std.specs.Prelude.{◌≡◌, OnOk};
 ghost use Rattle.std.specs.Io.KnownBytes.{Appends};
-ghost use Rattle.scmi_svg.specs.Event.{execution_text, advance_text, pill_width, pill_text, sign_text, closed_text, closed_x, remark_text, remark_x, remark_class};
+ghost use Rattle.scmi_svg.specs.Event.{execution_text, advance_text, pill_width, pill_text, sign_text, closed_text, closed_x, remark_text, remark_x, remark_class, fault_text, fault_x};
 
 use crate::layout::{Layout, line_y};
 use crate::mark::Side;
@@ -157,5 +157,48 @@ fn remark_class(layout: &Layout, agent: u8, beside: Side) -> &'static str
     match (beside, layout.is_left(agent)) {
         (Side::Agent, true) | (Side::Platform, false) => "note",
         (Side::Agent, false) | (Side::Platform, true) => "note end",
+    }
+}
+
+/// Writes that the hardware refused what an agent's command was to change, beside the platform's
+/// lifeline and away from the agent's, where no arrow of the command stands.
+#[tactic(auto, unfolding(crate::specs::Event::fault_text))]
+pub(crate) fn write_fault<W: Write>(
+    writer: &mut W,
+    layout: &Layout,
+    agent: u8,
+    slot: u16,
+    text: &[u8],
+) -> io::Result<()>
+    ensures { OnOk result (Appends (W.contents writer.old) (W.contents writer.new)
+        (fault_text layout.now agent slot text.now)) }
+{
+    let center = Point {
+        x: fault_x(layout, agent, 14),
+        y: line_y(slot).saturating_sub(4),
+    };
+    let at = Point {
+        x: fault_x(layout, agent, 26),
+        y: line_y(slot),
+    };
+    write_cross(writer, "lost", center)?;
+    write_words(
+        writer,
+        remark_class(layout, agent, Side::Agent),
+        at,
+        0,
+        0,
+        text,
+    )
+}
+
+/// So far beside the platform's lifeline, away from an agent's.
+fn fault_x(layout: &Layout, agent: u8, distance: u8) -> u32
+    ensures { result ≡ fault_x layout.now agent distance }
+{
+    if layout.is_left(agent) {
+        layout.platform_x() + u32::from(distance)
+    } else {
+        layout.platform_x().saturating_sub(u32::from(distance))
     }
 }

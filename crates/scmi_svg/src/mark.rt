@@ -95,4 +95,15 @@ pub enum Mark {
         beside: Side,
         text: Vec<u8>,
     },
+    /// The end of a pending set whose change the hardware refused.
+    Failed {
+        slot: u16,
+        text: Vec<u8>,
+    },
+    /// The hardware refused what an agent's command was to change.
+    Fault {
+        agent: u8,
+        slot: u16,
+        text: Vec<u8>,
+    },
 }

@@ -3,7 +3,7 @@ ghost use Rattle.std.specs.Prelude.{◌≡◌, OnOk};
 ghost use Rattle.std.specs.Io.KnownBytes.{Appends};
 ghost use Rattle.scmi_svg.specs.Mark.{marks_text, mark_text, shapes_text, opening_text, mark_kind, reply_kind};
 
-use crate::event::{write_advance, write_closed, write_execution, write_remark};
+use crate::event::{write_advance, write_closed, write_execution, write_fault, write_remark};
 use crate::layout::Layout;
 use crate::mark::{Mark, Outcome};
 use crate::message::{
@@ -74,6 +74,8 @@ fn mark_kind(mark: &Mark) -> &'static str
         Mark::Advance { .. } => "advance idle",
         Mark::Closed { .. } => "closed",
         Mark::Remark { .. } => "remark",
+        Mark::Failed { .. } => "advance refusal",
+        Mark::Fault { .. } => "fault",
     }
 }
 
@@ -114,5 +116,7 @@ fn write_shapes<W: Write>(writer: &mut W, layout: &Layout, mark: &Mark) -> io::R
             beside,
             text,
         } => write_remark(writer, layout, *agent, *slot, *beside, text),
+        Mark::Failed { slot, text } => write_advance(writer, layout, *slot, text),
+        Mark::Fault { agent, slot, text } => write_fault(writer, layout, *agent, *slot, text),
     }
 }
