@@ -7,6 +7,8 @@ class Session:
     """An input of the program, and what it writes where nothing is refused."""
 
     is_small = True
+    # The arguments of the program.
+    words = ()
 
     def __init__(self, name, stdin, output):
         self.name, self.stdin, self.output = name, stdin, output
@@ -108,13 +110,23 @@ def sessions(here, examples):
 
 
 def decoded(crate):
-    """The first areas of the stored run of scmi_decode: those before its first blank line."""
+    """The first areas of the stored run of scmi: those before its first blank line."""
     stdin, _, _ = (crate / "stdin").read_bytes().partition(b"\n\n")
     stdin += b"\n"
     lines = (crate / "stdout").read_bytes().splitlines(keepends=True)
     numbers = [int(line.split()[0]) if line[:1].isdigit() else 0 for line in lines]
     end = next(at for at, number in enumerate(numbers) if number > stdin.count(b"\n"))
-    return Steps("areas in words", stdin, b"".join(lines[:end]))
+    session = Steps("areas in words", stdin, b"".join(lines[:end]))
+    session.words = ("decode",)
+    return session
+
+
+def drawn(charts, examples):
+    """A session that is drawn: nothing is written before the picture stands."""
+    stdin = (examples / "two_agents.in").read_bytes()
+    session = Once("a chart", stdin, (charts / "two_agents.svg").read_bytes())
+    session.words = ("chart",)
+    return session
 
 
 class Probe:

@@ -1,23 +1,10 @@
 //! The program: a platform controller and its agents over standard input and output.
 //!
-//! Its first line names a mode. The main type is `Mode`; the
-//! main theorem is the contract of `run_once`: what is written is the area that was read with the
-//! answer of agent 1's first command, to the last byte.
+//! Its first line names a mode. What it writes, and its exit status, are those of `run_program` of
+//! `scmi_modes`, whose contract is the main theorem.
 #![tactic(auto)]
 
-mod answer;
-mod kind;
-mod lines;
-mod mode;
-mod once;
-mod reference_board;
-mod run;
-mod run_error;
-mod steps;
-mod threads;
-
-use crate::run::run_program;
-use crate::run_error::RunError;
+use scmi_modes::{RunError, run_program};
 use scmi_threads::OpenGate;
 use std::io;
 use std::io::{BufWriter, Write};

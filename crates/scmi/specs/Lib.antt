@@ -1,0 +1,4 @@
+pub mod Word
+pub mod Request
+pub mod Texts
+pub mod Program

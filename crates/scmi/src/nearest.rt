@@ -1,0 +1,24 @@
+//! The word that a misspelt one may stand for.
+
+use crate::word::WORDS;
+use std::alloc::Global;
+use strsim::osa_distance;
+
+/// The most letters that are put in, left out, changed or swapped.
+const EDITS: usize = 2;
+
+/// The first of the words that are nearest to a text, if one is near; `None` too where memory is refused.
+pub fn nearest(alloc: Global, text: &str) -> Option<&'static str> {
+    let mut found = None;
+    let mut fewest = EDITS + 1;
+    for row in &WORDS {
+        let Ok(edits) = osa_distance(alloc, text, row.text) else {
+            return None;
+        };
+        if edits < fewest {
+            fewest = edits;
+            found = Some(row.text);
+        }
+    }
+    found
+}

@@ -1,0 +1,38 @@
+//! A run by its request.
+ghost use Rattle.std.specs.Prelude.{◌≡◌};
+ghost use Rattle.scmi.specs.Program.{Answers};
+
+use crate::request::Request;
+use crate::task::Task;
+use crate::texts::text_of;
+use scmi_decode::run_decode;
+use scmi_draw::run_draw;
+use scmi_modes::{RunError, run_program};
+use scmi_threads::OpenGate;
+use std::alloc::Global;
+use std::io::{Read, Write};
+use std::sync::Wait;
+use std::thread::Threads;
+
+/// Does what is asked for, and gives the exit status: 0, or that of the error, which the last line
+/// names. A text that can't be written gives status 1.
+pub fn run_request<T: Threads + Wait + Sync, R: Read, W: Write>(
+    rt: &T,
+    alloc: Global,
+    request: Request,
+    reader: &mut R,
+    writer: &mut W,
+) -> u8
+    ensures { result ≡ 0 →
+        Answers request (R.remaining reader.old) (W.contents writer.old) (W.contents writer.new) }
+{
+    match request {
+        Request::Do(Task::Run) => run_program(rt, alloc, &OpenGate, reader, writer),
+        Request::Do(Task::Decode) => run_decode(alloc, reader, writer),
+        Request::Do(Task::Chart) => run_draw(alloc, reader, writer),
+        _ => match writer.write_all(text_of(request).as_bytes()) {
+            Ok(()) => 0,
+            Err(_) => RunError::Write.status(),
+        },
+    }
+}

@@ -1,0 +1,12 @@
+//! What the program does.
+
+/// What the program does with its input.
+#[derive(Clone, Copy, Debug, PartialEq, Eq)]
+pub enum Task {
+    /// Runs a session.
+    Run,
+    /// Describes areas of shared memory.
+    Decode,
+    /// Draws a session.
+    Chart,
+}

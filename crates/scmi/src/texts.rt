@@ -1,0 +1,90 @@
+//! What the program says of itself.
+ghost use Rattle.std.specs.Prelude.{◌≡◌};
+ghost use Rattle.scmi.specs.Texts.{text_of};
+
+use crate::request::Request;
+use crate::task::Task;
+
+/// The texts of the program.
+///
+/// It is generic because a constant has a name in definitions only where its struct holds no reference
+/// of its own.
+#[derive(Clone, Copy)]
+pub struct Texts<T> {
+    /// How the program is used.
+    pub help: T,
+    /// How to run a session.
+    pub run: T,
+    /// How to describe areas.
+    pub decode: T,
+    /// How to draw a session.
+    pub chart: T,
+    /// Which program this is.
+    pub version: T,
+}
+
+/// The texts that `help` and `--version` write.
+pub const TEXTS: Texts<&'static str> = Texts {
+    help: "\
+Both sides of Arm's System Control and Management Interface (SCMI, DEN0056B).
+
+Usage: scmi [run | decode | chart] [FILE]
+       scmi help [run | decode | chart]
+       scmi --version
+
+  run     runs a session of a platform and its agents; so it does without a word
+  decode  tells what areas of shared memory are
+  chart   draws a session as a picture (SVG)
+
+It reads FILE, which the script ./scmi opens, or standard input, and writes to standard output.
+Status: 0 done; 1 the output failed; 2 the input is refused, and the last line says why;
+3 a limit was met; 4 there was no memory; 64 a wrong argument.
+
+Example: scmi run examples/two_agents.in
+",
+    run: "\
+Runs a session of a platform and its agents, and writes a line for each step.
+
+Usage: scmi [run] [FILE]
+
+The first line of the input is the mode: once, steps words, steps rings, threads words or
+threads rings. docs/SCRIPTS.md has all lines.
+
+Example: scmi run examples/two_agents.in
+",
+    decode: "\
+Tells what areas of shared memory are: busy or free, the message by its name, status and fields.
+
+Usage: scmi decode [FILE]
+
+The input has the dump of an area in each line, 284 bytes in hexadecimal digits.
+docs/DECODE.md has the forms.
+
+Example: scmi decode areas.hex
+",
+    chart: "\
+Draws a session of one thread as a sequence chart.
+
+Usage: scmi chart [FILE]
+
+The input is that of scmi run in the modes steps words and steps rings, at most 2,000 steps.
+The output is an SVG. docs/CHART.md has the signs.
+
+Example: scmi chart examples/two_agents.in > run.svg
+",
+    version: "Tolbjir scmi, unreleased: SCMI 2.0 (DEN0056B), proved in Rattle where the build says so\n",
+};
+
+/// The text that a request asks for; empty where it asks for a task.
+pub fn text_of(request: Request) -> &'static str
+    ensures { result.now ≡ text_of request }
+{
+    match request {
+        Request::Help => TEXTS.help,
+        Request::HelpOn(Task::Run) => TEXTS.run,
+        Request::HelpOn(Task::Decode) => TEXTS.decode,
+        Request::HelpOn(Task::Chart) => TEXTS.chart,
+        Request::Version => TEXTS.version,
+        Request::Do(_) => "",
+    }
+}

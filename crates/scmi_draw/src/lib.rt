@@ -1,0 +1,16 @@
+//! A script in, the sequence chart of its run out, as an SVG.
+//!
+//! The main type is `Kind`, what the channels of a run are made of. The main theorem is the contract of
+//! `run_draw`: where the status is 0, what was written is the picture of a chart whose marks are those
+//! of the lines of the script's steps, in order.
+#![tactic(auto)]
+
+mod draw;
+mod draw_error;
+mod kind;
+mod run;
+
+pub use draw::{draw_input, run_draw};
+pub use draw_error::DrawError;
+pub use kind::Kind;
+pub use run::{STEPS, chart_of};

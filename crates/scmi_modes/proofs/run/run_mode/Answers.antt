@@ -1,0 +1,14 @@
+use Rattle.std.proofs.Common.{◌≡◌, rules}
+use Rattle.scmi_modes.specs.Mode.{text_of}
+use Rattle.scmi_modes.proofs.Modes.{where_steps, where_threads}
+use Rattle.scmi_modes.proofs.run.run_mode.Goals as goal
+
+pub returns-clause-text : goal.returns-clause-text
+returns-clause-text g c =
+    let named : c.in_ok-line.line.items ≡ text_of c.in_ok-mode.mode = search rules in
+    where_threads _ _ _ _ _ _ c.in_ok-line.ensures.line named c.run_in.ensures.threads
+
+pub returns-clause-steps : goal.returns-clause-steps
+returns-clause-steps g c =
+    let named : c.in_ok-line.line.items ≡ text_of c.in_ok-mode.mode = search rules in
+    where_steps _ _ _ _ _ _ c.in_ok-line.ensures.line named c.run_in.ensures.steps

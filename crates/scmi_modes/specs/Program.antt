@@ -1,0 +1,23 @@
+-- What is written of an input that is known.
+use Rattle.std.specs.Prelude.{◌≡◌, ℕ, List, Option, IfSome}
+use Rattle.scmi_input.specs.Lines.{first_line, after_line}
+use Rattle.scmi_modes.specs.Mode.{text_of}
+use Rattle.scmi_modes.specs.Once.{IsAnswerTo}
+use Rattle.scmi_modes.specs.Runs.{IsTextOfRun, may_be_full}
+use Rattle.scmi_modes.specs.Steps.{WritesSteps}
+use Rattle.scmi_modes.specs.declared.kind.Kind.{Kind}
+use Rattle.scmi_modes.specs.declared.mode.Mode.TheVariants.{Once, Steps, Threads}
+
+-- where the first line names the mode `once`, what is written is the answer to what stands behind it
+abbrev pub AnswersOnce : Option (List ℕ) → Option (List ℕ) → Option (List ℕ) → Type 0
+AnswersOnce known old new = IfSome known (λ input. first_line input ≡ text_of Once → IsAnswerTo (after_line input) old new)
+
+-- where the first line names a mode `threads`, what is written is the text of a run of scripts to their ends
+abbrev pub RunsThreads : Option (List ℕ) → Option (List ℕ) → Option (List ℕ) → Type 0
+RunsThreads known old new =
+    IfSome known (λ input. (kind : Kind) → first_line input ≡ text_of (Threads kind) → IsTextOfRun (may_be_full kind) old new)
+
+-- where the first line names a mode `steps`, what is written is the text of all steps of a script on some board
+abbrev pub RunsSteps : Option (List ℕ) → Option (List ℕ) → Option (List ℕ) → Type 0
+RunsSteps known old new =
+    IfSome known (λ input. (kind : Kind) → first_line input ≡ text_of (Steps kind) → WritesSteps kind old new)

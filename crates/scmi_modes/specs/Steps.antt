@@ -1,0 +1,51 @@
+-- What a script on one thread writes.
+use Rattle.std.specs.Prelude.{◌≡◌, ◌⊎◌, ℕ, Bool, List, [], ◌∷◌, ◌++◌, length, Option, Result, flat_map}
+use Rattle.std.specs.Io.KnownBytes.{Appends}
+use Rattle.scmi_link.specs.View.{CallerView}
+use Rattle.scmi_link.specs.RingCaller.{ring_caller_view, ring_close_shows}
+use Rattle.scmi_link.specs.declared.closing.Closing.{Closing}
+use Rattle.scmi_link.specs.declared.close_error.CloseError.{CloseError}
+use Rattle.scmi_words.specs.WordCaller.{word_caller_view, CloseShows}
+use Rattle.scmi_plan.specs.Board.{Board}
+use Rattle.scmi_ends.specs.Shut.{ShowsClose}
+use Rattle.scmi_text.specs.StepLine.{step_text}
+use Rattle.scmi_text.specs.declared.step.Step.{Step}
+use Rattle.scmi_text.specs.declared.step_line.StepLine.{StepLine}
+use Rattle.scmi_text.specs.declared.step_line.StepLine.TheVariants.{Trace}
+use Rattle.scmi_session.specs.SessionView.{SessionView}
+use Rattle.scmi_session.specs.Run.{Runs, IsGathered}
+use Rattle.scmi_modes.specs.Runs.{may_be_full}
+use Rattle.scmi_modes.specs.declared.kind.Kind.{Kind}
+use Rattle.scmi_modes.specs.declared.kind.Kind.TheVariants.{Rings, Words}
+
+-- what a close shows at a channel of this kind, by the view after it
+abbrev pub shows_close : Kind → CallerView → Result Closing CloseError → Type 0
+shows_close Rings = ShowsClose ring_caller_view ring_close_shows
+shows_close Words = ShowsClose word_caller_view CloseShows
+
+module _ (full : Bool) (Shows : CallerView → Result Closing CloseError → Type 0) where
+  -- what is written is the lines that the first of these steps give, as far as they came
+  pub record AreStepLines (board : Board) (steps : List Step) (old new : Option (List ℕ)) : Type 0 where
+    pub done : List Step
+    pub left : List Step
+    pub parted : done ++ left ≡ steps
+    pub lines : List StepLine
+    pub last : SessionView
+    pub made : Runs full Shows board done lines last
+    pub text : Appends old new (flat_map step_text lines)
+
+  -- what is written is the lines that all of these steps give, and then the length of the history that they leave
+  pub record IsTextOfSteps (board : Board) (steps : List Step) (old new : Option (List ℕ)) : Type 0 where
+    pub lines : List StepLine
+    pub last : SessionView
+    pub made : Runs full Shows board steps lines last
+    pub gathered : IsGathered last
+    pub text : Appends old new (flat_map step_text lines ++ step_text (Trace (length last.platform.history)))
+
+-- what is written is the text of all steps of a script on some board
+abbrev pub WritesSteps : Kind → Option (List ℕ) → Option (List ℕ) → Type 0
+WritesSteps kind old new = (board : Board) × (steps : List Step) × IsTextOfSteps (may_be_full kind) (shows_close kind) board steps old new
+
+-- nothing is written, or the lines of the first steps of a script on some board
+abbrev pub WritesFirstSteps : Kind → Option (List ℕ) → Option (List ℕ) → Type 0
+WritesFirstSteps kind old new = (new ≡ old) ⊎ ((board : Board) × (steps : List Step) × AreStepLines (may_be_full kind) (shows_close kind) board steps old new)

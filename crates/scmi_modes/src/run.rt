@@ -1,0 +1,119 @@
+//! A run from its first line to its exit status.
+ghost use Rattle.std.specs.Prelude.{◌≡◌, ◌≤◌, ◌+◌, ◌*◌, IfErr, IfSome, OnOk};
+ghost use Rattle.scmi_input.specs.declared.input.TheConstants.{INPUT_BYTES};
+ghost use Rattle.scmi_modes.specs.Once.{IsAnswerTo};
+ghost use Rattle.scmi_modes.specs.Program.{AnswersOnce, RunsSteps, RunsThreads};
+ghost use Rattle.scmi_modes.specs.Reads.{StopsAtFailure};
+ghost use Rattle.scmi_modes.specs.RunError.{status_of};
+ghost use Rattle.scmi_modes.specs.Runs.{IsTextOfRun, may_be_full};
+ghost use Rattle.scmi_modes.specs.Steps.{WritesSteps};
+ghost use Rattle.scmi_modes.specs.declared.kind.Kind.{Kind as KindOf};
+
+use crate::mode::Mode;
+use crate::once::run_once;
+use crate::run_error::RunError;
+use crate::steps::run_steps;
+use crate::threads::run_threads;
+use scmi_input::{CountedRead, CountedReader, Input};
+use scmi_threads::Gate;
+use std::alloc::Global;
+use std::io::{Read, Write};
+use std::sync::Wait;
+use std::thread::Threads;
+
+/// Runs an input in the mode that its first line names, and gives the exit status: 0, or that of
+/// the error, whose text is written as the last line. A fault that can't be written gives status 1.
+pub fn run_program<T: Threads + Wait + Sync, G: Gate, R: Read, W: Write>(
+    rt: &T,
+    alloc: Global,
+    gate: &G,
+    reader: &mut R,
+    writer: &mut W,
+) -> u8
+    ensures answer { result ≡ 0 →
+        AnswersOnce (R.remaining reader.old) (W.contents writer.old) (W.contents writer.new) }
+    ensures text { result ≡ 0 →
+        RunsThreads (R.remaining reader.old) (W.contents writer.old) (W.contents writer.new) }
+    ensures steps { result ≡ 0 →
+        RunsSteps (R.remaining reader.old) (W.contents writer.old) (W.contents writer.new) }
+{
+    let mut input = Input::new(CountedReader::new(reader));
+    run_input(rt, alloc, gate, &mut input, writer)
+}
+
+/// The same of a reader that counts. The first line and what follows it take at most
+/// `INPUT_BYTES + 1` reads each, and a read that fails is the last.
+pub fn run_input<T: Threads + Wait + Sync, G: Gate, R: CountedRead + Drop, W: Write>(
+    rt: &T,
+    alloc: Global,
+    gate: &G,
+    input: &mut Input<R>,
+    writer: &mut W,
+) -> u8
+    ensures answer { result ≡ 0 →
+        AnswersOnce input.old.left (W.contents writer.old) (W.contents writer.new) }
+    ensures text { result ≡ 0 →
+        RunsThreads input.old.left (W.contents writer.old) (W.contents writer.new) }
+    ensures steps { result ≡ 0 →
+        RunsSteps input.old.left (W.contents writer.old) (W.contents writer.new) }
+    ensures reads { input.new.reads ≤ input.old.reads + 2 * (INPUT_BYTES + 1) }
+    ensures stops { input.old.since_failure ≡ 0 → input.new.since_failure ≤ 1 }
+{
+    match run_mode(rt, alloc, gate, input, writer) {
+        Ok(()) => 0,
+        Err(RunError::Write) => RunError::Write.status(),
+        Err(fault) => match writeln!(writer, "fault {fault}") {
+            Ok(()) => fault.status(),
+            Err(_) => RunError::Write.status(),
+        },
+    }
+}
+
+fn run_mode<T: Threads + Wait + Sync, G: Gate, R: CountedRead + Drop, W: Write>(
+    rt: &T,
+    alloc: Global,
+    gate: &G,
+    input: &mut Input<R>,
+    writer: &mut W,
+) -> Result<(), RunError>
+    ensures answer { OnOk result
+        (AnswersOnce input.old.left (W.contents writer.old) (W.contents writer.new)) }
+    ensures text { OnOk result
+        (RunsThreads input.old.left (W.contents writer.old) (W.contents writer.new)) }
+    ensures steps { OnOk result
+        (RunsSteps input.old.left (W.contents writer.old) (W.contents writer.new)) }
+    ensures kept { IfErr result (λ e. status_of e ≡ 2 → writer.new ≡ writer.old) }
+    ensures reads { input.new.reads ≤ input.old.reads + 2 * (INPUT_BYTES + 1) }
+    ensures stops { StopsAtFailure result input.old.since_failure input.new.since_failure }
+{
+    let line = input.read_first_line()?;
+    let mode = Mode::of_line(&line).ok_or(RunError::Mode)?;
+    run_in(rt, alloc, gate, mode, input, writer)
+}
+
+/// Runs what is left of an input in this mode.
+fn run_in<T: Threads + Wait + Sync, G: Gate, R: CountedRead, W: Write>(
+    rt: &T,
+    alloc: Global,
+    gate: &G,
+    mode: Mode,
+    reader: &mut R,
+    writer: &mut W,
+) -> Result<(), RunError>
+    ensures once { OnOk result (mode ≡ Mode.Once → IfSome (R.remaining reader.old)
+        (λ input. IsAnswerTo input (W.contents writer.old) (W.contents writer.new))) }
+    ensures threads { OnOk result ((kind : KindOf) → mode ≡ Mode.Threads kind →
+        IsTextOfRun (may_be_full kind) (W.contents writer.old) (W.contents writer.new)) }
+    ensures steps { OnOk result ((kind : KindOf) → mode ≡ Mode.Steps kind →
+        WritesSteps kind (W.contents writer.old) (W.contents writer.new)) }
+    ensures kept { IfErr result (λ e. status_of e ≡ 2 → writer.new ≡ writer.old) }
+    ensures reads { R.reads reader.new ≤ R.reads reader.old + (INPUT_BYTES + 1) }
+    ensures stops { StopsAtFailure result (R.since_failure reader.old)
+        (R.since_failure reader.new) }
+{
+    match mode {
+        Mode::Once => run_once(alloc, reader, writer),
+        Mode::Steps(kind) => run_steps(alloc, reader, writer, kind),
+        Mode::Threads(kind) => run_threads(rt, alloc, gate, reader, writer, kind),
+    }
+}

@@ -1,0 +1,113 @@
+//! Why a run is refused or stops.
+ghost use Rattle.std.specs.Prelude.{◌≡◌};
+ghost use Rattle.scmi_modes.specs.RunError.{status_of, fault_of_input, fault_of_text, fault_of_plan};
+
+use scmi_board::TextError;
+use scmi_input::InputError;
+use scmi_plan::PlanError;
+use std::alloc::AllocError;
+use std::fmt;
+use thiserror::Error;
+
+/// Why a run is refused or stops. Its text is what follows the word `fault`.
+#[derive(Clone, Copy, PartialEq, Eq, Error)]
+pub enum RunError {
+    /// The first line names no mode.
+    #[error("mode")]
+    Mode,
+    /// The first line, or what follows it, is longer than `INPUT_BYTES`.
+    #[error("size")]
+    Size,
+    /// A read failed.
+    #[error("read")]
+    Read,
+    /// The input of the mode `once` is not one line of an area's digits.
+    #[error("area")]
+    Area,
+    /// This line is no line of a board.
+    #[error("board {0}")]
+    Board(u32),
+    /// This line is no line of a script.
+    #[error("script {0}")]
+    Script(u32),
+    /// The board breaks this rule.
+    #[error("plan {0}")]
+    Plan(u8),
+    /// A limit of the run was met.
+    #[error("limit")]
+    Limit,
+    /// Memory was refused.
+    #[error("memory")]
+    Memory,
+    /// The output failed.
+    #[error("write")]
+    Write,
+}
+
+impl RunError {
+    /// The exit status of a run that ends so: 1 for a failed output, 2 for a refused input, 3 for a
+    /// limit, 4 for want of memory.
+    pub fn status(&self) -> u8
+        ensures { result ≡ status_of self.now }
+    {
+        match self {
+            RunError::Write => 1,
+            RunError::Limit => 3,
+            RunError::Memory => 4,
+            _ => 2,
+        }
+    }
+}
+
+// The text is all that there is to see, and the proof of a derived `Debug` is long.
+impl fmt::Debug for RunError {
+    fn fmt<W: fmt::Write>(&self, f: &mut fmt::Formatter<W>) -> fmt::Result {
+        fmt::Display::fmt(self, f)
+    }
+}
+
+impl From<AllocError> for RunError {
+    ghost use Rattle.std.specs.Prelude.{◌≡◌};
+    ghost use Rattle.scmi_modes.specs.declared.run_error.RunError.TheVariants.{Memory};
+
+    ghost from_gives = { λ _ fault. fault ≡ Memory };
+
+    fn from(_error: AllocError) -> RunError {
+        RunError::Memory
+    }
+}
+
+impl From<InputError> for RunError {
+    ghost from_gives = { λ error fault. fault ≡ fault_of_input error };
+
+    fn from(error: InputError) -> RunError {
+        match error {
+            InputError::Size => RunError::Size,
+            InputError::Read => RunError::Read,
+            InputError::Memory => RunError::Memory,
+        }
+    }
+}
+
+impl From<TextError> for RunError {
+    ghost from_gives = { λ error fault. fault ≡ fault_of_text error };
+
+    fn from(error: TextError) -> RunError {
+        match error {
+            TextError::Board(line) => RunError::Board(line),
+            TextError::Script(line) => RunError::Script(line),
+            TextError::Memory => RunError::Memory,
+        }
+    }
+}
+
+impl From<PlanError> for RunError {
+    ghost from_gives = { λ error fault. fault ≡ fault_of_plan error };
+
+    fn from(error: PlanError) -> RunError {
+        match error {
+            PlanError::Memory => RunError::Memory,
+            rule => RunError::Plan(rule.number()),
+        }
+    }
+}

@@ -1,0 +1,129 @@
+//! The modes `threads rings` and `threads words`: a board and a script for each agent, each in a
+//! thread of its own.
+ghost use Rattle.std.specs.Prelude.{◌≡◌, ◌≤◌, ◌+◌, ◌⊎◌, None, Some, length, IfErr, IsErrOf, OnOk, IsTrue};
+ghost use Rattle.std.specs.List.{All};
+ghost use Rattle.std.specs.Io.KnownBytes.{Appends};
+ghost use Rattle.scmi_threads.specs.Scripts.{AreScriptsOf};
+ghost use Rattle.scmi_modes.specs.Reads.{StopsAtFailure};
+ghost use Rattle.scmi_modes.specs.RunError.{status_of};
+ghost use Rattle.scmi_modes.specs.Runs.{IsTextOfRun, IsTextOfStoppedRun, logs_text, may_be_full};
+ghost use Rattle.scmi_input.specs.declared.input.TheConstants.{INPUT_BYTES};
+
+use crate::kind::Kind;
+use crate::run_error::RunError;
+use scmi_board::{Lines, read_board};
+use scmi_input::{CountedRead, read_rest};
+use scmi_link::{Channel, RingChannel};
+use scmi_plan::Plan;
+use scmi_text::{read_scripts, write_script_lines};
+use scmi_threads::{AgentLog, Gate, Outcome, Script, Stop, run_agents};
+use scmi_words::WordChannel;
+use std::alloc::Global;
+use std::io::Write;
+use std::sync::Wait;
+use std::thread::Threads;
+
+/// Reads a board and the scripts of its agents, runs them all at once, and writes the lines of each
+/// agent, by rising number. `Size`, `Read`, `Board`, `Script` and `Plan` where the input is refused;
+/// after each of these nothing is written. `Limit` where a script met a limit, and `Memory`, which goes
+/// before it, where memory was refused: after these the lines so far are written. `Write` where the
+/// output fails.
+pub fn run_threads<T: Threads + Wait + Sync, G: Gate, R: CountedRead, W: Write>(
+    rt: &T,
+    alloc: Global,
+    gate: &G,
+    reader: &mut R,
+    writer: &mut W,
+    kind: Kind,
+) -> Result<(), RunError>
+    ensures text { OnOk result
+        (IsTextOfRun (may_be_full kind) (W.contents writer.old) (W.contents writer.new)) }
+    ensures limit { IsErrOf result RunError.Limit →
+        IsTextOfStoppedRun (may_be_full kind) (W.contents writer.old) (W.contents writer.new) }
+    ensures memory { IsErrOf result RunError.Memory →
+        (writer.new ≡ writer.old) ⊎
+        IsTextOfStoppedRun (may_be_full kind) (W.contents writer.old) (W.contents writer.new) }
+    ensures kept { IfErr result (λ e. status_of e ≡ 2 → writer.new ≡ writer.old) }
+    ensures reads { R.reads reader.new ≤ R.reads reader.old + (INPUT_BYTES + 1) }
+    ensures stops { StopsAtFailure result (R.since_failure reader.old)
+        (R.since_failure reader.new) }
+{
+    let bytes = read_rest(alloc, reader)?;
+    let mut lines = Lines::new(&bytes);
+    let board = read_board(alloc, &mut lines)?;
+    let scripts = read_scripts(alloc, &mut lines, board.agent_count()?)?;
+    let plan = Plan::check(alloc, &board)?;
+    match kind {
+        Kind::Rings => write_run::<RingChannel, T, G, W>(rt, alloc, gate, plan, &scripts, writer),
+        Kind::Words => write_run::<WordChannel, T, G, W>(rt, alloc, gate, plan, &scripts, writer),
+    }
+}
+
+/// Runs scripts over channels of one kind, and writes the lines of each agent, by rising number. The
+/// only errors are `Limit`, `Memory` and `Write`.
+fn write_run<C: Channel, T: Threads + Wait + Sync, G: Gate, W: Write>(
+    rt: &T,
+    alloc: Global,
+    gate: &G,
+    plan: Plan,
+    scripts: &[Script],
+    writer: &mut W,
+) -> Result<(), RunError>
+    requires scripts { AreScriptsOf (length plan.agents) scripts.now }
+    ensures text { OnOk result
+        (IsTextOfRun C.FULL (W.contents writer.old) (W.contents writer.new)) }
+    ensures limit { IsErrOf result RunError.Limit →
+        IsTextOfStoppedRun C.FULL (W.contents writer.old) (W.contents writer.new) }
+    ensures memory { IsErrOf result RunError.Memory →
+        (writer.new ≡ writer.old) ⊎
+        IsTextOfStoppedRun C.FULL (W.contents writer.old) (W.contents writer.new) }
+    ensures errors { IfErr result (λ e. ¬ (status_of e ≡ 2)) }
+{
+    let agents = plan.agents();
+    let Ok(outcome) = run_agents::<C, G, T>(rt, alloc, gate, plan, scripts) else {
+        return Err(RunError::Memory);
+    };
+    write_logs(writer, agents, &outcome.logs)?;
+    verdict(&outcome)
+}
+
+/// Writes the lines of each agent, numbered from 1.
+fn write_logs<W: Write>(writer: &mut W, agents: u32, logs: &[AgentLog]) -> Result<(), RunError>
+    requires { length logs.now ≡ agents }
+    ensures text { OnOk result (Appends (W.contents writer.old) (W.contents writer.new)
+        (logs_text 1 logs.now)) }
+    ensures errors { IfErr result (λ e. e ≡ RunError.Write) }
+{
+    'logs: for i in 0..agents {
+        let Ok(()) = write_script_lines(writer, i + 1, &logs[i as usize].lines) else {
+            return Err(RunError::Write);
+        };
+    }
+    Ok(())
+}
+
+/// What is to be said in the end: that memory was refused, or else that a limit was met.
+fn verdict(outcome: &Outcome) -> Result<(), RunError>
+    ensures ok { OnOk result (All (λ log. log.stopped ≡ None) outcome.now.logs.items) }
+    ensures errors { IfErr result (λ e. ¬ (status_of e ≡ 2)) }
+{
+    if outcome.memory || any_stopped(&outcome.logs, Stop::Memory) {
+        return Err(RunError::Memory);
+    }
+    if any_stopped(&outcome.logs, Stop::Limit) {
+        return Err(RunError::Limit);
+    }
+    Ok(())
+}
+
+/// Whether a script ended so before its last line.
+fn any_stopped(logs: &[AgentLog], stop: Stop) -> bool
+    ensures { ¬ (IsTrue result) → All (λ log. ¬ (log.stopped ≡ Some stop)) logs.now }
+{
+    for log in logs {
+        if log.stopped == Some(stop) {
+            return true;
+        }
+    }
+    false
+}

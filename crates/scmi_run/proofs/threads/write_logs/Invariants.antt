@@ -1,7 +1,0 @@
-use Rattle.std.proofs.Common.{take}
-use Rattle.std.specs.Io.KnownBytes.{Appends}
-use Rattle.scmi_run.specs.Runs.{logs_text}
-use Rattle.scmi_run.proofs.threads.write_logs.Given as goal
-
-abbrev pub invariant-logs : goal.invariant-logs
-invariant-logs g l = Appends (g.W.Write.contents l.fn.writer) (g.W.Write.contents l.writer) (logs_text 1 (take l.i l.logs))
