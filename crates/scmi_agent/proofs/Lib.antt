@@ -1,0 +1,2 @@
+pub mod StandingFrame
+pub mod Replies
