@@ -1,8 +1,8 @@
 //! Boards as texts: lines, their items and numbers, and the board that they describe.
 //!
 //! The main types are `Lines`, what is left of an input, and `Items`, what is left of a line. The main
-//! theorem is the contract of `number`: it gives the value of the digits, and nothing for any other
-//! text. `read_board` refuses a text by a line of it or for want of memory; what it reads is tested.
+//! theorem is the contract of `read_board`: it gives the board that the lines stand for, row by row,
+//! and else the number of the first line that is none of it, unless memory is refused.
 #![tactic(auto)]
 
 mod board;
