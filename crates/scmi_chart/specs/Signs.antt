@@ -2,6 +2,8 @@
 use Rattle.std.specs.Prelude.{ℕ, Bool, true, false, ◌==◌, if◌then◌else◌, List, [], ◌∷◌, ◌++◌, Option, Some, None, min, Result, Ok, Err}
 use Rattle.scmi_codec.specs.Header.{HeaderFields}
 use Rattle.scmi_codec.specs.Payload.{begins_with_success}
+use Rattle.scmi_codec.specs.Status.{status_word}
+use Rattle.scmi_codec.specs.declared.status.Status.TheVariants.{HardwareError}
 use Rattle.scmi_codec.specs.declared.frame.Answer.{Answer}
 use Rattle.scmi_codec.specs.declared.frame.Answer.TheVariants.{Reply}
 use Rattle.scmi_codec.specs.declared.frame.Frame.{Frame}
@@ -27,7 +29,7 @@ use Rattle.scmi_svg.specs.declared.mark.Outcome.TheVariants as outcome
 use Rattle.scmi_svg.specs.declared.mark.Side.{Side}
 use Rattle.scmi_svg.specs.declared.mark.Side.TheVariants as side
 
--- what a mark says: an agent posted a command, with its token where it has one; a post was refused; the platform executed a command; an agent read the answer to its command, and whether it was a success; an agent took a delayed response or a notification; the platform posted a message; it was to complete a pending set, and whether there was one; channels were closed; or a step of an agent's came to nothing
+-- what a mark says: an agent posted a command, with its token where it has one; a post was refused; the platform executed a command; an agent read the answer to its command, and whether it was a success; an agent took a delayed response or a notification; the platform posted a message; it was to complete a pending set, and whether there was one; it ended one whose change the hardware refused; the hardware refused what an agent's command was to change; channels were closed; or a step of an agent's came to nothing
 pub data Sign : Type 0 where
   sent : ℕ → Option ℕ → Sign
   unsent : ℕ → Sign
@@ -37,6 +39,8 @@ pub data Sign : Type 0 where
   notified : ℕ → Sign
   posted : Sign
   advanced : Bool → Sign
+  failed : Sign
+  faulted : ℕ → Sign
   closed : ℕ → Side → Sign
   remarked : ℕ → Sign
 
@@ -59,6 +63,8 @@ sign_of (mark.Posted slot) = posted
 sign_of (mark.Advance slot effective text) = advanced effective
 sign_of (mark.Closed agent slot by text) = closed agent by
 sign_of (mark.Remark agent slot beside text) = remarked agent
+sign_of (mark.Failed slot text) = failed
+sign_of (mark.Fault agent slot text) = faulted agent
 
 -- the lifeline of an agent: boards have 8 at most
 abbrev pub lane : ℕ → ℕ
@@ -79,6 +85,16 @@ abbrev pub is_success : Answer → Bool
 is_success (Reply m) = begins_with_success m.payload.items
 is_success _ = false
 
+-- whether words are the payload of a reply with the status HARDWARE_ERROR
+abbrev pub begins_with_hardware_error : List ℕ → Bool
+begins_with_hardware_error [] = false
+begins_with_hardware_error (status ∷ words) = status == status_word HardwareError
+
+-- whether what was collected is a reply with the status HARDWARE_ERROR
+abbrev pub is_hardware_error : Collected → Bool
+is_hardware_error (collected.Got (Reply m)) = begins_with_hardware_error m.payload.items
+is_hardware_error _ = false
+
 -- what stands of an agent that collected
 abbrev pub collected_signs : ℕ → Collected → List Sign
 collected_signs a collected.Nothing = remarked a ∷ []
@@ -89,6 +105,15 @@ collected_signs a (collected.Got answer) = answered a (is_success answer) ∷ []
 abbrev pub exchange_signs : ℕ → Collected → List Sign
 exchange_signs a (collected.Got answer) = sent a (reply_token (collected.Got answer)) ∷ executed ∷ []
 exchange_signs a c = sent a (reply_token c) ∷ []
+
+-- what stands of hardware that refused, before an agent collected in the same step
+abbrev pub fault_signs : ℕ → Collected → List Sign
+fault_signs a c = if is_hardware_error c then faulted a ∷ [] else []
+
+-- what stands of a pending set that was to end, whose change the hardware refused
+abbrev pub failed_signs : Bool → List Sign
+failed_signs true = failed ∷ []
+failed_signs false = advanced false ∷ []
 
 -- what stands of an agent that took a message with this header
 abbrev pub posted_sign : ℕ → HeaderFields → Sign
@@ -119,15 +144,17 @@ abbrev pub shut_signs : {T : Type 0} → ℕ → Result T ShutError → List Sig
 shut_signs a (Ok u) = closed a side.Platform ∷ []
 shut_signs a (Err refusal) = remarked a ∷ []
 
--- what stands of a step that came to this line: each command that was posted, each that was refused, each execution, answer and message, each message that was posted, each advance and each close, by its agent, once; and what came to nothing
+-- what stands of a step that came to this line: each command that was posted, each that was refused, each execution, answer and message, each message that was posted, each advance, each refusal of the hardware and each close, by its agent, once; and what came to nothing
 abbrev pub signs_of : Step → StepLine → List Sign
 signs_of s (line.Token a token) = sent (lane a) (Some token) ∷ []
 signs_of s (line.Posted a) = sent (lane a) (raw_token s) ∷ []
 signs_of s (line.NotPosted a refusal) = unsent (lane a) ∷ []
 signs_of s (line.Served a served) = served_signs (lane a) served
 signs_of (step.Do b call) (line.Collected a c) = exchange_signs (lane a) c ++ collected_signs (lane a) c
+signs_of (step.Fail b call) (line.Collected a c) = exchange_signs (lane a) c ++ fault_signs (lane a) c ++ collected_signs (lane a) c
 signs_of s (line.Collected a c) = collected_signs (lane a) c
 signs_of s (line.Advanced more) = advanced more ∷ []
+signs_of s (line.AdvanceFailed more) = failed_signs more
 signs_of s (line.Flushed a flushed) = flushed_signs (lane a) flushed
 signs_of s (line.P2a a frame) = taken_signs (lane a) frame
 signs_of s (line.Closed a closing) = closed_signs (lane a) closing

@@ -42,6 +42,7 @@ pub(crate) fn sets_later(step: &Step) -> bool {
 fn message_of(step: &Step) -> Option<Message> {
     match step {
         Step::Do { call, .. }
+        | Step::Fail { call, .. }
         | Step::Agent {
             step: AgentStep::Call(call),
             ..

@@ -1,7 +1,7 @@
 //! What a run leaves in its chart, step by step.
 ghost use Rattle.std.specs.Prelude.{◌≡◌, [], ◌∷◌, ◌++◌, OnOk, IfOk, Some, None, map, if◌then◌else◌, ◌==◌};
 ghost use Rattle.scmi_svg.specs.declared.mark.Mark.{Mark as MarkOf};
-ghost use Rattle.scmi_chart.specs.Signs.{sign_of, signs_of, lane, raw_token, reply_token, is_success, succeeds, exchange_signs, collected_signs, posted_sign, taken_signs, flushed_signs, served_signs, closed_signs, shut_signs, sent, unsent, executed, answered, delayed, notified, posted, advanced, closed, remarked};
+ghost use Rattle.scmi_chart.specs.Signs.{sign_of, signs_of, lane, raw_token, reply_token, is_success, succeeds, exchange_signs, fault_signs, failed_signs, collected_signs, posted_sign, taken_signs, flushed_signs, served_signs, closed_signs, shut_signs, sent, unsent, executed, answered, delayed, notified, posted, advanced, failed, faulted, closed, remarked};
 
 use crate::asked::{asked_label, sets_later};
 use crate::board_names::agent_name;
@@ -11,7 +11,8 @@ use crate::marks::Marks;
 use crate::parties::{Outstanding, Parties};
 use crate::reply_label::{answer_label, posted_label};
 use crate::sign::{
-    answered_slot, lane, outcome_of, posted_mark, raw_token, refusal_words, reply_token,
+    answered_slot, is_hardware_error, lane, outcome_of, posted_mark, raw_token, refusal_words,
+    reply_token,
 };
 use scmi_board::TextLine;
 use scmi_codec::{Answer, Frame};
@@ -88,7 +89,7 @@ impl<'a> Recorder<'a> {
         ensures { self.new ≡ self.old }
     {
         let slots = match (step, came) {
-            (Step::Do { .. }, StepLine::Collected { .. }) => 2,
+            (Step::Do { .. } | Step::Fail { .. }, StepLine::Collected { .. }) => 2,
             _ => 1,
         };
         self.rows.push(Row {
@@ -125,9 +126,11 @@ impl<'a> Recorder<'a> {
             StepLine::Served { agent, served } => self.record_serve(lane(*agent), slot, *served),
             StepLine::Collected { agent, collected } => match step {
                 Step::Do { .. } => self.record_exchange(lane(*agent), slot, step, collected),
+                Step::Fail { .. } => self.record_refused(lane(*agent), slot, step, collected),
                 _ => self.record_collect(lane(*agent), slot, collected),
             },
             StepLine::Advanced { more } => self.record_advance(slot, *more),
+            StepLine::AdvanceFailed { more } => self.record_failure(slot, *more),
             StepLine::Flushed { agent, flushed } => self.record_flush(lane(*agent), slot, *flushed),
             StepLine::P2a { agent, frame } => self.record_take(lane(*agent), slot, frame),
             StepLine::Closed { agent, closing } => self.record_close(lane(*agent), slot, closing),
@@ -220,12 +223,59 @@ impl<'a> Recorder<'a> {
             (self.new ≡
             self.old ++ exchange_signs agent collected.now ++ collected_signs agent collected.now) }
     {
-        let after = slot.saturating_add(1);
+        self.record_service(agent, slot, step, collected)?;
+        self.record_collect(agent, slot.saturating_add(1), collected)
+    }
+
+    /// A command was posted, served beside hardware that refuses, and collected in turn.
+    fn record_refused(
+        &mut self,
+        agent: u8,
+        slot: u16,
+        step: &Step,
+        collected: &Collected,
+    ) -> Result<(), AllocError>
+        ensures { OnOk result
+            (self.new ≡
+            self.old ++ exchange_signs agent collected.now ++ fault_signs agent collected.now
+            ++ collected_signs agent collected.now) }
+    {
+        self.record_service(agent, slot, step, collected)?;
+        self.record_fault(agent, slot, collected)?;
+        self.record_collect(agent, slot.saturating_add(1), collected)
+    }
+
+    /// A command was posted and, where its answer is collected in the same step, executed.
+    fn record_service(
+        &mut self,
+        agent: u8,
+        slot: u16,
+        step: &Step,
+        collected: &Collected,
+    ) -> Result<(), AllocError>
+        ensures { OnOk result (self.new ≡ self.old ++ exchange_signs agent collected.now) }
+    {
         self.record_post(agent, slot, step, reply_token(collected))?;
         if let Collected::Got(_) = collected {
-            self.record_execution(agent, slot, after)?;
+            self.record_execution(agent, slot, slot.saturating_add(1))?;
         }
-        self.record_collect(agent, after, collected)
+        Ok(())
+    }
+
+    /// The hardware refused what the agent's command was to change, if the reply says so.
+    fn record_fault(
+        &mut self,
+        agent: u8,
+        slot: u16,
+        collected: &Collected,
+    ) -> Result<(), AllocError>
+        ensures { OnOk result (self.new ≡ self.old ++ fault_signs agent collected.now) }
+    {
+        if !is_hardware_error(collected) {
+            return Ok(());
+        }
+        let text = Vec::from_slice(self.alloc, b"hardware refused")?;
+        self.marks.add(Mark::Fault { agent, slot, text })
     }
 
     /// The agent collected.
@@ -275,6 +325,17 @@ impl<'a> Recorder<'a> {
             is_effective: more,
             text,
         })
+    }
+
+    /// The platform was to end a pending set, whose change the hardware refused.
+    fn record_failure(&mut self, slot: u16, more: bool) -> Result<(), AllocError>
+        ensures { OnOk result (self.new ≡ self.old ++ failed_signs more) }
+    {
+        if !more {
+            return self.record_advance(slot, false);
+        }
+        let text = Vec::from_slice(self.alloc, b"failed: hardware refused")?;
+        self.marks.add(Mark::Failed { slot, text })
     }
 
     /// The platform was to post the first message of an agent's outbox.

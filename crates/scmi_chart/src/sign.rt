@@ -1,9 +1,9 @@
 //! What a step, and what came of it, say of a mark: its lane, token, outcome and words.
 ghost use Rattle.std.specs.Prelude.{◌≡◌};
-ghost use Rattle.scmi_chart.specs.Signs.{sign_of, lane, raw_token, reply_token, is_success, succeeds, posted_sign};
+ghost use Rattle.scmi_chart.specs.Signs.{sign_of, lane, raw_token, reply_token, is_success, is_hardware_error, succeeds, posted_sign};
 
 use crate::parties::Outstanding;
-use scmi_codec::{Answer, Header, is_success};
+use scmi_codec::{Answer, Header, Status, is_success};
 use scmi_link::{Collected, PostError};
 use scmi_svg::{Mark, Message, Outcome};
 use scmi_text::{AgentStep, Step};
@@ -35,6 +35,19 @@ pub(crate) fn reply_token(collected: &Collected) -> Option<u16>
     match collected {
         Collected::Got(Answer::Reply(message)) => Some(message.header.token),
         _ => None,
+    }
+}
+
+/// Whether a reply with the status HARDWARE_ERROR was collected.
+pub(crate) fn is_hardware_error(collected: &Collected) -> bool
+    ensures { result ≡ is_hardware_error collected.now }
+{
+    match collected {
+        Collected::Got(Answer::Reply(message)) => match message.payload.as_slice() {
+            [status, ..] => *status == Status::HardwareError.word(),
+            [] => false,
+        },
+        _ => false,
     }
 }
 
