@@ -5,8 +5,15 @@ import sys
 import xml.etree.ElementTree
 from collections import Counter
 
-SIGN = {"command": "sent", "withdrawn": "sent"}
+SIGN = {
+    "command": "sent",
+    "withdrawn": "sent",
+    "advance idle": "advance",
+    "advance refusal": "failed",
+    "reply pending": "reply",
+}
 ANSWERS = ("reply", "error", "released")
+HARDWARE_ERROR = 0xFFFFFFF7
 
 
 def wanted(script, output):
@@ -21,7 +28,7 @@ def wanted(script, output):
 
 def marks_of(step, words):
     if step == "advance":
-        return ["advance"]
+        return ["failed" if words[1:] == ["failed", "yes"] else "advance"]
     if step in ("serve", "flush", "shut"):
         done = {"done": "execution", "posted": "posted", "ok": "closed"}
         return [done.get(words[2], "remark")]
@@ -35,14 +42,16 @@ def marks_of(step, words):
         return ["notification" if int(words[2], 16) >> 8 & 3 == 3 else "delayed"]
     if step == "close":
         return ["closed" if words[2] in ("idle", "withdrawn") else "remark"]
-    # what remains is a collect, or a do
+    # what remains is a collect, a do or a fail
     marks = []
-    if step == "do":
+    if step in ("do", "fail"):
         marks = ["sent", "execution"] if words[1] in ANSWERS else ["sent"]
     if words[1] not in ANSWERS:
         return marks + ["remark"]
-    success = words[1] == "reply" and int(words[3], 16) == 0
-    return marks + ["reply" if success else "reply refusal"]
+    status = int(words[3], 16) if words[1] == "reply" else None
+    if step == "fail" and status == HARDWARE_ERROR:
+        marks.append("fault")
+    return marks + ["reply" if status == 0 else "reply refusal"]
 
 
 def found(picture):
@@ -50,7 +59,6 @@ def found(picture):
     marks = Counter()
     for group in xml.etree.ElementTree.parse(picture).iter("{http://www.w3.org/2000/svg}g"):
         name = group.get("class").removeprefix("mark ")
-        name = {"advance idle": "advance", "reply pending": "reply"}.get(name, name)
         marks[SIGN.get(name, name)] += 1
     return marks
 
