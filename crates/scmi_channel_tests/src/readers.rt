@@ -1,8 +1,10 @@
 //! What the readers of texts give and no session shows: a line to its last byte, lines that have
-//! ended, and the last word of the longest payload.
+//! ended, the last word of the longest payload, and lines beside hardware.
 
-use scmi_board::{Items, Lines, TextLine};
-use scmi_codec::PAYLOAD_WORDS;
+use scmi_board::{Items, Lines, TextError, TextLine};
+use scmi_codec::{PAYLOAD_WORDS, payload_of};
+use scmi_text::{Call, Step, StepList, read_hardware_steps, read_steps};
+use std::alloc::Global;
 use std::test::Fail;
 
 const TEXT: &[u8] = b"\n# a remark\nfirst\n\n#\n second \r\nlast";
@@ -44,4 +46,59 @@ fn the_longest_payload_has_its_last_word(rt: HostRuntime) -> Result<(), Fail> {
     text.extend_from_slice(b"5")?;
     assert_eq!(rt; payload_end(&text), Some((PAYLOAD_WORDS, 5)));
     Ok(())
+}
+
+fn hardware_steps(alloc: Global, text: &[u8]) -> Result<StepList, TextError> {
+    read_hardware_steps(alloc, &mut Lines::new(text), 2)
+}
+
+/// The step of a line; `None` where it is refused.
+fn hardware_step(alloc: Global, text: &[u8]) -> Option<Step> {
+    let steps = hardware_steps(alloc, text).ok()?;
+    let mut step = Step::Advance;
+    if steps.len() == 1 {
+        steps.read_into(0, &mut step);
+    }
+    Some(step)
+}
+
+/// Lines beside hardware of another form.
+const NO_LINES: [&[u8]; 7] = [
+    b"fail",
+    b"fail 3 0x11 7",
+    b"fail 0 0x11 7",
+    b"fail 1 0x11",
+    b"fail 1 0x11 7 x",
+    b"advance fail",
+    b"advance failed 1",
+];
+
+#[test]
+fn a_line_beside_hardware_is_a_step(rt: HostRuntime) {
+    let fail = Step::Fail {
+        agent: 1,
+        call: Call {
+            protocol: 0x11,
+            message: 7,
+            payload: payload_of(&[0, 5]),
+        },
+    };
+    assert!(rt; hardware_step(rt.alloc(), b"fail 1 0x11 7 0 5") == Some(fail));
+    assert!(rt; hardware_step(rt.alloc(), b"advance failed") == Some(Step::AdvanceFailed));
+    assert!(rt; hardware_step(rt.alloc(), b"advance") == Some(Step::Advance));
+    for text in NO_LINES {
+        assert!(rt; hardware_steps(rt.alloc(), text).err() == Some(TextError::Script(2)));
+    }
+}
+
+#[test]
+fn a_line_beside_hardware_is_of_its_modes_alone(rt: HostRuntime) {
+    for text in [
+        b"fail 1 0x11 7 0 5".as_slice(),
+        b"advance failed".as_slice(),
+    ] {
+        let refused = read_steps(rt.alloc(), &mut Lines::new(text), 2).err();
+        assert!(rt; refused == Some(TextError::Script(2)));
+        assert!(rt; hardware_steps(rt.alloc(), text).is_ok());
+    }
 }
