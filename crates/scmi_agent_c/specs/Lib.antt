@@ -1,2 +1,4 @@
+pub mod Code
+pub mod Message
 pub mod State
 pub mod Post

@@ -8,6 +8,8 @@
 mod base;
 mod clock;
 mod code;
+mod message;
 mod post;
 mod power;
+mod reply;
 mod state;
