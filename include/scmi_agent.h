@@ -9,7 +9,7 @@
  * SCMI_AGENT_OUTSTANDING where a command was posted before and `posted` is not 0, or SCMI_AGENT_NOT_FREE where
  * the area holds a message. After any but SCMI_AGENT_DONE neither the agent nor the area has changed.
  *
- * The library needs memcpy alone.
+ * The library needs memcpy and memset alone.
  */
 #ifndef SCMI_AGENT_H
 #define SCMI_AGENT_H
