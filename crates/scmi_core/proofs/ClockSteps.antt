@@ -157,7 +157,7 @@ clock-stepped board t new clocks' a header c reply later few lo hi is_later rate
 
 -- BASE
 
-change-base : (board : Board) (a : ℕ) (header : HeaderFields) (c : BaseCommand) (reply : List ℕ) → change_of board (success_of a header (Ok (Base c)) reply) None ≡ None
+pub change-base : (board : Board) (a : ℕ) (header : HeaderFields) (c : BaseCommand) (reply : List ℕ) → change_of board (success_of a header (Ok (Base c)) reply) None ≡ None
 change-base board a header c reply = by (begins_with_success reply) where
   by : (b : Bool) → option_or None (option_and_then (change_now board) (if b then success_with a header (Ok (Base c)) else None)) ≡ None
   by true = refl

@@ -114,7 +114,7 @@ later-known board a header None lo hi h = all_none (IsOfBoard board)
 later-known board a header (Some set) lo hi h = all_one (IsOfBoard board) (state_set a header set) (record { first = lo; last = hi; thing = h })
 
 -- the domain that a set sets, and that it asks for no notification
-set_of : (c : PowerCommand) (set : ℕ × ℕ) → set_now c ≡ Some set → set_domain c ≡ Some set.0
+pub set_of : (c : PowerCommand) (set : ℕ × ℕ) → set_now c ≡ Some set → set_domain c ≡ Some set.0
 set_of power.Version set e = absurd (cc)
 set_of power.Attributes set e = absurd (cc)
 set_of (power.MessageAttributes message) set e = absurd (cc)
@@ -126,7 +126,7 @@ set_of (power.Set flags domain state) set e = by (bit_0 flags) e where
   by true e = absurd (cc)
   by false e = ap (option_map (λ s. s.0)) e
 
-no_request : (c : PowerCommand) (set : ℕ × ℕ) (x d a : ℕ) → set_now c ≡ Some set → notification x d a c ≡ None
+pub no_request : (c : PowerCommand) (set : ℕ × ℕ) (x d a : ℕ) → set_now c ≡ Some set → notification x d a c ≡ None
 no_request power.Version set x d a e = refl
 no_request power.Attributes set x d a e = refl
 no_request (power.MessageAttributes message) set x d a e = refl
@@ -135,7 +135,7 @@ no_request (power.Get domain) set x d a e = refl
 no_request (power.Notify domain enable) set x d a e = absurd (cc)
 no_request (power.Set flags domain state) set x d a e = refl
 
-of_success : {A : Type 0} (reply : List ℕ) (o : Option A) (x : A) → Some x ≡ if_success reply o → o ≡ Some x
+pub of_success : {A : Type 0} (reply : List ℕ) (o : Option A) (x : A) → Some x ≡ if_success reply o → o ≡ Some x
 of_success reply o x e = by (begins_with_success reply) e where
   by : {A : Type 0} {o : Option A} {x : A} (b : Bool) → Some x ≡ (if b then o else None) → o ≡ Some x
   by true e = sym e

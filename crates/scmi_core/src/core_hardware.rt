@@ -1,10 +1,10 @@
 //! A platform that keeps its history, beside the hardware that it switches.
-ghost use Rattle.std.specs.Prelude.{◌≡◌, ◌≢◌, ◌<◌, ◌++◌, ◌∷◌, [], ◌↔◌, List, length, true, false, None, IfOk, OnErr, IfErr, Err};
+ghost use Rattle.std.specs.Prelude.{◌≡◌, ◌≢◌, ◌<◌, ◌++◌, ◌∷◌, [], ◌↔◌, List, length, true, false, None, Some, IfOk, OnErr, IfErr, Err};
 ghost use Rattle.scmi_codec.specs.declared.frame.Answer.TheVariants.{Reply};
 ghost use Rattle.scmi_plan.specs.Agent.{IsAgent, IsNoAgent};
 ghost use Rattle.scmi_core.specs.Driven.{ExecutesOn, HappensOn, HasMade, IsEnd, IsExecuted};
 ghost use Rattle.scmi_core.specs.Effect.{effect_after};
-ghost use Rattle.scmi_core.specs.History.{IsIdle, answer_with};
+ghost use Rattle.scmi_core.specs.History.{IsIdle, answer_to, answer_with};
 ghost use Rattle.scmi_core.specs.Legal.{IsLegal};
 ghost use Rattle.scmi_core.specs.Reply.{failed_answer};
 ghost use Rattle.scmi_core.specs.declared.effect.Effect.{Effect};
@@ -12,6 +12,7 @@ ghost use Rattle.scmi_core.specs.declared.event.Event.TheVariants.{Command as Ca
 
 use crate::answered::Answered;
 use crate::core_error::CoreError;
+use crate::effect::Effect;
 use crate::hardware::{Hardware, make};
 use crate::platform_core::Core;
 use crate::platform_effects::set_failed_reply;
@@ -74,9 +75,11 @@ impl Core {
         ensures board { self.new.board ≡ self.old.board }
         ensures legal { IsLegal self.new.board self.new.history }
     {
-        let effect = self.platform.effect_in(agent, frame);
-        if make(hardware, effect) {
-            self.execute(agent, frame, reply)
+        let Some(effect) = self.platform.effect_in(agent, frame) else {
+            return self.execute(agent, frame, reply);
+        };
+        if make(hardware, Some(effect)) {
+            self.commit(agent, frame, effect, reply)
         } else {
             self.fail_command(agent, frame, reply);
             Answered::Reply
@@ -133,6 +136,23 @@ impl Core {
             self.platform.fail();
             self.trace.push_advance_failed();
         }
+    }
+
+    /// As `execute`, for a command whose effect the hardware made; nothing is decided again.
+    fn commit(&mut self, agent: u32, frame: &Frame, effect: Effect, reply: &mut Message) -> Answered
+        requires agent { IsAgent (length self.old.board.agents) agent }
+        requires room { 0 < self.old.room }
+        requires effect { effect_after self.old.board self.old.history (Called agent frame.now)
+            ≡ Some effect }
+        ensures answer { answer_with result reply.new
+            ≡ answer_to self.old.board agent frame.now self.old.history }
+        ensures event { self.new.history ≡ self.old.history ++ Called agent frame.now ∷ [] }
+        ensures board { self.new.board ≡ self.old.board }
+        ensures legal { IsLegal self.new.board self.new.history }
+    {
+        let answered = self.platform.commit(agent, frame, effect, reply);
+        self.trace.push_command(agent, frame);
+        answered
     }
 
     /// Answers a command of an agent of the board whose change the hardware refused.

@@ -10,6 +10,7 @@ use crate::tables::Tables;
 
 impl Tables {
     /// Tells subscribers of a domain's state that was set, if it is another than before.
+    #[inline(always)]
     pub fn announce(&mut self, agents: u32, causer: u32, changed: Option<(u32, u32)>, before: u32)
         requires agents { agents ≤ AGENTS }
         requires domain { IfSome changed (λ set. set.0 < DOMAINS) }

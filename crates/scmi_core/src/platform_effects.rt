@@ -8,7 +8,7 @@ ghost use Rattle.scmi_core.specs.Effect.{effect_after};
 ghost use Rattle.scmi_core.specs.History.{IsIdle};
 ghost use Rattle.scmi_core.specs.Outbox.{failed_words, message_with};
 ghost use Rattle.scmi_core.specs.Reply.{failed_answer};
-ghost use Rattle.scmi_core.specs.Standing.{MovesOn, StandsAfter};
+ghost use Rattle.scmi_core.specs.Standing.{HasHistory, MovesOn, StandsAfter};
 ghost use Rattle.scmi_core.specs.declared.event.Event.{Event};
 ghost use Rattle.scmi_core.specs.declared.event.Event.TheVariants.{Command as Called, Advance, CommandFailed, AdvanceFailed};
 
@@ -94,6 +94,7 @@ impl Platform {
         requires first { 1 ≤ agent }
         requires last { agent ≤ length self.now.board.agents }
         ensures lawful { IsLawful self.now.board }
+        ensures history { HasHistory self.now }
         ensures effect { (h : List Event) → StandsAfter self.now h
             → result ≡ effect_after self.now.board h (Called agent frame.now) }
     {

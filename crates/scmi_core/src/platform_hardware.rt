@@ -1,10 +1,11 @@
 //! A platform beside the hardware that it switches.
-ghost use Rattle.std.specs.Prelude.{◌≡◌, ◌≢◌, ◌<◌, ◌≤◌, ◌↔◌, List, length, true, false, None, IfOk, OnErr, IfErr, Err};
+ghost use Rattle.std.specs.Prelude.{◌≡◌, ◌≢◌, ◌<◌, ◌≤◌, ◌↔◌, List, length, true, false, None, Some, IfOk, OnErr, IfErr, Err};
 ghost use Rattle.scmi_codec.specs.declared.frame.Answer.TheVariants.{Reply};
 ghost use Rattle.scmi_plan.specs.Agent.{IsAgent, IsNoAgent};
+ghost use Rattle.scmi_plan.specs.Plan.{IsLawful};
 ghost use Rattle.scmi_core.specs.Driven.{ExecutesThere, HappensThere, IsDriven, IsEnd, IsExecutedThere};
 ghost use Rattle.scmi_core.specs.Effect.{effect_after};
-ghost use Rattle.scmi_core.specs.History.{IsIdle, answer_with};
+ghost use Rattle.scmi_core.specs.History.{IsIdle, answer_to, answer_with};
 ghost use Rattle.scmi_core.specs.Reply.{failed_answer};
 ghost use Rattle.scmi_core.specs.Standing.{MovesOn, StandsAfter};
 ghost use Rattle.scmi_core.specs.declared.event.Event.{Event};
@@ -12,6 +13,7 @@ ghost use Rattle.scmi_core.specs.declared.event.Event.TheVariants.{Command as Ca
 
 use crate::answered::Answered;
 use crate::core_error::CoreError;
+use crate::effect::Effect;
 use crate::hardware::{Hardware, make};
 use crate::platform::Platform;
 use crate::platform_effects::set_failed_reply;
@@ -84,9 +86,11 @@ impl Platform {
             → IsExecutedThere agent frame.now (answer_with result reply.new) self.old self.new }
         ensures board { self.new.board ≡ self.old.board }
     {
-        let effect = self.effect_in(agent, frame);
-        if make(hardware, effect) {
-            self.execute(agent, frame, reply)
+        let Some(effect) = self.effect_in(agent, frame) else {
+            return self.execute(agent, frame, reply);
+        };
+        if make(hardware, Some(effect)) {
+            self.commit(agent, frame, effect, reply)
         } else {
             self.answer_failed(agent, frame, reply);
             Answered::Reply
@@ -107,6 +111,28 @@ impl Platform {
         } else {
             self.fail();
         }
+    }
+
+    /// As `execute`, for a command whose effect the hardware made; nothing is decided again.
+    pub(crate) fn commit(
+        &mut self,
+        agent: u32,
+        frame: &Frame,
+        effect: Effect,
+        reply: &mut Message,
+    ) -> Answered
+        requires first { 1 ≤ agent }
+        requires last { agent ≤ length self.old.board.agents }
+        requires effect { (h : List Event) × StandsAfter self.old h
+            × (effect_after self.old.board h (Called agent frame.now) ≡ Some effect) }
+        ensures lawful { IsLawful self.old.board }
+        ensures answer { (h : List Event) → StandsAfter self.old h
+            → answer_with result reply.new ≡ answer_to self.old.board agent frame.now h }
+        ensures event { MovesOn self.old (Called agent frame.now) self.new }
+        ensures board { self.new.board ≡ self.old.board }
+    {
+        let _agents = self.plan.agents();
+        self.tables.commit(&self.plan, agent, frame, effect, reply)
     }
 
     /// Answers a command of an agent of the board whose change the hardware refused.

@@ -1,6 +1,6 @@
 use Rattle.std.proofs.Common.{◌≡◌, ◌≤◌, length, sym, subst, ◌∙◌}
 use Rattle.scmi_core.specs.Effect.{effect_after}
-use Rattle.scmi_core.specs.Standing.{StandsAfter}
+use Rattle.scmi_core.specs.Standing.{HasHistory, StandsAfter}
 use Rattle.scmi_core.specs.declared.event.Event.TheVariants.{Command as Called}
 use Rattle.scmi_core.proofs.Ties.{effect-table}
 use Rattle.scmi_core.proofs.platform.Platform.effect_in.Goals as goal
@@ -12,3 +12,6 @@ returns-clause-effect c = λ h stands.
     (c.effect_of.ensures
     ∙ effect-table c.self.inside.plan c.self.inside.tables h c.args.agent c.args.frame.now (subst (λ p. StandsAfter p h) (sym c.self.view_is) stands)
     c.agents-agents.ensures.lawful c.requires.first last)
+
+pub returns-clause-history : goal.returns-clause-history
+returns-clause-history c = subst HasHistory c.self.view_is c.self.invariant

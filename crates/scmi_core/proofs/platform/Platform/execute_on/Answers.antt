@@ -4,17 +4,33 @@ use Rattle.scmi_core.specs.Driven.{and_made}
 use Rattle.scmi_core.proofs.EffectsMade.{failed-none}
 use Rattle.scmi_core.proofs.platform.Platform.execute_on.Goals as goal
 
+pub returns-in_default-clause-executes : goal.returns-in_default-clause-executes
+returns-in_default-clause-executes g c = record {
+  happens = record {
+    event = Called c.args.agent c.args.frame.now;
+    is_one = inl refl;
+    moves = c.execute.ensures.event;
+    hardware = λ h stands. ap (and_made (g.H.Hardware.applied c.args.hardware.now)) (sym c.in_default.is ∙ c.effect_in.ensures.effect h stands);
+  };
+  answer = λ h stands. ap Some (sym (c.execute.ensures.answer h stands));
+}
+
+pub commit-requires-clause-effect : goal.commit-requires-clause-effect
+commit-requires-clause-effect g c =
+    let has = c.effect_in.ensures.history in
+    (has.0, has.1, sym (c.effect_in.ensures.effect has.0 has.1) ∙ c.in-Some.is)
+
 pub returns-then-make-clause-executes : goal.returns-then-make-clause-executes
 returns-then-make-clause-executes g c = record {
   happens = record {
     event = Called c.args.agent c.args.frame.now;
     is_one = inl refl;
-    moves = c.execute.ensures.event;
+    moves = c.commit.ensures.event;
     hardware = λ h stands.
         c.make.ensures.made c.if-make.true
-        ∙ ap (and_made (g.H.Hardware.applied c.args.hardware.now)) (c.effect_in-effect.ensures.effect h stands);
+        ∙ ap (and_made (g.H.Hardware.applied c.args.hardware.now)) (sym c.in-Some.is ∙ c.effect_in.ensures.effect h stands);
   };
-  answer = λ h stands. ap Some (sym (c.execute.ensures.answer h stands));
+  answer = λ h stands. ap Some (sym (c.commit.ensures.answer h stands));
 }
 
 pub returns-else-make-clause-executes : goal.returns-else-make-clause-executes

@@ -5,24 +5,43 @@ use Rattle.scmi_core.specs.Effect.{effect_after}
 use Rattle.scmi_core.proofs.EffectsMade.{failed-none, made-on}
 use Rattle.scmi_core.proofs.platform_core.Core.execute_on.Goals as goal
 
-pub returns-then-make-clause-executes : goal.returns-then-make-clause-executes
-returns-then-make-clause-executes g c = record {
+pub returns-in_default-clause-executes : goal.returns-in_default-clause-executes
+returns-in_default-clause-executes g c = record {
   happens = record {
     event = Called c.args.agent c.args.frame.now;
     is_one = inl refl;
     history = c.execute.ensures.event;
     hardware =
-        c.make.ensures.made c.if-make.true
-        ∙ ap (and_made (g.H.Hardware.applied c.args.hardware.now))
-        (c.effect_in-effect.ensures.effect c.self.inside.trace.events c.self.invariant ∙ ap (λ p. effect_after p.board p.history (Called c.args.agent c.args.frame.now)) c.self.view_is);
+        ap (and_made (g.H.Hardware.applied c.args.hardware.now))
+        (sym c.in_default.is ∙ c.effect_in.ensures.effect c.self.inside.trace.events c.self.invariant ∙ ap (λ p. effect_after p.board p.history (Called c.args.agent c.args.frame.now)) c.self.view_is);
   };
   answer = ap Some (sym c.execute.ensures.answer);
 }
 
+pub returns-in_default-clause-made : goal.returns-in_default-clause-made
+returns-in_default-clause-made g c = λ before made.
+    subst (λ board. HasMade before board c.execute.new.self.history (g.H.Hardware.applied c.args.hardware.now)) (sym c.execute.ensures.board)
+    (made-on c.args.self.now.board (IsCommandOf c.args.agent c.args.frame.now) c.args.self.now.history c.execute.new.self.history
+    (g.H.Hardware.applied c.args.hardware.now) (g.H.Hardware.applied c.args.hardware.now) before (returns-in_default-clause-executes g c).happens made)
+
+pub returns-then-make-clause-executes : goal.returns-then-make-clause-executes
+returns-then-make-clause-executes g c = record {
+  happens = record {
+    event = Called c.args.agent c.args.frame.now;
+    is_one = inl refl;
+    history = c.commit.ensures.event;
+    hardware =
+        c.make.ensures.made c.if-make.true
+        ∙ ap (and_made (g.H.Hardware.applied c.args.hardware.now))
+        (sym c.in-Some.is ∙ c.effect_in.ensures.effect c.self.inside.trace.events c.self.invariant ∙ ap (λ p. effect_after p.board p.history (Called c.args.agent c.args.frame.now)) c.self.view_is);
+  };
+  answer = ap Some (sym c.commit.ensures.answer);
+}
+
 pub returns-then-make-clause-made : goal.returns-then-make-clause-made
 returns-then-make-clause-made g c = λ before made.
-    subst (λ board. HasMade before board c.execute.new.self.history (g.H.Hardware.applied c.make.new.hardware)) (sym c.execute.ensures.board)
-    (made-on c.args.self.now.board (IsCommandOf c.args.agent c.args.frame.now) c.args.self.now.history c.execute.new.self.history
+    subst (λ board. HasMade before board c.commit.new.self.history (g.H.Hardware.applied c.make.new.hardware)) (sym c.commit.ensures.board)
+    (made-on c.args.self.now.board (IsCommandOf c.args.agent c.args.frame.now) c.args.self.now.history c.commit.new.self.history
     (g.H.Hardware.applied c.args.hardware.now) (g.H.Hardware.applied c.make.new.hardware) before (returns-then-make-clause-executes g c).happens made)
 
 pub returns-else-make-clause-executes : goal.returns-else-make-clause-executes

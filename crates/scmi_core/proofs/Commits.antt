@@ -1,0 +1,340 @@
+-- What a message with an effect is: a set that succeeds at once, and its reply is SUCCESS alone.
+use Rattle.std.proofs.Common.{◌≡◌, ℕ, ◌-◌, ◌<◌, ◌≤◌, ◌==◌, nat_le, Bool, true, false, not, ◌&&◌, ◌||◌, List, [], ◌∷◌, ◌++◌, length, drop, get_or, option_map, Option, Some, None, IfSome, Result, Ok, Err, unwrap_or, refl, sym, ap, subst, ◌∙◌, if◌then◌else◌}
+use Rattle.std.specs.Int.{bit_at}
+use Rattle.std.specs.Option.{option_and_then, option_or}
+use Rattle.std.proofs.lemmas.Bool.{leb-false}
+use Rattle.std.proofs.lemmas.List.{append-nil}
+use Rattle.scmi_codec.specs.Header.{HeaderFields}
+use Rattle.scmi_codec.specs.Command.{command_of}
+use Rattle.scmi_codec.specs.Payload.{begins_with_success, if_success}
+use Rattle.scmi_codec.specs.Reply.{Check, bit_0, other_bits, reply_unless}
+use Rattle.scmi_codec.specs.declared.status.Status.{Status}
+use Rattle.scmi_codec.specs.declared.status.Status.TheVariants as status
+use Rattle.scmi_codec.specs.declared.message.Message.{Message}
+use Rattle.scmi_codec.specs.declared.frame.Frame.TheVariants.{Good}
+use Rattle.scmi_codec.specs.declared.command.Command as codec
+use Rattle.scmi_codec.specs.declared.command.Command.TheVariants.{Base, Power, Clock}
+use Rattle.scmi_codec.specs.declared.power_command.PowerCommand.{PowerCommand}
+use Rattle.scmi_codec.specs.declared.power_command.PowerCommand.TheVariants as power
+use Rattle.scmi_codec.specs.declared.clock_command.ClockCommand.{ClockCommand}
+use Rattle.scmi_codec.specs.declared.clock_command.ClockCommand.TheVariants as clock
+use Rattle.scmi_plan.specs.Board.{Board, domain_at}
+use Rattle.scmi_plan.specs.Plan.{IsLawful}
+use Rattle.scmi_power.specs.PowerReply.{has_kind, is_state, no_domain, power_reply}
+use Rattle.scmi_power.specs.PowerTable as power_table
+use Rattle.scmi_power.specs.PowerTable.{PowerTables, is_subscribed, set_later, set_now, state_at}
+use Rattle.scmi_clock.specs.ClockReply.{clock_reply, config_checks, set_checks}
+use Rattle.scmi_clock.specs.ClockTable as clock_table
+use Rattle.scmi_clock.specs.ClockTable.{ClockTables, enabled_now, rate_later, rate_now}
+use Rattle.scmi_clock.specs.SetFlags.{is_asynchronous, is_response_wanted}
+use Rattle.scmi_core.specs.declared.effect.Effect.{Effect}
+use Rattle.scmi_core.specs.declared.effect.Effect.TheVariants as effect
+use Rattle.scmi_core.specs.declared.tables.Tables.{Tables}
+use Rattle.scmi_core.specs.Deed.{success_of, success_with}
+use Rattle.scmi_core.specs.Effect.{clock_effect, effect_in, effect_of, state_effect}
+use Rattle.scmi_core.specs.Reply.{reply_words}
+use Rattle.scmi_core.specs.Situation.{Situation, clock_view, power_view}
+use Rattle.scmi_core.specs.Step.{HasAnswered, HasStepped, SameButOutboxes, announced_at}
+use Rattle.scmi_core.specs.Tables.{outbox_at, situation_in}
+use Rattle.scmi_core.specs.Value.{change_now, change_of}
+use Rattle.scmi_core.proofs.ClockSteps.{change-base, clock-stepped}
+use Rattle.scmi_core.proofs.EffectsMade.{power-effect, clock-effect}
+use Rattle.scmi_core.proofs.Steps.{no_request, of_success, power-stepped, set_of}
+
+-- a reply by its checks that succeeded is the row, and its first check passed
+passed : (checks : List Check) → begins_with_success (reply_unless checks (0 ∷ [])) ≡ true → reply_unless checks (0 ∷ []) ≡ 0 ∷ []
+passed [] ok = refl
+passed ((true, status.Success) ∷ checks) ok = refl
+passed ((true, status.NotSupported) ∷ checks) ok = absurd (cc)
+passed ((true, status.InvalidParameters) ∷ checks) ok = absurd (cc)
+passed ((true, status.Denied) ∷ checks) ok = absurd (cc)
+passed ((true, status.NotFound) ∷ checks) ok = absurd (cc)
+passed ((true, status.OutOfRange) ∷ checks) ok = absurd (cc)
+passed ((true, status.Busy) ∷ checks) ok = absurd (cc)
+passed ((true, status.CommsError) ∷ checks) ok = absurd (cc)
+passed ((true, status.GenericError) ∷ checks) ok = absurd (cc)
+passed ((true, status.HardwareError) ∷ checks) ok = absurd (cc)
+passed ((true, status.ProtocolError) ∷ checks) ok = absurd (cc)
+passed ((false, e) ∷ checks) ok = passed checks ok
+
+found : (count d : ℕ) (checks : List Check) → begins_with_success (reply_unless ((nat_le count d, status.NotFound) ∷ checks) (0 ∷ [])) ≡ true → d < count
+found count d checks ok = leb-false count d (by (nat_le count d) ok) where
+  by : (b : Bool) → begins_with_success (reply_unless ((b, status.NotFound) ∷ checks) (0 ∷ [])) ≡ true → b ≡ false
+  by true same = absurd (cc)
+  by false same = refl
+
+-- what succeeded and what it said
+succeeded : {A : Type 0} (reply : List ℕ) (o : Option A) (x : A) → if_success reply o ≡ Some x → begins_with_success reply ≡ true
+succeeded reply o x e = by (begins_with_success reply) e where
+  by : (b : Bool) → (if b then o else None) ≡ Some x → b ≡ true
+  by true same = refl
+  by false same = absurd (cc)
+
+-- a set at once, which says nothing for later
+at_once : {A : Type 0} (b : Bool) (x y : A) → (if b then None else Some x) ≡ Some y → x ≡ y
+at_once true x y e = absurd (cc)
+at_once false x y e = cc
+
+none_later : {A B : Type 0} (b : Bool) (x y : A) (z : B) → (if b then None else Some x) ≡ Some y → (if b then Some z else None) ≡ None
+none_later true x y z e = absurd (cc)
+none_later false x y z e = refl
+
+-- the command that has an effect
+no_effect : (board : Board) (a : ℕ) (header : HeaderFields) (e : Status) (reply : List ℕ) → change_of board (success_of a header (Err e) reply) None ≡ None
+no_effect board a header e reply = by (begins_with_success reply) where
+  by : (b : Bool) → option_or None (option_and_then (change_now board) (if b then success_with a header (Err e) else None)) ≡ None
+  by true = refl
+  by false = refl
+
+abbrev state_of : Option Effect → Option (ℕ × ℕ)
+state_of (Some (effect.State d state)) = Some (d, state)
+state_of _ = None
+
+abbrev rate_of : Option Effect → Option (ℕ × ℕ)
+rate_of (Some (effect.Rate c rate)) = Some (c, rate)
+rate_of _ = None
+
+abbrev enabled_of : Option Effect → Option (ℕ × Bool)
+enabled_of (Some (effect.Enabled c enabled)) = Some (c, enabled)
+enabled_of _ = None
+
+state-said : (o : Option (ℕ × ℕ)) → state_of (option_map state_effect o) ≡ o
+state-said None = refl
+state-said (Some set) = refl
+
+not-rate : (o : Option (ℕ × ℕ)) → rate_of (option_map state_effect o) ≡ None
+not-rate None = refl
+not-rate (Some set) = refl
+
+not-enabled : (o : Option (ℕ × ℕ)) → enabled_of (option_map state_effect o) ≡ None
+not-enabled None = refl
+not-enabled (Some set) = refl
+
+not-state : (rate : Option (ℕ × ℕ)) (enabled : Option (ℕ × Bool)) → state_of (clock_effect rate enabled) ≡ None
+not-state None None = refl
+not-state None (Some set) = refl
+not-state (Some set) enabled = refl
+
+rate-said : (rate : Option (ℕ × ℕ)) (enabled : Option (ℕ × Bool)) → rate_of (clock_effect rate enabled) ≡ rate
+rate-said None None = refl
+rate-said None (Some set) = refl
+rate-said (Some set) enabled = refl
+
+enabled-said : (rate : Option (ℕ × ℕ)) (enabled : Option (ℕ × Bool)) (set : ℕ × Bool) → enabled_of (clock_effect rate enabled) ≡ Some set → enabled ≡ Some set
+enabled-said None None set e = e
+enabled-said None (Some s) set e = e
+enabled-said (Some s) enabled set e = absurd (let same : None ≡ Some set = e in cc)
+
+module _ (board : Board) (a : ℕ) (header : HeaderFields) (s : Situation) where
+  abbrev pub effect_by : Result codec.Command Status → Option Effect
+  effect_by r = option_map effect_of (change_of board (success_of a header r (reply_words board a s r)) None)
+
+  -- a set of a domain's state at once, of the board's domain
+  pub record IsStateSet (r : Result codec.Command Status) (d state : ℕ) : Type 0 where
+    pub command : PowerCommand
+    pub read : r ≡ Ok (Power command)
+    pub now : set_now command ≡ Some (d, state)
+    pub later : set_later command ≡ None
+    pub reply : reply_words board a s r ≡ 0 ∷ []
+    pub known : d < length board.domains
+
+  -- a set of a clock's rate at once
+  pub record IsRateSet (r : Result codec.Command Status) (c rate : ℕ) : Type 0 where
+    pub command : ClockCommand
+    pub read : r ≡ Ok (Clock command)
+    pub now : rate_now board command ≡ Some (c, rate)
+    pub later : rate_later board command ≡ None
+    pub other : enabled_now command ≡ None
+    pub reply : reply_words board a s r ≡ 0 ∷ []
+    pub known : c < length board.clocks
+
+  -- a configuration of a clock
+  pub record IsConfig (r : Result codec.Command Status) (c : ℕ) (enabled : Bool) : Type 0 where
+    pub command : ClockCommand
+    pub read : r ≡ Ok (Clock command)
+    pub now : enabled_now command ≡ Some (c, enabled)
+    pub later : rate_later board command ≡ None
+    pub other : rate_now board command ≡ None
+    pub reply : reply_words board a s r ≡ 0 ∷ []
+    pub known : c < length board.clocks
+
+  -- the checks of a set of a domain's state
+  abbrev power_checks : (flags domain state : ℕ) → List Check
+  power_checks flags domain state =
+      let v = power_view board a s in
+      (no_domain board domain, status.NotFound)
+      ∷ (other_bits flags || not (is_state state), status.InvalidParameters)
+      ∷ (not (has_kind (domain_at board domain) flags), status.NotSupported)
+      ∷ (not (v.may domain), status.Denied)
+      ∷ (v.busy domain || (bit_0 flags && not v.room), status.Busy)
+      ∷ []
+
+  -- the checks of a set of a clock's rate, and of a configuration
+  abbrev rate_checks : (flags k asked : ℕ) → List Check
+  rate_checks flags k asked = let v = clock_view board a s in set_checks board (v.may k) (v.busy k) v.room flags k asked
+
+  abbrev clock_checks : (k attributes : ℕ) → List Check
+  clock_checks k attributes = config_checks board ((clock_view board a s).may k) k attributes
+
+  power-passed : (command : PowerCommand) (d state : ℕ) → set_now command ≡ Some (d, state) → begins_with_success (reply_words board a s (Ok (Power command))) ≡ true → IsStateSet (Ok (Power command)) d state
+  unfolding reply_words power_reply
+  power-passed power.Version d state e ok = absurd (cc)
+  power-passed power.Attributes d state e ok = absurd (cc)
+  power-passed (power.MessageAttributes message) d state e ok = absurd (cc)
+  power-passed (power.DomainAttributes domain) d state e ok = absurd (cc)
+  power-passed (power.Get domain) d state e ok = absurd (cc)
+  power-passed (power.Notify domain enable) d state e ok = absurd (cc)
+  power-passed (power.Set flags domain state') d state e ok =
+      record {
+        command = power.Set flags domain state';
+        read = refl;
+        now = e;
+        later = none_later {A = ℕ × ℕ} {B = ℕ × ℕ} (bit_0 flags) (domain, state') (d, state) (domain, state') e;
+        reply = passed (power_checks flags domain state') ok;
+        known = subst (λ set. set.0 < length board.domains) (at_once {A = ℕ × ℕ} (bit_0 flags) (domain, state') (d, state) e) (found (length board.domains) domain (drop 1 (power_checks flags domain state')) ok);
+      }
+
+  rate-passed : (command : ClockCommand) (c rate : ℕ) → rate_now board command ≡ Some (c, rate) → begins_with_success (reply_words board a s (Ok (Clock command))) ≡ true → IsRateSet (Ok (Clock command)) c rate
+  unfolding reply_words clock_reply
+  rate-passed clock.Version c rate e ok = absurd (cc)
+  rate-passed clock.Attributes c rate e ok = absurd (cc)
+  rate-passed (clock.MessageAttributes message) c rate e ok = absurd (cc)
+  rate-passed (clock.ClockAttributes k) c rate e ok = absurd (cc)
+  rate-passed (clock.Describe k index) c rate e ok = absurd (cc)
+  rate-passed (clock.GetRate k) c rate e ok = absurd (cc)
+  rate-passed (clock.Config k attributes) c rate e ok = absurd (cc)
+  rate-passed (clock.SetRate flags k asked) c rate e ok =
+      record {
+        command = clock.SetRate flags k asked;
+        read = refl;
+        now = e;
+        later =
+            none_later {A = ℕ × ℕ} {B = ℕ × ℕ × Bool} (is_asynchronous flags) (k, clock_table.set_rate board flags k asked) (c, rate)
+            (k, clock_table.set_rate board flags k asked, is_response_wanted flags) e;
+        other = refl;
+        reply = passed (rate_checks flags k asked) ok;
+        known =
+            subst (λ set. set.0 < length board.clocks) (at_once {A = ℕ × ℕ} (is_asynchronous flags) (k, clock_table.set_rate board flags k asked) (c, rate) e)
+            (found (length board.clocks) k (drop 1 (rate_checks flags k asked)) ok);
+      }
+
+  config-passed : (command : ClockCommand) (c : ℕ) (enabled : Bool) → enabled_now command ≡ Some (c, enabled) → begins_with_success (reply_words board a s (Ok (Clock command))) ≡ true → IsConfig (Ok (Clock command)) c enabled
+  unfolding reply_words clock_reply
+  config-passed clock.Version c enabled e ok = absurd (cc)
+  config-passed clock.Attributes c enabled e ok = absurd (cc)
+  config-passed (clock.MessageAttributes message) c enabled e ok = absurd (cc)
+  config-passed (clock.ClockAttributes k) c enabled e ok = absurd (cc)
+  config-passed (clock.Describe k index) c enabled e ok = absurd (cc)
+  config-passed (clock.GetRate k) c enabled e ok = absurd (cc)
+  config-passed (clock.SetRate flags k asked) c enabled e ok = absurd (cc)
+  config-passed (clock.Config k attributes) c enabled e ok =
+      record {
+        command = clock.Config k attributes;
+        read = refl;
+        now = e;
+        later = refl;
+        other = refl;
+        reply = passed (clock_checks k attributes) ok;
+        known = subst (λ set. set.0 < length board.clocks) (at_once {A = ℕ × Bool} false (k, bit_0 attributes) (c, enabled) e) (found (length board.clocks) k (drop 1 (clock_checks k attributes)) ok);
+      }
+
+  pub state-set : (r : Result codec.Command Status) (d state : ℕ) → effect_by r ≡ Some (effect.State d state) → IsStateSet r d state
+  state-set (Err e) d state has = absurd (let no = sym (ap (option_map effect_of) (no_effect board a header e (reply_words board a s (Err e)))) ∙ has in cc)
+  state-set (Ok (Base c)) d state has = absurd (let no = sym (ap (option_map effect_of) (change-base board a header c (reply_words board a s (Ok (Base c))))) ∙ has in cc)
+  state-set (Ok (Power c)) d state has =
+      let words = reply_words board a s (Ok (Power c)) in
+      let said : if_success words (set_now c) ≡ Some (d, state) = sym (state-said (if_success words (set_now c))) ∙ ap state_of (power-effect board a header c words ∙ has) in
+      power-passed c d state (of_success words (set_now c) (d, state) (sym said)) (succeeded words (set_now c) (d, state) said)
+  state-set (Ok (Clock c)) d state has =
+      let words = reply_words board a s (Ok (Clock c)) in
+      absurd (let no = sym (not-state (if_success words (rate_now board c)) (if_success words (enabled_now c))) ∙ ap state_of (clock-effect board a header c words ∙ has) in cc)
+
+  pub rate-set : (r : Result codec.Command Status) (k rate : ℕ) → effect_by r ≡ Some (effect.Rate k rate) → IsRateSet r k rate
+  rate-set (Err e) k rate has = absurd (let no = sym (ap (option_map effect_of) (no_effect board a header e (reply_words board a s (Err e)))) ∙ has in cc)
+  rate-set (Ok (Base c)) k rate has = absurd (let no = sym (ap (option_map effect_of) (change-base board a header c (reply_words board a s (Ok (Base c))))) ∙ has in cc)
+  rate-set (Ok (Power c)) k rate has =
+      let words = reply_words board a s (Ok (Power c)) in
+      absurd (let no = sym (not-rate (if_success words (set_now c))) ∙ ap rate_of (power-effect board a header c words ∙ has) in cc)
+  rate-set (Ok (Clock c)) k rate has =
+      let words = reply_words board a s (Ok (Clock c)) in
+      let said : if_success words (rate_now board c) ≡ Some (k, rate) = sym (rate-said (if_success words (rate_now board c)) (if_success words (enabled_now c))) ∙ ap rate_of (clock-effect board a header c words ∙ has) in
+      rate-passed c k rate (of_success words (rate_now board c) (k, rate) (sym said)) (succeeded words (rate_now board c) (k, rate) said)
+
+  pub config-set : (r : Result codec.Command Status) (k : ℕ) (enabled : Bool) → effect_by r ≡ Some (effect.Enabled k enabled) → IsConfig r k enabled
+  config-set (Err e) k enabled has = absurd (let no = sym (ap (option_map effect_of) (no_effect board a header e (reply_words board a s (Err e)))) ∙ has in cc)
+  config-set (Ok (Base c)) k enabled has = absurd (let no = sym (ap (option_map effect_of) (change-base board a header c (reply_words board a s (Ok (Base c))))) ∙ has in cc)
+  config-set (Ok (Power c)) k enabled has =
+      let words = reply_words board a s (Ok (Power c)) in
+      absurd (let no = sym (not-enabled (if_success words (set_now c))) ∙ ap enabled_of (power-effect board a header c words ∙ has) in cc)
+  config-set (Ok (Clock c)) k enabled has =
+      let words = reply_words board a s (Ok (Clock c)) in
+      let said : if_success words (enabled_now c) ≡ Some (k, enabled) =
+      enabled-said (if_success words (rate_now board c)) (if_success words (enabled_now c)) (k, enabled) (ap enabled_of (clock-effect board a header c words ∙ has)) in
+      config-passed c k enabled (of_success words (enabled_now c) (k, enabled) (sym said)) (succeeded words (enabled_now c) (k, enabled) said)
+
+-- what a reply of SUCCESS alone leaves is what the message leaves
+answered : (board : Board) (a : ℕ) (m : Message) (t new : Tables) (r : Result codec.Command Status)
+    → command_of m ≡ r → reply_words board a (situation_in a t) (command_of m) ≡ 0 ∷ []
+    → HasStepped board t (success_of a m.header r (0 ∷ [])) None new → HasAnswered board a (Good m) t new
+answered board a m t new r read reply stepped =
+    subst (λ o. HasStepped board t o None new)
+    (ap (λ c. success_of a m.header c (0 ∷ [])) (sym read) ∙ ap (success_of a m.header (command_of m)) (sym reply))
+    stepped
+
+pub state-committed : (board : Board) (t new : Tables) (power' : PowerTables) (a : ℕ) (m : Message) (d state before : ℕ)
+    → IsLawful board → 1 ≤ a → a ≤ length board.agents
+    → effect_in board a (Good m) (situation_in a t) ≡ Some (effect.State d state)
+    → power_table.HasSet (Some (d, state)) t.power power' → power'.subscribers ≡ t.power.subscribers
+    → before ≡ state_at t.power d
+    → SameButOutboxes (record { base = t.base; power = power'; clocks = t.clocks; pending = t.pending; outboxes = t.outboxes }) new
+    → ((x : ℕ) → 1 ≤ x → x ≤ length board.agents
+    → outbox_at new x ≡ outbox_at t x ++ announced_at (record { base = t.base; power = power'; clocks = t.clocks; pending = t.pending; outboxes = t.outboxes }) x a (Some (d, state)) before)
+    → HasAnswered board a (Good m) t new
+state-committed board t new power' a m d state before law lo hi has states subs was kept told =
+    let set = state-set board a m.header (situation_in a t) (command_of m) d state has in
+    answered board a m t new (Ok (Power set.command)) set.read set.reply
+    (power-stepped board t (record { base = t.base; power = power'; clocks = t.clocks; pending = t.pending; outboxes = t.outboxes }) new power' a m.header set.command
+    (0 ∷ []) (Some (d, state)) None before law.few_domains law.few_agents lo hi (sym set.now) (sym set.later) states
+    (λ x e lo' hi' small.
+    ap (λ l. bit_at (get_or l e 0) (x - 1) == 1) subs
+    ∙ ap (λ o. unwrap_or o (is_subscribed t.power x e)) (sym (no_request set.command (d, state) x e a set.now)))
+    set.known tt
+    (subst (λ o. IfSome o (λ e. e < 32 → before ≡ state_at t.power e)) (sym (set_of set.command (d, state) set.now)) (λ small. was))
+    (record { base = refl; power = refl; clocks = refl; outboxes = refl })
+    (sym (append-nil t.pending)) kept told)
+
+pub rate-committed : (board : Board) (t new : Tables) (clocks' : ClockTables) (a : ℕ) (m : Message) (c rate : ℕ)
+    → IsLawful board → 1 ≤ a → a ≤ length board.agents
+    → effect_in board a (Good m) (situation_in a t) ≡ Some (effect.Rate c rate)
+    → clock_table.HasSet (Some (c, rate)) t.clocks clocks' → clocks'.enabled ≡ t.clocks.enabled
+    → new ≡ record { base = t.base; power = t.power; clocks = clocks'; pending = t.pending; outboxes = t.outboxes }
+    → HasAnswered board a (Good m) t new
+rate-committed board t new clocks' a m c rate law lo hi has rates same is =
+    let set = rate-set board a m.header (situation_in a t) (command_of m) c rate has in
+    rw is (answered board a m t (record { base = t.base; power = t.power; clocks = clocks'; pending = t.pending; outboxes = t.outboxes }) (Ok (Clock set.command)) set.read set.reply
+    (clock-stepped board t (record { base = t.base; power = t.power; clocks = clocks'; pending = t.pending; outboxes = t.outboxes }) clocks' a m.header set.command
+    (0 ∷ []) None law.few_clocks lo hi (sym set.later)
+    (λ k small. rates k small ∙ ap (λ o. clock_table.set_to o k (clock_table.rate_at t.clocks k)) (sym set.now))
+    (λ k small. ap (λ l. get_or l k false) same ∙ ap (λ o. clock_table.enabled_to o k (clock_table.enabled_at t.clocks k)) (sym set.other))
+    tt
+    (subst (λ o. IfSome o (λ s. s.0 < length board.clocks)) (sym set.now) set.known, subst (λ o. IfSome o (λ s. s.0 < length board.clocks)) (sym set.other) tt)
+    (record { base = refl; power = refl; clocks = refl; outboxes = refl })
+    (sym (append-nil t.pending))))
+
+pub enabled-committed : (board : Board) (t new : Tables) (clocks' : ClockTables) (a : ℕ) (m : Message) (c : ℕ) (enabled : Bool)
+    → IsLawful board → 1 ≤ a → a ≤ length board.agents
+    → effect_in board a (Good m) (situation_in a t) ≡ Some (effect.Enabled c enabled)
+    → clocks'.rates ≡ t.clocks.rates → clock_table.HasConfigured (Some (c, enabled)) t.clocks clocks'
+    → new ≡ record { base = t.base; power = t.power; clocks = clocks'; pending = t.pending; outboxes = t.outboxes }
+    → HasAnswered board a (Good m) t new
+enabled-committed board t new clocks' a m c enabled law lo hi has same configured is =
+    let set = config-set board a m.header (situation_in a t) (command_of m) c enabled has in
+    rw is (answered board a m t (record { base = t.base; power = t.power; clocks = clocks'; pending = t.pending; outboxes = t.outboxes }) (Ok (Clock set.command)) set.read set.reply
+    (clock-stepped board t (record { base = t.base; power = t.power; clocks = clocks'; pending = t.pending; outboxes = t.outboxes }) clocks' a m.header set.command
+    (0 ∷ []) None law.few_clocks lo hi (sym set.later)
+    (λ k small. ap (λ l. get_or l k 0) same ∙ ap (λ o. clock_table.set_to o k (clock_table.rate_at t.clocks k)) (sym set.other))
+    (λ k small. configured k small ∙ ap (λ o. clock_table.enabled_to o k (clock_table.enabled_at t.clocks k)) (sym set.now))
+    tt
+    (subst (λ o. IfSome o (λ s. s.0 < length board.clocks)) (sym set.other) tt, subst (λ o. IfSome o (λ s. s.0 < length board.clocks)) (sym set.now) set.known)
+    (record { base = refl; power = refl; clocks = refl; outboxes = refl })
+    (sym (append-nil t.pending))))

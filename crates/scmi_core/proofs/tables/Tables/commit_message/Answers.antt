@@ -1,0 +1,87 @@
+use Rattle.std.proofs.Common.{◌<◌, length, Some, refl, sym, ap, ◌∙◌, arith}
+use Rattle.scmi_codec.specs.Command.{command_of}
+use Rattle.scmi_core.specs.Outbox.{message_with}
+use Rattle.scmi_core.specs.Tables.{situation_in}
+use Rattle.scmi_core.proofs.Commits.{state-set, rate-set, config-set, state-committed, rate-committed, enabled-committed}
+use Rattle.scmi_core.proofs.tables.Tables.commit_message.Goals as goal
+
+pub state-before-requires : goal.state-before-requires
+state-before-requires c =
+    let m = c.args.message.now in
+    let set = state-set c.args.plan.now c.args.agent m.header (situation_in c.args.agent c.args.self.now) (command_of m) c.in-State.domain c.in-State.state (c.requires.effect ∙ ap Some c.in-State.is) in
+    let known : c.in-State.domain < length c.args.plan.now.domains = set.known in
+    let few = c.requires.lawful.few_domains in
+    omega (arith, known, few)
+
+pub complete-requires : goal.complete-requires
+complete-requires c =
+    let m = c.args.message.now in
+    let set = state-set c.args.plan.now c.args.agent m.header (situation_in c.args.agent c.args.self.now) (command_of m) c.in-State.domain c.in-State.state (c.requires.effect ∙ ap Some c.in-State.is) in
+    let known : c.in-State.domain < length c.args.plan.now.domains = set.known in
+    let few = c.requires.lawful.few_domains in
+    omega (arith, known, few)
+
+pub announce-requires-clause-domain : goal.announce-requires-clause-domain
+announce-requires-clause-domain c =
+    let m = c.args.message.now in
+    let set = state-set c.args.plan.now c.args.agent m.header (situation_in c.args.agent c.args.self.now) (command_of m) c.in-State.domain c.in-State.state (c.requires.effect ∙ ap Some c.in-State.is) in
+    let known : c.in-State.domain < length c.args.plan.now.domains = set.known in
+    let few = c.requires.lawful.few_domains in
+    omega (arith, known, few)
+
+pub complete-requires-in-Rate : goal.complete-requires-in-Rate
+complete-requires-in-Rate c =
+    let m = c.args.message.now in
+    let set = rate-set c.args.plan.now c.args.agent m.header (situation_in c.args.agent c.args.self.now) (command_of m) c.in-Rate.clock c.in-Rate.rate (c.requires.effect ∙ ap Some c.in-Rate.is) in
+    let known : c.in-Rate.clock < length c.args.plan.now.clocks = set.known in
+    let few = c.requires.lawful.few_clocks in
+    omega (arith, known, few)
+
+pub set_enabled-requires : goal.set_enabled-requires
+set_enabled-requires c =
+    let m = c.args.message.now in
+    let set = config-set c.args.plan.now c.args.agent m.header (situation_in c.args.agent c.args.self.now) (command_of m) c.in-Enabled.clock c.in-Enabled.enabled (c.requires.effect ∙ ap Some c.in-Enabled.is) in
+    let known : c.in-Enabled.clock < length c.args.plan.now.clocks = set.known in
+    let few = c.requires.lawful.few_clocks in
+    omega (arith, known, few)
+
+pub returns-in-State-clause-answer : goal.returns-in-State-clause-answer
+returns-in-State-clause-answer c =
+    let m = c.args.message.now in
+    let set = state-set c.args.plan.now c.args.agent m.header (situation_in c.args.agent c.args.self.now) (command_of m) c.in-State.domain c.in-State.state (c.requires.effect ∙ ap Some c.in-State.is) in
+    ap (message_with m.header) (c.set_payload.ensures ∙ sym set.reply)
+
+pub returns-in-State-clause-stepped : goal.returns-in-State-clause-stepped
+returns-in-State-clause-stepped c =
+    let count = c.agents-agents.ensures.count in
+    state-committed c.args.plan.now c.args.self.now c.announce.new.self c.complete.new.self c.args.agent c.args.message.now
+    c.in-State.domain c.in-State.state c.state-before.result c.requires.lawful c.requires.first c.requires.last
+    (c.requires.effect ∙ ap Some c.in-State.is)
+    c.complete.ensures.states c.complete.ensures.subscribed c.state-before.ensures c.announce.ensures.rest
+    (λ x lo hi. c.announce.ensures.told x lo (omega (arith, count)))
+
+pub returns-in-Rate-clause-answer : goal.returns-in-Rate-clause-answer
+returns-in-Rate-clause-answer c =
+    let m = c.args.message.now in
+    let set = rate-set c.args.plan.now c.args.agent m.header (situation_in c.args.agent c.args.self.now) (command_of m) c.in-Rate.clock c.in-Rate.rate (c.requires.effect ∙ ap Some c.in-Rate.is) in
+    ap (message_with m.header) (c.set_payload.ensures ∙ sym set.reply)
+
+pub returns-in-Rate-clause-stepped : goal.returns-in-Rate-clause-stepped
+returns-in-Rate-clause-stepped c =
+    rate-committed c.args.plan.now c.args.self.now _ c.complete-in-Rate.new.self c.args.agent c.args.message.now
+    c.in-Rate.clock c.in-Rate.rate c.requires.lawful c.requires.first c.requires.last
+    (c.requires.effect ∙ ap Some c.in-Rate.is)
+    c.complete-in-Rate.ensures.rates c.complete-in-Rate.ensures.enabled refl
+
+pub returns-in-Enabled-clause-answer : goal.returns-in-Enabled-clause-answer
+returns-in-Enabled-clause-answer c =
+    let m = c.args.message.now in
+    let set = config-set c.args.plan.now c.args.agent m.header (situation_in c.args.agent c.args.self.now) (command_of m) c.in-Enabled.clock c.in-Enabled.enabled (c.requires.effect ∙ ap Some c.in-Enabled.is) in
+    ap (message_with m.header) (c.set_payload.ensures ∙ sym set.reply)
+
+pub returns-in-Enabled-clause-stepped : goal.returns-in-Enabled-clause-stepped
+returns-in-Enabled-clause-stepped c =
+    enabled-committed c.args.plan.now c.args.self.now _ c.set_enabled.new.self c.args.agent c.args.message.now
+    c.in-Enabled.clock c.in-Enabled.enabled c.requires.lawful c.requires.first c.requires.last
+    (c.requires.effect ∙ ap Some c.in-Enabled.is)
+    c.set_enabled.ensures.rates c.set_enabled.ensures.enabled refl
