@@ -1,4 +1,4 @@
 pub mod OneLine
 mod Scripts
-mod Modes
+mod FirstLine
 pub mod RunLemmas

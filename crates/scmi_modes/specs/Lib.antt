@@ -2,6 +2,7 @@ pub mod RunError
 pub mod Reads
 pub mod Lines
 pub mod Mode
+pub mod AnyMode
 pub mod Once
 pub mod Steps
 pub mod Runs

@@ -1,10 +1,11 @@
 -- What is written of an input that is known.
-use Rattle.std.specs.Prelude.{◌≡◌, ℕ, List, Option, IfSome}
+use Rattle.std.specs.Prelude.{◌≡◌, ◌≢◌, ℕ, List, Option, IfSome}
 use Rattle.scmi_input.specs.Lines.{first_line, after_line}
+use Rattle.scmi_modes.specs.AnyMode.{hardware_text}
 use Rattle.scmi_modes.specs.Mode.{text_of}
 use Rattle.scmi_modes.specs.Once.{IsAnswerTo}
 use Rattle.scmi_modes.specs.Runs.{IsTextOfRun, may_be_full}
-use Rattle.scmi_modes.specs.Steps.{WritesSteps}
+use Rattle.scmi_modes.specs.Steps.{WritesHardware, WritesSteps}
 use Rattle.scmi_modes.specs.declared.kind.Kind.{Kind}
 use Rattle.scmi_modes.specs.declared.mode.Mode.TheVariants.{Once, Steps, Threads}
 
@@ -21,3 +22,12 @@ RunsThreads known old new =
 abbrev pub RunsSteps : Option (List ℕ) → Option (List ℕ) → Option (List ℕ) → Type 0
 RunsSteps known old new =
     IfSome known (λ input. (kind : Kind) → first_line input ≡ text_of (Steps kind) → WritesSteps kind old new)
+
+-- where the first line names a mode `hardware`, what is written is the text of all steps of a script on some board, beside hardware
+abbrev pub RunsHardware : Option (List ℕ) → Option (List ℕ) → Option (List ℕ) → Type 0
+RunsHardware known old new =
+    IfSome known (λ input. (kind : Kind) → first_line input ≡ hardware_text kind → WritesHardware kind old new)
+
+-- the first line names no mode `hardware`
+abbrev pub NamesNoHardware : Option (List ℕ) → Type 0
+NamesNoHardware known = IfSome known (λ input. (kind : Kind) → first_line input ≢ hardware_text kind)

@@ -1,5 +1,6 @@
 -- What a script on one thread writes.
 use Rattle.std.specs.Prelude.{◌≡◌, ◌⊎◌, ℕ, Bool, List, [], ◌∷◌, ◌++◌, length, Option, Result, flat_map}
+use Rattle.std.specs.List.{All}
 use Rattle.std.specs.Io.KnownBytes.{Appends}
 use Rattle.scmi_link.specs.View.{CallerView}
 use Rattle.scmi_link.specs.RingCaller.{ring_caller_view, ring_close_shows}
@@ -8,6 +9,7 @@ use Rattle.scmi_link.specs.declared.close_error.CloseError.{CloseError}
 use Rattle.scmi_words.specs.WordCaller.{word_caller_view, CloseShows}
 use Rattle.scmi_plan.specs.Board.{Board}
 use Rattle.scmi_ends.specs.Shut.{ShowsClose}
+use Rattle.scmi_text.specs.Step.{IsWithoutHardware}
 use Rattle.scmi_text.specs.StepLine.{step_text}
 use Rattle.scmi_text.specs.declared.step.Step.{Step}
 use Rattle.scmi_text.specs.declared.step_line.StepLine.{StepLine}
@@ -17,6 +19,8 @@ use Rattle.scmi_session.specs.Run.{Runs, IsGathered}
 use Rattle.scmi_modes.specs.Runs.{may_be_full}
 use Rattle.scmi_modes.specs.declared.kind.Kind.{Kind}
 use Rattle.scmi_modes.specs.declared.kind.Kind.TheVariants.{Rings, Words}
+use Rattle.scmi_modes.specs.declared.script_kind.ScriptKind.{ScriptKind}
+use Rattle.scmi_modes.specs.declared.script_kind.ScriptKind.TheVariants.{Plain, Hardware}
 
 -- what a close shows at a channel of this kind, by the view after it
 abbrev pub shows_close : Kind → CallerView → Result Closing CloseError → Type 0
@@ -42,9 +46,22 @@ module _ (full : Bool) (Shows : CallerView → Result Closing CloseError → Typ
     pub gathered : IsGathered last
     pub text : Appends old new (flat_map step_text lines ++ step_text (Trace (length last.platform.history)))
 
--- what is written is the text of all steps of a script on some board
+-- a script of this kind may have the step
+abbrev pub MayHave : ScriptKind → Step → Type 0
+MayHave Plain step = IsWithoutHardware step
+MayHave Hardware step = Unit {0}
+
+-- what is written is the text of all steps of a script of this kind on some board
+abbrev pub WritesScript : ScriptKind → Kind → Option (List ℕ) → Option (List ℕ) → Type 0
+WritesScript script kind old new = (board : Board) × (steps : List Step) × All (MayHave script) steps × IsTextOfSteps (may_be_full kind) (shows_close kind) board steps old new
+
+-- what is written is the text of all steps of a script on some board, none of them beside hardware
 abbrev pub WritesSteps : Kind → Option (List ℕ) → Option (List ℕ) → Type 0
-WritesSteps kind old new = (board : Board) × (steps : List Step) × IsTextOfSteps (may_be_full kind) (shows_close kind) board steps old new
+WritesSteps kind old new = WritesScript Plain kind old new
+
+-- what is written is the text of all steps of a script on some board, beside hardware that refuses where a step says so
+abbrev pub WritesHardware : Kind → Option (List ℕ) → Option (List ℕ) → Type 0
+WritesHardware kind old new = WritesScript Hardware kind old new
 
 -- nothing is written, or the lines of the first steps of a script on some board
 abbrev pub WritesFirstSteps : Kind → Option (List ℕ) → Option (List ℕ) → Type 0

@@ -1,12 +1,13 @@
 //! The modes of a run: a platform controller and its agents, from bytes in to bytes out.
 //!
-//! The first line of the input names a mode. The main type is `Mode`; the
-//! main theorem is the contract of `run_program`: where the status is 0, what was written is that of the
+//! The first line of the input names a mode. The main types are `Mode` and `Modes`, those that a
+//! program takes; the main theorem is the contract of `run_program`: where the status is 0, what was written is that of the
 //! mode. In the mode `once` it is the area that was read with the answer of agent 1's first command, to
 //! the last byte (`run_once`).
 #![tactic(auto)]
 
 mod answer;
+mod any_mode;
 mod kind;
 mod lines;
 mod mode;
@@ -14,14 +15,16 @@ mod once;
 mod reference_board;
 mod run;
 mod run_error;
+mod script_kind;
 mod steps;
 mod threads;
 
 pub use answer::answer_area;
+pub use any_mode::{AnyMode, Modes};
 pub use kind::Kind;
 pub use mode::Mode;
 pub use once::run_once;
 pub use run::{run_input, run_program};
 pub use run_error::RunError;
-pub use steps::run_steps;
+pub use steps::{run_hardware, run_steps};
 pub use threads::run_threads;

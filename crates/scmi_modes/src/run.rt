@@ -2,17 +2,18 @@
 ghost use Rattle.std.specs.Prelude.{◌≡◌, ◌≤◌, ◌+◌, ◌*◌, IfErr, IfSome, OnOk};
 ghost use Rattle.scmi_input.specs.declared.input.TheConstants.{INPUT_BYTES};
 ghost use Rattle.scmi_modes.specs.Once.{IsAnswerTo};
-ghost use Rattle.scmi_modes.specs.Program.{AnswersOnce, RunsSteps, RunsThreads};
+ghost use Rattle.scmi_modes.specs.Program.{AnswersOnce, NamesNoHardware, RunsHardware, RunsSteps, RunsThreads};
 ghost use Rattle.scmi_modes.specs.Reads.{StopsAtFailure};
 ghost use Rattle.scmi_modes.specs.RunError.{status_of};
 ghost use Rattle.scmi_modes.specs.Runs.{IsTextOfRun, may_be_full};
-ghost use Rattle.scmi_modes.specs.Steps.{WritesSteps};
+ghost use Rattle.scmi_modes.specs.Steps.{WritesHardware, WritesSteps};
 ghost use Rattle.scmi_modes.specs.declared.kind.Kind.{Kind as KindOf};
 
+use crate::any_mode::{AnyMode, Modes};
 use crate::mode::Mode;
 use crate::once::run_once;
 use crate::run_error::RunError;
-use crate::steps::run_steps;
+use crate::steps::{run_hardware, run_steps};
 use crate::threads::run_threads;
 use scmi_input::{CountedRead, CountedReader, Input};
 use scmi_threads::Gate;
@@ -21,12 +22,13 @@ use std::io::{Read, Write};
 use std::sync::Wait;
 use std::thread::Threads;
 
-/// Runs an input in the mode that its first line names, and gives the exit status: 0, or that of
+/// Runs an input in the mode among these that its first line names, and gives the exit status: 0, or that of
 /// the error, whose text is written as the last line. A fault that can't be written gives status 1.
 pub fn run_program<T: Threads + Wait + Sync, G: Gate, R: Read, W: Write>(
     rt: &T,
     alloc: Global,
     gate: &G,
+    modes: Modes,
     reader: &mut R,
     writer: &mut W,
 ) -> u8
@@ -36,9 +38,12 @@ pub fn run_program<T: Threads + Wait + Sync, G: Gate, R: Read, W: Write>(
         RunsThreads (R.remaining reader.old) (W.contents writer.old) (W.contents writer.new) }
     ensures steps { result ≡ 0 →
         RunsSteps (R.remaining reader.old) (W.contents writer.old) (W.contents writer.new) }
+    ensures hardware { result ≡ 0 →
+        RunsHardware (R.remaining reader.old) (W.contents writer.old) (W.contents writer.new) }
+    ensures plain { result ≡ 0 → modes ≡ Modes.Plain → NamesNoHardware (R.remaining reader.old) }
 {
     let mut input = Input::new(CountedReader::new(reader));
-    run_input(rt, alloc, gate, &mut input, writer)
+    run_input(rt, alloc, gate, modes, &mut input, writer)
 }
 
 /// The same of a reader that counts. The first line and what follows it take at most
@@ -47,6 +52,7 @@ pub fn run_input<T: Threads + Wait + Sync, G: Gate, R: CountedRead + Drop, W: Wr
     rt: &T,
     alloc: Global,
     gate: &G,
+    modes: Modes,
     input: &mut Input<R>,
     writer: &mut W,
 ) -> u8
@@ -56,10 +62,13 @@ pub fn run_input<T: Threads + Wait + Sync, G: Gate, R: CountedRead + Drop, W: Wr
         RunsThreads input.old.left (W.contents writer.old) (W.contents writer.new) }
     ensures steps { result ≡ 0 →
         RunsSteps input.old.left (W.contents writer.old) (W.contents writer.new) }
+    ensures hardware { result ≡ 0 →
+        RunsHardware input.old.left (W.contents writer.old) (W.contents writer.new) }
+    ensures plain { result ≡ 0 → modes ≡ Modes.Plain → NamesNoHardware input.old.left }
     ensures reads { input.new.reads ≤ input.old.reads + 2 * (INPUT_BYTES + 1) }
     ensures stops { input.old.since_failure ≡ 0 → input.new.since_failure ≤ 1 }
 {
-    match run_mode(rt, alloc, gate, input, writer) {
+    match run_mode(rt, alloc, gate, modes, input, writer) {
         Ok(()) => 0,
         Err(RunError::Write) => RunError::Write.status(),
         Err(fault) => match writeln!(writer, "fault {fault}") {
@@ -73,6 +82,7 @@ fn run_mode<T: Threads + Wait + Sync, G: Gate, R: CountedRead + Drop, W: Write>(
     rt: &T,
     alloc: Global,
     gate: &G,
+    modes: Modes,
     input: &mut Input<R>,
     writer: &mut W,
 ) -> Result<(), RunError>
@@ -82,12 +92,15 @@ fn run_mode<T: Threads + Wait + Sync, G: Gate, R: CountedRead + Drop, W: Write>(
         (RunsThreads input.old.left (W.contents writer.old) (W.contents writer.new)) }
     ensures steps { OnOk result
         (RunsSteps input.old.left (W.contents writer.old) (W.contents writer.new)) }
+    ensures hardware { OnOk result
+        (RunsHardware input.old.left (W.contents writer.old) (W.contents writer.new)) }
+    ensures plain { OnOk result (modes ≡ Modes.Plain → NamesNoHardware input.old.left) }
     ensures kept { IfErr result (λ e. status_of e ≡ 2 → writer.new ≡ writer.old) }
     ensures reads { input.new.reads ≤ input.old.reads + 2 * (INPUT_BYTES + 1) }
     ensures stops { StopsAtFailure result input.old.since_failure input.new.since_failure }
 {
     let line = input.read_first_line()?;
-    let mode = Mode::of_line(&line).ok_or(RunError::Mode)?;
+    let mode = modes.of_line(&line).ok_or(RunError::Mode)?;
     run_in(rt, alloc, gate, mode, input, writer)
 }
 
@@ -96,24 +109,27 @@ fn run_in<T: Threads + Wait + Sync, G: Gate, R: CountedRead, W: Write>(
     rt: &T,
     alloc: Global,
     gate: &G,
-    mode: Mode,
+    mode: AnyMode,
     reader: &mut R,
     writer: &mut W,
 ) -> Result<(), RunError>
-    ensures once { OnOk result (mode ≡ Mode.Once → IfSome (R.remaining reader.old)
+    ensures once { OnOk result (mode ≡ AnyMode.Plain Mode.Once → IfSome (R.remaining reader.old)
         (λ input. IsAnswerTo input (W.contents writer.old) (W.contents writer.new))) }
-    ensures threads { OnOk result ((kind : KindOf) → mode ≡ Mode.Threads kind →
+    ensures threads { OnOk result ((kind : KindOf) → mode ≡ AnyMode.Plain (Mode.Threads kind) →
         IsTextOfRun (may_be_full kind) (W.contents writer.old) (W.contents writer.new)) }
-    ensures steps { OnOk result ((kind : KindOf) → mode ≡ Mode.Steps kind →
+    ensures steps { OnOk result ((kind : KindOf) → mode ≡ AnyMode.Plain (Mode.Steps kind) →
         WritesSteps kind (W.contents writer.old) (W.contents writer.new)) }
+    ensures hardware { OnOk result ((kind : KindOf) → mode ≡ AnyMode.Hardware kind →
+        WritesHardware kind (W.contents writer.old) (W.contents writer.new)) }
     ensures kept { IfErr result (λ e. status_of e ≡ 2 → writer.new ≡ writer.old) }
     ensures reads { R.reads reader.new ≤ R.reads reader.old + (INPUT_BYTES + 1) }
     ensures stops { StopsAtFailure result (R.since_failure reader.old)
         (R.since_failure reader.new) }
 {
     match mode {
-        Mode::Once => run_once(alloc, reader, writer),
-        Mode::Steps(kind) => run_steps(alloc, reader, writer, kind),
-        Mode::Threads(kind) => run_threads(rt, alloc, gate, reader, writer, kind),
+        AnyMode::Plain(Mode::Once) => run_once(alloc, reader, writer),
+        AnyMode::Plain(Mode::Steps(kind)) => run_steps(alloc, reader, writer, kind),
+        AnyMode::Plain(Mode::Threads(kind)) => run_threads(rt, alloc, gate, reader, writer, kind),
+        AnyMode::Hardware(kind) => run_hardware(alloc, reader, writer, kind),
     }
 }

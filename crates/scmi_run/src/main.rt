@@ -4,7 +4,7 @@
 //! `scmi_modes`, whose contract is the main theorem.
 #![tactic(auto)]
 
-use scmi_modes::{RunError, run_program};
+use scmi_modes::{Modes, RunError, run_program};
 use scmi_threads::OpenGate;
 use std::io;
 use std::io::{BufWriter, Write};
@@ -16,9 +16,23 @@ fn main(rt: HostRuntime) -> ExitCode {
     // Where there is no memory for a buffer the output goes straight out.
     let Ok(mut writer) = BufWriter::new(alloc, io::writer(&rt)) else {
         let mut writer = io::writer(&rt);
-        return ExitCode::from(run_program(&rt, alloc, &OpenGate, &mut reader, &mut writer));
+        return ExitCode::from(run_program(
+            &rt,
+            alloc,
+            &OpenGate,
+            Modes::Plain,
+            &mut reader,
+            &mut writer,
+        ));
     };
-    let status = run_program(&rt, alloc, &OpenGate, &mut reader, &mut writer);
+    let status = run_program(
+        &rt,
+        alloc,
+        &OpenGate,
+        Modes::Plain,
+        &mut reader,
+        &mut writer,
+    );
     if writer.flush().is_err() {
         return ExitCode::from(RunError::Write.status());
     }

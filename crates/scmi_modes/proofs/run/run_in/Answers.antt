@@ -1,8 +1,18 @@
-use Rattle.scmi_modes.proofs.Modes.{on_steps, on_threads}
+use Rattle.std.proofs.Common.{◌≡◌, rules}
+use Rattle.scmi_modes.specs.declared.any_mode.AnyMode.TheVariants as any
+use Rattle.scmi_modes.specs.declared.mode.Mode.TheVariants as mode
+use Rattle.scmi_modes.proofs.FirstLine.{on_hardware, on_steps, on_threads}
 use Rattle.scmi_modes.proofs.run.run_in.Goals as goal
 
-pub returns-in-Threads-clause-threads : goal.returns-in-Threads-clause-threads
-returns-in-Threads-clause-threads g c = rw c.in-Threads.is (on_threads _ _ _ _ c.run_threads.ensures.text)
+pub returns-in-Plain-Threads-clause-threads : goal.returns-in-Plain-Threads-clause-threads
+returns-in-Plain-Threads-clause-threads g c =
+    let is : c.in-Plain-Threads.field-0 ≡ mode.Threads c.in-Plain-Threads.kind = rw c.in-Plain-Threads.is at c.in-Plain-Threads.field-0-is in
+    rw (c.in-Plain-Threads.is, is) (on_threads _ _ _ _ c.run_threads.ensures.text)
 
-pub returns-in-Steps-clause-steps : goal.returns-in-Steps-clause-steps
-returns-in-Steps-clause-steps g c = rw c.in-Steps.is (on_steps _ _ _ _ c.run_steps.ensures.text)
+pub returns-in-Plain-Steps-clause-steps : goal.returns-in-Plain-Steps-clause-steps
+returns-in-Plain-Steps-clause-steps g c =
+    let is : c.args.mode ≡ any.Plain (mode.Steps c.in-Plain-Steps.kind) = search rules in
+    rw is (on_steps _ _ _ _ c.run_steps.ensures.text)
+
+pub returns-in-Hardware-clause-hardware : goal.returns-in-Hardware-clause-hardware
+returns-in-Hardware-clause-hardware g c = rw c.in-Hardware.is (on_hardware _ _ _ _ c.run_hardware.ensures.text)

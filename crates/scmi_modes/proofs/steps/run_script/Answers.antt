@@ -1,7 +1,7 @@
 use Rattle.std.proofs.Common.{◌≡◌, ◌∙◌, ap, sym, length}
 use Rattle.std.proofs.lemmas.List.{length-map}
 use Rattle.std.specs.Prelude.{string_bytes}
-use Rattle.scmi_modes.proofs.steps.run_steps.Goals as goal
+use Rattle.scmi_modes.proofs.steps.run_script.Goals as goal
 
 pub step_through-requires-after_bounds : goal.step_through-requires-after_bounds
 step_through-requires-after_bounds g c κs within =
