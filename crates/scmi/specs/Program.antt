@@ -1,7 +1,7 @@
 -- What the program writes.
 use Rattle.std.specs.Prelude.{ℕ, List, Option}
 use Rattle.std.specs.Io.KnownBytes.{Appends}
-use Rattle.scmi_modes.specs.Program.{AnswersOnce, RunsSteps, RunsThreads}
+use Rattle.scmi_modes.specs.Program.{AnswersOnce, RunsHardware, RunsSteps, RunsThreads}
 use Rattle.scmi_decode.specs.Decoded.{IsDecoded}
 use Rattle.scmi_draw.specs.Run.{IsPicture}
 use Rattle.scmi.specs.Texts.{text_of}
@@ -11,7 +11,7 @@ use Rattle.scmi.specs.declared.task.Task.TheVariants.{Run, Decode, Chart}
 
 -- what is written for a request: what its task writes of the input, or else its text
 abbrev pub Answers : Request → Option (List ℕ) → Option (List ℕ) → Option (List ℕ) → Type 0
-Answers (Do Run) input old new = AnswersOnce input old new × RunsThreads input old new × RunsSteps input old new
+Answers (Do Run) input old new = AnswersOnce input old new × RunsThreads input old new × RunsSteps input old new × RunsHardware input old new
 Answers (Do Decode) input old new = IsDecoded input old new
 Answers (Do Chart) input old new = IsPicture old new
 Answers asked input old new = Appends old new (text_of asked)

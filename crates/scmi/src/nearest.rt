@@ -4,18 +4,18 @@ use crate::word::WORDS;
 use std::alloc::Global;
 use strsim::osa_distance;
 
-/// The most letters that are put in, left out, changed or swapped.
-const EDITS: usize = 2;
+/// The most letters that are put in, left out, changed or swapped: one in so many of the word's.
+const LETTERS_FOR_AN_EDIT: usize = 3;
 
 /// The first of the words that are nearest to a text, if one is near; `None` too where memory is refused.
 pub fn nearest(alloc: Global, text: &str) -> Option<&'static str> {
     let mut found = None;
-    let mut fewest = EDITS + 1;
+    let mut fewest = usize::MAX;
     for row in &WORDS {
         let Ok(edits) = osa_distance(alloc, text, row.text) else {
             return None;
         };
-        if edits < fewest {
+        if edits < fewest && edits <= row.text.len() / LETTERS_FOR_AN_EDIT {
             fewest = edits;
             found = Some(row.text);
         }

@@ -7,7 +7,7 @@ use crate::task::Task;
 use crate::texts::text_of;
 use scmi_decode::run_decode;
 use scmi_draw::run_draw;
-use scmi_modes::{RunError, run_program};
+use scmi_modes::{Modes, RunError, run_program};
 use scmi_threads::OpenGate;
 use std::alloc::Global;
 use std::io::{Read, Write};
@@ -27,7 +27,14 @@ pub fn run_request<T: Threads + Wait + Sync, R: Read, W: Write>(
         Answers request (R.remaining reader.old) (W.contents writer.old) (W.contents writer.new) }
 {
     match request {
-        Request::Do(Task::Run) => run_program(rt, alloc, &OpenGate, reader, writer),
+        Request::Do(Task::Run) => run_program(
+            rt,
+            alloc,
+            &OpenGate,
+            Modes::ForPeople,
+            reader,
+            writer,
+        ),
         Request::Do(Task::Decode) => run_decode(alloc, reader, writer),
         Request::Do(Task::Chart) => run_draw(alloc, reader, writer),
         _ => match writer.write_all(text_of(request).as_bytes()) {

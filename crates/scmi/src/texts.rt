@@ -47,8 +47,8 @@ Runs a session of a platform and its agents, and writes a line for each step.
 
 Usage: scmi [run] [FILE]
 
-The first line of the input is the mode: once, steps words, steps rings, threads words or
-threads rings. docs/SCRIPTS.md has all lines.
+The first line of the input is the mode: once, steps words, steps rings, threads words,
+threads rings, hardware words or hardware rings. docs/SCRIPTS.md has all lines.
 
 Example: scmi run examples/two_agents.in
 ",
