@@ -4,15 +4,10 @@ ghost use Rattle.scmi_ends.specs.Links.{HasLinks};
 ghost use Rattle.scmi_threads.specs.Rounds.{IsOpenToAll, GoesOn};
 
 use scmi_core::Hardware;
-use scmi_ends::{Controller, Flushed, Link, ServeError, Served};
+use scmi_ends::{Controller, Link, ServeError};
 use scmi_link::Channel;
 use std::sync::Wait;
 use std::sync::atomic::{AtomicUsize, Ordering};
-use std::thread::yield_now;
-
-/// Rounds in a row that did nothing, after which the thread yields after each such round: an agent
-/// may wait for its processor (own).
-const IDLE_ROUNDS: u32 = 16;
 
 /// Runs rounds until one after all scripts have ended, or one that was refused memory. Says whether
 /// memory was refused.
@@ -29,45 +24,35 @@ pub(crate) fn run_rounds<C: Channel, H: Hardware, R: Wait>(
         result.0 (H.applied result.2) }
 {
     let mut refused = false;
-    let mut idle = 0u32;
     'rounds: for _ in rt.forever() {
         let last = ended.load(Ordering::SeqCst) >= links.len();
-        match run_round(&mut controller, links, &mut hardware) {
-            Ok(true) => idle = 0,
-            Ok(false) => idle = idle.saturating_add(1),
-            Err(_) => refused = true,
-        }
+        refused = run_round(&mut controller, links, &mut hardware).is_err();
         if refused || last {
             break;
-        }
-        if idle > IDLE_ROUNDS {
-            yield_now();
         }
     }
     (controller, refused, hardware)
 }
 
-// Serves each agent, completes one pending set, and flushes each agent's outbox. Says whether there
-// was anything to do.
+// Serves each agent, completes one pending set, and flushes each agent's outbox.
 #[tactic(auto, using(crate::proofs::RoundLemmas::and_served, crate::proofs::RoundLemmas::and_advanced))]
 fn run_round<C: Channel, H: Hardware>(
     controller: &mut Controller<C>,
     links: &[Link<C>],
     hardware: &mut H,
-) -> Result<bool, ServeError>
+) -> Result<(), ServeError>
     requires links { HasLinks C.identity links.now controller.old }
     requires open_ends { IsOpenToAll controller.old }
     ensures goes_on { GoesOn C.identity links.now controller.old (H.applied hardware.old)
         controller.new (H.applied hardware.new) }
 {
     let agents = controller.core().agents();
-    let mut did = false;
     'served: for agent in 1..agents.saturating_add(1) {
-        did |= controller.serve_on(links, agent, hardware)? == Served::Done;
+        controller.serve_on(links, agent, hardware)?;
     }
-    did |= controller.advance_on(hardware)?;
+    controller.advance_on(hardware)?;
     'flushed: for agent in 1..agents.saturating_add(1) {
-        did |= controller.flush(links, agent)? == Flushed::Posted;
+        controller.flush(links, agent)?;
     }
-    Ok(did)
+    Ok(())
 }
