@@ -6,7 +6,7 @@ use Rattle.scmi_agent.specs.Reading.{exactly, read_among, name_at}
 use Rattle.scmi_agent.specs.declared.base_reply.BaseReply.{BaseReply}
 use Rattle.scmi_agent.specs.declared.base_reply.BaseReply.TheVariants as base
 
--- a number, and so many ids of protocols, four to a word
+-- a count, and as many ids of protocols, four to a word
 abbrev pub protocols_of : List ℕ → Option BaseReply
 protocols_of [] = None
 protocols_of (count ∷ ids) = if length ids == (count + 3) / 4 then Some (base.Protocols count (record { items = ids })) else None

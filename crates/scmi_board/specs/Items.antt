@@ -58,7 +58,7 @@ first_item view = elim view.items [ [] ↦ None | item ∷ items ↦ Some (item,
 abbrev pub no_item : ItemsView → Option (Unit {0})
 no_item view = elim view.items [ [] ↦ if view.whole then Some tt else None | item ∷ items ↦ None ]
 
--- the first item as a number of so many bits
+-- the first item as a number of at most that many bits
 unfoldable pub first_number : ℕ → ItemsView → Option (ℕ × ItemsView)
 first_number bits view = do
   item ← first_item view

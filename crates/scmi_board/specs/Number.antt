@@ -24,7 +24,7 @@ number_value text = digits_value (number_base text) (number_digits text)
 abbrev pub HasNumberForm : List ℕ → Type 0
 HasNumberForm text = MatchBool (has_hexadecimal_mark text) (length text ≤ 18) (1 < length text → slice_index text 0 ≢ 48)
 
--- a text is a number of so many bits
+-- a text is a number of at most that many bits
 pub record IsNumber (bits : ℕ) (text : List ℕ) : Type 0 where
   pub digits : IsNumeral (number_base text) (number_digits text)
   pub form : HasNumberForm text
@@ -38,10 +38,10 @@ is_numeral base digits = nat_lt 0 (length digits) && list_all (λ c. is_digit c 
 abbrev pub has_number_form : List ℕ → Bool
 has_number_form text = if has_hexadecimal_mark text then nat_le (length text) 18 else not (nat_lt 1 (length text) && (slice_index text 0 == 48))
 
--- whether a text is a number of so many bits
+-- whether a text is a number of at most that many bits
 abbrev pub is_number : ℕ → List ℕ → Bool
 is_number bits text = is_numeral (number_base text) (number_digits text) && has_number_form text && nat_lt (number_value text) (2 ^ bits)
 
--- the number of so many bits that a text stands for
+-- the number of at most that many bits that a text stands for
 unfoldable pub number_of : ℕ → List ℕ → Option ℕ
 number_of bits text = if is_number bits text then Some (number_value text) else None

@@ -10,7 +10,7 @@ use Rattle.scmi_plan.specs.PlanError.{number}
 use Rattle.scmi_plan.specs.declared.plan_error.PlanError.{PlanError}
 use Rattle.scmi_plan.specs.declared.plan_error.PlanError.TheVariants as plan
 
--- 1 for a failed output, 3 for a limit, 4 for want of memory, and 2 for a refused input (own)
+-- 1 for a failed output, 3 for a limit, 4 for out of memory, and 2 for a refused input (own)
 abbrev pub status_of : RunError → ℕ
 status_of Write = 1
 status_of Limit = 3
