@@ -1,4 +1,4 @@
-//! The library in one function, as README shows it.
+//! The library in one function, as docs/RATTLE.md shows it.
 
 use crate::boards::reference_board;
 use crate::messages::message;
