@@ -1,6 +1,5 @@
 //! The word that a misspelt one may stand for.
 
-use crate::word::WORDS;
 use std::alloc::Global;
 use strsim::osa_distance;
 
@@ -8,16 +7,16 @@ use strsim::osa_distance;
 const LETTERS_FOR_AN_EDIT: usize = 3;
 
 /// The first of the words that are nearest to a text, if one is near; `None` too where memory is refused.
-pub fn nearest(alloc: Global, text: &str) -> Option<&'static str> {
+pub fn nearest(alloc: Global, words: &[&'static str], text: &str) -> Option<&'static str> {
     let mut found = None;
     let mut fewest = usize::MAX;
-    for row in &WORDS {
-        let Ok(edits) = osa_distance(alloc, text, row.text) else {
+    for word in words {
+        let Ok(edits) = osa_distance(alloc, text, word) else {
             return None;
         };
-        if edits < fewest && edits <= row.text.len() / LETTERS_FOR_AN_EDIT {
+        if edits < fewest && edits <= word.len() / LETTERS_FOR_AN_EDIT {
             fewest = edits;
-            found = Some(row.text);
+            found = Some(*word);
         }
     }
     found
