@@ -59,7 +59,7 @@ static int listen(void)
 
     for (unsigned turn = 0; turn < TURNS; turn++) {
         if (scmi_mailbox_receive(&p2a, &message) == SCMI_DONE) {
-            printf("told %u", (unsigned)scmi_agent_message(message.bytes, &it));
+            printf("notice %u", (unsigned)scmi_agent_message(message.bytes, &it));
             printf(": kind %u, status %u, token %u", (unsigned)it.kind, (unsigned)it.status, (unsigned)it.token);
             printf(", agent %u, id %u, state 0x%08x, rate %llu\n", (unsigned)it.agent, (unsigned)it.id,
                    (unsigned)it.state, (unsigned long long)it.rate);
