@@ -4,6 +4,7 @@ use Rattle.scmi_codec.specs.Listing.{rows_of, words_of}
 use Rattle.scmi_codec.specs.Status.{status_word}
 use Rattle.scmi_codec.specs.declared.area.TheConstants.{AREA_BYTES}
 use Rattle.scmi_codec.specs.declared.base_command.TheConstants.{BASE_PROTOCOL}
+use Rattle.scmi_codec.specs.declared.channel_area.TheConstants.{LEAST_AREA_BYTES, LEAST_PAYLOAD_WORDS}
 use Rattle.scmi_codec.specs.declared.clock_command.TheConstants.{CLOCK_PROTOCOL}
 use Rattle.scmi_codec.specs.declared.header.TheConstants.{TOKENS}
 use Rattle.scmi_codec.specs.declared.name.TheConstants.{NAME_BYTES}
@@ -28,6 +29,12 @@ payload_words = refl
 
 area_bytes : AREA_BYTES ≡ 284
 area_bytes = refl
+
+least_payload_words : LEAST_PAYLOAD_WORDS ≡ 8
+least_payload_words = refl
+
+least_area_bytes : LEAST_AREA_BYTES ≡ 60
+least_area_bytes = refl
 
 name_bytes : NAME_BYTES ≡ 15
 name_bytes = refl

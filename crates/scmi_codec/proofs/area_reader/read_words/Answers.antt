@@ -1,5 +1,5 @@
 use Rattle.scmi_codec.proofs.ShortLemmas.{read-none, read-one, read-two, read-three, read-four}
-use Rattle.scmi_codec.proofs.area.read_words.Goals as goal
+use Rattle.scmi_codec.proofs.area_reader.read_words.Goals as goal
 
 pub returns-in-0 : goal.returns-in-0
 returns-in-0 c = read-none c.args.words.now c.args.area.now c.in-0.is

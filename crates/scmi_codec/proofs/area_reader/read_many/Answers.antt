@@ -2,7 +2,7 @@ use Rattle.std.proofs.Common.{rules}
 use Rattle.std.proofs.lemmas.List.{take_more_set}
 use Rattle.scmi_codec.specs.Word.{words_at}
 use Rattle.scmi_codec.proofs.WordLemmas.{words_at-more}
-use Rattle.scmi_codec.proofs.area.read_many.Goals as goal
+use Rattle.scmi_codec.proofs.area_reader.read_many.Goals as goal
 
 pub loop-i-init : goal.loop-i-init
 unfolding words_at

@@ -1,5 +1,5 @@
 use Rattle.scmi_codec.proofs.ShortLemmas.{write-none, write-one, write-two, write-three}
-use Rattle.scmi_codec.proofs.area.write_payload.Goals as goal
+use Rattle.scmi_codec.proofs.area_writer.write_payload.Goals as goal
 
 pub returns-in-0-clause-written : goal.returns-in-0-clause-written
 returns-in-0-clause-written c = write-none c.args.words.now c.args.area.now c.in-0.is

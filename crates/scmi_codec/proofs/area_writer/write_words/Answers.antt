@@ -2,7 +2,7 @@ use Rattle.std.proofs.Common.{◌≡◌, ℕ, ◌+◌, ◌*◌, refl, ap, sym, �
 use Rattle.std.proofs.lemmas.List.{take_more, length-take-le}
 use Rattle.scmi_codec.specs.Word.{put_words, put_word}
 use Rattle.scmi_codec.proofs.WordLemmas.{put_words-push}
-use Rattle.scmi_codec.proofs.area.write_words.Goals as goal
+use Rattle.scmi_codec.proofs.area_writer.write_words.Goals as goal
 
 -- one more word of the payload is written
 written_more : (words start before after : List ℕ) (i : ℕ) → i < length words → before ≡ put_words 0x1C (take i words) start
