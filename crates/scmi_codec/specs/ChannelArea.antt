@@ -17,9 +17,13 @@ channel_bytes words = 0x1C + 4 * words
 abbrev pub is_channel_size : ℕ → Bool
 is_channel_size n = nat_le (channel_bytes LEAST_PAYLOAD_WORDS) n && (nat_le n (channel_bytes PAYLOAD_WORDS) && (n % 4 == 0))
 
+-- how many payload words an area of so many bytes has
+abbrev pub channel_words : ℕ → ℕ
+channel_words bytes = (bytes - 0x1C) / 4
+
 -- how many payload words an area has
 abbrev pub capacity : List ℕ → ℕ
-capacity area = (length area - 0x1C) / 4
+capacity area = channel_words (length area)
 
 -- the frame that a channel's area stands for
 abbrev pub channel_frame : List ℕ → Frame

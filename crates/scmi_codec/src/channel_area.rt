@@ -1,7 +1,7 @@
 //! The area of a channel, of the size that its board gives it (own).
 ghost use Rattle.std.specs.Prelude.{◌≡◌, ◌≢◌, ◌+◌, ◌*◌, ◌≤◌, ℕ, length, Ok, Err, OnOk, OnErr, true, false, is_some, is_none, slice_index};
 ghost use Rattle.scmi_codec.specs.Area.{header_at, message_of, area_after_answer, area_after_post, waiting_within, StandsForAnswerWithin, IsUntouched, IsOutside};
-ghost use Rattle.scmi_codec.specs.ChannelArea.{is_channel_size, channel_bytes, capacity, channel_frame, channel_waiting, answer_words, room_for};
+ghost use Rattle.scmi_codec.specs.ChannelArea.{is_channel_size, channel_bytes, channel_words, capacity, channel_frame, channel_waiting, answer_words, room_for};
 ghost use Rattle.scmi_codec.specs.declared.frame.Frame.TheVariants.{Good};
 ghost use Rattle.scmi_codec.specs.declared.frame.Answer.TheVariants.{Reply};
 ghost use Rattle.scmi_codec.specs.declared.payload.TheConstants.{PAYLOAD_WORDS};
@@ -47,6 +47,16 @@ pub fn channel_bytes(words: usize) -> usize
     PAYLOAD_AT + 4 * words
 }
 
+/// How many payload words an area of so many bytes has.
+pub fn channel_words(bytes: usize) -> usize
+    requires size { is_channel_size bytes ≡ true }
+    ensures words { result ≡ channel_words bytes }
+    ensures few { result ≤ PAYLOAD_WORDS }
+    ensures bytes { channel_bytes result ≡ bytes }
+{
+    (bytes - PAYLOAD_AT) / 4
+}
+
 /// The frame that a caller has posted into an area of its channel's size, or `None` for a free
 /// channel: as `read_area`, but a length of more than the area's words is not well formed.
 /// `WrongSize` where the number of bytes is no channel's.
@@ -76,7 +86,7 @@ pub fn read_channel_area_into(area: &[u8], frame: &mut Frame) -> Result<bool, Ch
     if is_channel_free(area)? {
         return Ok(false);
     }
-    read_frame(area, capacity(area), frame);
+    read_frame(area, channel_words(area.len()), frame);
     Ok(true)
 }
 
@@ -150,21 +160,11 @@ fn check_room(area: &[u8], words: usize) -> Result<(), ChannelAreaError>
 {
     if !is_channel_size(area.len()) {
         Err(ChannelAreaError::WrongSize)
-    } else if words > capacity(area) {
+    } else if words > channel_words(area.len()) {
         Err(ChannelAreaError::TooLong)
     } else {
         Ok(())
     }
-}
-
-/// How many payload words an area has.
-fn capacity(area: &[u8]) -> usize
-    requires size { is_channel_size (length area.now) ≡ true }
-    ensures words { result ≡ capacity area.now }
-    ensures few { result ≤ PAYLOAD_WORDS }
-    ensures room { 0x1C + 4 * result ≤ length area.now }
-{
-    (area.len() - PAYLOAD_AT) / 4
 }
 
 /// How many payload words an answer writes.

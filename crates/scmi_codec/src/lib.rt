@@ -36,9 +36,9 @@ pub use area::{
 };
 pub use base_command::{BASE_PROTOCOL, BaseCommand};
 pub use channel_area::{
-    ChannelAreaError, LEAST_AREA_BYTES, LEAST_PAYLOAD_WORDS, channel_bytes, is_channel_free,
-    is_channel_size, read_channel_area, read_channel_area_into, write_channel_answer,
-    write_channel_message, write_channel_response,
+    ChannelAreaError, LEAST_AREA_BYTES, LEAST_PAYLOAD_WORDS, channel_bytes, channel_words,
+    is_channel_free, is_channel_size, read_channel_area, read_channel_area_into,
+    write_channel_answer, write_channel_message, write_channel_response,
 };
 pub use channel_status::ChannelStatus;
 pub use clock_command::{CLOCK_PROTOCOL, ClockCommand};
@@ -56,5 +56,5 @@ pub use payload::{
 pub use power_command::{POWER_PROTOCOL, PowerCommand};
 pub use rate::{rate_of, rate_words};
 pub use rate_flags::RateFlags;
-pub use status::Status;
+pub use status::{STATUSES, Status, StatusRow};
 pub use word::write_word;
