@@ -39,7 +39,9 @@ pub(crate) fn add_field(
     match field {
         Field::Domain(domain) => label.object = domain_name(alloc, board, *domain)?,
         Field::Clock(clock) => label.object = clock_name(alloc, board, *clock)?,
-        Field::Agent(agent) => label.object = agent_name(alloc, board, *agent)?,
+        Field::Agent(agent) | Field::Subject(agent) => {
+            label.object = agent_name(alloc, board, *agent)?;
+        }
         Field::State(_) | Field::Rate(_) => add_value(alloc, label, field)?,
         Field::Enable(bits) | Field::ClockAttributes(bits) => {
             label.value = Vec::from_slice(alloc, switch_word(bits % 2 == 1))?;

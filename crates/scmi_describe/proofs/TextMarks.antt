@@ -11,7 +11,7 @@ use Rattle.scmi_describe.specs.Literal.{literal}
 use Rattle.scmi_describe.specs.Digits.{eight_digits}
 use Rattle.scmi_describe.specs.Heading.{state_text}
 use Rattle.scmi_describe.specs.Words.{words_text, words_start, each_word}
-use Rattle.scmi_describe.specs.Text.{description_text, command_text, command_line, withdrawn_text, withdrawn_line, misfit_line, misfit_start, misfit_end, request_fields_text, taken_back_line, response_text, reply_text, delayed_text, delayed_line, delayed_start, notification_text, notification_line, channel_error_text, malformed_text, length_text, length_start, why_text, header_end, foreign_text, foreign_start}
+use Rattle.scmi_describe.specs.Text.{description_text, command_text, command_line, withdrawn_text, withdrawn_line, misfit_line, misfit_start, misfit_end, request_fields_text, taken_back_line, unnamed_line, response_text, reply_text, delayed_text, delayed_line, delayed_start, notification_text, notification_line, channel_error_text, malformed_text, length_text, length_start, why_text, header_end, foreign_text, foreign_start}
 use Rattle.scmi_describe.specs.declared.description.Description.{Description}
 use Rattle.scmi_describe.proofs.Backward.{back, back-append, eight_back, words_back, back-each_word}
 use Rattle.scmi_describe.proofs.Figures.{decimal_first}
@@ -39,7 +39,7 @@ abbrev pub SaysFree : List ℕ → Type 0
 SaysFree text = (get_or text 0 0 ≡ 102) × (get_or text 6 0 ≡ 99 → get_or text 7 0 ≡ 104 → ⊥)
 
 withdrawn_first : (m : Message) (r : Result Command Status) → length m.payload.items < 2 ^ 64 → SaysFree (withdrawn_text m r)
-unfolding withdrawn_text withdrawn_line misfit_line misfit_start taken_back_line state_text literal
+unfolding withdrawn_text withdrawn_line misfit_line misfit_start taken_back_line unnamed_line state_text literal
 withdrawn_first m (Err ProtocolError) few =
     let figure = decimal_first (length m.payload.items) (codes " payload words that no command ") (misfit_end m.header) (request_fields_text (Err ProtocolError)) (words_text m) few in
     (refl, λ c h. omega (arith, figure, c))

@@ -16,9 +16,9 @@ abbrev pub base_fields : BaseCommand → List Field
 base_fields (base.MessageAttributes message) = field.Message message ∷ []
 base_fields (base.Protocols skip) = field.Skip skip ∷ []
 base_fields (base.Agent agent) = field.Agent agent ∷ []
-base_fields (base.Permit agent device flags) = field.Agent agent ∷ field.Device device ∷ field.PermitFlags flags ∷ []
-base_fields (base.PermitProtocol agent device protocol flags) = field.Agent agent ∷ field.Device device ∷ field.Protocol protocol ∷ field.PermitFlags flags ∷ []
-base_fields (base.ResetAgent agent flags) = field.Agent agent ∷ field.ResetFlags flags ∷ []
+base_fields (base.Permit agent device flags) = field.Subject agent ∷ field.Device device ∷ field.PermitFlags flags ∷ []
+base_fields (base.PermitProtocol agent device protocol flags) = field.Subject agent ∷ field.Device device ∷ field.Protocol protocol ∷ field.PermitFlags flags ∷ []
+base_fields (base.ResetAgent agent flags) = field.Subject agent ∷ field.ResetFlags flags ∷ []
 base_fields _ = []
 
 -- the fields of a command of the power domain protocol

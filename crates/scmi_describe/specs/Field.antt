@@ -1,5 +1,5 @@
 -- The fields of messages, as they are written.
-use Rattle.std.specs.Prelude.{ℕ, ◌/◌, ◌*◌, ◌%◌, ◌^◌, ◌==◌, ◌&&◌, ◌||◌, nat_lt, Bool, if◌then◌else◌, List, [], ◌∷◌, ◌++◌, codes, decimal, flat_map, slice_index, false}
+use Rattle.std.specs.Prelude.{ℕ, ◌/◌, ◌*◌, ◌%◌, ◌^◌, ◌==◌, ◌&&◌, ◌||◌, nat_lt, not, Bool, if◌then◌else◌, List, [], ◌∷◌, ◌++◌, codes, decimal, flat_map, slice_index, false}
 use Rattle.std.specs.Fmt.{digits}
 use Rattle.scmi_describe.specs.Literal.{literal}
 use Rattle.scmi_describe.specs.Digits.{eight_digits}
@@ -16,6 +16,7 @@ label_text (field.Name ws) = codes "name       "
 label_text (field.Implementation w) = codes "version    "
 label_text (field.Skip w) = codes "skip       "
 label_text (field.Agent w) = codes "agent      "
+label_text (field.Subject w) = codes "agent      "
 label_text (field.Device w) = codes "device     "
 label_text (field.Protocol w) = codes "protocol   "
 label_text (field.PermitFlags w) = codes "flags      "
@@ -42,6 +43,10 @@ if_text holds text = if holds then text else []
 -- bits that have no meaning, if there are any
 unfoldable pub reserved_text : ℕ → List ℕ
 reserved_text bits = if bits == 0 then [] else codes " reserved 0x" ++ digits 16 false bits
+
+-- a word whose bit 0 alone has a meaning, and both its values a name
+unfoldable pub switch_text : ℕ → List ℕ → List ℕ → List ℕ
+switch_text w on off = if_text (w % 2 == 0) off ++ if_text (w % 2 == 1) on ++ reserved_text (w / 2 * 2)
 
 -- a word of flags of which bit 0 alone has a meaning
 unfoldable pub flag_text : ℕ → List ℕ → List ℕ → List ℕ
@@ -73,6 +78,34 @@ state_text w = if w == 0 then codes " ON" else if w == 0x40000000 then codes " O
 unfoldable pub agent_text : ℕ → List ℕ
 agent_text w = if w == 0xFFFFFFFF then codes " the caller" else if w == 0 then codes " 0 (platform)" else codes " " ++ decimal w
 
+-- an agent whose permissions or settings change
+unfoldable pub subject_text : ℕ → List ℕ
+subject_text w = if w == 0xFFFFFFFF then codes " no agent, 0xffffffff" else if w == 0 then codes " 0 (platform)" else codes " " ++ decimal w
+
+-- how many agents and protocols there are
+unfoldable pub amounts_text : ℕ → List ℕ
+amounts_text w = codes " " ++ decimal (w / 2 ^ 8 % 2 ^ 8) ++ codes " agents, " ++ decimal (w % 2 ^ 8) ++ codes " protocols"
+
+-- the attributes of the base protocol
+unfoldable pub counts_text : ℕ → List ℕ
+counts_text w = amounts_text w ++ reserved_text (w / 2 ^ 16 * 2 ^ 16)
+
+-- how many domains there are
+unfoldable pub count_text : ℕ → List ℕ
+count_text count = codes " " ++ decimal count
+
+-- the attributes of the power protocol
+unfoldable pub domains_text : ℕ → List ℕ
+domains_text w = count_text (w % 2 ^ 16) ++ reserved_text (w / 2 ^ 16 * 2 ^ 16)
+
+-- how many clocks there are, and how many sets may be pending
+unfoldable pub pending_text : ℕ → List ℕ
+pending_text w = codes " " ++ decimal (w % 2 ^ 16) ++ codes ", " ++ decimal (w / 2 ^ 16 % 2 ^ 8) ++ codes " pending"
+
+-- the attributes of the clock protocol
+unfoldable pub clocks_text : ℕ → List ℕ
+clocks_text w = pending_text w ++ reserved_text (w / 2 ^ 24 * 2 ^ 24)
+
 -- a word as a number in hexadecimal digits
 unfoldable pub hexadecimal : ℕ → List ℕ
 hexadecimal w = literal (codes " 0x") ++ eight_digits w
@@ -99,35 +132,68 @@ name_part w = character (w % 2 ^ 8) ++ character (w / 2 ^ 8 % 2 ^ 8) ++ characte
 unfoldable pub name_half : ℕ → ℕ → List ℕ
 name_half first second = name_part first ++ name_part second
 
--- a name in quotation marks
-unfoldable pub name_text : List ℕ → List ℕ
-name_text ws =
+-- whether a name goes on behind a word: no byte of it is zero
+abbrev pub goes_on : ℕ → Bool
+goes_on w = not (w % 2 ^ 8 == 0) && not (w / 2 ^ 8 % 2 ^ 8 == 0) && not (w / 2 ^ 16 % 2 ^ 8 == 0) && not (w / 2 ^ 24 == 0)
+
+-- a word, with zeros from its first zero byte on
+abbrev pub before_zero : ℕ → ℕ
+before_zero w =
+    if w % 2 ^ 8 == 0 then 0 else if w / 2 ^ 8 % 2 ^ 8 == 0 then w % 2 ^ 8 else if w / 2 ^ 16 % 2 ^ 8 == 0 then w % 2 ^ 16 else w
+
+-- the same of a word that a name reaches, and 0 of one behind its end
+abbrev pub part_of : Bool → ℕ → ℕ
+part_of goes w = if goes then before_zero w else 0
+
+-- the words of a name, with zeros from its first zero byte on
+unfoldable pub name_words : List ℕ → List ℕ
+name_words ws =
+    before_zero (slice_index ws 0)
+    ∷ part_of (goes_on (slice_index ws 0)) (slice_index ws 1)
+    ∷ part_of (goes_on (slice_index ws 0) && goes_on (slice_index ws 1)) (slice_index ws 2)
+    ∷ part_of (goes_on (slice_index ws 0) && goes_on (slice_index ws 1) && goes_on (slice_index ws 2)) (slice_index ws 3)
+    ∷ []
+
+-- whether two names have the same words
+abbrev pub are_same_words : List ℕ → List ℕ → Bool
+are_same_words xs ys =
+    (slice_index xs 0 == slice_index ys 0) && (slice_index xs 1 == slice_index ys 1) && (slice_index xs 2 == slice_index ys 2)
+    && (slice_index xs 3 == slice_index ys 3)
+
+-- four words of characters in quotation marks
+unfoldable pub quoted_text : List ℕ → List ℕ
+quoted_text ws =
     literal (codes " \"") ++ name_half (slice_index ws 0) (slice_index ws 1) ++ name_half (slice_index ws 2) (slice_index ws 3) ++ literal (codes "\"")
+
+-- a name up to its first zero byte, and whether other bytes follow that
+unfoldable pub name_text : List ℕ → List ℕ
+name_text ws = quoted_text (name_words ws) ++ if_text (not (are_same_words (name_words ws) ws)) (codes ", and bytes behind its end")
 
 -- what a field says, behind a space
 abbrev pub value_text : Field → List ℕ
 value_text (field.Version w) = codes " " ++ decimal (w / 2 ^ 16) ++ codes "." ++ decimal (w % 2 ^ 16)
-value_text (field.Counts w) = codes " " ++ decimal (w / 2 ^ 8 % 2 ^ 8) ++ codes " agents, " ++ decimal (w % 2 ^ 8) ++ codes " protocols"
+value_text (field.Counts w) = counts_text w
 value_text (field.Message w) = codes " 0x" ++ digits 16 false w
 value_text (field.Attributes w) = hexadecimal w
 value_text (field.Name ws) = name_text ws
 value_text (field.Implementation w) = hexadecimal w
 value_text (field.Skip w) = codes " " ++ decimal w
 value_text (field.Agent w) = agent_text w
+value_text (field.Subject w) = subject_text w
 value_text (field.Device w) = codes " " ++ decimal w
 value_text (field.Protocol w) = codes " 0x" ++ digits 16 false w
-value_text (field.PermitFlags w) = flag_text w (codes " allow") (codes " deny")
+value_text (field.PermitFlags w) = switch_text w (codes " allow") (codes " deny")
 value_text (field.ResetFlags w) = flag_text w (codes " permissions") (codes " -")
-value_text (field.Domains w) = codes " " ++ decimal (w % 2 ^ 16)
+value_text (field.Domains w) = domains_text w
 value_text (field.Statistics ws) = statistics_text ws
 value_text (field.Domain w) = codes " " ++ decimal w
 value_text (field.DomainAttributes w) = supports_text w
 value_text (field.PowerFlags w) = flag_text w (codes " async") (codes " -")
 value_text (field.State w) = state_text w
-value_text (field.Enable w) = flag_text w (codes " on") (codes " off")
-value_text (field.Clocks w) = codes " " ++ decimal (w % 2 ^ 16) ++ codes ", " ++ decimal (w / 2 ^ 16 % 2 ^ 8) ++ codes " pending"
+value_text (field.Enable w) = switch_text w (codes " on") (codes " off")
+value_text (field.Clocks w) = clocks_text w
 value_text (field.Clock w) = codes " " ++ decimal w
-value_text (field.ClockAttributes w) = flag_text w (codes " on") (codes " off")
+value_text (field.ClockAttributes w) = switch_text w (codes " on") (codes " off")
 value_text (field.Index w) = codes " " ++ decimal w
 value_text (field.RateFlags w) = rate_flags_text w
 value_text (field.Rate r) = codes " " ++ decimal r ++ codes " Hz"

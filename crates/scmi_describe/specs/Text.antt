@@ -6,7 +6,7 @@ use Rattle.scmi_codec.specs.declared.payload.TheConstants.{PAYLOAD_WORDS}
 use Rattle.scmi_codec.specs.declared.message.Message.{Message}
 use Rattle.scmi_codec.specs.declared.command.Command.{Command}
 use Rattle.scmi_codec.specs.declared.status.Status.{Status}
-use Rattle.scmi_codec.specs.declared.status.Status.TheVariants.{Success, ProtocolError}
+use Rattle.scmi_codec.specs.declared.status.Status.TheVariants.{Success, NotSupported, ProtocolError}
 use Rattle.scmi_codec.specs.declared.frame.Frame.{Frame}
 use Rattle.scmi_codec.specs.declared.frame.Frame.TheVariants as frame
 use Rattle.scmi_describe.specs.Literal.{literal}
@@ -59,9 +59,14 @@ misfit_line m = misfit_start m ++ misfit_end m.header
 unfoldable pub taken_back_line : HeaderFields → List ℕ
 taken_back_line h = state_text true ++ literal (codes "command ") ++ name_text h.protocol h.id ++ literal (codes " that was withdrawn, ") ++ token_text h ++ codes "\n"
 
--- the first line of a command that was withdrawn
+-- the first line of a message that no table has, so that its words tell no reply from a command
+unfoldable pub unnamed_line : HeaderFields → List ℕ
+unnamed_line h = state_text true ++ literal (codes "reply or withdrawn command, ") ++ heading_text h ++ codes "\n"
+
+-- the first line of a message that is no reply by its form
 unfoldable pub withdrawn_line : Message → Result Command Status → List ℕ
 withdrawn_line m (Err ProtocolError) = misfit_line m
+withdrawn_line m (Err NotSupported) = unnamed_line m.header
 withdrawn_line m r = taken_back_line m.header
 
 -- a command that was withdrawn

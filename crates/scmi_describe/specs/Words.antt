@@ -5,6 +5,7 @@ use Rattle.scmi_codec.specs.Rate.{rate_of}
 use Rattle.scmi_codec.specs.declared.message.Message.{Message}
 use Rattle.scmi_describe.specs.Literal.{literal}
 use Rattle.scmi_describe.specs.Digits.{eight_digits, two_digits}
+use Rattle.scmi_describe.specs.Field.{reserved_text}
 use Rattle.scmi_describe.specs.Names.{protocol_text}
 
 -- a word behind a space
@@ -35,7 +36,11 @@ rate_lines (low ∷ high ∷ more) = rate_line (rate_of low high) ++ rate_lines 
 
 -- whether rates are a triplet, and else how many follow them in the list
 unfoldable pub amount_text : ℕ → List ℕ
-amount_text flags = if flags / 2 ^ 12 % 2 == 1 then codes ", lowest highest step\n" else codes ", " ++ decimal (flags / 2 ^ 16) ++ codes " after these\n"
+amount_text flags = if flags / 2 ^ 12 % 2 == 1 then codes ", lowest highest step" else codes ", " ++ decimal (flags / 2 ^ 16) ++ codes " after these"
+
+-- the flags of a list of rates behind their number
+unfoldable pub rates_flags : ℕ → List ℕ
+rates_flags flags = amount_text flags ++ reserved_text (flags / 2 ^ 13 % 2 ^ 3 * 2 ^ 13) ++ codes "\n"
 
 -- how many rates a reply has
 unfoldable pub rates_start : ℕ → List ℕ
@@ -44,7 +49,7 @@ rates_start flags = codes "    rates       " ++ decimal (flags % 2 ^ 12)
 -- the reply of a list of rates
 abbrev pub rates_text : List ℕ → List ℕ
 rates_text [] = []
-rates_text (flags ∷ rates) = rates_start flags ++ amount_text flags ++ rate_lines rates
+rates_text (flags ∷ rates) = rates_start flags ++ rates_flags flags ++ rate_lines rates
 
 -- the id of a protocol in a list, four to a word, the lowest byte first
 abbrev pub id_at : ℕ → List ℕ → ℕ

@@ -1,7 +1,7 @@
 //! What a command is, in words.
 ghost use Rattle.std.specs.Prelude.{◌≡◌, OnOk};
 ghost use Rattle.std.specs.Io.KnownBytes.{Appends};
-ghost use Rattle.scmi_describe.specs.Text.{command_text, withdrawn_text, command_line, taken_back_line, withdrawn_line, misfit_line, misfit_name, misfit_end, misfit_start, request_fields_text, count_text};
+ghost use Rattle.scmi_describe.specs.Text.{command_text, withdrawn_text, command_line, taken_back_line, unnamed_line, withdrawn_line, misfit_line, misfit_name, misfit_end, misfit_start, request_fields_text, count_text};
 
 use crate::commands::command_fields;
 use crate::heading::{write_heading, write_message_name, write_state, write_token};
@@ -110,8 +110,22 @@ fn write_withdrawn_line<W: Write>(
     let header = &message.header;
     match request {
         Err(Status::ProtocolError) => write_misfit_line(writer, message),
+        Err(Status::NotSupported) => write_unnamed(writer, header),
         _ => write_taken_back(writer, header),
     }
+}
+
+/// Writes the first line of a message that no table has, so that its words tell no reply from a
+/// command.
+#[tactic(auto, unfolding(crate::specs::Text::unnamed_line))]
+fn write_unnamed<W: Write>(writer: &mut W, header: &Header) -> io::Result<()>
+    ensures { OnOk result (Appends (W.contents writer.old) (W.contents writer.new)
+        (unnamed_line header.now)) }
+{
+    write_state(writer, true)?;
+    write_text(writer, "reply or withdrawn command, ")?;
+    write_heading(writer, header)?;
+    writeln!(writer)
 }
 
 /// Writes the first line of a command that was withdrawn.

@@ -28,7 +28,7 @@ fn base_fields(command: &BaseCommand) -> Fields
             device,
             flags,
         } => fields_of(&[
-            Field::Agent(*agent),
+            Field::Subject(*agent),
             Field::Device(*device),
             Field::PermitFlags(*flags),
         ]),
@@ -38,13 +38,13 @@ fn base_fields(command: &BaseCommand) -> Fields
             protocol,
             flags,
         } => fields_of(&[
-            Field::Agent(*agent),
+            Field::Subject(*agent),
             Field::Device(*device),
             Field::Protocol(*protocol),
             Field::PermitFlags(*flags),
         ]),
         BaseCommand::ResetAgent { agent, flags } => {
-            fields_of(&[Field::Agent(*agent), Field::ResetFlags(*flags)])
+            fields_of(&[Field::Subject(*agent), Field::ResetFlags(*flags)])
         }
         _ => fields_of(&[]),
     }

@@ -15,7 +15,8 @@ pub enum Description {
         message: Message,
         request: Result<Command, Status>,
     },
-    /// Free, and no reply: a command that was withdrawn, and what it asked for.
+    /// Free, and no reply by its form: a command that was withdrawn, and what it asked for. A message
+    /// that no table has, for which NOT_SUPPORTED stands, may as well be a reply.
     Withdrawn {
         message: Message,
         request: Result<Command, Status>,

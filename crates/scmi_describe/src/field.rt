@@ -22,14 +22,16 @@ pub enum Field {
     Message(u32),
     /// The attributes of a message, with no bit named.
     Attributes(u32),
-    /// A name of 16 bytes, the first one lowest, zeros behind it.
+    /// A name of at most 16 bytes, the first one lowest; it ends before its first zero byte.
     Name([u32; 4]),
     /// The version of an implementation, in its vendor's own form.
     Implementation(u32),
     /// How many protocols of the list to leave out.
     Skip(u32),
-    /// An agent, 0xFFFFFFFF being the caller and 0 the platform.
+    /// An agent that is asked for or described, 0xFFFFFFFF being the caller and 0 the platform.
     Agent(u32),
+    /// The agent whose permissions or settings change, 0 being the platform; 0xFFFFFFFF is none.
+    Subject(u32),
     Device(u32),
     Protocol(u32),
     /// Flags of a permission: bit 0 allows.
@@ -92,7 +94,7 @@ pub(crate) fn label(field: &Field) -> &'static str
         Field::Attributes(_) | Field::ClockAttributes(_) => "attributes ",
         Field::Name(_) => "name       ",
         Field::Skip(_) => "skip       ",
-        Field::Agent(_) => "agent      ",
+        Field::Agent(_) | Field::Subject(_) => "agent      ",
         Field::Device(_) => "device     ",
         Field::Protocol(_) => "protocol   ",
         Field::PermitFlags(_) | Field::ResetFlags(_) | Field::PowerFlags(_) | Field::RateFlags(_) =>

@@ -10,6 +10,7 @@
 mod alike;
 mod answering;
 mod area;
+mod attributes;
 mod command_text;
 mod commands;
 mod describing;
@@ -19,6 +20,7 @@ mod field;
 mod frame_text;
 mod heading;
 mod literal;
+mod name_text;
 mod names;
 mod reply;
 mod reply_text;

@@ -1,11 +1,13 @@
 //! What fields say, as it is written: each part behind a space.
 ghost use Rattle.std.specs.Prelude.{◌≡◌, ◌/◌, ◌%◌, ◌^◌, ◌==◌, ◌<◌, OnOk, if◌then◌else◌, []};
 ghost use Rattle.std.specs.Io.KnownBytes.{Appends};
-ghost use Rattle.scmi_describe.specs.Field.{value_text, fields_text, if_text, flag_text, reserved_text, rate_flags_text, supports_text, supports_start, supports_rest, state_text, agent_text, statistics_text, name_part, name_half, name_text, hexadecimal, address_text, character};
+ghost use Rattle.scmi_describe.specs.Field.{value_text, fields_text, if_text, flag_text, switch_text, reserved_text, rate_flags_text, supports_text, supports_start, supports_rest, state_text, agent_text, subject_text, statistics_text, hexadecimal, address_text};
 
+use crate::attributes::{write_clocks, write_counts, write_domains};
 use crate::digits::write_eight_digits;
 use crate::field::{Field, label};
 use crate::literal::write_text;
+use crate::name_text::write_name;
 use std::io;
 use std::io::Write;
 
@@ -30,10 +32,7 @@ pub(crate) fn write_value<W: Write>(writer: &mut W, field: &Field) -> io::Result
 {
     match field {
         Field::Version(word) => write!(writer, " {}.{}", *word >> 16, *word % 65536),
-        Field::Counts(word) => {
-            let agents = *word / 256 % 256;
-            write!(writer, " {agents} agents, {} protocols", *word % 256)
-        }
+        Field::Counts(word) => write_counts(writer, *word),
         Field::Message(word) | Field::Protocol(word) => write!(writer, " 0x{:x}", *word),
         Field::Attributes(word) | Field::Implementation(word) => {
             write_hexadecimal(writer, *word)
@@ -45,21 +44,18 @@ pub(crate) fn write_value<W: Write>(writer: &mut W, field: &Field) -> io::Result
         | Field::Clock(word)
         | Field::Index(word) => write!(writer, " {}", *word),
         Field::Agent(word) => write_agent(writer, *word),
-        Field::PermitFlags(word) => write_flag(writer, *word, " allow", " deny"),
+        Field::Subject(word) => write_subject(writer, *word),
+        Field::PermitFlags(word) => write_switch(writer, *word, " allow", " deny"),
         Field::ResetFlags(word) => write_flag(writer, *word, " permissions", " -"),
-        Field::Domains(word) => write!(writer, " {}", *word % 65536),
+        Field::Domains(word) => write_domains(writer, *word),
         Field::Statistics(words) => write_statistics(writer, words),
         Field::DomainAttributes(word) => write_supports(writer, *word),
         Field::PowerFlags(word) => write_flag(writer, *word, " async", " -"),
         Field::State(word) => write_state(writer, *word),
         Field::Enable(word) | Field::ClockAttributes(word) => {
-            write_flag(writer, *word, " on", " off")
+            write_switch(writer, *word, " on", " off")
         }
-        Field::Clocks(word) => {
-            let pending = *word / 65536 % 256;
-            let clocks = *word % 65536;
-            write!(writer, " {clocks}, {pending} pending")
-        }
+        Field::Clocks(word) => write_clocks(writer, *word),
         Field::RateFlags(word) => write_rate_flags(writer, *word),
         Field::Rate(rate) => write!(writer, " {} Hz", *rate),
         Field::By(0) => write!(writer, " platform"),
@@ -89,6 +85,17 @@ pub(crate) fn write_reserved<W: Write>(writer: &mut W, bits: u32) -> io::Result<
         return Ok(());
     }
     write!(writer, " reserved 0x{bits:x}")
+}
+
+/// Writes a word whose bit 0 alone has a meaning, and both its values a name.
+#[tactic(auto, unfolding(crate::specs::Field::switch_text))]
+fn write_switch<W: Write>(writer: &mut W, word: u32, on: &str, off: &str) -> io::Result<()>
+    ensures { OnOk result (Appends (W.contents writer.old) (W.contents writer.new)
+        (switch_text word on.now off.now)) }
+{
+    write_if(writer, word % 2 == 0, off)?;
+    write_if(writer, word % 2 == 1, on)?;
+    write_reserved(writer, word / 2 * 2)
 }
 
 /// Writes a word of flags of which bit 0 alone has a meaning.
@@ -177,6 +184,21 @@ fn write_agent<W: Write>(writer: &mut W, word: u32) -> io::Result<()>
     write!(writer, " {word}")
 }
 
+/// Writes an agent whose permissions or settings change.
+#[tactic(auto, unfolding(crate::specs::Field::subject_text))]
+fn write_subject<W: Write>(writer: &mut W, word: u32) -> io::Result<()>
+    ensures { OnOk result (Appends (W.contents writer.old) (W.contents writer.new)
+        (subject_text word)) }
+{
+    if word == 0xffff_ffff {
+        return write!(writer, " no agent, 0xffffffff");
+    }
+    if word == 0 {
+        return write!(writer, " 0 (platform)");
+    }
+    write!(writer, " {word}")
+}
+
 #[tactic(auto, unfolding(crate::specs::Field::statistics_text))]
 fn write_statistics<W: Write>(writer: &mut W, words: &[u32; 3]) -> io::Result<()>
     ensures { OnOk result (Appends (W.contents writer.old) (W.contents writer.new)
@@ -210,53 +232,4 @@ fn write_hexadecimal<W: Write>(writer: &mut W, word: u32) -> io::Result<()>
 {
     write_text(writer, " 0x")?;
     write_eight_digits(writer, word)
-}
-
-/// Writes a name in quotation marks.
-#[tactic(auto, unfolding(crate::specs::Field::name_text))]
-fn write_name<W: Write>(writer: &mut W, words: &[u32; 4]) -> io::Result<()>
-    ensures { OnOk result (Appends (W.contents writer.old) (W.contents writer.new)
-        (name_text words.now)) }
-{
-    write_text(writer, " \"")?;
-    write_name_half(writer, words[0], words[1])?;
-    write_name_half(writer, words[2], words[3])?;
-    write_text(writer, "\"")
-}
-
-/// Writes eight bytes of a name, those of the first word first.
-#[tactic(auto, unfolding(crate::specs::Field::name_half))]
-fn write_name_half<W: Write>(writer: &mut W, first: u32, second: u32) -> io::Result<()>
-    ensures { OnOk result (Appends (W.contents writer.old) (W.contents writer.new)
-        (name_half first second)) }
-{
-    write_name_part(writer, first)?;
-    write_name_part(writer, second)
-}
-
-/// Writes the four bytes of a word as characters, the lowest first.
-#[tactic(auto, unfolding(crate::specs::Field::name_part))]
-fn write_name_part<W: Write>(writer: &mut W, word: u32) -> io::Result<()>
-    ensures { OnOk result (Appends (W.contents writer.old) (W.contents writer.new)
-        (name_part word)) }
-{
-    write_character(writer, word % 256)?;
-    write_character(writer, word / 256 % 256)?;
-    write_character(writer, word / 65536 % 256)?;
-    write_character(writer, word / 16_777_216)
-}
-
-/// Writes a printable byte of ASCII as it is, no zero, and `?` for any other.
-fn write_character<W: Write>(writer: &mut W, byte: u32) -> io::Result<()>
-    requires { byte < 256 }
-    ensures { OnOk result (Appends (W.contents writer.old) (W.contents writer.new)
-        (character byte)) }
-{
-    if byte == 0 {
-        return Ok(());
-    }
-    if byte < 0x20 || byte > 0x7e {
-        return writer.write_all(b"?");
-    }
-    writer.write_all(&[byte as u8])
 }

@@ -1,11 +1,12 @@
 //! The words of a message, and lists in replies, as they are written.
 ghost use Rattle.std.specs.Prelude.{◌≡◌, ◌*◌, ◌≤◌, OnOk, length};
 ghost use Rattle.std.specs.Io.KnownBytes.{Appends};
-ghost use Rattle.scmi_describe.specs.Words.{words_text, each_word, rates_text, rate_lines, amount_text, protocols_text, ids_text, id_text, id_mark, id_at, protocol_label, words_start, word_text, rates_start, rate_line, protocols_start};
+ghost use Rattle.scmi_describe.specs.Words.{words_text, each_word, rates_text, rate_lines, amount_text, rates_flags, protocols_text, ids_text, id_text, id_mark, id_at, protocol_label, words_start, word_text, rates_start, rate_line, protocols_start};
 
 use crate::digits::{write_eight_digits, write_two_digits};
 use crate::literal::write_text;
 use crate::names::protocol_name;
+use crate::values::write_reserved;
 use scmi_codec::{Message, rate_of};
 use std::io;
 use std::io::Write;
@@ -60,7 +61,7 @@ pub(crate) fn write_rates<W: Write>(writer: &mut W, words: &[u32]) -> io::Result
         return Ok(());
     };
     write_rates_start(writer, *flags)?;
-    write_amount(writer, *flags)?;
+    write_rates_flags(writer, *flags)?;
     write_rate_lines(writer, rates)
 }
 
@@ -72,6 +73,17 @@ fn write_rates_start<W: Write>(writer: &mut W, flags: u32) -> io::Result<()>
     write!(writer, "    rates       {}", flags % 4096)
 }
 
+/// Writes the flags of a list of rates behind their number.
+#[tactic(auto, unfolding(crate::specs::Words::rates_flags))]
+fn write_rates_flags<W: Write>(writer: &mut W, flags: u32) -> io::Result<()>
+    ensures { OnOk result (Appends (W.contents writer.old) (W.contents writer.new)
+        (rates_flags flags)) }
+{
+    write_amount(writer, flags)?;
+    write_reserved(writer, flags / 8192 % 8 * 8192)?;
+    writeln!(writer)
+}
+
 /// Writes whether rates are a triplet, and else how many follow them in the list.
 #[tactic(auto, unfolding(crate::specs::Words::amount_text))]
 fn write_amount<W: Write>(writer: &mut W, flags: u32) -> io::Result<()>
@@ -79,9 +91,9 @@ fn write_amount<W: Write>(writer: &mut W, flags: u32) -> io::Result<()>
         (amount_text flags)) }
 {
     if flags / 4096 % 2 == 1 {
-        return writeln!(writer, ", lowest highest step");
+        return write!(writer, ", lowest highest step");
     }
-    writeln!(writer, ", {} after these", flags / 65536)
+    write!(writer, ", {} after these", flags / 65536)
 }
 
 /// Writes each rate of two words on a line of its own.
