@@ -1,3 +1,9 @@
 pub mod EightDigits
 pub mod Packing
+pub mod Payloads
 pub mod ScriptAgents
+mod ScriptExamples
+mod StepExamples
+pub mod StepLemmas
+pub mod ScriptTexts
+pub mod TextLines

@@ -1,10 +1,10 @@
 -- The steps of a script as more words are added behind theirs.
-use Rattle.std.proofs.Common.{◌≡◌, ℕ, ◌+◌, ◌≤◌, List, [], ◌∷◌, ◌++◌, length, take, drop, get_or, Some, refl, sym, ap, ◌∙◌, arith}
+use Rattle.std.proofs.Common.{◌≡◌, ℕ, ◌+◌, ◌≤◌, List, [], ◌∷◌, ◌++◌, length, take, drop, get_or, refl, sym, ap, ◌∙◌, arith}
 use Rattle.std.proofs.lemmas.List.{drop-take, length-take, map-append, take-append-le, take-take, take_all}
 use Rattle.std.proofs.lemmas.List.Elements.{All-head, All-push, All-tail}
 use Rattle.std.specs.List.{All}
 use Rattle.std.specs.Prelude.{map}
-use Rattle.scmi_text.specs.PackedStep.{IsPacked, IsStartOf, step_of, step_with}
+use Rattle.scmi_text.specs.PackedStep.{IsPacked, IsStartOf, step_of}
 use Rattle.scmi_text.specs.Step.{AddsStepOf, Allows, IsStepOf}
 use Rattle.scmi_text.specs.declared.packed_step.PackedStep.{PackedStep}
 use Rattle.scmi_text.specs.declared.step.Step.{Step}
@@ -45,6 +45,10 @@ IsStartOf-same words = take_all (length words) words (omega arith)
 pub IsStartOf-push : (old new : List ℕ) (word : ℕ) → IsStartOf old new → IsStartOf old (new ++ word ∷ [])
 IsStartOf-push old new word keeps = take-append-le (length old) new (word ∷ []) (length_kept old new keeps) ∙ keeps
 
+pub steps_added : (old new : List ℕ) (steps after : List PackedStep) (p : PackedStep) → IsStartOf old new → All (IsPacked old) steps → after ≡ steps ++ p ∷ [] → map (step_of new) after ≡ map (step_of old) steps ++ step_of new p ∷ []
+steps_added old new steps after p keeps all pushed =
+    ap (map (step_of new)) pushed ∙ map-append (step_of new) steps (p ∷ []) ∙ ap (λ ss. ss ++ step_of new p ∷ []) (steps_kept old new keeps steps all)
+
 -- one step more
 pub adds : (kinds : StepKinds) (agents : ℕ) (old new : List ℕ) (steps after : List PackedStep) (p : PackedStep) → IsStartOf old new → All (IsPacked old) steps → after ≡ steps ++ p ∷ [] → IsStepOf agents (step_of new p) → Allows kinds (step_of new p)
     → AddsStepOf kinds agents (map (step_of old) steps) (map (step_of new) after)
@@ -52,7 +56,7 @@ adds kinds agents old new steps after p keeps all pushed of_agent allowed = reco
   step = step_of new p;
   allowed = allowed;
   of_agent = of_agent;
-  added = ap (map (step_of new)) pushed ∙ map-append (step_of new) steps (p ∷ []) ∙ ap (λ ss. ss ++ step_of new p ∷ []) (steps_kept old new keeps steps all);
+  added = steps_added old new steps after p keeps all pushed;
 }
 
 -- the steps of a script are of these kinds, and their agents the board's

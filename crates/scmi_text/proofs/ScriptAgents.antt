@@ -51,3 +51,10 @@ not_begun true false false added first same = refl
 not_begun true true any added first same = search (rules, sym added)
 not_begun true false true added first same = sym same
 not_begun false had any added first same = search (rules, sym first)
+
+-- an agent that was in the set has a script
+pub begun_before : (is_first had any : Bool) → is_first ≡ not had → is_first ≡ false → had ≡ any → any ≡ true
+begun_before false true true added first same = refl
+begun_before false true false added first same = search (rules, sym same)
+begun_before false false any added first same = search (rules, sym added)
+begun_before true had any added first same = search (rules, sym first)

@@ -1,22 +1,27 @@
 //! The program's text: scripts as they are read, and the lines of a run as they are written.
 //!
 //! The main types are `StepList`, the steps of a script, and `StepLine`, a line of a run's output.
-//! The main theorem is the contract of `write_step_line` (and of `write_script_line`): what is
-//! written is the text of the line, to the last byte. Each agent that `read_steps`,
-//! `read_hardware_steps` and `read_scripts` give is an agent of the board, and no step that
-//! `read_steps` gives is one beside hardware. The rest of reading is tested.
+//! The main theorems are the contracts of `read_steps`, `read_hardware_steps` and `read_scripts`, which
+//! give exactly what a text stands for, and else the number of the first line that is none of it, unless
+//! memory is refused; and of `write_step_line` and `write_script_line`: what is written is the text of
+//! the line, to the last byte.
 #![tactic(auto)]
 
+mod fields;
+mod head;
 mod names;
+mod order_form;
 mod packed_step;
 mod script_line;
 mod script_list;
 mod scripts;
 mod step;
+mod step_form;
 mod step_kinds;
 mod step_line;
 mod step_list;
 mod steps;
+mod word_row;
 mod words;
 
 pub use script_line::{write_script_line, write_script_lines};

@@ -2,6 +2,7 @@
 ghost use Rattle.std.specs.Prelude.{◌≡◌, ◌≤◌, length};
 ghost use Rattle.scmi_codec.specs.declared.payload.TheConstants.{PAYLOAD_WORDS};
 ghost use Rattle.scmi_text.specs.PackedStep.{call_with, step_with};
+ghost use Rattle.scmi_text.specs.StepText.{has_payload};
 ghost use Rattle.scmi_text.specs.declared.step.Step.TheVariants.{Do};
 
 use crate::step::{AgentStep, Call, PlatformStep, Step};
@@ -60,7 +61,9 @@ pub(crate) struct PackedStep {
 }
 
 /// Whether payload words belong to a step.
-pub(crate) fn has_payload(head: Head) -> bool {
+pub(crate) fn has_payload(head: Head) -> bool
+    ensures { result ≡ has_payload head }
+{
     matches!(
         head,
         Head::Do { .. } | Head::Call { .. } | Head::Raw { .. } | Head::Fail { .. }

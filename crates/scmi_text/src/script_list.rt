@@ -5,11 +5,13 @@ ghost use Rattle.std.specs.Ordering.{nat_cmp};
 ghost use Rattle.std.specs.BTreeSet.{contains};
 ghost use Rattle.std.proofs.Props.{props};
 ghost use Rattle.scmi_plan.specs.Agent.{IsAgent};
+ghost use Rattle.scmi_board.specs.LineError.{GivesUnless};
+ghost use Rattle.scmi_text.specs.ScriptText.{scripts_of, with_order, with_script};
 ghost use Rattle.scmi_text.specs.Scripts.{agents_of, AreOfDistinctAgents};
 
-use scmi_board::{Items, LineError};
+use scmi_board::LineError;
 use scmi_threads::{Order, Script};
-use std::alloc::{AllocError, Global};
+use std::alloc::Global;
 use std::collections::BTreeSet;
 
 /// The scripts that were begun, the last of which is being read: each is of an agent of the board, and
@@ -29,7 +31,8 @@ pub(crate) struct ScriptList {
 impl ScriptList {
     /// No script, for a board of this many agents.
     pub(crate) fn new(alloc: Global, agents: u32) -> ScriptList
-        ensures { result.agents ≡ agents }
+        ensures agents { result.agents ≡ agents }
+        ensures none { result.scripts.items ≡ [] }
     {
         ScriptList {
             agents,
@@ -38,12 +41,20 @@ impl ScriptList {
         }
     }
 
-    /// Begins the script of the agent that is the next item. `Form` where the board lacks the agent, or
-    /// its script was begun before.
-    pub(crate) fn begin(&mut self, alloc: Global, items: &mut Items<'_>) -> Result<(), LineError>
-        ensures { self.new.agents ≡ self.old.agents }
+    /// The number of the board's agents.
+    pub(crate) fn agents(&self) -> u32
+        ensures { result ≡ self.now.agents }
     {
-        let agent = items.next_agent(self.agents)?;
+        self.agents
+    }
+
+    /// Begins the script of an agent of the board. `Form` where it was begun before.
+    pub(crate) fn begin(&mut self, alloc: Global, agent: u32) -> Result<(), LineError>
+        requires { IsAgent self.old.agents agent }
+        ensures agents { self.new.agents ≡ self.old.agents }
+        ensures script { GivesUnless (λ _. scripts_of self.new.scripts.items) result
+            (with_script (scripts_of self.old.scripts.items) agent) }
+    {
         self.scripts.reserve(1)?;
         let Ok(is_first) = self.begun.insert(agent) else {
             return Err(LineError::Memory);
@@ -60,12 +71,16 @@ impl ScriptList {
 
     /// Adds an order at the end of the script that was begun last. `Form` where none was begun.
     pub(crate) fn add(&mut self, order: Order) -> Result<(), LineError>
-        ensures { self.new.agents ≡ self.old.agents }
+        ensures agents { self.new.agents ≡ self.old.agents }
+        ensures order { GivesUnless (λ _. scripts_of self.new.scripts.items) result
+            (with_order (scripts_of self.old.scripts.items) order) }
     {
         let Some(script) = self.scripts.last_mut() else {
             return Err(LineError::Form);
         };
-        script.lines.push(order).map_err(AllocError::from)?;
+        let Ok(()) = script.lines.push(order) else {
+            return Err(LineError::Memory);
+        };
         Ok(())
     }
 
@@ -73,6 +88,7 @@ impl ScriptList {
     pub(crate) fn into_scripts(self) -> Vec<Script>
         ensures within { All (IsAgent self.agents) (agents_of result.items) }
         ensures distinct { AreOfDistinctAgents result.items }
+        ensures scripts { result.items ≡ self.scripts.items }
     {
         let ScriptList {
             agents: _,

@@ -1,5 +1,7 @@
 //! Which kinds of steps a script may have.
 ghost use Rattle.std.specs.Prelude.{◌≡◌, OnOk};
+ghost use Rattle.scmi_board.specs.LineError.{Gives};
+ghost use Rattle.scmi_text.specs.StepText.{with_hardware};
 
 use scmi_board::LineError;
 
@@ -13,7 +15,8 @@ pub(crate) enum StepKinds {
 impl StepKinds {
     /// `Form` where a script of these kinds has no step beside hardware that refuses.
     pub fn need_hardware(self) -> Result<(), LineError>
-        ensures { OnOk result (self ≡ StepKinds.All) }
+        ensures allowed { OnOk result (self ≡ StepKinds.All) }
+        ensures hardware { Gives (λ _. tt) result (with_hardware self) }
     {
         match self {
             StepKinds::WithoutHardware => Err(LineError::Form),

@@ -1,6 +1,8 @@
 //! The steps of a script, gathered line by line.
 ghost use Rattle.std.specs.Prelude.{◌≡◌, ◌<◌, [], get_or, length, OnOk};
+ghost use Rattle.scmi_board.specs.LineError.{GivesUnless};
 ghost use Rattle.scmi_text.specs.Step.{AddsStepOf};
+ghost use Rattle.scmi_text.specs.StepText.{with_step};
 
 use crate::packed_step::{PackedStep, set_step};
 use crate::step::Step;
@@ -68,7 +70,9 @@ impl StepList {
         agents: u32,
         kinds: StepKinds,
     ) -> Result<(), LineError>
-        ensures { OnOk result (AddsStepOf kinds agents self.old self.new) }
+        ensures adds { OnOk result (AddsStepOf kinds agents self.old self.new) }
+        ensures step { GivesUnless (λ _. self.new) result
+            (with_step kinds agents self.old text.now) }
     {
         let step = read_step(text, agents, kinds, &mut self.words)?;
         let Ok(()) = self.steps.push(step) else {

@@ -1,0 +1,112 @@
+-- The steps that a text stands for.
+use Rattle.std.specs.Prelude.{ℕ, ◌++◌, Bool, true, false, if◌then◌else◌, List, [], ◌∷◌, map, Option, Some, None, Result}
+use Rattle.std.specs.Str.{bytes_eq}
+use Rattle.scmi_board.specs.Items.{◌>>=◌, ItemsView, first_item, first_number, items_left, no_item}
+use Rattle.scmi_board.specs.Lines.{LinesView, lines_left}
+use Rattle.scmi_text.specs.Fields.{first_agent, first_message, payload_left}
+use Rattle.scmi_text.specs.PackedStep.{step_with}
+use Rattle.scmi_text.specs.TextLines.{after_lines}
+use Rattle.scmi_text.specs.WordRow.{form_in}
+use Rattle.scmi_text.specs.declared.word_row.WordRow.{WordRow}
+use Rattle.scmi_text.specs.declared.packed_step.Head.{Head}
+use Rattle.scmi_text.specs.declared.packed_step.Head.TheVariants.{Do, Call, Raw, Malformed, Collect, P2a, Close, Platform, Advance, Fail, AdvanceFailed}
+use Rattle.scmi_text.specs.declared.step.Step.{Step}
+use Rattle.scmi_text.specs.declared.step_form.AgentForm.{AgentForm}
+use Rattle.scmi_text.specs.declared.step_form.AgentForm.TheVariants as form
+use Rattle.scmi_text.specs.declared.step_form.CommandForm.{CommandForm}
+use Rattle.scmi_text.specs.declared.step_form.CommandForm.TheVariants as command
+use Rattle.scmi_text.specs.declared.step_form.StepForm.{StepForm}
+use Rattle.scmi_text.specs.declared.step_form.StepForm.TheVariants as step
+use Rattle.scmi_text.specs.declared.step_form.TheConstants.{FAILED, STEP_FORMS}
+use Rattle.scmi_text.specs.declared.step_kinds.StepKinds.{StepKinds}
+use Rattle.scmi_text.specs.declared.step_kinds.StepKinds.TheVariants.{WithoutHardware, All}
+
+-- a line beside hardware that refuses is one of a script that may have such lines
+abbrev pub with_hardware : StepKinds → Option (Unit {0})
+with_hardware WithoutHardware = None
+with_hardware All = Some tt
+
+-- nothing more, or `failed` beside hardware
+unfoldable pub advance_head : StepKinds → ItemsView → Option (Head × ItemsView)
+advance_head kinds view = elim (no_item view) [
+  | Some end ↦ Some (Advance, view)
+  | None ↦ (do
+    may ← with_hardware kinds
+    word ← first_item view
+    if bytes_eq word.0 FAILED.now then Some (AdvanceFailed, word.1) else None)
+]
+
+-- P M of a command
+unfoldable pub command_head : StepKinds → CommandForm → ℕ → ItemsView → Option (Head × ItemsView)
+command_head kinds command.Do agent view = do
+  ids ← first_message view
+  Some (Do agent ids.0.0 ids.0.1, ids.1)
+command_head kinds command.Call agent view = do
+  ids ← first_message view
+  Some (Call agent ids.0.0 ids.0.1, ids.1)
+command_head kinds command.Fail agent view = do
+  may ← with_hardware kinds
+  ids ← first_message view
+  Some (Fail agent ids.0.0 ids.0.1, ids.1)
+
+-- what stands behind the agent: P M, H, LENGTH H, or nothing
+unfoldable pub agent_head : StepKinds → AgentForm → ℕ → ItemsView → Option (Head × ItemsView)
+agent_head kinds (form.Command command) agent view = command_head kinds command agent view
+agent_head kinds form.Raw agent view = do
+  header ← first_number 32 view
+  Some (Raw agent header.0, header.1)
+agent_head kinds form.Malformed agent view = do
+  len ← first_number 32 view
+  header ← first_number 32 len.1
+  Some (Malformed agent len.0 header.0, header.1)
+agent_head kinds form.Collect agent view = Some (Collect agent, view)
+agent_head kinds form.P2a agent view = Some (P2a agent, view)
+agent_head kinds form.Close agent view = Some (Close agent, view)
+agent_head kinds (form.Platform call) agent view = Some (Platform agent call, view)
+
+-- what stands behind the first word
+unfoldable pub head_of : StepKinds → ℕ → StepForm → ItemsView → Option (Head × ItemsView)
+head_of kinds agents step.Advance view = advance_head kinds view
+head_of kinds agents (step.Of form) view = do
+  agent ← first_agent agents view
+  agent_head kinds form agent.0 agent.1
+
+-- the forms of a step's line, by their first words
+abbrev pub step_forms : List (WordRow (List ℕ) StepForm)
+step_forms = map (λ row. record { word = row.word.now; form = row.form }) STEP_FORMS
+
+-- a line of these kinds of steps but for its payload words, on a board of so many agents
+unfoldable pub first_head : StepKinds → ℕ → ItemsView → Option (Head × ItemsView)
+first_head kinds agents view = do
+  word ← first_item view
+  form ← form_in word.0 step_forms
+  head_of kinds agents form word.1
+
+-- payload words belong to a step
+abbrev pub has_payload : Head → Bool
+has_payload (Do agent protocol id) = true
+has_payload (Call agent protocol id) = true
+has_payload (Raw agent header) = true
+has_payload (Fail agent protocol id) = true
+has_payload _ = false
+
+-- the payload words of a step with this head, or nothing where it has none
+unfoldable pub payload_of : Head → ItemsView → Option (List ℕ)
+payload_of head view = if has_payload head then payload_left view else no_item view >>= λ end. Some []
+
+-- the step of a line; none where the line is no step of these kinds, or of an agent that the board lacks
+unfoldable pub step_of_line : StepKinds → ℕ → List ℕ → Option Step
+step_of_line kinds agents text = do
+  head ← first_head kinds agents (items_left text)
+  words ← payload_of head.0 head.1
+  Some (step_with head.0 words)
+
+-- steps with that of a line behind them
+unfoldable pub with_step : StepKinds → ℕ → List Step → List ℕ → Option (List Step)
+with_step kinds agents steps text = do
+  step ← step_of_line kinds agents text
+  Some (steps ++ step ∷ [])
+
+-- the steps of the lines that are left; else the number of the first line that is none
+abbrev pub steps_left : StepKinds → ℕ → LinesView → Result (List Step) ℕ
+steps_left kinds agents lines = after_lines (with_step kinds agents) [] (lines_left lines)

@@ -1,0 +1,76 @@
+//! What the lines of scripts have behind their first word.
+ghost use Rattle.std.specs.Prelude.{◌≡◌, ◌≤◌, ◌+◌, drop, length, IfOk};
+ghost use Rattle.scmi_board.specs.Items.{items_left};
+ghost use Rattle.scmi_board.specs.LineError.{Gives, GivesUnless};
+ghost use Rattle.scmi_codec.specs.declared.payload.TheConstants.{PAYLOAD_WORDS};
+ghost use Rattle.scmi_plan.specs.Agent.{IsAgent};
+ghost use Rattle.scmi_text.specs.Fields.{first_agent, first_message, payload_left};
+ghost use Rattle.scmi_text.specs.PackedStep.{IsStartOf};
+
+use arrayvec::ArrayVec;
+use scmi_board::{Items, LineError};
+use scmi_codec::{PAYLOAD_WORDS, Payload};
+
+/// The next item as the number of an agent of a board that has this many, numbered from 1.
+#[tactic(auto, unfolding(crate::specs::Fields::first_agent))]
+pub(crate) fn read_agent(items: &mut Items<'_>, agents: u32) -> Result<u32, LineError>
+    ensures within { IfOk result (IsAgent agents) }
+    ensures agent { Gives (λ agent. (agent, items_left items.new)) result
+        (first_agent agents (items_left items.old)) }
+{
+    let agent = items.next_word()?;
+    if agent == 0 || agent > agents {
+        return Err(LineError::Form);
+    }
+    Ok(agent)
+}
+
+/// The next two items as a protocol and the id of a message.
+#[tactic(auto, unfolding(crate::specs::Fields::first_message))]
+pub(crate) fn read_message(items: &mut Items<'_>) -> Result<(u8, u8), LineError>
+    ensures { Gives (λ ids. (ids, items_left items.new)) result
+        (first_message (items_left items.old)) }
+{
+    let protocol = items.next_byte()?;
+    let message = items.next_byte()?;
+    Ok((protocol, message))
+}
+
+/// All items that are left, as payload words. `Form` where there are more than `PAYLOAD_WORDS`, or one
+/// is no word.
+pub(crate) fn read_payload(items: &mut Items<'_>) -> Result<Payload, LineError>
+    ensures { Gives (λ payload. payload.items) result (payload_left (items_left items.old)) }
+{
+    let mut payload = ArrayVec::new();
+    while !items.is_done() {
+        let word = items.next_word()?;
+        if payload.is_full() {
+            return Err(LineError::Form);
+        }
+        payload.push(word);
+    }
+    Ok(payload)
+}
+
+/// The same, added behind other words. It gives how many they were.
+pub(crate) fn read_words(items: &mut Items<'_>, words: &mut Vec<u32>) -> Result<usize, LineError>
+    ensures rest { IsStartOf words.old.items words.new.items }
+    ensures few { IfOk result (λ count. count ≤ PAYLOAD_WORDS) }
+    ensures count { IfOk result (λ count.
+        length words.old.items + count ≡ length words.new.items) }
+    ensures payload { GivesUnless (λ _. drop (length words.old.items) words.new.items) result
+        (payload_left (items_left items.old)) }
+{
+    let mut count = 0;
+    while !items.is_done() {
+        let word = items.next_word()?;
+        if count == PAYLOAD_WORDS {
+            return Err(LineError::Form);
+        }
+        let Ok(()) = words.push(word) else {
+            return Err(LineError::Memory);
+        };
+        count += 1;
+    }
+    Ok(count)
+}

@@ -1,0 +1,56 @@
+//! The forms of a step's line, and the words that such lines begin with.
+use crate::step::PlatformStep;
+use crate::word_row::{HeldRow, WordRow};
+
+/// The form of a step's line.
+#[derive(Clone, Copy)]
+pub(crate) enum StepForm {
+    Advance,
+    /// The agent's number stands behind the first word.
+    Of(AgentForm),
+}
+
+/// The form of the line of a step that is of an agent.
+#[derive(Clone, Copy)]
+pub(crate) enum AgentForm {
+    Command(CommandForm),
+    Raw,
+    Malformed,
+    Collect,
+    P2a,
+    Close,
+    Platform(PlatformStep),
+}
+
+/// The form of the line of a command.
+#[derive(Clone, Copy)]
+pub(crate) enum CommandForm {
+    Do,
+    Call,
+    Fail,
+}
+
+macro_rules! rows {
+    ($($word:literal $form:expr;)*) => {
+        [$(WordRow { word: $word, form: $form }),*]
+    };
+}
+
+/// The first words of the lines of steps.
+pub(crate) const STEP_FORMS: [HeldRow<StepForm>; 12] = rows![
+    b"do" StepForm::Of(AgentForm::Command(CommandForm::Do));
+    b"call" StepForm::Of(AgentForm::Command(CommandForm::Call));
+    b"fail" StepForm::Of(AgentForm::Command(CommandForm::Fail));
+    b"raw" StepForm::Of(AgentForm::Raw);
+    b"bad" StepForm::Of(AgentForm::Malformed);
+    b"collect" StepForm::Of(AgentForm::Collect);
+    b"p2a" StepForm::Of(AgentForm::P2a);
+    b"close" StepForm::Of(AgentForm::Close);
+    b"serve" StepForm::Of(AgentForm::Platform(PlatformStep::Serve));
+    b"flush" StepForm::Of(AgentForm::Platform(PlatformStep::Flush));
+    b"shut" StepForm::Of(AgentForm::Platform(PlatformStep::Shut));
+    b"advance" StepForm::Advance;
+];
+
+/// The word behind `advance`, where the hardware refuses.
+pub(crate) const FAILED: &[u8] = b"failed";
