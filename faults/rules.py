@@ -63,6 +63,15 @@ class Steps(Session):
         return self.lines[:len(lines)] == lines
 
 
+class Areas(Steps):
+    """Areas in words, which are written as they are read."""
+
+    def fails_to_read(self, run):
+        lines = run.output.splitlines()
+        if run.status != 2 or lines[-1:] != [READ] or not self.may_precede(lines[:-1]):
+            return "the run does not end in fault read behind its first lines"
+
+
 class LongSteps(Steps):
     is_small = False
 
@@ -116,7 +125,7 @@ def decoded(crate):
     lines = (crate / "stdout").read_bytes().splitlines(keepends=True)
     numbers = [int(line.split()[0]) if line[:1].isdigit() else 0 for line in lines]
     end = next(at for at, number in enumerate(numbers) if number > stdin.count(b"\n"))
-    session = Steps("areas in words", stdin, b"".join(lines[:end]))
+    session = Areas("areas in words", stdin, b"".join(lines[:end]))
     session.words = ("decode",)
     return session
 

@@ -1,2 +1,4 @@
+mod Forms
 mod Items
-mod LineTexts
+mod OneDump
+mod UnderWay

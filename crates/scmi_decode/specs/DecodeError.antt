@@ -3,7 +3,7 @@ use Rattle.std.specs.Prelude.{ℕ}
 use Rattle.scmi_input.specs.declared.input_error.InputError.{InputError}
 use Rattle.scmi_input.specs.declared.input_error.InputError.TheVariants as input
 use Rattle.scmi_decode.specs.declared.decode_error.DecodeError.{DecodeError}
-use Rattle.scmi_decode.specs.declared.decode_error.DecodeError.TheVariants.{Size, Read, Memory, Write}
+use Rattle.scmi_decode.specs.declared.decode_error.DecodeError.TheVariants.{Size, Read, Memory, Write, NoArea}
 
 -- 1 for a failed output, 4 for want of memory, and 2 for a refused input (own)
 abbrev pub status_of : DecodeError → ℕ
@@ -11,6 +11,7 @@ status_of Write = 1
 status_of Memory = 4
 status_of Size = 2
 status_of Read = 2
+status_of NoArea = 2
 
 -- an input that is not read
 abbrev pub fault_of_input : InputError → DecodeError

@@ -1,5 +1,5 @@
 -- What is written of an input.
-use Rattle.std.specs.Prelude.{ℕ, ◌+◌, ◌==◌, ◌&&◌, nat_lt, not, Bool, if◌then◌else◌, List, [], ◌∷◌, ◌++◌, length, slice_index, codes, decimal, Option, Some, None, IfSome}
+use Rattle.std.specs.Prelude.{ℕ, ◌+◌, ◌==◌, ◌&&◌, ◌||◌, nat_lt, not, Bool, true, false, if◌then◌else◌, List, [], ◌∷◌, ◌++◌, length, slice_index, codes, decimal, Option, Some, None, IfSome}
 use Rattle.std.specs.List.{slice_split}
 use Rattle.std.specs.Io.KnownBytes.{Appends}
 use Rattle.scmi_codec.specs.declared.area.TheConstants.{AREA_BYTES}
@@ -7,6 +7,8 @@ use Rattle.scmi_input.specs.Lines.{is_line_feed}
 use Rattle.scmi_describe.specs.Description.{described_area}
 use Rattle.scmi_describe.specs.Text.{description_text}
 use Rattle.scmi_decode.specs.Dump.{line_bytes}
+use Rattle.scmi_decode.specs.OpenDump.{DumpView, no_dump, is_area, is_open, goes_on, added, begun, beside, closed, filled, repeated, is_star, end_at}
+use Rattle.scmi_decode.specs.Row.{RowView, row_of}
 
 -- whether a line is neither empty nor begins with `#`
 abbrev pub is_described : List ℕ → Bool
@@ -18,7 +20,7 @@ other_size_text count = codes "no area: " ++ decimal count ++ codes " bytes, not
 
 -- what bytes are
 abbrev pub bytes_text : List ℕ → List ℕ
-bytes_text bytes = if length bytes == AREA_BYTES then description_text (described_area bytes) else other_size_text (length bytes)
+bytes_text bytes = if is_area bytes then description_text (described_area bytes) else other_size_text (length bytes)
 
 -- what a line is, if it has bytes
 abbrev pub found_text : Option (List ℕ) → List ℕ
@@ -29,18 +31,76 @@ found_text (Some bytes) = bytes_text bytes
 unfoldable pub numbered_text : ℕ → Option (List ℕ) → List ℕ
 numbered_text number found = decimal number ++ codes " " ++ found_text found
 
--- what is written of a line
+-- what is written of a line that is a dump of its own
 abbrev pub line_text : ℕ → List ℕ → List ℕ
 line_text number line = if is_described line then numbered_text number (line_bytes line) else []
 
--- what is written of lines that are numbered from n
-abbrev pub lines_text : ℕ → List (List ℕ) → List ℕ
-lines_text n [] = []
-lines_text n (line ∷ lines) = line_text n line ++ lines_text (n + 1) lines
+-- whether bytes are there, and as many as an area has
+abbrev pub are_area : Option (List ℕ) → Bool
+are_area None = false
+are_area (Some bytes) = is_area bytes
+
+-- whether a line that is a dump of its own is an area
+abbrev pub line_is_area : List ℕ → Bool
+line_is_area line = if is_described line then are_area (line_bytes line) else false
+
+-- what is written of a dump once it has ended
+abbrev pub dump_text : DumpView → List ℕ
+dump_text d = if is_open d then numbered_text d.first (Some d.bytes) else []
+
+-- whether a line begins with `#`
+abbrev pub is_remark : List ℕ → Bool
+is_remark line = nat_lt 0 (length line) && (slice_index line 0 == 35)
+
+-- what is written at a line by the row that it is, if it is one: a row that goes on with the dump is added to it, and any other line ends it
+abbrev pub row_text : DumpView → ℕ → List ℕ → Option RowView → List ℕ
+row_text d number line None = dump_text d ++ line_text number line
+row_text d number line (Some r) = if goes_on d r then [] else dump_text d
+
+-- the dump behind such a line
+abbrev pub dump_after_row : DumpView → ℕ → List ℕ → Option RowView → DumpView
+dump_after_row d number line None = beside (closed d) (line_is_area line)
+dump_after_row d number line (Some r) = if goes_on d r then added d r else begun (closed d) number r
+
+-- what is written at a line that ends the dump at an address, or else by its row
+abbrev pub end_text : DumpView → ℕ → List ℕ → Option ℕ → List ℕ
+end_text d number line (Some address) = dump_text (filled d address)
+end_text d number line None = row_text d number line (row_of line)
+
+-- the dump behind such a line
+abbrev pub dump_after_end : DumpView → ℕ → List ℕ → Option ℕ → DumpView
+dump_after_end d number line (Some address) = closed (filled d address)
+dump_after_end d number line None = dump_after_row d number line (row_of line)
+
+-- what is written at a line: nothing of a remark; an empty line ends the dump
+unfoldable pub step_text : DumpView → ℕ → List ℕ → List ℕ
+step_text d number line =
+    if is_remark line then [] else if length line == 0 then dump_text d else if is_star d line then []
+    else end_text d number line (end_at d line)
+
+-- the dump behind a line
+unfoldable pub dump_after : DumpView → ℕ → List ℕ → DumpView
+dump_after d number line =
+    if is_remark line then d else if length line == 0 then closed d else if is_star d line then repeated d
+    else dump_after_end d number line (end_at d line)
+
+-- what is written of lines that are numbered from n, where a dump is open or not
+abbrev pub lines_text : DumpView → ℕ → List (List ℕ) → List ℕ
+lines_text d n [] = dump_text d
+lines_text d n (line ∷ lines) = step_text d n line ++ lines_text (dump_after d n line) (n + 1) lines
+
+-- whether an area is found in them, or was before
+abbrev pub lines_found : DumpView → ℕ → List (List ℕ) → Bool
+lines_found d n [] = d.found || is_area d.bytes
+lines_found d n (line ∷ lines) = lines_found (dump_after d n line) (n + 1) lines
 
 -- what is written of an input, whose lines are numbered from 1
 abbrev pub decoded_text : List ℕ → List ℕ
-decoded_text input = lines_text 1 (slice_split is_line_feed input)
+decoded_text input = lines_text no_dump 1 (slice_split is_line_feed input)
+
+-- whether an input has an area
+abbrev pub has_area : List ℕ → Bool
+has_area input = lines_found no_dump 1 (slice_split is_line_feed input)
 
 -- what is written is that of an input, where its bytes are known
 abbrev pub IsDecoded : (input old new : Option (List ℕ)) → Type 0

@@ -5,9 +5,9 @@ use Rattle.std.specs.Option.{option_map}
 use Rattle.std.specs.Result.{result_ok}
 use Rattle.hex.specs.Hex.{decode_of}
 
--- whether a byte stands between the items of a line: a space, a tab or a carriage return
+-- whether a byte stands between the items of a line: a space, a tab, a carriage return or a comma
 abbrev pub is_gap : ℕ → Bool
-is_gap b = (b == 32) || (b == 9) || (b == 13)
+is_gap b = (b == 32) || (b == 9) || (b == 13) || (b == 44)
 
 -- whether an item has the mark of a number, `0x`, and something behind it
 abbrev pub has_mark : List ℕ → Bool

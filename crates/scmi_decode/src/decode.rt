@@ -1,37 +1,45 @@
 //! A run from its input to its exit status.
-ghost use Rattle.std.specs.Prelude.{◌≡◌, ◌<◌, ◌≤◌, ◌+◌, ◌⊎◌, length, map, IfErr, IfSome, IsErrOf, OnOk};
+ghost use Rattle.std.specs.Prelude.{◌≡◌, ◌≢◌, ◌<◌, ◌≤◌, IfErr, IfOk, IfSome, IsErrOf, IsTrue, OnOk, false, length};
 ghost use Rattle.std.specs.Io.KnownBytes.{Appends};
 ghost use Rattle.scmi_input.specs.Reads.{StopsWith};
 ghost use Rattle.scmi_input.specs.declared.input.TheConstants.{INPUT_BYTES};
-ghost use Rattle.scmi_decode.specs.Decoded.{IsDecoded, lines_text};
+ghost use Rattle.scmi_decode.specs.Decoded.{IsDecoded, has_area};
+ghost use Rattle.scmi_decode.specs.OneDump.{WritesForms};
 
 use crate::decode_error::DecodeError;
-use crate::line::write_line;
-use crate::lines::lines_of;
-use scmi_input::{CountedRead, CountedReader, read_rest};
+use crate::open_dump::OpenDump;
+use crate::step::{close, take_line};
+use scmi_input::{CountedRead, CountedReader, Input};
 use std::alloc::Global;
 use std::io::{Read, Write};
 
-/// Decodes an input and gives the exit status: 0, or that of the error, whose text is written as the
-/// last line. A fault that can't be written gives status 1.
+/// Decodes an input, a line at a time, and gives the exit status: 0, or that of the error, whose text is
+/// written as the last line; `NoArea` has none. A fault that can't be written gives status 1.
 pub fn run_decode<R: Read, W: Write>(alloc: Global, reader: &mut R, writer: &mut W) -> u8
     ensures text { result ≡ 0 →
         IsDecoded (R.remaining reader.old) (W.contents writer.old) (W.contents writer.new) }
+    ensures area { result ≡ 0 →
+        IfSome (R.remaining reader.old) (λ input. IsTrue (has_area input)) }
 {
-    let mut counted = CountedReader::new(reader);
-    run_counted(alloc, &mut counted, writer)
+    let mut input = Input::new(CountedReader::new(reader));
+    run_counted(alloc, &mut input, writer)
 }
 
 /// The same of a reader that counts.
-pub fn run_counted<R: CountedRead, W: Write>(alloc: Global, reader: &mut R, writer: &mut W) -> u8
+pub fn run_counted<R: CountedRead + Drop, W: Write>(
+    alloc: Global,
+    input: &mut Input<R>,
+    writer: &mut W,
+) -> u8
     ensures text { result ≡ 0 →
-        IsDecoded (R.remaining reader.old) (W.contents writer.old) (W.contents writer.new) }
-    ensures reads { R.reads reader.new ≤ R.reads reader.old + (INPUT_BYTES + 1) }
-    ensures stops { R.since_failure reader.old ≡ 0 → R.since_failure reader.new ≤ 1 }
+        IsDecoded input.old.left (W.contents writer.old) (W.contents writer.new) }
+    ensures area { result ≡ 0 → IfSome input.old.left (λ bytes. IsTrue (has_area bytes)) }
+    ensures stops { input.old.since_failure ≡ 0 → input.new.since_failure ≤ 1 }
 {
-    match decode(alloc, reader, writer) {
+    match decode(alloc, input, writer) {
         Ok(()) => 0,
         Err(DecodeError::Write) => DecodeError::Write.status(),
+        Err(DecodeError::NoArea) => DecodeError::NoArea.status(),
         Err(fault) => match writeln!(writer, "fault {fault}") {
             Ok(()) => fault.status(),
             Err(_) => DecodeError::Write.status(),
@@ -39,42 +47,58 @@ pub fn run_counted<R: CountedRead, W: Write>(alloc: Global, reader: &mut R, writ
     }
 }
 
-/// Reads an input, and writes each of its lines that counts behind its number, in words. `Size` where
-/// the input is longer than `INPUT_BYTES` and `Read` at a read that fails: after each of these nothing
-/// is written. `Memory` where memory is refused and `Write` where the output fails: the first lines may
-/// then be written.
-pub fn decode<R: CountedRead, W: Write>(
+/// Reads an input line by line, and writes each of its dumps that has ended, behind the number of its
+/// first line, in words. `NoArea` where all was written and none of it is an area. `Size` at a line
+/// longer than `INPUT_BYTES`, `Read` at a read that fails, `Memory` where memory is refused and `Write`
+/// where the output fails: what stands before is then written.
+pub fn decode<R: CountedRead + Drop, W: Write>(
     alloc: Global,
-    reader: &mut R,
+    input: &mut Input<R>,
     writer: &mut W,
 ) -> Result<(), DecodeError>
     ensures text { OnOk result (
-        IsDecoded (R.remaining reader.old) (W.contents writer.old) (W.contents writer.new)) }
+        IsDecoded input.old.left (W.contents writer.old) (W.contents writer.new)) }
+    ensures forms { OnOk result (
+        WritesForms input.old.left (W.contents writer.old) (W.contents writer.new)) }
+    ensures area { OnOk result (IfSome input.old.left (λ bytes. IsTrue (has_area bytes))) }
+    ensures no_area { IsErrOf result DecodeError.NoArea →
+        IfSome input.old.left (λ bytes. has_area bytes ≡ false) }
     ensures size { IsErrOf result DecodeError.Size →
-        IfSome (R.remaining reader.old) (λ input. INPUT_BYTES < length input) }
-    ensures kept { IfErr result (λ e.
-        (e ≡ DecodeError.Size) ⊎ (e ≡ DecodeError.Read) → writer.new ≡ writer.old) }
-    ensures reads { R.reads reader.new ≤ R.reads reader.old + (INPUT_BYTES + 1) }
-    ensures stops { StopsWith DecodeError.Read result (R.since_failure reader.old)
-        (R.since_failure reader.new) }
+        IfSome input.old.left (λ bytes. INPUT_BYTES < length bytes) }
+    ensures stops { StopsWith DecodeError.Read result input.old.since_failure
+        input.new.since_failure }
 {
-    let input = read_rest(alloc, reader)?;
-    let Ok(lines) = lines_of(alloc, input.as_slice()) else {
-        return Err(DecodeError::Memory);
-    };
-    write_lines(alloc, writer, lines.as_slice())
+    if decode_lines(alloc, input, writer)? {
+        Ok(())
+    } else {
+        Err(DecodeError::NoArea)
+    }
 }
 
-/// Writes what lines are, in their order.
-fn write_lines<W: Write>(alloc: Global, writer: &mut W, lines: &[&[u8]]) -> Result<(), DecodeError>
-    ensures text { OnOk result (Appends (W.contents writer.old) (W.contents writer.new) (
-        lines_text 1 (map (λ line. line.now) lines.now))) }
-    ensures errors { IfErr result (λ e. (e ≡ DecodeError.Memory) ⊎ (e ≡ DecodeError.Write)) }
+/// Writes what the dumps of an input are, and gives whether one is an area.
+fn decode_lines<R: CountedRead + Drop, W: Write>(
+    alloc: Global,
+    input: &mut Input<R>,
+    writer: &mut W,
+) -> Result<bool, DecodeError>
+    ensures text { OnOk result (
+        IsDecoded input.old.left (W.contents writer.old) (W.contents writer.new)) }
+    ensures area { IfOk result (λ area. IfSome input.old.left (λ bytes. area ≡ has_area bytes)) }
+    ensures size { IsErrOf result DecodeError.Size →
+        IfSome input.old.left (λ bytes. INPUT_BYTES < length bytes) }
+    ensures errors { IfErr result (λ e. e ≢ DecodeError.NoArea) }
+    ensures stops { StopsWith DecodeError.Read result input.old.since_failure
+        input.new.since_failure }
 {
-    let mut number = 0;
-    'lines: for line in lines {
-        number += 1;
-        write_line(alloc, writer, number, *line)?;
+    let mut dump = OpenDump::new(alloc);
+    let mut line = Vec::new(alloc);
+    'lines: for number in 1..usize::MAX {
+        let ended = input.read_line(&mut line)?;
+        take_line(alloc, writer, &mut dump, number, line.as_slice())?;
+        if !ended {
+            close(writer, &mut dump)?;
+            return Ok(dump.found());
+        }
     }
-    Ok(())
+    Err(DecodeError::Size)
 }

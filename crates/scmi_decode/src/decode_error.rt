@@ -1,14 +1,16 @@
 //! Why an input is not decoded.
 ghost use Rattle.std.specs.Prelude.{◌≡◌};
 ghost use Rattle.scmi_decode.specs.DecodeError.{fault_of_input, status_of};
+ghost use Rattle.scmi_decode.specs.declared.decode_error.DecodeError.TheVariants.{Memory};
 
 use scmi_input::InputError;
+use std::alloc::AllocError;
 use thiserror::Error;
 
 /// Why an input is not decoded. Its text is what follows the word `fault`.
 #[derive(Clone, Copy, Debug, PartialEq, Eq, Error)]
 pub enum DecodeError {
-    /// The input is longer than `INPUT_BYTES`.
+    /// A line is longer than `INPUT_BYTES`.
     #[error("size")]
     Size,
     /// A read failed, or reads were interrupted too often.
@@ -20,18 +22,21 @@ pub enum DecodeError {
     /// The output failed.
     #[error("write")]
     Write,
+    /// No line was an area.
+    #[error("area")]
+    NoArea,
 }
 
 impl DecodeError {
-    /// The exit status of a run that ends so: 1 for a failed output, 2 for a refused input, 4 for want
-    /// of memory.
+    /// The exit status of a run that ends so: 1 for a failed output, 2 for a refused input, 4 where
+    /// memory was refused.
     pub fn status(&self) -> u8
         ensures { result ≡ status_of self.now }
     {
         match self {
             DecodeError::Write => 1,
             DecodeError::Memory => 4,
-            DecodeError::Size | DecodeError::Read => 2,
+            DecodeError::Size | DecodeError::Read | DecodeError::NoArea => 2,
         }
     }
 }
@@ -45,5 +50,13 @@ impl From<InputError> for DecodeError {
             InputError::Read => DecodeError::Read,
             InputError::Memory => DecodeError::Memory,
         }
+    }
+}
+
+impl From<AllocError> for DecodeError {
+    ghost from_gives = { λ _ fault. fault ≡ Memory };
+
+    fn from(_error: AllocError) -> DecodeError {
+        DecodeError::Memory
     }
 }

@@ -46,7 +46,7 @@ fn item_bytes(alloc: Global, item: &[u8]) -> Result<Option<Vec<u8>>, AllocError>
 }
 
 /// Whether an item begins with `0x`, and has something behind it.
-fn has_mark(item: &[u8]) -> bool
+pub(crate) fn has_mark(item: &[u8]) -> bool
     ensures { result ≡ has_mark item.now }
 {
     item.len() > 2 && item[0] == b'0' && item[1] == b'x'

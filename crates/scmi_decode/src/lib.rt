@@ -1,16 +1,26 @@
 //! Dumps of areas of shared memory in, what each of them is out.
 //!
-//! The main type is `DecodeError`, why an input is not decoded. The main theorem is the contract of
-//! `run_decode`: where the status is 0, what was written is the text of each line of the input that
-//! counts, in order and with its number, and that text says what `scmi_describe` describes the line's
-//! area, or says that the line is none.
+//! The main type is `Form`, how a row of a dump says where its bytes stand. The main theorem is the
+//! contract of `run_decode`: where the status is 0, what was written is the text of each dump of the
+//! input, in order and behind the number of its first line, and that text is what `scmi_describe` writes
+//! of the dump's area, or says that it is none. `decode` adds that the text of a dump is that of its
+//! bytes, in whatever form they stand (`forms`).
 #![tactic(auto)]
 
 mod decode;
 mod decode_error;
 mod dump;
+mod form;
 mod line;
 mod lines;
+mod number;
+mod open_dump;
+mod parts;
+mod row;
+mod scan;
+mod step;
 
 pub use decode::{run_counted, run_decode};
 pub use decode_error::DecodeError;
+pub use form::Form;
+pub use row::{ROW_BYTES, ROW_LINE_BYTES};

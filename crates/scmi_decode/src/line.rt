@@ -1,37 +1,99 @@
-//! What is written of a line.
-ghost use Rattle.std.specs.Prelude.{◌≡◌, ◌⊎◌, OnOk, IfErr, codes};
-ghost use Rattle.std.specs.Option.{option_map};
+//! What is written of a line, and of a dump.
+ghost use Rattle.std.specs.Prelude.{◌≡◌, ◌⊎◌, OnOk, IfOk, IfErr, codes};
+ghost use Rattle.std.specs.Option.{option_copied, option_map};
 ghost use Rattle.std.specs.Io.KnownBytes.{Appends};
-ghost use Rattle.scmi_decode.specs.Decoded.{bytes_text, found_text, line_text, numbered_text, other_size_text};
+ghost use Rattle.scmi_decode.specs.Decoded.{are_area, bytes_text, dump_text, found_text, line_is_area, line_text, numbered_text, other_size_text};
 
 use crate::decode_error::DecodeError;
 use crate::dump::line_bytes;
 use crate::lines::is_described;
+use crate::open_dump::{OpenDump, is_area};
 use scmi_codec::AREA_BYTES;
 use scmi_describe::write_area;
 use std::alloc::Global;
 use std::io;
 use std::io::Write;
 
-/// Writes what a line is, behind its number: what its area is, or that it is none; nothing of a line
-/// that is empty or begins with `#`. `Memory` where memory is refused, `Write` where the output fails.
+/// Writes what a line is that is a dump of its own, behind its number: what its area is, or that it is
+/// none; nothing of a line that is empty or begins with `#`. Gives whether it is an area. `Memory` where
+/// memory is refused, `Write` where the output fails.
 pub fn write_line<W: Write>(
     alloc: Global,
     writer: &mut W,
     number: usize,
     line: &[u8],
-) -> Result<(), DecodeError>
+) -> Result<bool, DecodeError>
     ensures text { OnOk result (Appends (W.contents writer.old) (W.contents writer.new) (
         line_text number line.now)) }
+    ensures area { IfOk result (λ area. area ≡ line_is_area line.now) }
     ensures errors { IfErr result (λ e. (e ≡ DecodeError.Memory) ⊎ (e ≡ DecodeError.Write)) }
 {
     if !is_described(line) {
+        return Ok(false);
+    }
+    let found = line_bytes(alloc, line)?;
+    write_found_line(writer, number, &found)
+}
+
+/// Writes what a line is, behind its number, and gives whether it is an area.
+fn write_found_line<W: Write>(
+    writer: &mut W,
+    number: usize,
+    found: &Option<Vec<u8>>,
+) -> Result<bool, DecodeError>
+    ensures text { OnOk result (Appends (W.contents writer.old) (W.contents writer.new) (
+        numbered_text number (option_map (λ bytes. bytes.items) found.now))) }
+    ensures area { IfOk result (λ area.
+        area ≡ are_area (option_map (λ bytes. bytes.items) found.now)) }
+    ensures errors { IfErr result (λ e. e ≡ DecodeError.Write) }
+{
+    match found {
+        Some(bytes) => {
+            write_bytes_line(writer, number, bytes)?;
+            Ok(is_area(bytes))
+        }
+        None => {
+            write_no_digits_line(writer, number)?;
+            Ok(false)
+        }
+    }
+}
+
+/// Writes what a dump is, behind the number of its first line; nothing where none is open.
+pub(crate) fn write_dump<W: Write>(writer: &mut W, dump: &OpenDump) -> Result<(), DecodeError>
+    ensures text { OnOk result (Appends (W.contents writer.old) (W.contents writer.new) (
+        dump_text dump.now)) }
+    ensures errors { IfErr result (λ e. e ≡ DecodeError.Write) }
+{
+    if !dump.is_open() {
         return Ok(());
     }
-    let Ok(found) = line_bytes(alloc, line) else {
-        return Err(DecodeError::Memory);
-    };
-    match write_numbered(writer, number, &found) {
+    write_bytes_line(writer, dump.first(), dump.bytes())
+}
+
+/// Writes what bytes are, behind the number of a line.
+fn write_bytes_line<W: Write>(
+    writer: &mut W,
+    number: usize,
+    bytes: &[u8],
+) -> Result<(), DecodeError>
+    ensures text { OnOk result (Appends (W.contents writer.old) (W.contents writer.new) (
+        numbered_text number (Some bytes.now))) }
+    ensures errors { IfErr result (λ e. e ≡ DecodeError.Write) }
+{
+    match write_numbered(writer, number, Some(bytes)) {
+        Ok(()) => Ok(()),
+        Err(_) => Err(DecodeError::Write),
+    }
+}
+
+/// Writes that a line has another form, behind its number.
+fn write_no_digits_line<W: Write>(writer: &mut W, number: usize) -> Result<(), DecodeError>
+    ensures text { OnOk result (Appends (W.contents writer.old) (W.contents writer.new) (
+        numbered_text number None)) }
+    ensures errors { IfErr result (λ e. e ≡ DecodeError.Write) }
+{
+    match write_numbered(writer, number, None) {
         Ok(()) => Ok(()),
         Err(_) => Err(DecodeError::Write),
     }
@@ -39,22 +101,18 @@ pub fn write_line<W: Write>(
 
 /// Writes the number of a line, and what the line is.
 #[tactic(auto, unfolding(crate::specs::Decoded::numbered_text))]
-fn write_numbered<W: Write>(
-    writer: &mut W,
-    number: usize,
-    found: &Option<Vec<u8>>,
-) -> io::Result<()>
+fn write_numbered<W: Write>(writer: &mut W, number: usize, found: Option<&[u8]>) -> io::Result<()>
     ensures { OnOk result (Appends (W.contents writer.old) (W.contents writer.new) (
-        numbered_text number (option_map (λ bytes. bytes.items) found.now))) }
+        numbered_text number (option_copied found.entry))) }
 {
     write!(writer, "{number} ")?;
     write_found(writer, found)
 }
 
 /// Writes what a line is.
-fn write_found<W: Write>(writer: &mut W, found: &Option<Vec<u8>>) -> io::Result<()>
+fn write_found<W: Write>(writer: &mut W, found: Option<&[u8]>) -> io::Result<()>
     ensures { OnOk result (Appends (W.contents writer.old) (W.contents writer.new) (
-        found_text (option_map (λ bytes. bytes.items) found.now))) }
+        found_text (option_copied found.entry))) }
 {
     match found {
         Some(bytes) => write_bytes(writer, bytes),

@@ -15,24 +15,24 @@ pub record IsSeen (input : List ℕ) (n : ℕ) (rest : Option (List ℕ)) (kept 
   pub no_end : n ≤ position_or_len is_line_feed input
   pub first : kept ≡ take KEPT_BYTES (take n input)
 
-record IsNext (input zs : List ℕ) (n x : ℕ) : Type 0 where
-  more : n < length input
-  byte : get_or input n 0 ≡ x
-  rest : drop (n + 1) input ≡ zs
-  seen : take (n + 1) input ≡ take n input ++ x ∷ []
+pub record IsNext (input zs : List ℕ) (n x : ℕ) : Type 0 where
+  pub more : n < length input
+  pub byte : get_or input n 0 ≡ x
+  pub rest : drop (n + 1) input ≡ zs
+  pub seen : take (n + 1) input ≡ take n input ++ x ∷ []
 
-is_next : (input zs : List ℕ) (n x : ℕ) → n ≤ length input → drop n input ≡ x ∷ zs → IsNext input zs n x
+pub is_next : (input zs : List ℕ) (n x : ℕ) → n ≤ length input → drop n input ≡ x ∷ zs → IsNext input zs n x
 is_next input zs n x inside h =
     let more : n < length input = grind (arith, common_steps, ap length h, length-drop n input) in
     let cut = list.drop_more input n 0 more in
     let taken = list.take_more input n 0 more in
     record { more = more; byte = cc; rest = cc; seen = cc }
 
-still_none : (input : List ℕ) (n x : ℕ) → n < length input → get_or input n 0 ≡ x → is_line_feed x ≡ false → n ≤ position_or_len is_line_feed input → n + 1 ≤ position_or_len is_line_feed input
+pub still_none : (input : List ℕ) (n x : ℕ) → n < length input → get_or input n 0 ≡ x → is_line_feed x ≡ false → n ≤ position_or_len is_line_feed input → n + 1 ≤ position_or_len is_line_feed input
 still_none input n x more at other so_far =
     let first = passes_at_first is_line_feed input 0 in grind (arith, common_steps, first)
 
-left_of : (input ys : List ℕ) (n : ℕ) (rest rest' : Option (List ℕ)) → rest ≡ Some (drop n input) → Consumes rest rest' ys → (zs : List ℕ) × (rest' ≡ Some zs) × (drop n input ≡ ys ++ zs)
+pub left_of : (input ys : List ℕ) (n : ℕ) (rest rest' : Option (List ℕ)) → rest ≡ Some (drop n input) → Consumes rest rest' ys → (zs : List ℕ) × (rest' ≡ Some zs) × (drop n input ≡ ys ++ zs)
 left_of input ys n None rest' at took = absurd cc
 left_of input ys n (Some xs) None at took = absurd took
 left_of input ys n (Some xs) (Some zs) at took = let same : xs ≡ drop n input = cc in (zs, refl, cc)

@@ -1,4 +1,5 @@
 mod AheadLemmas
 pub mod FirstLine
+mod NextLine
 pub mod RestLemmas
 mod Numbers

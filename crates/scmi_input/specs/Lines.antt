@@ -1,6 +1,6 @@
--- The first line of an input.
-use Rattle.std.specs.Prelude.{ℕ, ◌==◌, Bool, List}
-use Rattle.std.specs.List.{before_first, after_first}
+-- The lines of an input.
+use Rattle.std.specs.Prelude.{ℕ, ◌==◌, nat_lt, Bool, List, length}
+use Rattle.std.specs.List.{before_first, after_first, position_or_len}
 
 -- whether a byte ends a line
 abbrev pub is_line_feed : ℕ → Bool
@@ -13,3 +13,7 @@ first_line input = before_first is_line_feed input
 -- the bytes behind the first line feed
 abbrev pub after_line : List ℕ → List ℕ
 after_line input = after_first is_line_feed input
+
+-- whether a line feed stands in an input
+abbrev pub has_line_feed : List ℕ → Bool
+has_line_feed input = nat_lt (position_or_len is_line_feed input) (length input)

@@ -53,7 +53,7 @@ impl<R: CountedRead + Drop> Input<R> {
     }
 
     /// The next byte, or `None` at the end. So many reads may be tried for it.
-    fn next_byte(&mut self, tries: &mut usize) -> Result<Option<u8>, InputError>
+    pub(crate) fn next_byte(&mut self, tries: &mut usize) -> Result<Option<u8>, InputError>
         ensures reads { self.new.reads + tries.new ≤ self.old.reads + tries.old }
         ensures stops { StopsAtFailure result self.old.since_failure self.new.since_failure }
         ensures byte { IfOk result (λ next. MatchOption next

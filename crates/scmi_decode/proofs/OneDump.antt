@@ -1,0 +1,108 @@
+-- The text of an input that is one dump is that of its bytes, in whatever form they stand.
+use Rattle.std.proofs.Common.{◌≡◌, ℕ, ◌+◌, ◌<◌, Bool, true, false, List, [], ◌∷◌, ◌++◌, length, Option, None, Some, IfSome, ◌∙◌, sym, ap, refl, subst, arith, append_assoc, append-nil}
+use Rattle.std.specs.Prelude.{◌==◌, not}
+use Rattle.std.specs.List.{slice_split}
+use Rattle.std.specs.Io.KnownBytes.{Appends}
+use Rattle.std.proofs.lemmas.Bool.Decides.{nat_tests}
+use Rattle.std.proofs.lemmas.List.{length-append}
+use Rattle.scmi_input.specs.Lines.{is_line_feed}
+use Rattle.scmi_decode.specs.OpenDump.{DumpView, no_dump, added, begun, closed, copies, end_at, extended, filled, goes_on, is_open, is_star, last_row, rows_before}
+use Rattle.scmi_decode.specs.Row.{RowView}
+use Rattle.scmi_decode.specs.Decoded.{IsDecoded, dump_after, dump_text, lines_text, numbered_text, step_text}
+use Rattle.scmi_decode.specs.OneDump.{AreRows, IsDumpOf, IsEnd, IsNextRow, IsRow, WritesForms, rows_bytes}
+
+step_text-row : (d : DumpView) (n : ℕ) (line : List ℕ) (r : RowView) → IsNextRow d line r → step_text d n line ≡ []
+unfolding step_text
+step_text-row d n line r is = rw (is.is_row.no_remark, is.is_row.not_empty, is.no_star, is.no_end, is.is_row.row, is.next) refl
+
+dump_after-row : (d : DumpView) (n : ℕ) (line : List ℕ) (r : RowView) → IsNextRow d line r → dump_after d n line ≡ added d r
+unfolding dump_after
+dump_after-row d n line r is = rw (is.is_row.no_remark, is.is_row.not_empty, is.no_star, is.no_end, is.is_row.row, is.next) refl
+
+rows_before-none : (d : DumpView) (address : ℕ) → d.repeats ≡ false → rows_before d address ≡ 0
+rows_before-none d address even = rw even refl
+
+added-bytes : (d : DumpView) (r : RowView) → d.repeats ≡ false → (added d r).bytes ≡ d.bytes ++ r.bytes
+unfolding extended filled
+added-bytes d r even =
+    ap (λ (k : ℕ). (d.bytes ++ copies k (last_row d)) ++ r.bytes) (rows_before-none d r.address even) ∙ ap (λ (bs : List ℕ). bs ++ r.bytes) (append-nil d.bytes)
+
+added-first : (d : DumpView) (r : RowView) → (added d r).first ≡ d.first
+unfolding extended filled
+added-first d r = refl
+
+added-even : (d : DumpView) (r : RowView) → (added d r).repeats ≡ false
+unfolding extended filled
+added-even d r = refl
+
+added-open : (d : DumpView) (r : RowView) → is_open d ≡ true → d.repeats ≡ false → is_open (added d r) ≡ true
+added-open d r open_now even =
+    let size : length (added d r).bytes ≡ length d.bytes + length r.bytes = ap length (added-bytes d r even) ∙ length-append d.bytes r.bytes in
+    grind (arith, nat_tests, size)
+
+closed-text : (d : DumpView) → dump_text (closed d) ≡ []
+unfolding closed
+closed-text d = refl
+
+empty-text : (d : DumpView) (n : ℕ) → lines_text d n ([] ∷ []) ≡ dump_text d
+unfolding step_text dump_after
+empty-text d n = ap (λ (t : List ℕ). dump_text d ++ t) (closed-text d) ∙ append-nil (dump_text d)
+
+open-text : (d : DumpView) → is_open d ≡ true → dump_text d ≡ numbered_text d.first (Some (d.bytes ++ []))
+open-text d open_now = rw open_now (ap (λ (bs : List ℕ). numbered_text d.first (Some bs)) (sym (append-nil d.bytes)))
+
+end-text : (d : DumpView) (n : ℕ) (lines : List (List ℕ)) → IsEnd lines → lines_text d n lines ≡ dump_text d
+end-text d n [] is = refl
+end-text d n ([] ∷ []) is = empty-text d n
+end-text d n ((x ∷ xs) ∷ lines) is = absurd is
+end-text d n ([] ∷ line ∷ lines) is = absurd is
+
+text_of_rows : (d : DumpView) (n : ℕ) (rows : List RowView) (lines : List (List ℕ)) → is_open d ≡ true → d.repeats ≡ false → AreRows d rows lines
+    → lines_text d n lines ≡ numbered_text d.first (Some (d.bytes ++ rows_bytes rows))
+text_of_rows d n [] lines open_now even are = end-text d n lines are ∙ open-text d open_now
+text_of_rows d n (r ∷ rows) [] open_now even are = absurd are
+text_of_rows d n (r ∷ rows) (line ∷ lines) open_now even are =
+    let here : step_text d n line ≡ [] = step_text-row d n line r are.0 in
+    let after : dump_after d n line ≡ added d r = dump_after-row d n line r are.0 in
+    let rest = text_of_rows (added d r) (n + 1) rows lines (added-open d r open_now even) (added-even d r) are.1 in
+    let bytes : (added d r).bytes ++ rows_bytes rows ≡ d.bytes ++ (r.bytes ++ rows_bytes rows) =
+    ap (λ (bs : List ℕ). bs ++ rows_bytes rows) (added-bytes d r even) ∙ append_assoc d.bytes r.bytes (rows_bytes rows) in
+    ap (λ (t : List ℕ). t ++ lines_text (dump_after d n line) (n + 1) lines) here ∙ ap (λ (v : DumpView). lines_text v (n + 1) lines) after
+    ∙ rest ∙ ap (λ (k : ℕ). numbered_text k (Some ((added d r).bytes ++ rows_bytes rows))) (added-first d r) ∙ ap (λ (bs : List ℕ). numbered_text d.first (Some bs)) bytes
+
+first_text : (line : List ℕ) (r : RowView) → IsRow line r → step_text no_dump 1 line ≡ []
+unfolding step_text is_star end_at goes_on
+first_text line r is = rw (is.no_remark, is.not_empty, is.row) refl
+
+first_dump : (line : List ℕ) (r : RowView) → IsRow line r → dump_after no_dump 1 line ≡ begun no_dump 1 r
+unfolding dump_after is_star end_at goes_on closed
+first_dump line r is = rw (is.no_remark, is.not_empty, is.row) refl
+
+begun-open : (r : RowView) → (length r.bytes == 0) ≡ false → is_open (begun no_dump 1 r) ≡ true
+unfolding begun
+begun-open r some = ap not some
+
+begun-bytes : (r : RowView) → (begun no_dump 1 r).bytes ≡ r.bytes
+unfolding begun
+begun-bytes r = refl
+
+begun-first : (r : RowView) → (begun no_dump 1 r).first ≡ 1
+unfolding begun
+begun-first r = refl
+
+begun-even : (r : RowView) → (begun no_dump 1 r).repeats ≡ false
+unfolding begun
+begun-even r = refl
+
+text_of_dump : (rows : List RowView) (lines : List (List ℕ)) → IsDumpOf rows lines → lines_text no_dump 1 lines ≡ numbered_text 1 (Some (rows_bytes rows))
+text_of_dump (r ∷ rows) (line ∷ lines) is =
+    let d : DumpView = begun no_dump 1 r in
+    let rest = text_of_rows d 2 rows lines (begun-open r is.0.has_bytes) (begun-even r) is.1 in
+    ap (λ (t : List ℕ). t ++ lines_text (dump_after no_dump 1 line) 2 lines) (first_text line r is.0) ∙ ap (λ (v : DumpView). lines_text v 2 lines) (first_dump line r is.0)
+    ∙ rest ∙ ap (λ (k : ℕ). numbered_text k (Some (d.bytes ++ rows_bytes rows))) (begun-first r) ∙ ap (λ (bs : List ℕ). numbered_text 1 (Some (bs ++ rows_bytes rows))) (begun-bytes r)
+text_of_dump [] lines is = absurd is
+text_of_dump (r ∷ rows) [] is = absurd is
+
+pub forms_written : (input old new : Option (List ℕ)) → IsDecoded input old new → WritesForms input old new
+forms_written None old new is = tt
+forms_written (Some bytes) old new is = λ rows dump. subst (λ (t : List ℕ). Appends old new t) (text_of_dump rows (slice_split is_line_feed bytes) dump) is

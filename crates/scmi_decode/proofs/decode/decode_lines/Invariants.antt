@@ -1,0 +1,9 @@
+use Rattle.std.proofs.Common.{◌≡◌}
+use Rattle.scmi_decode.proofs.UnderWay.{IsUnderWay}
+use Rattle.scmi_decode.proofs.decode.decode_lines.Given as goal
+
+abbrev pub invariant-lines : goal.invariant-lines
+invariant-lines g l = record {
+  way : IsUnderWay l.fn.input.left l.input.left l.dump l.number (g.W.Write.contents l.fn.writer) (g.W.Write.contents l.writer);
+  stops : l.fn.input.since_failure ≡ 0 → l.input.since_failure ≡ 0;
+}

@@ -1,0 +1,116 @@
+-- A dump over several lines, as far as it was read.
+use Rattle.std.specs.Prelude.{ℕ, zero, suc, ◌+◌, ◌-◌, ◌*◌, ◌/◌, ◌%◌, ◌^◌, ◌==◌, ◌&&◌, ◌||◌, nat_lt, nat_le, not, Bool, true, false, if◌then◌else◌, List, [], ◌∷◌, ◌++◌, length, drop, slice_index, Option, Some, None}
+use Rattle.scmi_codec.specs.declared.area.TheConstants.{AREA_BYTES}
+use Rattle.scmi_decode.specs.Row.{RowView, address_of, first_item, after_item, after_gap}
+use Rattle.scmi_decode.specs.declared.form.Form.{Form}
+use Rattle.scmi_decode.specs.declared.form.Form.TheVariants.{Plain, Marked, Offset}
+
+-- a dump, which has no bytes where none is open: the number of its first line, its form, the address behind its last row, how many bytes its first row has, whether its rows repeat up to the next address, its bytes; and whether an area was found before
+pub record DumpView : Type 0 where
+  pub first : ℕ
+  pub form : Form
+  pub next : ℕ
+  pub width : ℕ
+  pub repeats : Bool
+  pub bytes : List ℕ
+  pub found : Bool
+
+-- no dump, and no area found
+abbrev pub no_dump : DumpView
+no_dump = record { first = 0; form = Plain; next = 0; width = 0; repeats = false; bytes = []; found = false }
+
+-- whether bytes are as many as an area has
+abbrev pub is_area : List ℕ → Bool
+is_area bytes = length bytes == AREA_BYTES
+
+-- whether a dump is open
+abbrev pub is_open : DumpView → Bool
+is_open d = not (length d.bytes == 0)
+
+-- whether two forms are the same
+abbrev pub same_form : Form → Form → Bool
+same_form Plain Plain = true
+same_form Marked Marked = true
+same_form Offset Offset = true
+same_form f g = false
+
+-- whether an address is the one behind the last row, or, where rows repeat, so many rows behind it
+unfoldable pub reaches : DumpView → ℕ → Bool
+reaches d address =
+    if d.repeats then not (d.width == 0) && nat_le d.next address && nat_le (address - d.next) AREA_BYTES && ((address - d.next) % d.width == 0)
+    else address == d.next
+
+-- whether the rows so far have the same length
+abbrev pub is_even : DumpView → Bool
+is_even d = not (d.width == 0) && (length d.bytes % d.width == 0)
+
+-- whether a row goes on with a dump: it has the same form, stands behind the last row, and is not longer than the first; and no shorter row came before it
+unfoldable pub goes_on : DumpView → RowView → Bool
+goes_on d r = is_open d && same_form d.form r.form && is_even d && nat_le (length r.bytes) d.width && (same_form r.form Plain || reaches d r.address)
+
+-- so many copies of bytes
+abbrev pub copies : ℕ → List ℕ → List ℕ
+copies zero row = []
+copies (suc n) row = copies n row ++ row
+
+-- how many rows the last one is repeated before an address
+abbrev pub rows_before : DumpView → ℕ → ℕ
+rows_before d address = if d.repeats && not (d.width == 0) then (address - d.next) / d.width else 0
+
+-- the last row
+abbrev pub last_row : DumpView → List ℕ
+last_row d = drop (length d.bytes - d.width) d.bytes
+
+-- a dump whose last row is repeated up to an address
+unfoldable pub filled : DumpView → ℕ → DumpView
+filled d address = record d { bytes = d.bytes ++ copies (rows_before d address) (last_row d); repeats = false }
+
+-- a dump with a row more behind it
+unfoldable pub extended : DumpView → RowView → DumpView
+extended d r = record d { bytes = d.bytes ++ r.bytes; next = (r.address + length r.bytes) % 2 ^ 64 }
+
+-- a dump that goes on with a row
+abbrev pub added : DumpView → RowView → DumpView
+added d r = extended (filled d r.address) r
+
+-- a dump that begins with a row, at a line of this number
+unfoldable pub begun : DumpView → ℕ → RowView → DumpView
+begun d number r = record {
+  first = number;
+  form = r.form;
+  next = (r.address + length r.bytes) % 2 ^ 64;
+  width = length r.bytes;
+  repeats = false;
+  bytes = r.bytes;
+  found = d.found;
+}
+
+-- a dump that has ended
+unfoldable pub closed : DumpView → DumpView
+closed d = record d { bytes = []; found = d.found || is_area d.bytes }
+
+-- a dump beside which an area was found or not
+unfoldable pub beside : DumpView → Bool → DumpView
+beside d area = record d { found = d.found || area }
+
+-- a dump whose last row repeats
+unfoldable pub repeated : DumpView → DumpView
+repeated d = record d { repeats = true }
+
+-- whether a line has one item
+abbrev pub has_one_item : List ℕ → Bool
+has_one_item line = length (after_gap (after_item line)) == 0
+
+-- whether a line is `*`, by which the last row of a dump with addresses repeats
+unfoldable pub is_star : DumpView → List ℕ → Bool
+is_star d line =
+    is_open d && not (same_form d.form Plain) && (length (first_item line) == 1) && (slice_index (first_item line) 0 == 42) && has_one_item line
+
+-- an address, where a dump reaches it
+abbrev pub if_reached : DumpView → Option ℕ → Option ℕ
+if_reached d None = None
+if_reached d (Some address) = if reaches d address then Some address else None
+
+-- the address of a line that ends a dump as `hexdump` and `od` do: it has an address alone, where the dump's bytes end
+unfoldable pub end_at : DumpView → List ℕ → Option ℕ
+end_at d line = if is_open d && same_form d.form Offset && has_one_item line then if_reached d (address_of Offset (first_item line)) else None

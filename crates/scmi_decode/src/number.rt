@@ -1,0 +1,31 @@
+//! The numbers of addresses.
+ghost use Rattle.std.specs.Prelude.{◌≡◌, length};
+ghost use Rattle.scmi_decode.specs.Row.{digit_value, number_from};
+
+/// The value of a digit of either case, 16 for what is no hexadecimal digit.
+fn digit_value(byte: u8) -> u64
+    ensures { result ≡ digit_value byte }
+{
+    match byte {
+        b'0'..=b'9' => u64::from(byte - b'0'),
+        b'a'..=b'f' => u64::from(byte - b'a') + 10,
+        b'A'..=b'F' => u64::from(byte - b'A') + 10,
+        _ => 16,
+    }
+}
+
+/// The number that digits of a base give behind what stands before them, `None` where one of them is
+/// no digit of the base or the number has more than 64 bits.
+pub(crate) fn number_from(base: u64, before: u64, digits: &[u8]) -> Option<u64>
+    ensures { result ≡ number_from base before digits.now }
+{
+    let [digit, digits @ ..] = digits else {
+        return Some(before);
+    };
+    let value = digit_value(*digit);
+    if value >= base {
+        return None;
+    }
+    let number = before.checked_mul(base)?.checked_add(value)?;
+    number_from(base, number, digits)
+}

@@ -1,0 +1,276 @@
+//! A dump over several lines.
+ghost use Rattle.std.specs.Prelude.{◌≡◌, ◌+◌, ◌%◌, ◌^◌, length, OnOk, IfOk};
+ghost use Rattle.scmi_decode.specs.OpenDump.{no_dump, is_open, is_area, same_form, reaches, is_even, goes_on, copies, rows_before, last_row, filled, extended, added, begun, closed, beside, repeated, has_one_item, is_star, end_at};
+
+use crate::form::Form;
+use crate::row::{Row, address_of};
+use crate::scan::{after_gap, after_item, first_item};
+use scmi_codec::AREA_BYTES;
+use std::alloc::{AllocError, Global};
+use std::marker::Model;
+
+/// A dump over several lines, as far as it was read, and whether an area was found before it.
+#[derive(Drop)]
+pub(crate) struct OpenDump {
+    first: usize,
+    form: Form,
+    next: u64,
+    width: usize,
+    repeats: bool,
+    bytes: Vec<u8>,
+    found: bool,
+}
+
+impl Model for OpenDump {
+    ghost use Rattle.scmi_decode.specs.OpenDump.{DumpView};
+
+    ghost Value = { DumpView };
+
+    ghost view = { λ d. record {
+      first = d.first;
+      form = d.form;
+      next = d.next;
+      width = d.width;
+      repeats = d.repeats;
+      bytes = d.bytes.items;
+      found = d.found;
+    } };
+}
+
+impl OpenDump {
+    /// No dump, and no area found.
+    pub(crate) fn new(alloc: Global) -> OpenDump
+        ensures { result ≡ no_dump }
+    {
+        OpenDump {
+            first: 0,
+            form: Form::Plain,
+            next: 0,
+            width: 0,
+            repeats: false,
+            bytes: Vec::new(alloc),
+            found: false,
+        }
+    }
+
+    /// Whether a dump is open.
+    pub(crate) fn is_open(&self) -> bool
+        ensures { result ≡ is_open self.now }
+    {
+        !self.bytes.is_empty()
+    }
+
+    /// The number of its first line.
+    pub(crate) fn first(&self) -> usize
+        ensures { result ≡ self.now.first }
+    {
+        self.first
+    }
+
+    pub(crate) fn bytes(&self) -> &[u8]
+        ensures { result.now ≡ self.now.bytes }
+    {
+        self.bytes.as_slice()
+    }
+
+    /// Whether an area was found.
+    pub(crate) fn found(&self) -> bool
+        ensures { result ≡ self.now.found }
+    {
+        self.found
+    }
+
+    /// Whether a row goes on with the dump.
+    #[tactic(auto, unfolding(crate::specs::OpenDump::goes_on))]
+    pub(crate) fn goes_on(&self, row: &Row) -> bool
+        ensures { result ≡ goes_on self.now row.now }
+    {
+        self.is_open()
+            && same_form(self.form, row.form())
+            && self.is_even()
+            && row.bytes().len() <= self.width
+            && (same_form(row.form(), Form::Plain) || self.reaches(row.address()))
+    }
+
+    /// Whether the rows so far have the same length.
+    fn is_even(&self) -> bool
+        ensures { result ≡ is_even self.now }
+    {
+        self.width != 0 && self.bytes.len() % self.width == 0
+    }
+
+    /// Whether an address is the one behind the last row, or, where rows repeat, so many rows behind it.
+    #[tactic(auto, unfolding(crate::specs::OpenDump::reaches))]
+    fn reaches(&self, address: u64) -> bool
+        ensures { result ≡ reaches self.now address }
+    {
+        if !self.repeats {
+            return address == self.next;
+        }
+        self.width != 0
+            && self.next <= address
+            && address - self.next <= AREA_BYTES as u64
+            && (address - self.next) % self.width as u64 == 0
+    }
+
+    /// How many rows the last one is repeated before an address.
+    fn rows_before(&self, address: u64) -> u64
+        ensures { result ≡ rows_before self.now address }
+    {
+        if self.repeats && self.width != 0 {
+            address.saturating_sub(self.next) / self.width as u64
+        } else {
+            0
+        }
+    }
+
+    /// The last row.
+    fn last_row(&self) -> &[u8]
+        ensures { result.now ≡ last_row self.now }
+    {
+        &self.bytes[self.bytes.len().saturating_sub(self.width)..]
+    }
+
+    /// Repeats the last row up to an address.
+    #[tactic(auto, unfolding(crate::specs::OpenDump::filled))]
+    pub(crate) fn fill(&mut self, alloc: Global, address: u64) -> Result<(), AllocError>
+        ensures { OnOk result (self.new ≡ filled self.old address) }
+    {
+        let count = self.rows_before(address);
+        let row = copies(alloc, count, self.last_row())?;
+        self.bytes.extend_from_slice(row.as_slice())?;
+        self.repeats = false;
+        Ok(())
+    }
+
+    /// Goes on with a row.
+    #[tactic(auto, unfolding(crate::specs::OpenDump::extended))]
+    fn extend(&mut self, row: &Row) -> Result<(), AllocError>
+        ensures { OnOk result (self.new ≡ extended self.old row.now) }
+    {
+        self.bytes.extend_from_slice(row.bytes())?;
+        self.next = end_of(row);
+        Ok(())
+    }
+
+    /// Goes on with a row, after its last row is repeated up to there.
+    pub(crate) fn add(&mut self, alloc: Global, row: &Row) -> Result<(), AllocError>
+        ensures { OnOk result (self.new ≡ added self.old row.now) }
+    {
+        self.fill(alloc, row.address())?;
+        self.extend(row)
+    }
+
+    /// Begins with a row, at a line of this number.
+    #[tactic(auto, unfolding(crate::specs::OpenDump::begun))]
+    pub(crate) fn begin(&mut self, number: usize, row: &Row) -> Result<(), AllocError>
+        ensures { OnOk result (self.new ≡ begun self.old number row.now) }
+    {
+        self.bytes.clear();
+        self.bytes.extend_from_slice(row.bytes())?;
+        self.first = number;
+        self.form = row.form();
+        self.next = end_of(row);
+        self.width = row.bytes().len();
+        self.repeats = false;
+        Ok(())
+    }
+
+    /// Ends.
+    #[tactic(auto, unfolding(crate::specs::OpenDump::closed))]
+    pub(crate) fn close(&mut self)
+        ensures { self.new ≡ closed self.old }
+    {
+        self.found = self.found || is_area(self.bytes.as_slice());
+        self.bytes.clear();
+    }
+
+    /// Notes whether an area was found beside the dump.
+    #[tactic(auto, unfolding(crate::specs::OpenDump::beside))]
+    pub(crate) fn note(&mut self, area: bool)
+        ensures { self.new ≡ beside self.old area }
+    {
+        self.found = self.found || area;
+    }
+
+    /// Whether a line is `*`, by which the last row of a dump with addresses repeats.
+    #[tactic(auto, unfolding(crate::specs::OpenDump::is_star))]
+    pub(crate) fn is_star(&self, line: &[u8]) -> bool
+        ensures { result ≡ is_star self.now line.now }
+    {
+        let item = first_item(line);
+        self.is_open()
+            && !same_form(self.form, Form::Plain)
+            && item.len() == 1
+            && item[0] == b'*'
+            && has_one_item(line)
+    }
+
+    /// Repeats the last row up to the next address.
+    #[tactic(auto, unfolding(crate::specs::OpenDump::repeated))]
+    pub(crate) fn repeat(&mut self)
+        ensures { self.new ≡ repeated self.old }
+    {
+        self.repeats = true;
+    }
+
+    /// The address of a line that ends the dump as `hexdump` and `od` do: it has an address alone, where
+    /// the dump's bytes end.
+    #[tactic(auto, unfolding(crate::specs::OpenDump::end_at))]
+    pub(crate) fn end_at(&self, line: &[u8]) -> Option<u64>
+        ensures { result ≡ end_at self.now line.now }
+    {
+        if !(self.is_open() && same_form(self.form, Form::Offset) && has_one_item(line)) {
+            return None;
+        }
+        let address = address_of(Form::Offset, first_item(line))?;
+        if self.reaches(address) {
+            Some(address)
+        } else {
+            None
+        }
+    }
+}
+
+/// The address behind a row.
+fn end_of(row: &Row) -> u64
+    ensures { result ≡ (row.now.address + length row.now.bytes) % 2 ^ 64 }
+{
+    row.address().wrapping_add(row.bytes().len() as u64)
+}
+
+/// Whether bytes are as many as an area has.
+pub(crate) fn is_area(bytes: &[u8]) -> bool
+    ensures { result ≡ is_area bytes.now }
+{
+    bytes.len() == AREA_BYTES
+}
+
+/// Whether two forms are the same.
+fn same_form(first: Form, second: Form) -> bool
+    ensures { result ≡ same_form first second }
+{
+    match (first, second) {
+        (Form::Plain, Form::Plain) | (Form::Marked, Form::Marked) | (Form::Offset, Form::Offset) =>
+            true,
+        _ => false,
+    }
+}
+
+/// Whether a line has one item.
+fn has_one_item(line: &[u8]) -> bool
+    ensures { result ≡ has_one_item line.now }
+{
+    after_gap(after_item(line)).is_empty()
+}
+
+/// So many copies of bytes.
+fn copies(alloc: Global, count: u64, row: &[u8]) -> Result<Vec<u8>, AllocError>
+    ensures { IfOk result (λ all. all.items ≡ copies count row.now) }
+{
+    let mut all = Vec::new(alloc);
+    'copies: for _ in 0..count {
+        all.extend_from_slice(row)?;
+    }
+    Ok(all)
+}

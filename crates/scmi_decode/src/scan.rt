@@ -1,0 +1,95 @@
+//! The items of a line, from its begin on.
+ghost use Rattle.std.specs.Prelude.{◌≡◌, ◌≤◌, length};
+ghost use Rattle.scmi_decode.specs.Row.{gap_length, item_length, after_gap, first_item, after_item, column_length, bar_length, begins_with_space};
+
+use crate::lines::is_gap;
+
+/// How many bytes of the gap at the begin.
+fn gap_length(line: &[u8]) -> usize
+    ensures value { result ≡ gap_length line.now }
+    ensures bound { result ≤ length line.now }
+{
+    let [byte, rest @ ..] = line else {
+        return 0;
+    };
+    if is_gap(*byte) {
+        1 + gap_length(rest)
+    } else {
+        0
+    }
+}
+
+/// How many bytes stand before the first gap.
+fn item_length(line: &[u8]) -> usize
+    ensures value { result ≡ item_length line.now }
+    ensures bound { result ≤ length line.now }
+{
+    let [byte, rest @ ..] = line else {
+        return 0;
+    };
+    if is_gap(*byte) {
+        0
+    } else {
+        1 + item_length(rest)
+    }
+}
+
+/// What stands behind the gap at the begin.
+pub(crate) fn after_gap(line: &[u8]) -> &[u8]
+    ensures { result.now ≡ after_gap line.now }
+{
+    &line[gap_length(line)..]
+}
+
+/// The first item of a line.
+pub(crate) fn first_item(line: &[u8]) -> &[u8]
+    ensures { result.now ≡ first_item line.now }
+{
+    let line = after_gap(line);
+    &line[..item_length(line)]
+}
+
+/// What stands behind the first item of a line.
+pub(crate) fn after_item(line: &[u8]) -> &[u8]
+    ensures { result.now ≡ after_item line.now }
+{
+    let line = after_gap(line);
+    &line[item_length(line)..]
+}
+
+/// How many bytes stand before two spaces in a row.
+pub(crate) fn column_length(line: &[u8]) -> usize
+    ensures value { result ≡ column_length line.now }
+    ensures bound { result ≤ length line.now }
+{
+    let [byte, rest @ ..] = line else {
+        return 0;
+    };
+    if *byte == b' ' && begins_with_space(rest) {
+        return 0;
+    }
+    1 + column_length(rest)
+}
+
+fn begins_with_space(line: &[u8]) -> bool
+    ensures { result ≡ begins_with_space line.now }
+{
+    match line {
+        [byte, ..] => *byte == b' ',
+        [] => false,
+    }
+}
+
+/// How many bytes stand before `|` or `>`.
+pub(crate) fn bar_length(line: &[u8]) -> usize
+    ensures value { result ≡ bar_length line.now }
+    ensures bound { result ≤ length line.now }
+{
+    let [byte, rest @ ..] = line else {
+        return 0;
+    };
+    if *byte == b'|' || *byte == b'>' {
+        return 0;
+    }
+    1 + bar_length(rest)
+}

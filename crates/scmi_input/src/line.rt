@@ -1,0 +1,51 @@
+//! An input that is read a line at a time.
+ghost use Rattle.std.specs.Prelude.{◌≡◌, ◌<◌, ◌≤◌, ◌+◌, ◌∷◌, ◌++◌, [], length, Some, IfErr, IfOk, IsErrOf, OnOk, IfSome};
+ghost use Rattle.scmi_input.specs.Lines.{first_line, after_line, has_line_feed};
+ghost use Rattle.scmi_input.specs.Reads.{StopsAtFailure};
+
+use crate::counted_read::CountedRead;
+use crate::input::{INPUT_BYTES, Input};
+use crate::input_error::InputError;
+
+impl<R: CountedRead + Drop> Input<R> {
+    /// The next line, without its line feed, in place of what `line` has; and whether a line feed ended
+    /// it: where none did, it is the last. By at most `INPUT_BYTES + 1` reads. `Size` where the line is
+    /// longer than `INPUT_BYTES`; `Read` at a read that fails, or where reads are interrupted so often
+    /// that these are not enough; `Memory` where memory is refused.
+    pub fn read_line(&mut self, line: &mut Vec<u8>) -> Result<bool, InputError>
+        ensures reads { self.new.reads ≤ self.old.reads + (INPUT_BYTES + 1) }
+        ensures stops { StopsAtFailure result self.old.since_failure self.new.since_failure }
+        ensures line { OnOk result
+            (IfSome self.old.left (λ input. line.new.items ≡ first_line input)) }
+        ensures rest { OnOk result
+            (IfSome self.old.left (λ input. self.new.left ≡ Some (after_line input))) }
+        ensures ended { IfOk result (λ ended.
+            IfSome self.old.left (λ input. ended ≡ has_line_feed input)) }
+        ensures size { IsErrOf result InputError.Size →
+            IfSome self.old.left (λ input. INPUT_BYTES < length (first_line input)) }
+    {
+        line.clear();
+        let mut tries = INPUT_BYTES + 1;
+        'bytes: for _ in 0..INPUT_BYTES + 1 {
+            let Some(byte) = self.next_byte(&mut tries)? else {
+                return Ok(false);
+            };
+            if byte == b'\n' {
+                return Ok(true);
+            }
+            push_byte(line, byte)?;
+        }
+        Err(InputError::Size)
+    }
+}
+
+/// Adds a byte to a line.
+fn push_byte(line: &mut Vec<u8>, byte: u8) -> Result<(), InputError>
+    ensures bytes { OnOk result (line.new.items ≡ line.old.items ++ byte ∷ []) }
+    ensures errors { IfErr result (λ e. e ≡ InputError.Memory) }
+{
+    match line.push(byte) {
+        Ok(()) => Ok(()),
+        Err(_) => Err(InputError::Memory),
+    }
+}
