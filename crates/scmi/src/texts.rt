@@ -67,7 +67,8 @@ Draws a session of one thread as a sequence chart.
 
 Usage: scmi chart [FILE]
 
-The input is that of scmi run in the modes steps words and steps rings, at most 2,000 steps.
+The input is that of scmi run in the modes steps words, steps rings, hardware words and
+hardware rings, at most 2,000 steps.
 The output is an SVG. docs/CHART.md has the signs.
 
 Example: scmi chart examples/two_agents.in > run.svg

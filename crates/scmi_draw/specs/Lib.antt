@@ -1,4 +1,4 @@
 pub mod DrawError
-pub mod Kind
+pub mod Mode
 pub mod Reads
 pub mod Run

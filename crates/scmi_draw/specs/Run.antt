@@ -1,5 +1,6 @@
 -- The chart of a run.
 use Rattle.std.specs.Prelude.{◌≡◌, ◌≤◌, ℕ, Bool, true, false, List, [], ◌∷◌, Option, Result, length, map}
+use Rattle.std.specs.List.{All}
 use Rattle.std.specs.Io.KnownBytes.{Appends}
 use Rattle.scmi_link.specs.View.{CallerView}
 use Rattle.scmi_link.specs.RingCaller.{ring_caller_view, ring_close_shows}
@@ -8,6 +9,7 @@ use Rattle.scmi_link.specs.declared.close_error.CloseError.{CloseError}
 use Rattle.scmi_words.specs.WordCaller.{word_caller_view, CloseShows}
 use Rattle.scmi_plan.specs.Board.{Board}
 use Rattle.scmi_ends.specs.Shut.{ShowsClose}
+use Rattle.scmi_text.specs.Step.{IsWithoutHardware}
 use Rattle.scmi_text.specs.declared.step.Step.{Step}
 use Rattle.scmi_text.specs.declared.step_line.StepLine.{StepLine}
 use Rattle.scmi_session.specs.SessionView.{SessionView}
@@ -15,8 +17,11 @@ use Rattle.scmi_session.specs.Run.{Runs}
 use Rattle.scmi_svg.specs.Chart.{svg_text}
 use Rattle.scmi_svg.specs.declared.chart.Chart.{Chart}
 use Rattle.scmi_chart.specs.Signs.{sign_of, run_signs}
+use Rattle.scmi_draw.specs.Mode.{kind_of}
 use Rattle.scmi_draw.specs.declared.kind.Kind.{Kind}
 use Rattle.scmi_draw.specs.declared.kind.Kind.TheVariants.{Rings, Words}
+use Rattle.scmi_draw.specs.declared.mode.Mode.{Mode}
+use Rattle.scmi_draw.specs.declared.mode.Mode.TheVariants.{Steps, Hardware}
 
 -- whether a channel of this kind may have no place for a post
 abbrev pub may_be_full : Kind → Bool
@@ -35,16 +40,22 @@ pub record ShowsRun (full : Bool) (Shows : CallerView → Result Closing CloseEr
   pub made : Runs full Shows board steps lines last
   pub marks : map sign_of chart.marks.items ≡ run_signs steps lines
 
--- the chart shows a run of at most 2,000 steps on some board, over channels of this kind
-pub record ShowsScript (kind : Kind) (chart : Chart) : Type 0 where
+-- a script of this mode may have the step
+abbrev pub MayHave : Mode → Step → Type 0
+MayHave (Steps kind) step = IsWithoutHardware step
+MayHave (Hardware kind) step = Unit {0}
+
+-- the chart shows a run of at most 2,000 steps on some board, each of which a script of this mode may have, over its kind of channel
+pub record ShowsScript (mode : Mode) (chart : Chart) : Type 0 where
   pub board : Board
   pub steps : List Step
   pub few : length steps ≤ 2000
-  pub shown : ShowsRun (may_be_full kind) (shows_close kind) board steps chart
+  pub allowed : All (MayHave mode) steps
+  pub shown : ShowsRun (may_be_full (kind_of mode)) (shows_close (kind_of mode)) board steps chart
 
 -- what is written is the picture of a run
 pub record IsPicture (old new : Option (List ℕ)) : Type 0 where
-  pub kind : Kind
+  pub mode : Mode
   pub chart : Chart
-  pub shown : ShowsScript kind chart
+  pub shown : ShowsScript mode chart
   pub text : Appends old new (svg_text chart)

@@ -5,7 +5,7 @@ ghost use Rattle.scmi_draw.specs.Reads.{StopsAtFailure};
 ghost use Rattle.scmi_draw.specs.Run.{IsPicture};
 
 use crate::draw_error::DrawError;
-use crate::kind::Kind;
+use crate::mode::Mode;
 use crate::run::chart_of;
 use scmi_input::{CountedRead, CountedReader, Input, read_rest};
 use scmi_svg::write_chart;
@@ -56,9 +56,9 @@ pub fn draw<R: CountedRead + Drop, W: Write>(
     ensures stops { StopsAtFailure result input.old.since_failure input.new.since_failure }
 {
     let line = input.read_first_line()?;
-    let kind = Kind::of_line(&line).ok_or(DrawError::Mode)?;
+    let mode = Mode::of_line(&line).ok_or(DrawError::Mode)?;
     let bytes = read_rest(alloc, input)?;
-    let chart = chart_of(alloc, kind, &bytes)?;
+    let chart = chart_of(alloc, mode, &bytes)?;
     match write_chart(writer, &chart) {
         Ok(()) => Ok(()),
         Err(_) => Err(DrawError::Write),

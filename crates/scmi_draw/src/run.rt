@@ -4,39 +4,60 @@ ghost use Rattle.std.specs.List.{All};
 ghost use Rattle.scmi_ends.specs.Shut.{ShowsClose};
 ghost use Rattle.scmi_text.specs.Step.{IsStepOf};
 ghost use Rattle.scmi_draw.specs.DrawError.{fault_of_plan, status_of};
-ghost use Rattle.scmi_draw.specs.Run.{ShowsRun, ShowsScript};
+ghost use Rattle.scmi_draw.specs.Run.{MayHave, ShowsRun, ShowsScript};
 
 use crate::draw_error::DrawError;
 use crate::kind::Kind;
-use scmi_board::{Lines, TextLine, read_board};
+use crate::mode::Mode;
+use scmi_board::{Lines, TextError, TextLine, read_board};
 use scmi_chart::Recorder;
 use scmi_link::{Channel, RingChannel};
 use scmi_plan::{Plan, RawPlan};
 use scmi_session::Session;
 use scmi_svg::Chart;
-use scmi_text::{Step, StepList, read_steps};
+use scmi_text::{Step, StepList, read_hardware_steps, read_steps};
 use scmi_words::WordChannel;
 use std::alloc::{AllocError, Global};
 
 /// The most lines of a script.
 pub const STEPS: usize = 2_000;
 
-/// The chart of the run of a board and a script, over channels of this kind. `Board`, `Script`, `Size`
-/// and `Plan`, in this order, where the input is refused; `Memory` where memory is refused.
-pub fn chart_of(alloc: Global, kind: Kind, bytes: &[u8]) -> Result<Chart, DrawError>
-    ensures shown { IfOk result (ShowsScript kind) }
+/// The chart of the run of a board and a script in this mode. `Board`, `Script`, `Size` and `Plan`, in
+/// this order, where the input is refused; `Memory` where memory is refused.
+pub fn chart_of(alloc: Global, mode: Mode, bytes: &[u8]) -> Result<Chart, DrawError>
+    ensures shown { IfOk result (ShowsScript mode) }
 {
     let mut lines = Lines::new(bytes);
     let board = read_board(alloc, &mut lines)?;
-    let steps = read_steps(alloc, &mut lines, board.agent_count()?)?;
+    let steps = read_script(alloc, mode, &mut lines, board.agent_count()?)?;
     if steps.len() > STEPS {
         return Err(DrawError::Size);
     }
     let plan = Plan::check(alloc, &board)?;
     let mut lines = behind_board(bytes);
-    match kind {
-        Kind::Rings => step_through::<RingChannel>(alloc, kind, plan, &board, &steps, &mut lines),
-        Kind::Words => step_through::<WordChannel>(alloc, kind, plan, &board, &steps, &mut lines),
+    match mode {
+        Mode::Steps(Kind::Rings) | Mode::Hardware(Kind::Rings) => {
+            step_through::<RingChannel>(alloc, mode, plan, &board, &steps, &mut lines)
+        }
+        Mode::Steps(Kind::Words) | Mode::Hardware(Kind::Words) => {
+            step_through::<WordChannel>(alloc, mode, plan, &board, &steps, &mut lines)
+        }
+    }
+}
+
+/// The steps of all lines that are left, in a script of this mode.
+fn read_script(
+    alloc: Global,
+    mode: Mode,
+    lines: &mut Lines<'_>,
+    agents: u32,
+) -> Result<StepList, TextError>
+    ensures agents { IfOk result (λ steps. All (IsStepOf agents) steps) }
+    ensures kinds { IfOk result (λ steps. All (MayHave mode) steps) }
+{
+    match mode {
+        Mode::Steps(_) => read_steps(alloc, lines, agents),
+        Mode::Hardware(_) => read_hardware_steps(alloc, lines, agents),
     }
 }
 
@@ -54,7 +75,7 @@ fn behind_board(bytes: &[u8]) -> Lines<'_> {
 /// Makes the steps one by one, and records each.
 fn step_through<C: Channel>(
     alloc: Global,
-    kind: Kind,
+    mode: Mode,
     plan: Plan,
     board: &RawPlan,
     steps: &StepList,
@@ -76,7 +97,7 @@ fn step_through<C: Channel>(
     let title = format!(in alloc; "{} {}", board.vendor, board.sub_vendor)?;
     let subtitle = format!(in alloc;
         "{}, {} steps, a history of {events} events",
-        kind.line(),
+        mode.line(),
         steps.len()
     )?;
     Ok(recorder.finish(title.into_bytes(), subtitle.into_bytes())?)
