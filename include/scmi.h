@@ -2,15 +2,18 @@
  * The platform controller of SCMI (DEN0056B, version 2.0) for a program in C: libscmi_c.a.
  *
  * An area is the shared memory of a channel as the standard lays it out: SCMI_AREA_BYTES bytes, words
- * little-endian, the status word at 0x04 (bit 0: the channel is free), the length of header and payload at
- * 0x14, the header at 0x18, the payload from 0x1c on. A free area has status word 1; one of zeros holds a
- * malformed frame of length 0.
+ * little-endian, at the places listed below. A free area has status word 1; one of zeros holds a malformed frame
+ * of length 0.
  *
  * Every call gives a number from the list below; after any but SCMI_DONE nothing has changed, neither the
- * platform, nor an area, nor what else it was given. It takes one call on a platform at a time. All calls
- * on one platform come from one thread; two threads may each have a platform of their own. No call waits,
- * keeps a pointer that it was given, or reads or writes but what it was given and the platform's own block.
- * No call may come from a signal handler.
+ * platform, nor an area, nor what else it was given. No call waits, keeps a pointer that it was given, or reads or
+ * writes but what it was given and the platform's own block.
+ *
+ * Calls on one platform may come from any thread and from any core, one at a time, each seeing what the call before
+ * it wrote: a lock around each call is enough, with its acquire and its release. Nothing is kept by thread or by
+ * core. Calls on two platforms may run at the same time, but for those that take or give back memory, where the
+ * program's three calls for memory do not allow it. No call may interrupt another on the same platform, so none may
+ * come from a signal handler or an interrupt while the lock is not taken.
  *
  * What this program must see to: that a handle is zero before its first use, and never copied or written;
  * that a pointer leads to as many bytes as its type says, which nobody else reads or writes during the call.
@@ -30,8 +33,44 @@
 extern "C" {
 #endif
 
+/* The version of this header and of the library that came with it. */
+#define SCMI_VERSION "0.9.0-dev"
+
 #define SCMI_AREA_BYTES 284
 #define SCMI_PAYLOAD_WORDS 64
+
+/* The places of the words of an area, in bytes from its start. */
+enum {
+    SCMI_AREA_STATUS = 0x04, /* bit 0: the channel is free; bit 1 beside it: a channel error */
+    SCMI_AREA_FLAGS = 0x10,  /* of the agent: bit 0 asks for an interrupt when the reply is there */
+    SCMI_AREA_LENGTH = 0x14, /* of header and payload, in bytes */
+    SCMI_AREA_HEADER = 0x18,
+    SCMI_AREA_PAYLOAD = 0x1c
+};
+
+#if defined(__GNUC__)
+#define SCMI_EXTENSION __extension__
+#else
+#define SCMI_EXTENSION
+#endif
+
+/*
+ * An area that this program alone has: a copy of one, or one that it makes. Its bytes are what the calls take; its
+ * words, which are aligned, are the machine's own on the little-endian machines that the library is for.
+ */
+typedef union scmi_area {
+    uint8_t bytes[SCMI_AREA_BYTES];
+    uint32_t words[SCMI_AREA_BYTES / 4];
+    SCMI_EXTENSION struct {
+        uint32_t reserved;
+        uint32_t status;
+        uint32_t reserved_too[2];
+        uint32_t flags;
+        uint32_t length;
+        uint32_t header;
+        uint32_t payload[SCMI_PAYLOAD_WORDS];
+    };
+} scmi_area;
 
 enum {
     SCMI_DONE = 0,
@@ -140,13 +179,22 @@ uint32_t scmi_history_length(scmi_platform *platform, uint64_t *events);
 /* Frees a platform. The handle then holds none; where it held none nothing is done. */
 void scmi_platform_free(scmi_platform *platform);
 
-/* What the compiler can see of them: an area is 28 bytes and the payload, a handle one pointer. */
+/* What the compiler can see of them: an area is 28 bytes and the payload, each word at its place, a handle one pointer. */
 #if defined(__cplusplus) && __cplusplus >= 201103L
-static_assert(SCMI_AREA_BYTES == 28 + 4 * SCMI_PAYLOAD_WORDS, "the size of an area");
-static_assert(sizeof(scmi_platform) == sizeof(void *), "the size of a handle");
+#define SCMI_HOLDS(what, says) static_assert(what, says)
 #elif defined(__STDC_VERSION__) && __STDC_VERSION__ >= 201112L
-_Static_assert(SCMI_AREA_BYTES == 28 + 4 * SCMI_PAYLOAD_WORDS, "the size of an area");
-_Static_assert(sizeof(scmi_platform) == sizeof(void *), "the size of a handle");
+#define SCMI_HOLDS(what, says) _Static_assert(what, says)
+#endif
+#ifdef SCMI_HOLDS
+SCMI_HOLDS(SCMI_AREA_BYTES == SCMI_AREA_PAYLOAD + 4 * SCMI_PAYLOAD_WORDS, "the size of an area");
+SCMI_HOLDS(sizeof(scmi_area) == SCMI_AREA_BYTES, "the size of a copy");
+SCMI_HOLDS(offsetof(scmi_area, status) == SCMI_AREA_STATUS, "the place of the status word");
+SCMI_HOLDS(offsetof(scmi_area, flags) == SCMI_AREA_FLAGS, "the place of the flags");
+SCMI_HOLDS(offsetof(scmi_area, length) == SCMI_AREA_LENGTH, "the place of the length");
+SCMI_HOLDS(offsetof(scmi_area, header) == SCMI_AREA_HEADER, "the place of the header");
+SCMI_HOLDS(offsetof(scmi_area, payload) == SCMI_AREA_PAYLOAD, "the place of the payload");
+SCMI_HOLDS(sizeof(scmi_platform) == sizeof(void *), "the size of a handle");
+#undef SCMI_HOLDS
 #endif
 
 /* The library's numbers: each is the macro or constant of its name above (scmi_header_fits). */

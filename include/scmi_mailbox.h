@@ -50,38 +50,15 @@ typedef struct scmi_mailbox {
     uint32_t payload_words; /* SCMI_MAILBOX_LEAST_WORDS to SCMI_PAYLOAD_WORDS */
 } scmi_mailbox;
 
-/* An area that this program alone has, its words in the order of the standard. */
-typedef struct scmi_area {
-    uint32_t reserved;
-    uint32_t status;
-    uint32_t reserved_too[2];
-    uint32_t flags;
-    uint32_t length; /* of header and payload, in bytes */
-    uint32_t header;
-    uint32_t payload[SCMI_PAYLOAD_WORDS];
-} scmi_area;
-
-#if defined(__cplusplus) && __cplusplus >= 201103L
-static_assert(sizeof(scmi_area) == SCMI_AREA_BYTES, "a copy has the size of an area");
-#elif defined(__STDC_VERSION__) && __STDC_VERSION__ >= 201112L
-_Static_assert(sizeof(scmi_area) == SCMI_AREA_BYTES, "a copy has the size of an area");
-#endif
-
-/* The bytes of a copy, for the calls of scmi.h. */
-static inline uint8_t *scmi_area_bytes(scmi_area *area)
-{
-    return (uint8_t *)area;
-}
-
 /* ---- What the calls are made of. */
 
-/* The places of the words in an area. */
+/* The numbers of the words of an area. */
 enum {
-    SCMI_AT_STATUS = 1,
-    SCMI_AT_FLAGS = 4,
-    SCMI_AT_LENGTH = 5,
-    SCMI_AT_HEADER = 6,
-    SCMI_AT_PAYLOAD = 7
+    SCMI_AT_STATUS = SCMI_AREA_STATUS / 4,
+    SCMI_AT_FLAGS = SCMI_AREA_FLAGS / 4,
+    SCMI_AT_LENGTH = SCMI_AREA_LENGTH / 4,
+    SCMI_AT_HEADER = SCMI_AREA_HEADER / 4,
+    SCMI_AT_PAYLOAD = SCMI_AREA_PAYLOAD / 4
 };
 
 static inline uint32_t scmi_shared_load(const scmi_mailbox *box, uint32_t at)
@@ -227,7 +204,7 @@ static inline uint32_t scmi_mailbox_serve(const scmi_mailbox *box, scmi_platform
     uint32_t given = scmi_mailbox_take(box, &area);
 
     if (given == SCMI_DONE)
-        given = scmi_answer(platform, agent, scmi_area_bytes(&area));
+        given = scmi_answer(platform, agent, area.bytes);
     return given == SCMI_DONE ? scmi_mailbox_answer(box, &area) : given;
 }
 
@@ -238,11 +215,11 @@ static inline uint32_t scmi_mailbox_serve(const scmi_mailbox *box, scmi_platform
  */
 static inline uint32_t scmi_mailbox_tell(const scmi_mailbox *box, scmi_platform *platform, uint32_t agent)
 {
-    scmi_area area = { 0, 0, { 0, 0 }, 0, 0, 0, { 0 } };
+    scmi_area area = { { 0 } };
     uint32_t given;
 
     area.status = scmi_shared_status(box) & SCMI_MAILBOX_FREE;
-    given = scmi_next(platform, agent, scmi_area_bytes(&area));
+    given = scmi_next(platform, agent, area.bytes);
     if (given == SCMI_DONE && !scmi_length_fits(area.length, box->payload_words))
         given = SCMI_MAILBOX_LENGTH;
     if (given == SCMI_DONE)

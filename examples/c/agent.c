@@ -55,22 +55,22 @@ static void refuse(void)
 
     printf("no reply is awaited: %u\n", (unsigned)scmi_agent_reply(&agent, area));
     printf("a busy area: %u\n", (unsigned)scmi_agent_base_protocol_version(&agent, area));
-    area_set_word(area, AREA_STATUS, STATUS_FREE);
+    area_set_word(area, SCMI_AREA_STATUS, STATUS_FREE);
     printf("posted: %u", (unsigned)scmi_agent_base_protocol_version(&agent, area));
     printf(", again: %u\n", (unsigned)scmi_agent_base_protocol_version(&agent, area));
     scmi_answer(&platform, 1, area);
-    area_set_word(area, AREA_HEADER, area_word(area, AREA_HEADER) ^ 1 << 18);
+    area_set_word(area, SCMI_AREA_HEADER, area_word(area, SCMI_AREA_HEADER) ^ 1 << 18);
     printf("of another token: %u", (unsigned)scmi_agent_reply(&agent, area));
-    area_set_word(area, AREA_HEADER, area_word(area, AREA_HEADER) ^ 1 << 18);
-    area_set_word(area, AREA_LENGTH, 8);
+    area_set_word(area, SCMI_AREA_HEADER, area_word(area, SCMI_AREA_HEADER) ^ 1 << 18);
+    area_set_word(area, SCMI_AREA_LENGTH, 8);
     printf(", a word too few: %u", (unsigned)scmi_agent_reply(&agent, area));
-    area_set_word(area, AREA_LENGTH, 7);
+    area_set_word(area, SCMI_AREA_LENGTH, 7);
     printf(", no length: %u", (unsigned)scmi_agent_reply(&agent, area));
-    area_set_word(area, AREA_STATUS, 3);
+    area_set_word(area, SCMI_AREA_STATUS, 3);
     printf(", channel error: %u", (unsigned)scmi_agent_reply(&agent, area));
-    area_set_word(area, AREA_STATUS, STATUS_FREE);
-    area_set_word(area, AREA_LENGTH, 8);
-    area_set_word(area, AREA_PAYLOAD, 1);
+    area_set_word(area, SCMI_AREA_STATUS, STATUS_FREE);
+    area_set_word(area, SCMI_AREA_LENGTH, 8);
+    area_set_word(area, SCMI_AREA_PAYLOAD, 1);
     printf(", no status: %u\n", (unsigned)scmi_agent_reply(&agent, area));
     printf("token %u, outstanding %u", (unsigned)agent.next, (unsigned)agent.posted);
     scmi_agent_forget(&agent);
@@ -84,7 +84,7 @@ int main(void)
     if (!scmi_header_fits())
         return printf("scmi.h is not the library's\n"), 1;
     printf("new %u\n", (unsigned)scmi_platform_new_in(&platform, memory, sizeof(memory), (const uint8_t *)board, strlen(board)));
-    area_set_word(area, AREA_STATUS, STATUS_FREE);
+    area_set_word(area, SCMI_AREA_STATUS, STATUS_FREE);
     answer("clock version", scmi_agent_clock_protocol_version(&agent, area), area);
     answer("notify", scmi_agent_power_state_notify(&agent, area, 0, 1), area);
     answer("cpu on", scmi_agent_power_state_set(&agent, area, 0, 0, 0), area);

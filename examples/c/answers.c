@@ -27,8 +27,8 @@ static uint32_t read_reply(const uint8_t *area)
 {
     uint32_t sum = 0;
 
-    for (unsigned i = 0; 4 * i + 4 < area_word(area, AREA_LENGTH); i++)
-        sum += area_word(area, AREA_PAYLOAD + 4 * i);
+    for (unsigned i = 0; 4 * i + 4 < area_word(area, SCMI_AREA_LENGTH); i++)
+        sum += area_word(area, SCMI_AREA_PAYLOAD + 4 * i);
     return sum;
 }
 
@@ -56,7 +56,7 @@ int main(int argc, char **argv)
         if (!strcmp(argv[1], "exchange"))
             sum += read_reply(area);
     }
-    printf("%u %u\n", (unsigned)area_word(area, AREA_STATUS), (unsigned)sum);
+    printf("%u %u\n", (unsigned)area_word(area, SCMI_AREA_STATUS), (unsigned)sum);
     scmi_platform_free(&platform);
     return 0;
 }

@@ -6,7 +6,6 @@
 
 #include "scmi.h"
 
-enum { AREA_STATUS = 0x04, AREA_LENGTH = 0x14, AREA_HEADER = 0x18, AREA_PAYLOAD = 0x1c };
 enum { STATUS_BUSY = 0, STATUS_FREE = 1 };
 
 static inline uint32_t area_word(const uint8_t *area, unsigned at)
@@ -29,18 +28,18 @@ static inline void area_set_word(uint8_t *area, unsigned at, uint32_t word)
 /* Writes a command as an agent posts it. */
 static inline void area_post(uint8_t *area, uint32_t header, unsigned count, const uint32_t *words)
 {
-    area_set_word(area, AREA_LENGTH, 4 + 4 * count);
-    area_set_word(area, AREA_HEADER, header);
+    area_set_word(area, SCMI_AREA_LENGTH, 4 + 4 * count);
+    area_set_word(area, SCMI_AREA_HEADER, header);
     for (unsigned i = 0; i < count; i++)
-        area_set_word(area, AREA_PAYLOAD + 4 * i, words[i]);
-    area_set_word(area, AREA_STATUS, STATUS_BUSY);
+        area_set_word(area, SCMI_AREA_PAYLOAD + 4 * i, words[i]);
+    area_set_word(area, SCMI_AREA_STATUS, STATUS_BUSY);
 }
 
 /* Prints the payload words of an area, and ends the line. */
 static inline void area_print_words(const uint8_t *area)
 {
-    for (unsigned i = 0; 4 * i + 4 < area_word(area, AREA_LENGTH); i++)
-        printf(" 0x%08x", (unsigned)area_word(area, AREA_PAYLOAD + 4 * i));
+    for (unsigned i = 0; 4 * i + 4 < area_word(area, SCMI_AREA_LENGTH); i++)
+        printf(" 0x%08x", (unsigned)area_word(area, SCMI_AREA_PAYLOAD + 4 * i));
     printf("\n");
 }
 #endif

@@ -55,7 +55,7 @@ static void call(scmi_platform *platform, uint32_t agent, uint32_t header, unsig
     area_post(area, header, count, words);
     given = serve(platform, agent, area);
     printf("agent %u header 0x%08x -> %u: status word %u, words", (unsigned)agent, (unsigned)header, (unsigned)given,
-           (unsigned)area_word(area, AREA_STATUS));
+           (unsigned)area_word(area, SCMI_AREA_STATUS));
     area_print_words(area);
 }
 
@@ -63,12 +63,12 @@ static void tell(scmi_platform *platform, uint32_t agent)
 {
     uint8_t area[SCMI_AREA_BYTES] = { 0 };
 
-    area_set_word(area, AREA_STATUS, STATUS_FREE);
+    area_set_word(area, SCMI_AREA_STATUS, STATUS_FREE);
     while (scmi_next(platform, agent, area) == SCMI_DONE) {
-        printf("to agent %u: header 0x%08x, words", (unsigned)agent, (unsigned)area_word(area, AREA_HEADER));
+        printf("to agent %u: header 0x%08x, words", (unsigned)agent, (unsigned)area_word(area, SCMI_AREA_HEADER));
         area_print_words(area);
         scmi_sent(platform, agent);
-        area_set_word(area, AREA_STATUS, STATUS_FREE);
+        area_set_word(area, SCMI_AREA_STATUS, STATUS_FREE);
     }
 }
 
@@ -78,12 +78,12 @@ static void refuse(scmi_platform *platform)
     uint8_t area[SCMI_AREA_BYTES] = { 0 };
     scmi_effect effect = { 0 };
 
-    area_set_word(area, AREA_STATUS, STATUS_FREE);
+    area_set_word(area, SCMI_AREA_STATUS, STATUS_FREE);
     printf("free: ask %u", (unsigned)scmi_ask(platform, 1, area, &effect));
     printf(", fail %u\n", (unsigned)scmi_fail(platform, 1, area));
     area_post(area, 0x00005006, 1, (uint32_t[]){ 0 });
     printf("a get: ask %u", (unsigned)scmi_ask(platform, 1, area, &effect));
-    printf(", fail %u, status word %u\n", (unsigned)scmi_fail(platform, 1, area), (unsigned)area_word(area, AREA_STATUS));
+    printf(", fail %u, status word %u\n", (unsigned)scmi_fail(platform, 1, area), (unsigned)area_word(area, SCMI_AREA_STATUS));
     printf("no agent: ask %u", (unsigned)scmi_ask(platform, 3, area, &effect));
     printf(", fail %u\n", (unsigned)scmi_fail(platform, 3, area));
     printf("none pending: ask %u", (unsigned)scmi_ask_advance(platform, &effect));

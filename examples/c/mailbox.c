@@ -87,7 +87,7 @@ static void refuse_lengths(scmi_platform *platform)
 {
     static const uint32_t lengths[] = { 0,   1,   3,   5,   6,          7,          39,         37,         40,        44,
                                         256, 260, 264, 268, 0x7ffffffc, 0x80000000, 0x80000004, 0xfffffffc, 0xffffffff };
-    scmi_area area = { 0 };
+    scmi_area area = { { 0 } };
 
     for (uint32_t i = 0; i < sizeof(lengths) / 4; i++) {
         uint32_t before[PLACE_WORDS];
@@ -113,7 +113,7 @@ static void refuse_lengths(scmi_platform *platform)
 static void look_at_states(scmi_platform *platform)
 {
     static const uint32_t states[] = { 0, 2, 0x80000000, 0xfffffffe, 1, 3, 0xffffffff };
-    scmi_area area = { 0 };
+    scmi_area area = { { 0 } };
 
     for (uint32_t i = 0; i < sizeof(states) / 4; i++) {
         leave(2, states[i], 4, 0x00004000, 1);
@@ -128,7 +128,7 @@ static void try_sizes(scmi_platform *platform)
 {
     static uint32_t words[72];
     scmi_mailbox box;
-    scmi_area area = { 0 };
+    scmi_area area = { { 0 } };
 
     printf("59 bytes %u", (unsigned)scmi_mailbox_over(&box, words, 59));
     printf(", not at a word %u", (unsigned)scmi_mailbox_over(&box, (uint8_t *)words + 2, 284));
@@ -177,7 +177,7 @@ struct agent {
 static void call(struct agent *agent, uint32_t header, uint32_t count, const uint32_t *words, uint32_t reply_count,
                  const uint32_t *reply)
 {
-    scmi_area area = { 0 };
+    scmi_area area = { { 0 } };
     uint32_t n = agent->calls++, me = agent->number, given;
 
     area.length = 4 + 4 * count;
@@ -291,7 +291,7 @@ static void scribble(uint32_t place)
 
 static void *misbehave(void *given)
 {
-    scmi_area area = { 0 };
+    scmi_area area = { { 0 } };
     uint64_t *count = given;
 
     for (uint32_t domain = 0; domain < 2; domain++) { /* while it may, so that there are messages for it */

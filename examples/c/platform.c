@@ -24,8 +24,8 @@ static void call(scmi_platform *platform, uint32_t agent, uint32_t header, unsig
     area_post(area, header, count, words);
     given = scmi_answer(platform, agent, area);
     printf("agent %u header 0x%08x -> %u: status word %u, length %u, header 0x%08x, words", (unsigned)agent,
-           (unsigned)header, (unsigned)given, (unsigned)area_word(area, AREA_STATUS),
-           (unsigned)area_word(area, AREA_LENGTH), (unsigned)area_word(area, AREA_HEADER));
+           (unsigned)header, (unsigned)given, (unsigned)area_word(area, SCMI_AREA_STATUS),
+           (unsigned)area_word(area, SCMI_AREA_LENGTH), (unsigned)area_word(area, SCMI_AREA_HEADER));
     area_print_words(area);
 }
 
@@ -33,13 +33,13 @@ static void tell(scmi_platform *platform, uint32_t agent)
 {
     uint8_t area[SCMI_AREA_BYTES] = { 0 };
 
-    area_set_word(area, AREA_STATUS, STATUS_FREE);
+    area_set_word(area, SCMI_AREA_STATUS, STATUS_FREE);
     while (scmi_next(platform, agent, area) == SCMI_DONE) {
-        printf("to agent %u: header 0x%08x", (unsigned)agent, (unsigned)area_word(area, AREA_HEADER));
+        printf("to agent %u: header 0x%08x", (unsigned)agent, (unsigned)area_word(area, SCMI_AREA_HEADER));
         printf(", again %u", (unsigned)scmi_next(platform, agent, area));
         printf(", sent %u, words", (unsigned)scmi_sent(platform, agent));
         area_print_words(area);
-        area_set_word(area, AREA_STATUS, STATUS_FREE);
+        area_set_word(area, SCMI_AREA_STATUS, STATUS_FREE);
     }
 }
 

@@ -1,47 +1,54 @@
 #!/usr/bin/env python3
-"""The platform from Python, by ctypes: platform.py LIBRARY, a shared library of libscmi_c.a."""
-import ctypes
-import struct
-import sys
+"""A simulation over python/scmi.py: two agents, hardware that refuses each second change, and what is refused."""
+import scmi
 
-library = ctypes.CDLL(sys.argv[1])
-BOARD = b"board Acme Lab 0x00010000 1\nagent ap\ndomain cpu off san\nend\n"
-
-
-class Platform(ctypes.Structure):
-    _fields_ = [("at", ctypes.c_void_p)]
-
-
-class Numbers(ctypes.Structure):
-    NAMES = ("area_bytes payload_words done nothing memory no_agent not_free no_platform in_use no_history"
-             " no_frame rule line effect_state effect_rate effect_enabled").split()
-    _fields_ = [(name, ctypes.c_uint32) for name in NAMES]
+BOARD = """board Acme Lab 0x00010000 1
+agent ap
+agent modem
+domain cpu off san
+clock core on 100 list 100,200,300
+end
+"""
+POWER, CLOCK = 0x11, 0x14
+changes = []
 
 
-memory = ctypes.create_string_buffer(1 << 16)
-library.scmi_memory_give.argtypes = [ctypes.c_void_p, ctypes.c_size_t]
-library.scmi_memory_give(memory, len(memory))
-numbers = Numbers()
-library.scmi_numbers(ctypes.byref(numbers))
-platform = Platform()
-library.scmi_platform_new.argtypes = [ctypes.POINTER(Platform), ctypes.c_char_p, ctypes.c_size_t]
-print("new", library.scmi_platform_new(platform, BOARD, len(BOARD)))
+def drive(effect):
+    changes.append(effect)
+    made = len(changes) % 2 == 1
+    print("change", *effect, "made" if made else "refused")
+    return made
 
 
-def call(agent, header, *words):
-    area = bytearray(numbers.area_bytes)
-    struct.pack_into("<2I", area, 0x14, 4 + 4 * len(words), header)
-    struct.pack_into(f"<{len(words)}I", area, 0x1C, *words)
-    shared = (ctypes.c_uint8 * len(area)).from_buffer(area)
-    given = library.scmi_answer(ctypes.byref(platform), agent, shared)
-    status, length, header = (struct.unpack_from("<I", area, at)[0] for at in (0x04, 0x14, 0x18))
-    words = struct.unpack_from(f"<{(length - 4) // 4}I", area, 0x1C)
-    print("call", given, status, f"0x{header:08x}", *(f"0x{word:08x}" for word in words))
+def show(what, reply):
+    print(what, reply.status, *(f"0x{word:08x}" for word in reply.words))
 
 
-call(1, 0x00004000)
-call(1, 0x00004404, 0, 0, 0)
-call(1, 0x00004405, 0)
-call(2, 0x00004405, 0)
-library.scmi_platform_free(ctypes.byref(platform))
-print("freed", platform.at is None)
+def refused(what, *arguments):
+    try:
+        print(what(*arguments))
+    except (scmi.Refused, ValueError) as fault:
+        print("refused:", fault)
+
+
+with scmi.Platform(BOARD, recorded=True) as platform:
+    show("version", platform.call(1, 0x10, 0x0))
+    show("notify", platform.call(2, POWER, 0x6, 0, 1))
+    show("on", platform.call(1, POWER, 0x4, 0, 0, scmi.ON, drive=drive))
+    show("200 Hz", platform.call(1, CLOCK, 0x5, 0, 0, 200, 0, drive=drive))
+    show("rate", platform.call(1, CLOCK, 0x6, 0))
+    show("off, later", platform.call(1, POWER, 0x4, 1, 0, scmi.OFF, drive=drive))
+    print("complete", platform.complete(drive), platform.complete(drive))
+    refused(platform.next, 1, bytearray(scmi.AREA_BYTES))
+    for agent in 1, 2:
+        for header, words in platform.messages(agent):
+            print("to", agent, f"0x{header:08x}", *(f"0x{word:08x}" for word in words))
+    print("events", platform.history_length())
+    print("a free area", platform.answer(1, scmi.free_area()), platform.ask(1, scmi.free_area()))
+    refused(platform.answer, 3, scmi.command(scmi.header_of(0x10, 0x0)))
+    refused(platform.answer, 1, bytearray(8))
+refused(platform.advance)
+refused(scmi.Platform, "board x\n")
+refused(scmi.Platform, "board V S 1 3\nagent a\nend\n")
+with scmi.Platform(BOARD) as platform:
+    refused(platform.history_length)

@@ -1,144 +1,127 @@
 /*
  * A platform and an agent in two processes over one shared file, with a mailbox for commands and one for the
- * platform's messages. The platform's process does on each status word what the proof of the library's own
- * mailboxes speaks of: it looks with acquire, works on a copy, and releases the word last. Here that is C,
- * which nothing proves: what is proved is what scmi_answer and scmi_next make of the copy.
+ * platform's messages: the platform's process has libscmi_c.a, the agent's libscmi_agent_c.a, and each scmi_mailbox.h.
  *
  *   two_processes FILE      the platform; it starts the agent
  */
-#include <stdatomic.h>
-#include <stdbool.h>
+#include <fcntl.h>
 #include <stdio.h>
 #include <stdlib.h>
 #include <string.h>
 #include <sys/mman.h>
 #include <sys/wait.h>
-#include <fcntl.h>
 #include <unistd.h>
 
-#include "area.h"
+#include "scmi_agent.h"
+#include "scmi_mailbox.h"
 
-enum { PLACE = 512, ENDED = 2 * PLACE, FILE_BYTES = 3 * PLACE, TURNS = 20000 };
-_Static_assert(SCMI_AREA_BYTES <= PLACE, "an area has its place in the file");
-_Static_assert(sizeof(_Atomic uint32_t) == 4 && ATOMIC_INT_LOCK_FREE == 2, "a status word is one word");
+enum { PLACE = 512, ENDED = 2 * PLACE, FILE_BYTES = 3 * PLACE, TURNS = 20000, OFF = 0x40000000 };
 
-static const char board[] = "board Acme Lab 0x00010000 1\nagent ap\ndomain cpu off san\nend\n";
-static uint8_t *file;
+static const char board[] = "board Acme Lab 0x00010000 1\n"
+                            "agent ap\n"
+                            "domain cpu off san\n"
+                            "clock core on 100 list 100,200,300\n"
+                            "end\n";
+static scmi_mailbox a2p, p2a;
+static uint32_t *ended;
 
-/* A little-endian word of the file, which is the machine's own on every machine that this is for. */
-static _Atomic uint32_t *word_of(unsigned at)
+/* ---- The agent's process. */
+
+static scmi_agent agent;
+static scmi_area area;
+
+/* Hands a command over that a call of scmi_agent.h has written, waits, and reads the reply. */
+static int call(const char *name, uint32_t written)
 {
-    return (_Atomic uint32_t *)(void *)(file + at);
-}
+    uint32_t given = written == SCMI_AGENT_DONE ? scmi_mailbox_post(&a2p, &area) : written;
 
-static bool is_free(unsigned channel)
-{
-    return atomic_load_explicit(word_of(channel + AREA_STATUS), memory_order_acquire) & STATUS_FREE;
-}
-
-/* Copies an area into the file: the status word last, with release. */
-static void hand_over(unsigned channel, const uint8_t *area)
-{
-    memcpy(file + channel + AREA_STATUS + 4, area + AREA_STATUS + 4, SCMI_AREA_BYTES - AREA_STATUS - 4);
-    atomic_store_explicit(word_of(channel + AREA_STATUS), area_word(area, AREA_STATUS), memory_order_release);
-}
-
-static bool wait_for(bool want_free, unsigned channel)
-{
-    for (unsigned turn = 0; turn < TURNS; turn++) {
-        if (is_free(channel) == want_free)
-            return true;
+    for (unsigned turn = 0; given == SCMI_DONE && turn < TURNS; turn++) {
+        given = scmi_mailbox_collect(&a2p, &area);
+        if (given == SCMI_DONE) {
+            given = scmi_agent_reply(&agent, area.bytes);
+            printf("%s: read %u, header 0x%08x, words", name, (unsigned)given, (unsigned)area.header);
+            for (uint32_t i = 0; 4 * i + 4 < area.length; i++)
+                printf(" 0x%08x", (unsigned)area.payload[i]);
+            printf("\n");
+            return given == SCMI_AGENT_DONE;
+        }
+        given = given == SCMI_NOTHING ? SCMI_DONE : given;
         usleep(100);
     }
-    return false;
-}
-
-static void print_area(const char *what, const uint8_t *area)
-{
-    printf("%s header 0x%08x words", what, (unsigned)area_word(area, AREA_HEADER));
-    for (unsigned i = 0; 4 * i + 4 < area_word(area, AREA_LENGTH); i++)
-        printf(" 0x%08x", (unsigned)area_word(area, AREA_PAYLOAD + 4 * i));
-    printf("\n");
-}
-
-static int agent_calls(uint32_t header, unsigned count, const uint32_t *words)
-{
-    uint8_t area[SCMI_AREA_BYTES] = { 0 };
-
-    if (!wait_for(true, 0))
-        return 1;
-    area_post(area, header, count, words);
-    hand_over(0, area);
-    if (!wait_for(true, 0))
-        return 1;
-    memcpy(area, file, sizeof(area));
-    print_area("reply", area);
+    printf("%s: no reply, %u\n", name, (unsigned)given);
     return 0;
 }
 
-static int agent(void)
+static int listen(void)
 {
-    uint8_t area[SCMI_AREA_BYTES];
+    scmi_agent_notice it = { 0 };
+    scmi_area message;
 
-    if (agent_calls(0x00004000, 0, NULL) || agent_calls(0x00004406, 2, (uint32_t[]){ 0, 1 }) ||
-        agent_calls(0x00044404, 3, (uint32_t[]){ 1, 0, 0 }))
-        return 1;
-    /* The delayed response, and the notification. */
-    for (int i = 0; i < 2; i++) {
-        if (!wait_for(false, PLACE))
+    for (unsigned turn = 0; turn < TURNS; turn++) {
+        if (scmi_mailbox_receive(&p2a, &message) == SCMI_DONE) {
+            printf("notice %u", (unsigned)scmi_agent_message(message.bytes, &it));
+            printf(": kind %u, status %u, token %u", (unsigned)it.kind, (unsigned)it.status, (unsigned)it.token);
+            printf(", agent %u, id %u, state 0x%08x, rate %llu\n", (unsigned)it.agent, (unsigned)it.id,
+                   (unsigned)it.state, (unsigned long long)it.rate);
             return 1;
-        memcpy(area, file + PLACE, sizeof(area));
-        print_area("from the platform", area);
-        atomic_store_explicit(word_of(PLACE + AREA_STATUS), STATUS_FREE, memory_order_release);
+        }
+        usleep(100);
     }
-    fflush(stdout);
-    atomic_store_explicit(word_of(ENDED), 1, memory_order_release);
     return 0;
 }
 
-/* One round: a command is answered, a set completes, and a message is posted, each where there is one. */
-static void round_of(scmi_platform *platform)
+static int run_agent(void)
 {
-    uint8_t area[SCMI_AREA_BYTES];
+    area.status = SCMI_MAILBOX_FREE;
+    return call("version", scmi_agent_power_protocol_version(&agent, area.bytes)) &&
+           call("notify", scmi_agent_power_state_notify(&agent, area.bytes, 0, 1)) &&
+           call("cpu on", scmi_agent_power_state_set(&agent, area.bytes, 0, 0, 0)) && listen() &&
+           call("cpu off, later", scmi_agent_power_state_set(&agent, area.bytes, 1, 0, OFF)) && listen() && listen() &&
+           call("core at 200 Hz, later", scmi_agent_clock_rate_set(&agent, area.bytes, 1, 0, 200)) && listen() &&
+           call("no such clock", scmi_agent_clock_rate_get(&agent, area.bytes, 7));
+}
 
-    if (!is_free(0)) {
-        memcpy(area, file, sizeof(area));
-        area_set_word(area, AREA_STATUS, STATUS_BUSY);
-        if (scmi_answer(platform, 1, area) == SCMI_DONE)
-            hand_over(0, area);
+/* ---- The platform's process. */
+
+static int run_platform(void)
+{
+    scmi_platform platform = { 0 };
+
+    if (scmi_platform_new(&platform, (const uint8_t *)board, strlen(board)) != SCMI_DONE)
+        return 0;
+    for (unsigned turn = 0; turn < 8 * TURNS && !__atomic_load_n(ended, __ATOMIC_ACQUIRE); turn++) {
+        scmi_mailbox_serve(&a2p, &platform, 1);
+        scmi_advance(&platform);
+        scmi_mailbox_tell(&p2a, &platform, 1);
+        usleep(100);
     }
-    scmi_advance(platform);
-    if (is_free(PLACE)) {
-        memcpy(area, file + PLACE, sizeof(area));
-        area_set_word(area, AREA_STATUS, STATUS_FREE);
-        if (scmi_next(platform, 1, area) == SCMI_DONE && scmi_sent(platform, 1) == SCMI_DONE)
-            hand_over(PLACE, area);
-    }
+    scmi_platform_free(&platform);
+    return 1;
 }
 
 int main(int count, char **words)
 {
-    scmi_platform platform = { 0 };
-    int status = 1, opened = count == 2 ? open(words[1], O_RDWR | O_CREAT | O_TRUNC, 0600) : -1;
+    int status = 1, ran, opened = count == 2 ? open(words[1], O_RDWR | O_CREAT | O_TRUNC, 0600) : -1;
+    uint8_t *file;
     pid_t child;
 
-    if (opened < 0 || ftruncate(opened, FILE_BYTES) != 0 ||
-        (file = mmap(NULL, FILE_BYTES, PROT_READ | PROT_WRITE, MAP_SHARED, opened, 0)) == MAP_FAILED ||
-        scmi_platform_new(&platform, (const uint8_t *)board, strlen(board)) != SCMI_DONE)
+    if (opened < 0 || ftruncate(opened, FILE_BYTES) != 0)
         return 1;
-    atomic_store_explicit(word_of(AREA_STATUS), STATUS_FREE, memory_order_release);
-    atomic_store_explicit(word_of(PLACE + AREA_STATUS), STATUS_FREE, memory_order_release);
+    file = mmap(NULL, FILE_BYTES, PROT_READ | PROT_WRITE, MAP_SHARED, opened, 0);
+    if (file == MAP_FAILED || !scmi_header_fits() || scmi_mailbox_over(&a2p, file, SCMI_AREA_BYTES) != SCMI_DONE ||
+        scmi_mailbox_over(&p2a, file + PLACE, SCMI_AREA_BYTES) != SCMI_DONE)
+        return 1;
+    ended = (uint32_t *)(void *)(file + ENDED);
+    scmi_mailbox_start(&a2p);
+    scmi_mailbox_start(&p2a);
     child = fork();
-    if (child == 0)
-        exit(agent());
-    for (unsigned turn = 0; child > 0 && turn < TURNS; turn++) {
-        round_of(&platform);
-        if (atomic_load_explicit(word_of(ENDED), memory_order_acquire))
-            break;
-        usleep(100);
+    if (child == 0) {
+        ran = run_agent();
+        __atomic_store_n(ended, 1, __ATOMIC_RELEASE);
+        exit(!ran);
     }
+    ran = child > 0 && run_platform();
     if (child > 0)
         waitpid(child, &status, 0);
-    scmi_platform_free(&platform);
-    return status != 0;
+    return !ran || status != 0;
 }

@@ -1,0 +1,235 @@
+"""The platform controller of SCMI for simulators: the calls of scmi.h, by ctypes over libscmi.so.
+
+    import scmi
+
+    platform = scmi.Platform(BOARD)                  # the text of a board, as docs/SCRIPTS.md has it
+    status, words = platform.call(1, 0x11, 0x4, 0, 0, 0)    # agent 1 sets domain 0 ON
+    while platform.advance():                        # pending sets complete
+        pass
+    for header, words in platform.messages(1):       # delayed responses and notifications
+        ..
+
+The calls of scmi.h have their names here: answer, ask, fail, advance, ask_advance, fail_advance, next, sent,
+history_length. An area is a bytearray of AREA_BYTES bytes, changed in place. A call gives True where C gives
+SCMI_DONE and False where it gives SCMI_NOTHING or SCMI_NO_FRAME (those that give a value give it, or None); any
+other number is raised as Refused, and then nothing has changed. One thread at a time calls a platform.
+
+The library is the file that SCMI_LIBRARY names, else libscmi.so beside this file or where ./install puts it.
+"""
+import ctypes
+import os
+import struct
+from collections import namedtuple
+from pathlib import Path
+
+DONE, NOTHING, MEMORY, NO_AGENT, NOT_FREE, NO_PLATFORM, IN_USE, NO_HISTORY, NO_FRAME = range(9)
+RULE, LINE = 16, 256
+STATE, RATE, ENABLED = 1, 2, 3
+AREA_BYTES, PAYLOAD_WORDS = 284, 64
+AREA_STATUS, AREA_FLAGS, AREA_LENGTH, AREA_HEADER, AREA_PAYLOAD = 0x04, 0x10, 0x14, 0x18, 0x1C
+BUSY, FREE, FREE_ERROR = 0, 1, 3
+ON, OFF = 0, 0x40000000
+
+STATUSES = ("SUCCESS NOT_SUPPORTED INVALID_PARAMETERS DENIED NOT_FOUND OUT_OF_RANGE BUSY COMMS_ERROR"
+            " GENERIC_ERROR HARDWARE_ERROR PROTOCOL_ERROR").split()
+
+Effect = namedtuple("Effect", "kind id value")
+Reply = namedtuple("Reply", "status words")
+Message = namedtuple("Message", "header words")
+
+
+class Refused(Exception):
+    """A call gave another number than those that its answer says: `number` is that of scmi.h."""
+
+    NAMES = ("done", "nothing to do", "memory was refused", "the board has no such agent",
+             "the area holds a message", "there is no platform", "there is a platform already",
+             "the platform keeps no history", "the area holds no frame")
+
+    def __init__(self, number):
+        self.number = number
+        if number >= LINE:
+            says = f"line {number - LINE} of the board has another form"
+        elif number > RULE:
+            says = f"the board breaks rule {number - RULE}"
+        else:
+            says = self.NAMES[number] if number < len(self.NAMES) else f"number {number}"
+        super().__init__(says)
+
+
+class ChannelError(Exception):
+    """The frame was malformed: the answer is status word 3."""
+
+
+class _Handle(ctypes.Structure):
+    _fields_ = [("at", ctypes.c_void_p)]
+
+
+class _Effect(ctypes.Structure):
+    _fields_ = [(name, ctypes.c_uint32) for name in ("kind", "id", "low", "high")]
+
+
+class _Numbers(ctypes.Structure):
+    WANTED = dict(
+        area_bytes=AREA_BYTES, payload_words=PAYLOAD_WORDS, done=DONE, nothing=NOTHING, memory=MEMORY,
+        no_agent=NO_AGENT, not_free=NOT_FREE, no_platform=NO_PLATFORM, in_use=IN_USE, no_history=NO_HISTORY,
+        no_frame=NO_FRAME, rule=RULE, line=LINE, effect_state=STATE, effect_rate=RATE, effect_enabled=ENABLED)
+    _fields_ = [(name, ctypes.c_uint32) for name in WANTED]
+
+
+def _library_file():
+    here = Path(__file__).resolve().parent
+    places = [os.environ.get("SCMI_LIBRARY"), here / "libscmi.so", here.parent / "libscmi.so"]
+    for place in filter(None, places):
+        if Path(place).exists():
+            return str(place)
+    raise FileNotFoundError("libscmi.so: set SCMI_LIBRARY, or install with ./install")
+
+
+def load(file=None):
+    """The library as a file, or where it is by itself; its numbers have to be those of this module."""
+    library = ctypes.CDLL(file or _library_file())
+    handle, number, area = ctypes.POINTER(_Handle), ctypes.c_uint32, ctypes.c_void_p
+    effect = ctypes.POINTER(_Effect)
+    for name, *arguments in (
+            ("scmi_platform_new", ctypes.c_char_p, ctypes.c_size_t),
+            ("scmi_platform_new_recorded", ctypes.c_char_p, ctypes.c_size_t),
+            ("scmi_answer", number, area), ("scmi_ask", number, area, effect), ("scmi_fail", number, area),
+            ("scmi_advance",), ("scmi_ask_advance", effect), ("scmi_fail_advance",),
+            ("scmi_next", number, area), ("scmi_sent", number),
+            ("scmi_history_length", ctypes.POINTER(ctypes.c_uint64)), ("scmi_platform_free",)):
+        call = getattr(library, name)
+        call.argtypes, call.restype = [handle, *arguments], number
+    library.scmi_platform_free.restype = None
+    library.scmi_numbers.argtypes, library.scmi_numbers.restype = [ctypes.POINTER(_Numbers)], None
+    numbers = _Numbers()
+    library.scmi_numbers(numbers)
+    for name, wanted in _Numbers.WANTED.items():
+        if getattr(numbers, name) != wanted:
+            raise ImportError(f"the library is another version's: its {name} is {getattr(numbers, name)}")
+    return library
+
+
+def header_of(protocol, message, token=0, kind=0):
+    """A header word: message id, kind (0 command, 2 delayed response, 3 notification), protocol, token."""
+    return message | kind << 8 | protocol << 10 | token % 1024 << 18
+
+
+def command(header, *words):
+    """An area with a command as an agent posts it."""
+    area = bytearray(AREA_BYTES)
+    struct.pack_into(f"<2I{len(words)}I", area, AREA_LENGTH, 4 + 4 * len(words), header, *words)
+    return area
+
+
+def free_area():
+    """An area whose channel is free."""
+    area = bytearray(AREA_BYTES)
+    struct.pack_into("<I", area, AREA_STATUS, FREE)
+    return area
+
+
+def word(area, at):
+    """The word of an area at a place of it, in bytes."""
+    return struct.unpack_from("<I", area, at)[0]
+
+
+def words_of(area):
+    """The payload words of the message that stands in an area."""
+    return struct.unpack_from(f"<{(word(area, AREA_LENGTH) - 4) // 4}I", area, AREA_PAYLOAD)
+
+
+class Platform:
+    """A platform of a board's text; with `recorded` it keeps its history. It is freed by close, or by `with`."""
+
+    def __init__(self, board, recorded=False, library=None):
+        self._library, self._handle, self._tokens = load(library), _Handle(), {}
+        board = board.encode() if isinstance(board, str) else board
+        new = self._library.scmi_platform_new_recorded if recorded else self._library.scmi_platform_new
+        self._give(new(self._handle, board, len(board)))
+
+    def _give(self, number):
+        if number in (DONE, NOTHING, NO_FRAME):
+            return number == DONE
+        raise Refused(number)
+
+    def _over(self, call, agent, area, *more):
+        if len(area) != AREA_BYTES:
+            raise ValueError(f"an area has {AREA_BYTES} bytes")
+        return self._give(call(self._handle, agent, (ctypes.c_uint8 * AREA_BYTES).from_buffer(area), *more))
+
+    @staticmethod
+    def _effect(done, effect):
+        return Effect(effect.kind, effect.id, effect.low | effect.high << 32) if done else None
+
+    def answer(self, agent, area):
+        return self._over(self._library.scmi_answer, agent, area)
+
+    def ask(self, agent, area):
+        effect = _Effect()
+        return self._effect(self._over(self._library.scmi_ask, agent, area, effect), effect)
+
+    def fail(self, agent, area):
+        return self._over(self._library.scmi_fail, agent, area)
+
+    def advance(self):
+        return self._give(self._library.scmi_advance(self._handle))
+
+    def ask_advance(self):
+        effect = _Effect()
+        return self._effect(self._give(self._library.scmi_ask_advance(self._handle, effect)), effect)
+
+    def fail_advance(self):
+        return self._give(self._library.scmi_fail_advance(self._handle))
+
+    def next(self, agent, area):
+        return self._over(self._library.scmi_next, agent, area)
+
+    def sent(self, agent):
+        return self._give(self._library.scmi_sent(self._handle, agent))
+
+    def history_length(self):
+        events = ctypes.c_uint64()
+        self._give(self._library.scmi_history_length(self._handle, events))
+        return events.value
+
+    def call(self, agent, protocol, message, *words, drive=None):
+        """A command of an agent, at its next token, executed and answered: its status by name, and the words behind.
+
+        With `drive` the platform stands beside hardware: drive(effect) makes the change, and says whether it did.
+        """
+        token = self._tokens.get(agent, 0)
+        area = command(header_of(protocol, message, token), *words)
+        effect = drive and self.ask(agent, area)
+        if effect and not drive(effect):
+            self.fail(agent, area)
+        else:
+            self.answer(agent, area)
+        self._tokens[agent] = (token + 1) % 1024
+        if word(area, AREA_STATUS) != FREE:
+            raise ChannelError("the frame was malformed")
+        status, *words = words_of(area)
+        return Reply(STATUSES[-status & 0xFFFFFFFF], tuple(words))
+
+    def complete(self, drive):
+        """Completes the first pending set beside hardware; False where none is pending."""
+        effect = self.ask_advance()
+        if effect and not drive(effect):
+            return self.fail_advance()
+        return self.advance()
+
+    def messages(self, agent):
+        """Takes each message of an agent's outbox, the first first."""
+        area = free_area()
+        while self.next(agent, area):
+            self.sent(agent)
+            yield Message(word(area, AREA_HEADER), words_of(area))
+            area = free_area()
+
+    def close(self):
+        self._library.scmi_platform_free(self._handle)
+
+    def __enter__(self):
+        return self
+
+    def __exit__(self, *_):
+        self.close()
