@@ -56,7 +56,7 @@ pub fn draw<R: CountedRead + Drop, W: Write>(
     ensures stops { StopsAtFailure result input.old.since_failure input.new.since_failure }
 {
     let line = input.read_first_line()?;
-    let mode = Mode::of_line(&line).ok_or(DrawError::Mode)?;
+    let mode = Mode::of_first_line(&line).ok_or(DrawError::Mode)?;
     let bytes = read_rest(alloc, input)?;
     let chart = chart_of(alloc, mode, &bytes)?;
     match write_chart(writer, &chart) {

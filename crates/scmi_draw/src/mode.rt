@@ -16,7 +16,7 @@ pub enum Mode {
 
 impl Mode {
     /// The mode that the first line of a script on one thread names, exactly.
-    pub fn of_line(line: &[u8]) -> Option<Mode>
+    pub fn of_first_line(line: &[u8]) -> Option<Mode>
         ensures some { IfSome result (λ mode. line.now ≡ line_of mode) }
         ensures none { IfNone result ((mode : Mode) → line.now ≢ line_of mode) }
     {
