@@ -2,7 +2,7 @@
 use Rattle.std.specs.Prelude.{ℕ, ◌++◌, Bool, true, false, if◌then◌else◌, List, [], ◌∷◌, map, Option, Some, None, Result}
 use Rattle.std.specs.Str.{bytes_eq}
 use Rattle.scmi_board.specs.Items.{◌>>=◌, ItemsView, first_item, first_number, items_left, no_item}
-use Rattle.scmi_board.specs.Lines.{LinesView, lines_left}
+use Rattle.scmi_board.specs.Lines.{Line, LinesView, lines_left}
 use Rattle.scmi_text.specs.Fields.{first_agent, first_message, payload_left}
 use Rattle.scmi_text.specs.PackedStep.{step_with}
 use Rattle.scmi_text.specs.TextLines.{after_lines}
@@ -110,3 +110,10 @@ with_step kinds agents steps text = do
 -- the steps of the lines that are left; else the number of the first line that is none
 abbrev pub steps_left : StepKinds → ℕ → LinesView → Result (List Step) ℕ
 steps_left kinds agents lines = after_lines (with_step kinds agents) [] (lines_left lines)
+
+-- the same of lines, none of them beside hardware, and of lines that may be beside hardware
+abbrev pub steps_of_lines : ℕ → List Line → Result (List Step) ℕ
+steps_of_lines agents lines = after_lines (with_step WithoutHardware agents) [] lines
+
+abbrev pub hardware_steps_of_lines : ℕ → List Line → Result (List Step) ℕ
+hardware_steps_of_lines agents lines = after_lines (with_step All agents) [] lines
