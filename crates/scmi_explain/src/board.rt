@@ -1,0 +1,104 @@
+//! Lines that are none of a board.
+
+use crate::fit::{Fit, begins_as, fit_of};
+use crate::forms::{Form, HARDWARE_STEPS, HEADINGS, ORDERS, ROWS, STEPS};
+use crate::mode::is_mode;
+use crate::near::nearest;
+use crate::rows::Rows;
+use crate::slip::{Slip, slip_of_bytes, slip_of_other_bytes};
+use crate::text::{behind_first, first_word, line_at};
+use crate::what::What;
+use scmi_board::is_significant;
+use std::alloc::Global;
+use std::str::from_utf8;
+
+/// The first words of a board's rows.
+const ROW_WORDS: [&str; 5] = ["agent", "domain", "clock", "device", "end"];
+
+/// What is wrong with the line of a number, which is none of a board where one has to stand.
+pub(crate) fn board_cause(alloc: Global, input: &[u8], number: u32) -> (What<'_>, Option<Slip>) {
+    if number <= 1 {
+        return (What::NoBoard, None);
+    }
+    let Some(line) = line_at(input, number) else {
+        return (What::NotKept, None);
+    };
+    if !is_significant(line) {
+        return (What::NoEnd, None);
+    }
+    if is_heading(input, number) {
+        heading_cause(alloc, line)
+    } else {
+        row_cause(alloc, line)
+    }
+}
+
+/// Whether the line of a number is the first one of the board.
+fn is_heading(input: &[u8], number: u32) -> bool {
+    for row in Rows::of_board(behind_first(input)) {
+        return row.number == number;
+    }
+    false
+}
+
+fn heading_cause(alloc: Global, line: &[u8]) -> (What<'_>, Option<Slip>) {
+    if let Some(slip) = slip_of_bytes(line) {
+        return (What::NoHeading(line), Some(slip));
+    }
+    match fit_of(&HEADINGS, line, 0) {
+        Fit::Until(fault) => (What::Item(fault), None),
+        Fit::Well => (What::NoEnd, None),
+        Fit::Unknown if is_mode(line) => (What::NoHeading(line), Some(Slip::SecondMode)),
+        Fit::Unknown => (What::NoHeading(line), slip_of_word(alloc, &["board"], line)),
+    }
+}
+
+fn row_cause(alloc: Global, line: &[u8]) -> (What<'_>, Option<Slip>) {
+    if let Some(slip) = slip_of_bytes(line) {
+        return (What::NoRow(line), Some(slip));
+    }
+    match fit_of(&ROWS, line, 0) {
+        Fit::Until(fault) => (What::Item(fault), slip_of_other_bytes(line)),
+        Fit::Well => (What::NoEnd, None),
+        Fit::Unknown => {
+            let slip = slip_of_step(line).or(slip_of_word(alloc, &ROW_WORDS, line));
+            (What::NoRow(line), slip)
+        }
+    }
+}
+
+/// The slip of a line that is a step, or a second heading.
+fn slip_of_step(line: &[u8]) -> Option<Slip> {
+    if begins_as(&HEADINGS, line) {
+        return Some(Slip::SecondBoard);
+    }
+    word_of(&STEPS, line)
+        .or(word_of(&HARDWARE_STEPS, line))
+        .or(word_of(&ORDERS, line))
+        .map(Slip::EndMissing)
+}
+
+/// The word of the form that a line begins as.
+fn word_of(forms: &[Form], line: &[u8]) -> Option<&'static str> {
+    for form in forms {
+        if form.word.as_bytes() == first_word(line) {
+            return Some(form.word);
+        }
+    }
+    None
+}
+
+/// The slip of a line whose first word is none of these.
+pub(crate) fn slip_of_word(alloc: Global, words: &[&'static str], line: &[u8]) -> Option<Slip> {
+    let Ok(word) = from_utf8(first_word(line)) else {
+        return Some(Slip::OtherByte);
+    };
+    for known in words {
+        if known.as_bytes().eq_ignore_ascii_case(word.as_bytes()) {
+            return Some(Slip::Case);
+        }
+    }
+    nearest(alloc, words, word)
+        .map(Slip::Nearest)
+        .or(slip_of_other_bytes(line))
+}

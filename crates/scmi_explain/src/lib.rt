@@ -1,0 +1,46 @@
+//! What is wrong with an input that a program refused, for a person: line, item, what is wanted, and
+//! the likely slip.
+//!
+//! The main type is `Explanation`, whose text is what it prints. The main theorem is the contract of
+//! `explain`: where the fault has a line, the explanation is of that line. That the texts are right is
+//! tested. `Kept` and `LastLine` keep what an explanation needs of a run's input and output, and are to
+//! the run the reader and the writer that they stand before.
+#![tactic(auto)]
+
+mod area;
+mod board;
+mod causes;
+mod expected;
+mod explanation;
+mod fault;
+mod field;
+mod fit;
+mod forms;
+mod item_fault;
+mod kept;
+mod last_line;
+mod mode;
+mod near;
+mod number_fault;
+mod plan;
+mod plan_fault;
+mod quoted;
+mod rates_fault;
+mod rows;
+mod script;
+mod size;
+mod slip;
+mod text;
+mod what;
+mod wrong;
+
+pub use causes::explain;
+pub use expected::Expected;
+pub use explanation::Explanation;
+pub use fault::Fault;
+pub use kept::Kept;
+pub use last_line::LastLine;
+pub use mode::MODES;
+pub use near::nearest;
+pub use slip::Slip;
+pub use what::What;

@@ -1,0 +1,23 @@
+//! The word that a misspelt one may stand for.
+
+use std::alloc::Global;
+use strsim::osa_distance;
+
+/// The most letters that are put in, left out, changed or swapped: one in so many of the word's.
+const LETTERS_FOR_AN_EDIT: usize = 3;
+
+/// The first of the words that are nearest to a text, if one is near; `None` too where memory is refused.
+pub fn nearest(alloc: Global, words: &[&'static str], text: &str) -> Option<&'static str> {
+    let mut found = None;
+    let mut fewest = usize::MAX;
+    for word in words {
+        let Ok(edits) = osa_distance(alloc, text, word) else {
+            return None;
+        };
+        if edits < fewest && edits <= word.len() / LETTERS_FOR_AN_EDIT {
+            fewest = edits;
+            found = Some(*word);
+        }
+    }
+    found
+}

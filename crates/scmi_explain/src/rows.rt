@@ -1,0 +1,45 @@
+//! The rows of a board, and all lines, in the order in which they stand.
+ghost use Rattle.std.specs.Prelude.{length};
+ghost use Rattle.std.specs.Iterator.{at_most};
+
+use scmi_board::{Lines, TextLine};
+
+/// The lines that are left of an input behind its first one, but for remarks and empty ones: all, or
+/// those of the board, from its line `board` to before its line `end`.
+#[derive(Drop)]
+pub(crate) struct Rows<'a> {
+    lines: Lines<'a>,
+    stops_at_end: bool,
+}
+
+impl<'a> Rows<'a> {
+    /// The rows of the board that follows the first line.
+    pub(crate) fn of_board(behind_first: &'a [u8]) -> Rows<'a> {
+        Rows {
+            lines: Lines::new(behind_first),
+            stops_at_end: true,
+        }
+    }
+
+    /// All lines behind the first one.
+    pub(crate) fn all(behind_first: &'a [u8]) -> Rows<'a> {
+        Rows {
+            lines: Lines::new(behind_first),
+            stops_at_end: false,
+        }
+    }
+}
+
+impl<'a> Iterator for Rows<'a> {
+    type Item = TextLine<'a>;
+
+    ghost remaining = { λ rows. at_most (length rows.lines.rest) };
+
+    fn next(&mut self) -> Option<TextLine<'a>> {
+        let row = self.lines.next_line()?;
+        if self.stops_at_end && row.text == b"end".as_slice() {
+            return None;
+        }
+        Some(row)
+    }
+}

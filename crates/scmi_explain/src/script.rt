@@ -1,0 +1,169 @@
+//! Lines that are none of a script.
+
+use crate::board::slip_of_word;
+use crate::fit::{Fit, begins_as, fit_of, fits_well};
+use crate::forms::{Form, HARDWARE_STEPS, HEADINGS, ORDERS, ROWS, STEPS};
+use crate::rows::Rows;
+use crate::slip::{Slip, slip_of_bytes, slip_of_other_bytes};
+use crate::text::{behind_first, first_line, first_word, line_at};
+use crate::what::What;
+use crate::wrong::Wrong;
+use scmi_board::Items;
+use std::alloc::Global;
+
+/// The scripts that a mode has.
+#[derive(Clone, Copy, PartialEq, Eq)]
+enum Script {
+    /// One on one thread.
+    Steps,
+    /// One on one thread, beside hardware that refuses.
+    Hardware,
+    /// One for each agent.
+    Orders,
+}
+
+const STEP_WORDS: [&str; 11] = [
+    "call", "raw", "bad", "serve", "collect", "do", "advance", "flush", "p2a", "close", "shut",
+];
+
+const HARDWARE_WORDS: [&str; 12] = [
+    "call", "raw", "bad", "serve", "collect", "do", "advance", "flush", "p2a", "close", "shut",
+    "fail",
+];
+
+const ORDER_WORDS: [&str; 5] = ["script", "call", "until", "p2a", "close"];
+
+impl Script {
+    /// The scripts of the mode that is the first line.
+    fn of_mode(line: &[u8]) -> Script {
+        match first_word(line) {
+            b"threads" => Script::Orders,
+            b"hardware" => Script::Hardware,
+            _ => Script::Steps,
+        }
+    }
+
+    /// How a line fits the forms of such a script, of a board of so many agents.
+    fn fits<'a>(self, line: &'a [u8], agents: u32) -> Fit<'a> {
+        match self {
+            Script::Steps => fit_of(&STEPS, line, agents),
+            Script::Orders => fit_of(&ORDERS, line, agents),
+            Script::Hardware => match fit_of(&STEPS, line, agents) {
+                Fit::Well => Fit::Well,
+                plain => match fit_of(&HARDWARE_STEPS, line, agents) {
+                    Fit::Unknown => plain,
+                    found => found,
+                },
+            },
+        }
+    }
+
+    fn words(self) -> &'static [&'static str] {
+        match self {
+            Script::Steps => &STEP_WORDS,
+            Script::Hardware => &HARDWARE_WORDS,
+            Script::Orders => &ORDER_WORDS,
+        }
+    }
+
+    /// The words in a sentence.
+    fn list(self) -> &'static str {
+        match self {
+            Script::Steps =>
+                "call, raw, bad, serve, collect, do, advance, flush, p2a, close or shut",
+            Script::Hardware => {
+                "call, raw, bad, serve, collect, do, advance, flush, p2a, close, shut or fail"
+            }
+            Script::Orders => "script, call, until, p2a or close",
+        }
+    }
+}
+
+/// The forms of each kind of script, and the modes that have it.
+const OTHERS: [(Script, &[Form], &str); 3] = [
+    (Script::Steps, &STEPS, "steps and hardware"),
+    (Script::Hardware, &HARDWARE_STEPS, "hardware"),
+    (Script::Orders, &ORDERS, "threads"),
+];
+
+/// What is wrong with the line of a number, which is none of a script.
+pub(crate) fn script_cause(alloc: Global, input: &[u8], number: u32) -> (What<'_>, Option<Slip>) {
+    let Some(line) = line_at(input, number) else {
+        return (What::NotKept, None);
+    };
+    let script = Script::of_mode(first_line(input));
+    let no_step = What::NoStep(line, script.list());
+    if let Some(slip) = slip_of_bytes(line) {
+        return (no_step, Some(slip));
+    }
+    let agents = agents_of(input);
+    match script.fits(line, agents) {
+        Fit::Until(fault) => {
+            let slip = slip_of_items(script, line, agents, fault.wrong);
+            (What::Item(fault), slip.or(slip_of_other_bytes(line)))
+        }
+        Fit::Unknown => (no_step, slip_of_unknown(alloc, script, line)),
+        Fit::Well => (order_fault(input, line, number).unwrap_or(no_step), None),
+    }
+}
+
+/// The slip of a line with an item too few or too many for these scripts: it may be one of other modes.
+fn slip_of_items(script: Script, line: &[u8], agents: u32, wrong: Wrong) -> Option<Slip> {
+    if !matches!(&wrong, Wrong::Missing | Wrong::Extra) {
+        return None;
+    }
+    for (other, forms, modes) in OTHERS {
+        if other != script && fits_well(forms, line, agents) {
+            return Some(Slip::OtherMode(modes));
+        }
+    }
+    None
+}
+
+/// The slip of a line whose first word is none of these scripts.
+fn slip_of_unknown(alloc: Global, script: Script, line: &[u8]) -> Option<Slip> {
+    for (other, forms, modes) in OTHERS {
+        if other != script && begins_as(forms, line) {
+            return Some(Slip::OtherMode(modes));
+        }
+    }
+    if begins_as(&ROWS, line) || begins_as(&HEADINGS, line) {
+        return Some(Slip::BoardEnded);
+    }
+    slip_of_word(alloc, script.words(), line)
+}
+
+/// How many agents the board has.
+fn agents_of(input: &[u8]) -> u32 {
+    let mut agents = 0u32;
+    for row in Rows::of_board(behind_first(input)) {
+        if first_word(row.text) == b"agent".as_slice() {
+            agents = agents.saturating_add(1);
+        }
+    }
+    agents
+}
+
+/// What is wrong with the line of a number that has a form of an agent's script.
+fn order_fault<'a>(input: &'a [u8], line: &'a [u8], number: u32) -> Option<What<'a>> {
+    if first_word(line) != b"script".as_slice() {
+        return Some(What::NoScript(line));
+    }
+    for begun in Rows::all(behind_first(input)) {
+        if begun.number < number && begins_script_of(begun.text, agent_of(line)) {
+            return Some(What::SecondScript(begun.number));
+        }
+    }
+    None
+}
+
+fn begins_script_of(line: &[u8], agent: Option<u32>) -> bool {
+    first_word(line) == b"script".as_slice() && agent_of(line) == agent
+}
+
+/// The agent of a line `script A`.
+fn agent_of(line: &[u8]) -> Option<u32> {
+    let mut items = Items::new(line);
+    let _ = items.next_item().ok()?;
+    items.next_word().ok()
+}

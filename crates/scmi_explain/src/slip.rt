@@ -1,0 +1,126 @@
+//! The slips that are likely behind a fault.
+
+use std::fmt;
+
+/// The slip that is likely behind a fault.
+#[derive(Clone, Copy)]
+pub enum Slip {
+    /// A byte order mark stands before the first line.
+    ByteOrderMark,
+    /// The line ends in a carriage return.
+    CarriageReturn,
+    /// It has a tab.
+    Tab,
+    /// It begins with a space.
+    SpaceBefore,
+    /// It ends in a space.
+    SpaceBehind,
+    /// A remark stands behind it.
+    Remark,
+    /// It has a byte that is not ASCII.
+    OtherByte,
+    /// It has upper case where lower case is wanted.
+    Case,
+    /// The mode is missing, and the board stands first.
+    BoardFirst,
+    /// The mode is missing, and a remark or an empty line stands first.
+    RemarkFirst,
+    /// The mode is missing, and an area stands first.
+    AreaFirst,
+    /// The kind of channel is missing behind the mode.
+    NoKind,
+    /// It is what a run writes.
+    Output,
+    /// It is a picture.
+    Picture,
+    /// It is a mode that is run and not drawn.
+    OnlyRun,
+    /// It is a session's input, where dumps are wanted.
+    SessionFirst,
+    /// It is a step, and the line `end` may be missing before it.
+    EndMissing(&'static str),
+    /// The board has a line `board` already.
+    SecondBoard,
+    /// The mode stands a second time.
+    SecondMode,
+    /// It is a row of the board, which has ended.
+    BoardEnded,
+    /// It is a line of scripts of other modes.
+    OtherMode(&'static str),
+    /// This word may be meant.
+    Nearest(&'static str),
+}
+
+impl Slip {
+    /// The text of a slip that has one text.
+    fn text(&self) -> &'static str {
+        match self {
+            Slip::ByteOrderMark =>
+                "it begins with a byte order mark; save it as plain text without one",
+            Slip::CarriageReturn => {
+                "it ends in a carriage return, as files of Windows do; dos2unix mends them"
+            }
+            Slip::Tab => "it has a tab; items stand apart by spaces",
+            Slip::SpaceBefore => "it begins with a space",
+            Slip::SpaceBehind => "it ends in a space",
+            Slip::Remark => "a remark stands on a line of its own, which begins with #",
+            Slip::OtherByte => "it has a byte that is not ASCII, shown as \\x and two digits",
+            Slip::Case => "words are in lower case",
+            Slip::BoardFirst => "the mode stands on a line of its own before the board",
+            Slip::RemarkFirst => "remarks and empty lines stand behind the mode",
+            Slip::AreaFirst => "before an area stands the line \"once\"; scmi decode takes it so",
+            Slip::NoKind => "is \"words\" or \"rings\" missing behind it?",
+            Slip::Output => "it is a line that a run writes",
+            Slip::Picture => "it is a picture, or text with marks",
+            Slip::OnlyRun => "that mode is run by scmi run, and not drawn",
+            Slip::SessionFirst => "it is the mode of a session, which scmi run takes",
+            Slip::SecondBoard => "a board has one line \"board\"",
+            Slip::SecondMode => "the mode stands in line 1 alone",
+            Slip::BoardEnded => "it is a row of the board, which ended before",
+            Slip::EndMissing(_) | Slip::OtherMode(_) | Slip::Nearest(_) => "",
+        }
+    }
+}
+
+impl fmt::Display for Slip {
+    fn fmt<W: fmt::Write>(&self, f: &mut fmt::Formatter<W>) -> fmt::Result {
+        match self {
+            Slip::EndMissing(word) => write!(
+                f,
+                "\"{word}\" begins a line of a script; is the line \"end\" missing before it?"
+            ),
+            Slip::OtherMode(modes) => write!(f, "it is a line of the modes {modes}"),
+            Slip::Nearest(word) => write!(f, "is \"{word}\" meant?"),
+            plain => f.write_str(plain.text()),
+        }
+    }
+}
+
+/// The first bytes of a file that was saved with a byte order mark.
+const BYTE_ORDER_MARK: &[u8] = b"\xef\xbb\xbf";
+
+/// The slip that the bytes of a line show.
+pub(crate) fn slip_of_bytes(line: &[u8]) -> Option<Slip> {
+    if line.starts_with(BYTE_ORDER_MARK) {
+        return Some(Slip::ByteOrderMark);
+    }
+    if line.contains(&b'\t') {
+        return Some(Slip::Tab);
+    }
+    match line {
+        [.., b'\r'] => Some(Slip::CarriageReturn),
+        [b' ', ..] => Some(Slip::SpaceBefore),
+        [.., b' '] => Some(Slip::SpaceBehind),
+        _ => has_remark(line).then_some(Slip::Remark),
+    }
+}
+
+/// Whether a line has a byte that is not ASCII.
+pub(crate) fn slip_of_other_bytes(line: &[u8]) -> Option<Slip> {
+    (!line.iter().all(|byte| byte.is_ascii())).then_some(Slip::OtherByte)
+}
+
+/// Whether an item of a line begins with `#`.
+fn has_remark(line: &[u8]) -> bool {
+    line.windows(2).any(|pair| pair == b" #".as_slice())
+}

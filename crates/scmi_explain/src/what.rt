@@ -1,0 +1,166 @@
+//! What is wrong, in words.
+
+use crate::expected::Expected;
+use crate::item_fault::ItemFault;
+use crate::mode::MODES;
+use crate::plan_fault::PlanFault;
+use crate::quoted::Quoted;
+use std::fmt;
+
+/// What is wrong with an input.
+#[derive(Clone, Copy)]
+pub enum What<'a> {
+    /// It is empty.
+    Empty(Expected),
+    /// This first line is no mode.
+    NoMode(&'a [u8], Expected),
+    /// No board follows the mode.
+    NoBoard,
+    /// This line is not the first one of a board.
+    NoHeading(&'a [u8]),
+    /// This line is no row of a board.
+    NoRow(&'a [u8]),
+    /// The last line of the input comes before the line `end`.
+    NoEnd,
+    /// This line is none of a script, whose lines begin with these words.
+    NoStep(&'a [u8], &'static str),
+    /// An item of the line is wrong.
+    Item(ItemFault<'a>),
+    /// No script was begun before the line.
+    NoScript(&'a [u8]),
+    /// The agent of the script has one already, which begins at this line.
+    SecondScript(u32),
+    /// The board breaks a rule.
+    Plan(PlanFault<'a>),
+    /// Nothing follows the mode `once`.
+    NoArea,
+    /// A second line follows the mode `once`.
+    SecondArea,
+    /// An area has so many digits.
+    AreaDigits(usize),
+    /// A byte of an area is no digit: the byte, and its place from 1.
+    AreaByte(&'a [u8], usize),
+    /// No line of the input is an area.
+    NoDump,
+    /// The first line is too long.
+    LongLine,
+    /// It is too long.
+    LongInput,
+    /// What stands behind the first line is too long.
+    Long,
+    /// The script has so many steps, more than a chart may have.
+    ManySteps(usize),
+    /// A read failed.
+    NotRead,
+    /// A script met a limit.
+    Limit,
+    /// Memory was refused.
+    Memory,
+    /// The line lies behind what was kept of the input.
+    NotKept,
+}
+
+impl fmt::Display for What<'_> {
+    fn fmt<W: fmt::Write>(&self, f: &mut fmt::Formatter<W>) -> fmt::Result {
+        match self {
+            What::NoMode(line, Expected::Drawing) => write!(
+                f,
+                "{} is no mode of a chart, which is drawn of a run on one thread, as steps words",
+                Quoted(line)
+            ),
+            What::NoMode(line, expected) => {
+                write!(f, "{} is no mode; ", Quoted(line))?;
+                write_wanted(f, *expected)
+            }
+            What::Empty(expected) => {
+                f.write_str("the input is empty; ")?;
+                write_wanted(f, *expected)
+            }
+            What::NoStep(line, words) => write!(
+                f,
+                "{} is no line of a script; these begin with {words}",
+                Quoted(line)
+            ),
+            What::Item(fault) => fmt::Display::fmt(fault, f),
+            What::Plan(fault) => fmt::Display::fmt(fault, f),
+            of_line => fmt_line(of_line, f),
+        }
+    }
+}
+
+/// What is wrong with a line of a board, a script or an area.
+fn fmt_line<W: fmt::Write>(what: &What<'_>, f: &mut fmt::Formatter<W>) -> fmt::Result {
+    match what {
+        What::NoHeading(line) => write!(
+            f,
+            "{} is no first line of a board, board VENDOR SUBVENDOR VERSION TRUSTED",
+            Quoted(line)
+        ),
+        What::NoRow(line) => write!(
+            f,
+            "{} is no row of a board; these begin with agent, domain, clock or device, and the last is end",
+            Quoted(line)
+        ),
+        What::NoScript(line) => write!(
+            f,
+            "{} stands before the first line script A, which says whose line it is",
+            Quoted(line)
+        ),
+        What::SecondScript(line) => write!(f, "the agent has a script already, at line {line}"),
+        What::AreaDigits(digits) => write!(
+            f,
+            "an area has 568 hexadecimal digits, and this line {digits}"
+        ),
+        What::AreaByte(byte, place) => write!(
+            f,
+            "byte {place}, {}, is no hexadecimal digit",
+            Quoted(byte)
+        ),
+        What::ManySteps(steps) => write!(
+            f,
+            "a chart has at most 2,000 steps, and this script {steps}"
+        ),
+        plain => f.write_str(plain.text()),
+    }
+}
+
+fn write_wanted<W: fmt::Write>(f: &mut fmt::Formatter<W>, expected: Expected) -> fmt::Result {
+    match expected {
+        Expected::Drawing => f.write_str("a chart is drawn of a run on one thread, as steps words"),
+        Expected::Dumps => f.write_str("a line has the digits of an area"),
+        Expected::Session => {
+            f.write_str("line 1 is one of")?;
+            let mut before = " ";
+            for mode in MODES {
+                write!(f, "{before}{mode}")?;
+                before = ", ";
+            }
+            Ok(())
+        }
+    }
+}
+
+impl What<'_> {
+    /// The text of a fault that has one text.
+    fn text(&self) -> &'static str {
+        match self {
+            What::NoBoard =>
+                "nothing follows the mode; a board does, board VENDOR SUBVENDOR VERSION TRUSTED and its rows",
+            What::NoEnd => "the board has no line end, which is its last one",
+            What::NoArea => "no area follows the mode, a line of 568 hexadecimal digits",
+            What::SecondArea => "once takes one area, and this is a second line",
+            What::NoDump => "no line of the input is an area",
+            What::LongLine => "the first line is longer than 1,048,576 bytes",
+            What::LongInput => "the input is longer than 1,048,576 bytes",
+            What::Long => "the input behind line 1 is longer than 1,048,576 bytes",
+            What::NotRead => "the input could not be read",
+            What::Limit => {
+                "a script met a limit: its reply, message or state did not come in as many turns as docs/SCRIPTS.md says"
+            }
+            What::Memory => "memory was refused",
+            What::NotKept =>
+                "the line stands behind the first 1,048,576 bytes, which are all that is kept to be explained",
+            _ => "",
+        }
+    }
+}

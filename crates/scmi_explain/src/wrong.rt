@@ -1,0 +1,66 @@
+//! What is wrong with an item.
+
+use crate::number_fault::NumberFault;
+use std::fmt;
+
+/// What is wrong with an item of a line.
+#[derive(Clone, Copy)]
+pub enum Wrong {
+    /// There is none.
+    Missing,
+    /// There is nothing to be here.
+    Extra,
+    /// A 65th payload word.
+    TooManyWords,
+    /// It is no number that may stand here.
+    Number(NumberFault),
+    /// It is the number 0, and agents are numbered from 1.
+    AgentZero,
+    /// It is the number of no agent of a board that has this many.
+    NoAgent(u32),
+    /// It is no UTF-8.
+    NotUtf8,
+    /// It is neither `on` nor `off`.
+    NotSwitch,
+    /// It is neither `-` nor of `s`, `a` and `n`, each at most once.
+    NotKinds,
+    /// A part of it between commas is no rate.
+    NotRates(NumberFault),
+    /// It is neither `-` nor numbers from 0 to 31 with commas between them.
+    NotPlaces,
+    /// One of its numbers stands twice.
+    PlaceTwice,
+    /// It is not this word.
+    NotWord(&'static str),
+}
+
+impl fmt::Display for Wrong {
+    fn fmt<W: fmt::Write>(&self, f: &mut fmt::Formatter<W>) -> fmt::Result {
+        match self {
+            Wrong::Number(fault) => f.write_str(fault.text()),
+            Wrong::NotRates(fault) => write!(f, "has a rate that {}", fault.text()),
+            Wrong::NoAgent(1) => f.write_str("is no agent: the board has 1 agent"),
+            Wrong::NoAgent(agents) => write!(f, "is no agent: the board has {agents} agents"),
+            Wrong::NotWord(word) => write!(f, "is not \"{word}\""),
+            plain => f.write_str(plain.text()),
+        }
+    }
+}
+
+impl Wrong {
+    /// The text of a fault that has one text.
+    fn text(&self) -> &'static str {
+        match self {
+            Wrong::Missing => "is missing",
+            Wrong::Extra => "is one too many",
+            Wrong::TooManyWords => "is a 65th payload word; a message has at most 64",
+            Wrong::AgentZero => "is no agent: they are numbered from 1",
+            Wrong::NotUtf8 => "is not UTF-8",
+            Wrong::NotSwitch => "is not \"on\" or \"off\"",
+            Wrong::NotKinds => "is not \"-\" or some of s, a and n, each at most once",
+            Wrong::NotPlaces => "is not \"-\" or numbers from 0 to 31 with commas between them",
+            Wrong::PlaceTwice => "has a number twice",
+            _ => "is of another form",
+        }
+    }
+}
