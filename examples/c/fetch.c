@@ -1,6 +1,7 @@
 /*
  * Watches the machine code of scmi_mailbox.h at each access to the shared memory: its page is closed, each access
- * stops the program, is noted, and is let through by one step. x86-64 and Linux alone.
+ * stops the program, is noted, and is let through by one step, of the processor (x86-64) or by a breakpoint behind it
+ * (aarch64). Linux alone.
  *
  * In no call is a word read twice, or read once it was written; each access is one of a whole word at its place,
  * of the channel and within what the length names; the status word is read before any other word, and written last.
@@ -26,27 +27,65 @@ static struct {
 static unsigned count, calls, accesses;
 static const char *wrong;
 
+#if defined(__x86_64__)
+static int is_write(const ucontext_t *c)
+{
+    return (c->uc_mcontext.gregs[REG_ERR] & 2) != 0;
+}
+static void begin_step(ucontext_t *c)
+{
+    c->uc_mcontext.gregs[REG_EFL] |= 0x100;
+}
+static void end_step(ucontext_t *c)
+{
+    c->uc_mcontext.gregs[REG_EFL] &= ~0x100LL;
+}
+#elif defined(__aarch64__)
+static uint32_t *behind, kept;
+
+static int is_write(const ucontext_t *c)
+{
+    return !(*(const uint32_t *)c->uc_mcontext.pc >> 22 & 1);
+}
+static void put(uint32_t instruction)
+{
+    uintptr_t start = (uintptr_t)behind & ~(uintptr_t)(PAGE - 1);
+
+    mprotect((void *)start, PAGE, PROT_READ | PROT_WRITE | PROT_EXEC);
+    *behind = instruction;
+    __builtin___clear_cache((char *)behind, (char *)(behind + 1));
+}
+static void begin_step(ucontext_t *c)
+{
+    behind = (uint32_t *)(c->uc_mcontext.pc + 4);
+    kept = *behind;
+    put(0xd4200000); /* BRK */
+}
+static void end_step(ucontext_t *c)
+{
+    (void)c;
+    put(kept);
+}
+#endif
+
 static void on_access(int signal, siginfo_t *info, void *context)
 {
-    ucontext_t *c = context;
     uint8_t *at = info->si_addr;
 
     (void)signal;
     if (at < page || at >= page + PAGE || count == MOST)
         _exit(99);
     seen[count].at = (unsigned)(at - page);
-    seen[count++].write = (c->uc_mcontext.gregs[REG_ERR] & 2) != 0;
+    seen[count++].write = (unsigned)is_write(context);
     mprotect(page, PAGE, PROT_READ | PROT_WRITE);
-    c->uc_mcontext.gregs[REG_EFL] |= 0x100; /* one step */
+    begin_step(context);
 }
 
 static void on_step(int signal, siginfo_t *info, void *context)
 {
-    ucontext_t *c = context;
-
     (void)signal, (void)info;
     mprotect(page, PAGE, PROT_NONE);
-    c->uc_mcontext.gregs[REG_EFL] &= ~0x100LL;
+    end_step(context);
 }
 
 static void open_page(void)
