@@ -16,6 +16,7 @@ use scmi_plan::Plan;
 
 impl Tables {
     /// As `answer`, for a frame whose effect the hardware made; nothing is decided again.
+    #[inline(always)]
     pub fn commit(
         &mut self,
         plan: &Plan,
@@ -43,6 +44,7 @@ impl Tables {
     }
 
     /// As `commit`, for a message. One with an effect succeeds, and its reply is SUCCESS alone.
+    #[inline(always)]
     fn commit_message(
         &mut self,
         plan: &Plan,

@@ -1,5 +1,6 @@
 //! What a command or a completion is to change of the hardware.
-ghost use Rattle.std.specs.Prelude.{◌≡◌, ◌≤◌, length, None, Ok, option_map};
+ghost use Rattle.std.specs.Prelude.{◌≡◌, ◌≤◌, ◌==◌, ◌&&◌, ◌||◌, length, None, Ok, option_map};
+ghost use Rattle.scmi_codec.specs.declared.frame.Frame.TheVariants.{Good};
 ghost use Rattle.scmi_codec.specs.Payload.{if_success};
 ghost use Rattle.scmi_codec.specs.declared.command.Command.TheVariants.{Power, Clock};
 ghost use Rattle.scmi_plan.specs.Plan.{IsLawful};
@@ -11,11 +12,15 @@ ghost use Rattle.scmi_core.specs.Tables.{situation_in};
 
 use crate::effect::Effect;
 use crate::tables::Tables;
-use scmi_codec::{ClockCommand, Command, Frame, PowerCommand};
+use scmi_codec::{
+    CLOCK_PROTOCOL, ClockCommand, Command, Frame, Header, Message, POWER_PROTOCOL, PowerCommand,
+};
 use scmi_plan::Plan;
 
 impl Tables {
-    /// The effect of a frame of an agent, if it has one.
+    /// The effect of a frame of an agent, if it has one. A message that has none by its header is not
+    /// read.
+    #[inline(always)]
     pub fn effect_of(&self, plan: &Plan, agent: u32, frame: &Frame) -> Option<Effect>
         requires first { 1 ≤ agent }
         requires last { agent ≤ length plan.now.agents }
@@ -23,12 +28,26 @@ impl Tables {
         ensures { result ≡ effect_in plan.now agent frame.now (situation_in agent self.now) }
     {
         match frame {
-            Frame::Good(message) => match Command::read(message) {
-                Ok(Command::Power(command)) => self.power_effect(plan, agent, command),
-                Ok(Command::Clock(command)) => self.clock_effect(plan, agent, command),
-                _ => None,
-            },
-            Frame::Malformed { .. } => None,
+            Frame::Good(message) if may_have_effect(&message.header) => {
+                self.message_effect(plan, agent, message)
+            }
+            _ => None,
+        }
+    }
+
+    /// The effect of a message of an agent, if it has one.
+    #[inline(never)]
+    fn message_effect(&self, plan: &Plan, agent: u32, message: &Message) -> Option<Effect>
+        requires first { 1 ≤ agent }
+        requires last { agent ≤ length plan.now.agents }
+        requires lawful { IsLawful plan.now }
+        ensures { result
+            ≡ effect_in plan.now agent (Good message.now) (situation_in agent self.now) }
+    {
+        match Command::read(message) {
+            Ok(Command::Power(command)) => self.power_effect(plan, agent, command),
+            Ok(Command::Clock(command)) => self.clock_effect(plan, agent, command),
+            _ => None,
         }
     }
 
@@ -77,4 +96,16 @@ impl Tables {
             },
         }
     }
+}
+
+/// Whether a message with this header may have an effect: POWER_STATE_SET, CLOCK_RATE_SET and
+/// CLOCK_CONFIG_SET may.
+fn may_have_effect(header: &Header) -> bool
+    ensures { result ≡ (header.now.protocol == 0x11 && header.now.id == 0x4
+        || header.now.protocol == 0x14 && (header.now.id == 0x5 || header.now.id == 0x7)) }
+{
+    matches!(
+        (header.protocol, header.id),
+        (POWER_PROTOCOL, 0x4) | (CLOCK_PROTOCOL, 0x5 | 0x7)
+    )
 }
