@@ -1,7 +1,7 @@
 //! What the agents' posts ask for, in words.
 use crate::label::{add_field, name_label, name_of};
 use crate::words::{numbered_word, payload_words};
-use scmi_codec::{ClockCommand, Command, Header, Message, Payload, PowerCommand};
+use scmi_codec::{BASE_PROTOCOL, ClockCommand, Command, Header, Message, Payload, PowerCommand};
 use scmi_describe::command_fields;
 use scmi_plan::RawPlan;
 use scmi_svg::Label;
@@ -39,7 +39,7 @@ pub(crate) fn sets_later(step: &Step) -> bool {
 }
 
 /// The message that a step posts, its token aside.
-fn message_of(step: &Step) -> Option<Message> {
+pub(crate) fn message_of(step: &Step) -> Option<Message> {
     match step {
         Step::Do { call, .. }
         | Step::Fail { call, .. }
@@ -65,6 +65,15 @@ fn call_message(call: &Call) -> Message {
     }
 }
 
+/// Whether a message is BASE_DISCOVER_AGENT of the number that stands for the caller there.
+fn asks_for_itself(message: &Message) -> bool {
+    let header = message.header;
+    match (header.protocol, header.id, message.payload.as_slice()) {
+        (BASE_PROTOCOL, 0x7, [u32::MAX]) => true,
+        _ => false,
+    }
+}
+
 fn malformed_label(alloc: Global, length: u32) -> Result<Label, AllocError> {
     let mut label = name_label(alloc, Vec::from_slice(alloc, b"malformed")?);
     label.object = numbered_word(alloc, "length", length)?;
@@ -82,6 +91,9 @@ fn command_label(alloc: Global, board: &RawPlan, message: &Message) -> Result<La
             }
         }
         Err(_) => label.object = payload_words(alloc, message.payload.as_slice())?,
+    }
+    if asks_for_itself(message) {
+        label.object = Vec::from_slice(alloc, b"itself")?;
     }
     if header.kind != 0 {
         label.tag = numbered_word(alloc, "type", u32::from(header.kind))?;

@@ -3,8 +3,7 @@ use crate::words::numbered_word;
 use scmi_plan::RawPlan;
 use std::alloc::{AllocError, Global};
 
-/// The name of an agent; its number where the board lacks it, `platform` for 0,
-/// and `itself` for the number that names the caller.
+/// The name of an agent; its number where the board lacks it, and `platform` for 0.
 pub(crate) fn agent_name(
     alloc: Global,
     board: &RawPlan,
@@ -12,9 +11,6 @@ pub(crate) fn agent_name(
 ) -> Result<Vec<u8>, AllocError> {
     if agent == 0 {
         return Vec::from_slice(alloc, b"platform");
-    }
-    if agent == u32::MAX {
-        return Vec::from_slice(alloc, b"itself");
     }
     match board.agents.get(agent as usize - 1) {
         Some(name) => Vec::from_slice(alloc, name.as_bytes()),

@@ -45,6 +45,7 @@ pub(crate) fn add_field(
         Field::State(_) | Field::Rate(_) => add_value(alloc, label, field)?,
         Field::Enable(bits) | Field::ClockAttributes(bits) => {
             label.value = Vec::from_slice(alloc, switch_word(bits % 2 == 1))?;
+            add_bits(alloc, label, *bits, 0x1)?;
         }
         Field::Device(device) => label.value = numbered_word(alloc, "device", *device)?,
         Field::Protocol(protocol) => add_protocol(alloc, label, *protocol)?,
@@ -58,6 +59,7 @@ pub(crate) fn add_field(
         Field::Message(id) => label.object = hex_words(alloc, *id)?,
         Field::Version(_) | Field::Counts(_) => add_counts(alloc, label, field)?,
         Field::Index(index) => label.tag = numbered_word(alloc, "from", *index)?,
+        Field::Skip(count) => label.tag = numbered_word(alloc, "skip", *count)?,
         _ => add_flags(alloc, label, field)?,
     }
     Ok(())
@@ -109,32 +111,61 @@ fn add_counts(alloc: Global, label: &mut Label, field: &Field) -> Result<(), All
     Ok(())
 }
 
-/// Adds flags, as a remark.
+/// Adds flags, as a remark: what they ask for, and all bits where one of them is reserved.
 fn add_flags(alloc: Global, label: &mut Label, field: &Field) -> Result<(), AllocError> {
-    let words: &[u8] = match field {
-        Field::PowerFlags(1) => b"async",
-        Field::RateFlags(bits) => rate_flags(*bits),
-        Field::PermitFlags(bits) if bits % 2 == 1 => b"allow",
-        Field::PermitFlags(_) => b"deny",
-        Field::ResetFlags(bits) if bits % 2 == 1 => b"and permissions",
+    let (words, bits, known): (&[u8], u32, u32) = match field {
+        Field::PowerFlags(bits) => (power_flags(*bits), *bits, 0x1),
+        Field::RateFlags(bits) => (rate_flags(*bits), *bits, 0xf),
+        Field::PermitFlags(bits) => (permit_flags(*bits), *bits, 0x1),
+        Field::ResetFlags(bits) => (reset_flags(*bits), *bits, 0x1),
         _ => return Ok(()),
     };
     label.tag = Vec::from_slice(alloc, words)?;
-    Ok(())
+    add_bits(alloc, label, bits, known)
+}
+
+/// Adds all bits of a word to the remark, where another is set than those that have a meaning.
+fn add_bits(alloc: Global, label: &mut Label, bits: u32, known: u32) -> Result<(), AllocError> {
+    if bits & !known == 0 {
+        return Ok(());
+    }
+    if !label.tag.is_empty() {
+        label.tag.extend_from_slice(b", ")?;
+    }
+    label.tag.extend_from_slice(b"flags ")?;
+    label.tag.extend_from_slice(&hex_words(alloc, bits)?)
+}
+
+fn power_flags(bits: u32) -> &'static [u8] {
+    if bits % 2 == 1 { b"async" } else { b"" }
+}
+
+fn permit_flags(bits: u32) -> &'static [u8] {
+    if bits % 2 == 1 { b"allow" } else { b"deny" }
+}
+
+fn reset_flags(bits: u32) -> &'static [u8] {
+    if bits % 2 == 1 {
+        b"and permissions"
+    } else {
+        b""
+    }
 }
 
 /// The flags of a rate set: when it takes effect, then how the rate is rounded.
 fn rate_flags(bits: u32) -> &'static [u8] {
-    match bits {
+    match bits & 0xf {
         0x0 => b"",
         0x1 => b"async",
+        0x2 => b"no response",
         0x3 => b"async, no response",
         0x4 => b"up",
         0x5 => b"async, up",
+        0x6 => b"no response, up",
         0x7 => b"async, no response, up",
         0x8 | 0xc => b"nearest",
         0x9 | 0xd => b"async, nearest",
-        0xb | 0xf => b"async, no response, nearest",
-        _ => b"other flags",
+        0xa | 0xe => b"no response, nearest",
+        _ => b"async, no response, nearest",
     }
 }

@@ -7,6 +7,7 @@
 
 mod asked;
 mod board_names;
+mod detail;
 mod label;
 mod level;
 mod levels;

@@ -5,6 +5,7 @@ ghost use Rattle.scmi_chart.specs.Signs.{sign_of, signs_of, lane, raw_token, rep
 
 use crate::asked::{asked_label, sets_later};
 use crate::board_names::agent_name;
+use crate::detail::{answer_detail, message_detail, step_detail};
 use crate::label::name_label;
 use crate::levels::Levels;
 use crate::marks::Marks;
@@ -159,6 +160,7 @@ impl<'a> Recorder<'a> {
             slot,
             taken: slot,
             label,
+            detail: step_detail(self.alloc, step, token)?,
         };
         self.marks.add(Mark::Withdrawn { message, token })?;
         let command = Outstanding {
@@ -187,6 +189,7 @@ impl<'a> Recorder<'a> {
             slot,
             taken: slot,
             label,
+            detail: step_detail(self.alloc, step, None)?,
         };
         self.marks.add(Mark::Refused { message })
     }
@@ -306,6 +309,7 @@ impl<'a> Recorder<'a> {
             slot: answered_slot(command, slot),
             taken: slot,
             label,
+            detail: answer_detail(self.alloc, answer)?,
         };
         self.marks.add(Mark::Reply { message, outcome })
     }
@@ -367,6 +371,7 @@ impl<'a> Recorder<'a> {
                         slot: self.parties.take(agent).unwrap_or(slot),
                         taken: slot,
                         label,
+                        detail: message_detail(self.alloc, message)?,
                     },
                     &message.header,
                 );

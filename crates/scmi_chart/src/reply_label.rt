@@ -97,7 +97,7 @@ pub(crate) fn posted_label(
             alloc,
             Vec::from_slice(alloc, name.as_bytes())?,
         ),
-        _ => delayed_name(alloc, message)?,
+        _ => delayed_label(alloc, message)?,
     };
     for field in posted_fields(message).as_slice() {
         add_field(alloc, board, &mut label, field)?;
@@ -105,11 +105,21 @@ pub(crate) fn posted_label(
     Ok(label)
 }
 
-/// The name of a delayed response.
-fn delayed_name(alloc: Global, message: &Message) -> Result<Label, AllocError> {
+/// The name of a delayed response, and its status where that is none of success.
+fn delayed_label(alloc: Global, message: &Message) -> Result<Label, AllocError> {
     let mut name = name_of(alloc, message.header.protocol, message.header.id)?;
-    name.extend_from_slice(b" completed")?;
-    Ok(name_label(alloc, name))
+    match message.payload.as_slice() {
+        [status, ..] if *status != 0 => {
+            name.extend_from_slice(b" failed")?;
+            let mut label = name_label(alloc, name);
+            label.object = status_words(alloc, *status)?;
+            Ok(label)
+        }
+        _ => {
+            name.extend_from_slice(b" completed")?;
+            Ok(name_label(alloc, name))
+        }
+    }
 }
 
 /// The fields of a delayed response or a notification.

@@ -1,4 +1,5 @@
 //! Words of a chart, as bytes.
+use scmi_svg::write_rate;
 use std::alloc::{AllocError, Global};
 
 /// A power state.
@@ -15,27 +16,41 @@ pub(crate) fn hex_words(alloc: Global, word: u32) -> Result<Vec<u8>, AllocError>
     Ok(format!(in alloc; "0x{word:x}")?.into_bytes())
 }
 
-/// A word and a number.
+/// A word and a number, which is hexadecimal from 65,536 on.
 pub(crate) fn numbered_word(alloc: Global, word: &str, number: u32) -> Result<Vec<u8>, AllocError> {
-    Ok(format!(in alloc; "{word} {number}")?.into_bytes())
-}
-
-/// A rate in the largest unit that gives a whole number.
-pub(crate) fn rate_words(alloc: Global, hertz: u64) -> Result<Vec<u8>, AllocError> {
-    let words = if hertz % 1_000 != 0 || hertz == 0 {
-        format!(in alloc; "{hertz} Hz")?
-    } else if hertz % 1_000_000 != 0 {
-        format!(in alloc; "{} kHz", hertz / 1_000)?
-    } else if hertz % 1_000_000_000 != 0 {
-        format!(in alloc; "{} MHz", hertz / 1_000_000)?
+    let words = if number <= 0xffff {
+        format!(in alloc; "{word} {number}")?
     } else {
-        format!(in alloc; "{} GHz", hertz / 1_000_000_000)?
+        format!(in alloc; "{word} 0x{number:x}")?
     };
     Ok(words.into_bytes())
 }
 
-/// Payload words, hexadecimal.
+/// A rate, as columns have it.
+pub(crate) fn rate_words(alloc: Global, hertz: u64) -> Result<Vec<u8>, AllocError> {
+    let mut words = Vec::new(alloc);
+    match write_rate(&mut words, hertz) {
+        Ok(()) => Ok(words),
+        Err(_) => Err(AllocError),
+    }
+}
+
+/// The most payload words that stand beside an arrow.
+const SHOWN_WORDS: usize = 4;
+
+/// The first payload words, hexadecimal, and how many follow them.
 pub(crate) fn payload_words(alloc: Global, words: &[u32]) -> Result<Vec<u8>, AllocError> {
+    let shown = &words[..words.len().min(SHOWN_WORDS)];
+    let mut text = all_words(alloc, shown)?;
+    if words.len() > SHOWN_WORDS {
+        let more = format!(in alloc; " and {} more", words.len() - SHOWN_WORDS)?;
+        text.extend_from_slice(more.as_bytes())?;
+    }
+    Ok(text)
+}
+
+/// Words, hexadecimal.
+pub(crate) fn all_words(alloc: Global, words: &[u32]) -> Result<Vec<u8>, AllocError> {
     let mut text = Vec::new(alloc);
     for word in words {
         if !text.is_empty() {

@@ -29,6 +29,7 @@ const PICTURE: &[u8] = b"\
 <rect class=\"on\" x=\"663\" y=\"139\" width=\"10\" height=\"64\"/>\n\
 <text class=\"on value\" x=\"668\" y=\"139\" dx=\"10\" dy=\"12\">ON</text>\n\
 <g class=\"mark command\">\n\
+<title>POWER_STATE_GET</title>\n\
 <line class=\"head\" x1=\"228\" y1=\"171\" x2=\"541\" y2=\"171\"/>\n\
 <text x=\"387\" y=\"165\" font-size=\"12\"><tspan class=\"name\">POWER_STATE_GET</tspan>\
 <tspan class=\"object\" dx=\"6\">cpu</tspan></text>\n\
@@ -36,6 +37,7 @@ const PICTURE: &[u8] = b"\
 <text class=\"a1 in\" dy=\"3\" x=\"228\" y=\"171\">7</text>\n\
 </g>\n\
 <g class=\"mark reply\">\n\
+<title>SUCCESS</title>\n\
 <line class=\"head\" x1=\"541\" y1=\"203\" x2=\"228\" y2=\"203\"/>\n\
 <text x=\"387\" y=\"197\" font-size=\"12\"><tspan class=\"name\">SUCCESS</tspan>\
 <tspan class=\"object\" dx=\"6\">ON</tspan></text>\n\
@@ -53,6 +55,7 @@ fn message(alloc: Global, slot: u16, name: &[u8], object: &[u8]) -> Result<Messa
             value: Vec::new(alloc),
             tag: Vec::new(alloc),
         },
+        detail: Vec::from_slice(alloc, name)?,
     })
 }
 

@@ -1,6 +1,7 @@
 -- The columns of states.
-use Rattle.std.specs.Prelude.{ℕ, ◌+◌, ◌-◌, ◌*◌, ◌/◌, ◌%◌, ◌==◌, ◌||◌, not, Bool, if◌then◌else◌, List, [], ◌∷◌, ◌++◌, codes, flat_map}
+use Rattle.std.specs.Prelude.{ℕ, ◌+◌, ◌-◌, ◌*◌, ◌==◌, Bool, if◌then◌else◌, List, [], ◌∷◌, ◌++◌, codes, flat_map}
 use Rattle.scmi_svg.specs.Piece.{fixed, number, parts_text}
+use Rattle.scmi_svg.specs.Rate.{rate_text}
 use Rattle.scmi_svg.specs.Layout.{column_x, state_y}
 use Rattle.scmi_svg.specs.Shape.{box_text, words_text}
 use Rattle.scmi_svg.specs.declared.layout.Layout.{Layout}
@@ -49,21 +50,15 @@ pending_text at height = box_text (codes "held") (left_of at 13) 6 height
 abbrev pub rate_class : Bool → List ℕ
 rate_class enabled = if enabled then codes "rate" else codes "rate idle"
 
--- so many units of a rate
-unfoldable pub in_units : Point → ℕ → List ℕ → List ℕ
-in_units at count unit =
-    parts_text (fixed (codes "<text class=\"hertz\" dx=\"10\" dy=\"12\" x=\"") ∷ number at.x ∷ fixed (codes "\" y=\"") ∷ number at.y ∷
-    fixed (codes "\">") ∷ number count ∷ fixed unit ∷ fixed (codes "</text>\n") ∷ [])
-
--- a rate in the largest unit that gives a whole number
-abbrev pub hertz_text : Point → ℕ → List ℕ
+-- a rate beside a point
+unfoldable pub hertz_text : Point → ℕ → List ℕ
 hertz_text at hertz =
-    if not (hertz % 1000 == 0) || (hertz == 0) then in_units at hertz (codes " Hz") else if not (hertz % 1000000 == 0) then in_units at (hertz / 1000) (codes " kHz")
-    else if not (hertz % 1000000000 == 0) then in_units at (hertz / 1000000) (codes " MHz") else in_units at (hertz / 1000000000) (codes " GHz")
+    parts_text (fixed (codes "<text class=\"hertz\" dx=\"10\" dy=\"12\" x=\"") ∷ number at.x ∷ fixed (codes "\" y=\"") ∷ number at.y ∷ fixed (codes "\">") ∷ [])
+    ++ rate_text hertz ++ parts_text (fixed (codes "</text>\n") ∷ [])
 
 -- a clock's rate
-unfoldable pub rate_text : Point → ℕ → ℕ → Bool → List ℕ
-rate_text at height hertz enabled = box_text (rate_class enabled) (left_of at 4) 8 height ++ hertz_text at hertz
+unfoldable pub clock_text : Point → ℕ → ℕ → Bool → List ℕ
+clock_text at height hertz enabled = box_text (rate_class enabled) (left_of at 4) 8 height ++ hertz_text at hertz
 
 -- a bar in the colour of an agent
 unfoldable pub bar_text : Point → ℕ → ℕ → ℕ → List ℕ
@@ -89,7 +84,7 @@ waiting_text at height agent count = if count == 0 then box_text (codes "none") 
 abbrev pub state_text : Kind → State → Point → ℕ → List ℕ
 state_text kind state.On at height = on_text at height
 state_text kind state.Off at height = off_text at height
-state_text kind (state.Rate hertz enabled) at height = rate_text at height hertz enabled
+state_text kind (state.Rate hertz enabled) at height = clock_text at height hertz enabled
 state_text kind (state.Waiting count) at height = waiting_text at height (agent_of kind) count
 state_text kind state.Pending at height = pending_text at height
 

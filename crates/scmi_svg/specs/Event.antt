@@ -1,6 +1,7 @@
 -- Marks that are no messages.
-use Rattle.std.specs.Prelude.{ℕ, ◌+◌, ◌-◌, ◌*◌, ◌/◌, if◌then◌else◌, List, [], ◌∷◌, ◌++◌, length, codes, min}
+use Rattle.std.specs.Prelude.{ℕ, ◌+◌, ◌-◌, ◌/◌, if◌then◌else◌, List, [], ◌∷◌, ◌++◌, codes}
 use Rattle.scmi_svg.specs.Piece.{fixed, number, outside, parts_text}
+use Rattle.scmi_svg.specs.Measure.{width_in}
 use Rattle.scmi_svg.specs.Layout.{agent_x, beside_agent, beside_platform, platform_x, is_left, line_y}
 use Rattle.scmi_svg.specs.Shape.{box_text, cross_text, words_text}
 use Rattle.scmi_svg.specs.declared.layout.Layout.{Layout}
@@ -15,7 +16,7 @@ execution_text l slot until =
 
 -- the width of a pill with these words behind its own
 abbrev pub pill_width : List ℕ → ℕ
-pill_width text = 74 + 6 * min (length text) 30
+pill_width text = 76 + width_in text 11
 
 -- a pill around a point
 unfoldable pub pill_text : Point → ℕ → List ℕ
@@ -40,8 +41,8 @@ closed_x l agent side.Platform = platform_x l
 
 -- where words beside a lifeline begin or end
 abbrev pub remark_x : Layout → ℕ → Side → ℕ
-remark_x l agent side.Agent = beside_agent l agent 14
-remark_x l agent side.Platform = beside_platform l agent 14
+remark_x l agent side.Agent = beside_agent l agent 30
+remark_x l agent side.Platform = beside_platform l agent 30
 
 -- how words beside a lifeline run: away from it
 abbrev pub remark_class : Layout → ℕ → Side → List ℕ
@@ -65,4 +66,4 @@ fault_x l agent distance = if is_left l agent then platform_x l + distance else 
 unfoldable pub fault_text : Layout → ℕ → ℕ → List ℕ → List ℕ
 fault_text l agent slot text =
     cross_text (codes "lost") (record { x = fault_x l agent 14; y = line_y slot - 4 })
-    ++ words_text (remark_class l agent side.Agent) (record { x = fault_x l agent 26; y = line_y slot }) 0 0 text
+    ++ words_text (remark_class l agent side.Agent) (record { x = fault_x l agent 28; y = line_y slot }) 0 0 text

@@ -1,11 +1,13 @@
 -- What stands around the marks: the head of the file, title, script, border and legend.
-use Rattle.std.specs.Prelude.{ℕ, ◌+◌, ◌-◌, ◌*◌, ◌%◌, ◌==◌, if◌then◌else◌, List, [], ◌∷◌, ◌++◌, codes, flat_map, take, min, vec_len}
-use Rattle.scmi_svg.specs.Piece.{fixed, number, parts_text}
+use Rattle.std.specs.Prelude.{ℕ, ◌+◌, ◌-◌, ◌*◌, ◌%◌, ◌==◌, if◌then◌else◌, List, [], ◌∷◌, ◌++◌, codes, flat_map, length, get_or, nat_le, zero, suc, take, min}
+use Rattle.scmi_svg.specs.Piece.{fixed, number, outside, parts_text}
 use Rattle.scmi_svg.specs.Shape.{words_text}
+use Rattle.scmi_svg.specs.Legend.{all_entries, entries_text}
 use Rattle.scmi_svg.specs.Layout.{width, bottom, border_x, slot_y}
-use Rattle.scmi_svg.specs.declared.layout.TheConstants.{SHOWN, SLOT}
-use Rattle.scmi_svg.specs.declared.style.TheConstants.{STYLE, LEGEND}
+use Rattle.scmi_svg.specs.declared.layout.TheConstants.{CUT, SHOWN, SLOT}
+use Rattle.scmi_svg.specs.declared.style.TheConstants.{STYLE}
 use Rattle.scmi_svg.specs.declared.layout.Layout.{Layout}
+use Rattle.scmi_svg.specs.declared.shape.Point.{Point}
 use Rattle.scmi_svg.specs.declared.chart.Chart.{Chart}
 use Rattle.scmi_svg.specs.declared.chart.Step.{Step}
 
@@ -14,11 +16,17 @@ unfoldable pub sized_text : ℕ → ℕ → List ℕ
 sized_text width height =
     parts_text (fixed (codes "<svg xmlns=\"http://www.w3.org/2000/svg\" width=\"") ∷ number width ∷ fixed (codes "\" height=\"") ∷ number height ∷
     fixed (codes "\" viewBox=\"0 0 ") ∷ number width ∷ fixed (codes " ") ∷ number height ∷
-    fixed (codes "\" font-family=\"Inter,'Helvetica Neue','DejaVu Sans',sans-serif\" font-size=\"12\">\n") ∷ fixed STYLE.now ∷ [])
+    fixed (codes "\" font-family=\"Inter,'Helvetica Neue','DejaVu Sans',sans-serif\" font-size=\"12\" role=\"img\" aria-labelledby=\"title below\">\n") ∷ [])
+
+-- the title and what stands below it, for a reader of the screen, and the style
+unfoldable pub named_text : List ℕ → List ℕ → List ℕ
+named_text title below =
+    parts_text (fixed (codes "<title id=\"title\">") ∷ outside title ∷ fixed (codes "</title>\n<desc id=\"below\">SCMI sequence chart: ") ∷ outside below ∷
+    fixed (codes "</desc>\n") ∷ fixed STYLE.now ∷ [])
 
 -- the head of the file
-unfoldable pub head_text : Layout → List ℕ
-head_text l = sized_text (width l) (bottom l + 62)
+unfoldable pub head_text : Layout → Chart → List ℕ
+head_text l c = sized_text (width l) (bottom l + 62) ++ named_text c.title.items c.subtitle.items
 
 -- the paper
 unfoldable pub paper_text : List ℕ
@@ -45,11 +53,24 @@ number_text y line =
     parts_text (fixed (codes "<text class=\"mono line\" x=\"46\" dy=\"20\" y=\"") ∷ number y ∷ fixed (codes "\">") ∷ number line ∷
     fixed (codes "</text>\n") ∷ [])
 
--- the line of the script, up to its sixtieth character, behind its number
+-- how many bytes stand before the last space up to a place
+abbrev pub cut_at : List ℕ → ℕ → ℕ
+cut_at text zero = min CUT (length text - 1)
+cut_at text (suc place) = if get_or text (suc place) 0 == 32 then suc place else cut_at text place
+
+-- the beginning of a line of the script, and a sign that it is cut
+unfoldable pub beginning_text : Point → List ℕ → List ℕ
+beginning_text at text =
+    parts_text (fixed (codes "<text class=\"mono\" x=\"") ∷ number at.x ∷ fixed (codes "\" y=\"") ∷ number at.y ∷ fixed (codes "\" dy=\"20\">") ∷
+    outside text ∷ fixed (codes " &#8230;</text>\n") ∷ [])
+
+-- the words of a line of the script: whole words, and a sign, where there are more than are shown
+unfoldable pub shown_text : Point → List ℕ → List ℕ
+shown_text at text = if nat_le (length text) SHOWN then words_text (codes "mono") at 0 20 text else beginning_text at (take (cut_at text CUT) text)
+
+-- the line of the script behind its number
 unfoldable pub script_text : Step → List ℕ
-script_text s =
-    number_text (slot_y s.slot) s.line
-    ++ words_text (codes "mono") (record { x = 56; y = slot_y s.slot }) 0 20 (take (min (vec_len s.text) SHOWN) s.text.items)
+script_text s = number_text (slot_y s.slot) s.line ++ shown_text (record { x = 56; y = slot_y s.slot }) s.text.items
 
 -- a step of the script
 unfoldable pub step_text : Layout → Step → List ℕ
@@ -65,12 +86,10 @@ border_text l =
     parts_text (fixed (codes "<line class=\"border\" y1=\"84\" x1=\"") ∷ number (border_x l) ∷ fixed (codes "\" x2=\"") ∷ number (border_x l) ∷ fixed (codes "\" y2=\"") ∷
     number (bottom l) ∷ fixed (codes "\"/>\n") ∷ [])
 
--- the legend at this height, and the end of the file
-unfoldable pub legend_at : ℕ → List ℕ
-legend_at y =
-    parts_text (fixed (codes "<svg class=\"legend\" x=\"24\" y=\"") ∷ number y ∷ fixed (codes "\">\n") ∷ fixed LEGEND.now ∷
-    fixed (codes "</svg>\n</svg>\n") ∷ [])
+-- the beginning of a legend at this height
+unfoldable pub opened_text : ℕ → List ℕ
+opened_text y = parts_text (fixed (codes "<svg class=\"legend\" x=\"24\" y=\"") ∷ number y ∷ fixed (codes "\">\n") ∷ [])
 
 -- the legend and the end of the file
-unfoldable pub legend_text : Layout → List ℕ
-legend_text l = legend_at (bottom l + 26)
+unfoldable pub legend_text : Layout → Chart → List ℕ
+legend_text l c = opened_text (bottom l + 26) ++ entries_text c 0 all_entries ++ parts_text (fixed (codes "</svg>\n</svg>\n") ∷ [])

@@ -1,22 +1,16 @@
 -- What messages say, as words.
-use Rattle.std.specs.Prelude.{ℕ, ◌+◌, ◌/◌, List, [], ◌∷◌, ◌++◌, length, codes, min, max}
+use Rattle.std.specs.Prelude.{ℕ, ◌*◌, ◌/◌, List, [], ◌∷◌, ◌++◌, codes, min, max}
+use Rattle.scmi_svg.specs.Needs.{label_width}
+use Rattle.scmi_svg.specs.declared.needs.TheConstants.{WIDE_GAP}
 use Rattle.scmi_svg.specs.Piece.{fixed, number, outside, parts_text}
 use Rattle.scmi_svg.specs.declared.mark.Label.{Label}
 use Rattle.scmi_svg.specs.declared.route.Spot.{Spot}
 use Rattle.scmi_svg.specs.declared.route.Turn.{Turn}
 use Rattle.scmi_svg.specs.declared.route.Turn.TheVariants as turn
 
--- the letters of a part of a label, as far as they matter for its size
-abbrev pub part_letters : List ℕ → ℕ
-part_letters text = min (length text) 99
-
--- the letters of a label
-abbrev pub letters : Label → ℕ
-letters l = part_letters l.name.items + part_letters l.object.items + part_letters l.value.items + part_letters l.tag.items
-
--- the size of words of so many letters: 12 pixels, or as many as there is room for, but no less than 9
-abbrev pub font_size : ℕ → ℕ
-font_size count = max (min (430 / max count 1) 12) 9
+-- the size of words that are so wide, in hundredths of it: 12 pixels, or as many as there is room for, but no less than 5
+abbrev pub font_size : ℕ → ℕ → ℕ
+font_size room width = max (min (100 * min room WIDE_GAP / max width 1) 12) 5
 
 -- a part of a label, if it has any letters
 unfoldable pub if_any_text : List ℕ → List ℕ → List ℕ
@@ -66,4 +60,4 @@ start_text spot size = place_text spot size ++ turn_text spot
 
 -- what a message says
 unfoldable pub label_text : Spot → Label → List ℕ
-label_text spot l = start_text spot (font_size (letters l)) ++ front_text l ++ back_text l ++ parts_text (fixed (codes "</text>\n") ∷ [])
+label_text spot l = start_text spot (font_size spot.room (label_width l)) ++ front_text l ++ back_text l ++ parts_text (fixed (codes "</text>\n") ∷ [])

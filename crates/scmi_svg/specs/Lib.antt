@@ -1,5 +1,8 @@
 pub mod Piece
 pub mod Escape
+pub mod Measure
+pub mod Needs
+pub mod Legend
 pub mod Layout
 pub mod Shape
 pub mod Route
@@ -8,6 +11,8 @@ pub mod Message
 pub mod Event
 pub mod Mark
 pub mod Lifeline
+pub mod Rate
 pub mod Column
+pub mod Again
 pub mod Frame
 pub mod Chart

@@ -1,5 +1,5 @@
 -- The heads of lifelines, and the lifelines.
-use Rattle.std.specs.Prelude.{ℕ, ◌-◌, List, [], ◌∷◌, ◌++◌, codes, flat_map, Option, Some, None}
+use Rattle.std.specs.Prelude.{ℕ, ◌-◌, ◌/◌, List, [], ◌∷◌, ◌++◌, codes, flat_map, Option, Some, None}
 use Rattle.scmi_svg.specs.Piece.{fixed, number, parts_text}
 use Rattle.scmi_svg.specs.Shape.{box_text, words_text}
 use Rattle.scmi_svg.specs.Layout.{agent_x, platform_x, bottom, line_y}
@@ -27,10 +27,10 @@ abbrev pub life_text : Layout → Lifeline → ℕ → List ℕ
 life_text l lifeline x = life_until lifeline.closed lifeline.agent x (bottom l)
 
 -- the box of an agent's name
-unfoldable pub head_box : ℕ → ℕ → List ℕ
-head_box x agent =
-    parts_text (fixed (codes "<rect class=\"a") ∷ number agent ∷ fixed (codes " box\" y=\"84\" width=\"132\" height=\"44\" rx=\"8\" x=\"") ∷ number x ∷
-    fixed (codes "\"/>\n") ∷ [])
+unfoldable pub head_box : ℕ → ℕ → ℕ → List ℕ
+head_box x width agent =
+    parts_text (fixed (codes "<rect class=\"a") ∷ number agent ∷ fixed (codes " box\" y=\"84\" width=\"") ∷ number width ∷
+    fixed (codes "\" height=\"44\" rx=\"8\" x=\"") ∷ number x ∷ fixed (codes "\"/>\n") ∷ [])
 
 -- the number of an agent below its name
 unfoldable pub agent_number : ℕ → ℕ → List ℕ
@@ -38,13 +38,13 @@ agent_number x agent =
     parts_text (fixed (codes "<text class=\"what\" y=\"119\" x=\"") ∷ number x ∷ fixed (codes "\">agent ") ∷ number agent ∷ fixed (codes "</text>\n") ∷ [])
 
 -- the head of an agent's lifeline
-unfoldable pub head_text : Lifeline → ℕ → List ℕ
-head_text lifeline x =
-    head_box (x - 66) lifeline.agent ++ words_text (codes "who") (record { x = x; y = 103 }) 0 0 lifeline.name.items ++ agent_number x lifeline.agent
+unfoldable pub head_text : Layout → Lifeline → ℕ → List ℕ
+head_text l lifeline x =
+    head_box (x - l.head / 2) l.head lifeline.agent ++ words_text (codes "who") (record { x = x; y = 103 }) 0 0 lifeline.name.items ++ agent_number x lifeline.agent
 
 -- an agent's lifeline
 unfoldable pub lifeline_text : Layout → Lifeline → List ℕ
-lifeline_text l lifeline = life_text l lifeline (agent_x l lifeline.agent) ++ head_text lifeline (agent_x l lifeline.agent)
+lifeline_text l lifeline = life_text l lifeline (agent_x l lifeline.agent) ++ head_text l lifeline (agent_x l lifeline.agent)
 
 -- the lifelines of agents
 abbrev pub lifelines_text : Layout → List Lifeline → List ℕ

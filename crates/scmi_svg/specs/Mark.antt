@@ -1,6 +1,6 @@
 -- Marks, as they are drawn.
 use Rattle.std.specs.Prelude.{ℕ, true, false, List, [], ◌∷◌, ◌++◌, codes, flat_map, Some, None}
-use Rattle.scmi_svg.specs.Piece.{fixed, parts_text}
+use Rattle.scmi_svg.specs.Piece.{fixed, outside, parts_text}
 use Rattle.scmi_svg.specs.Message.{command_text, withdrawn_text, refused_text, answer_text, posted_text, post_text}
 use Rattle.scmi_svg.specs.Event.{execution_text, advance_text, closed_text, remark_text, fault_text}
 use Rattle.scmi_svg.specs.declared.layout.Layout.{Layout}
@@ -48,6 +48,21 @@ shapes_text l (mark.Remark agent slot beside text) = remark_text l agent slot be
 shapes_text l (mark.Failed slot text) = advance_text l slot text.items
 shapes_text l (mark.Fault agent slot text) = fault_text l agent slot text.items
 
+-- the header and words of a message, if they are known
+unfoldable pub detail_text : List ℕ → List ℕ
+detail_text [] = []
+detail_text (byte ∷ bytes) = parts_text (fixed (codes "<title>") ∷ outside (byte ∷ bytes) ∷ fixed (codes "</title>\n") ∷ [])
+
+-- what is shown where a reader points at a mark: the header and words of its message
+abbrev pub hover_text : Mark → List ℕ
+hover_text (mark.Command m token) = detail_text m.detail.items
+hover_text (mark.Withdrawn m token) = detail_text m.detail.items
+hover_text (mark.Refused m) = detail_text m.detail.items
+hover_text (mark.Reply m outcome) = detail_text m.detail.items
+hover_text (mark.Delayed m token) = detail_text m.detail.items
+hover_text (mark.Notification m) = detail_text m.detail.items
+hover_text _ = []
+
 -- the beginning of a group
 unfoldable pub opening_text : List ℕ → List ℕ
 opening_text kind =
@@ -55,7 +70,7 @@ opening_text kind =
 
 -- a mark, as one group
 unfoldable pub mark_text : Layout → Mark → List ℕ
-mark_text l m = opening_text (mark_kind m) ++ shapes_text l m ++ parts_text (fixed (codes "</g>\n") ∷ [])
+mark_text l m = opening_text (mark_kind m) ++ hover_text m ++ shapes_text l m ++ parts_text (fixed (codes "</g>\n") ∷ [])
 
 -- marks, in order
 abbrev pub marks_text : Layout → List Mark → List ℕ

@@ -1,6 +1,6 @@
 -- The ways of messages between two lifelines.
 use Rattle.std.specs.Prelude.{ℕ, ◌+◌, ◌-◌, ◌*◌, ◌/◌, ◌==◌, nat_le, nat_lt, if◌then◌else◌, List, ◌++◌, codes, min, max}
-use Rattle.scmi_svg.specs.Layout.{agent_x, beside_agent, beside_platform, line_y}
+use Rattle.scmi_svg.specs.Layout.{agent_x, beside_agent, beside_platform, line_y, room}
 use Rattle.scmi_svg.specs.Shape.{line_text}
 use Rattle.scmi_svg.specs.declared.layout.TheConstants.{SLOT}
 use Rattle.scmi_svg.specs.declared.layout.Layout.{Layout}
@@ -13,12 +13,12 @@ use Rattle.scmi_svg.specs.declared.route.Turn.TheVariants as turn
 -- the way of a command: from its agent's lifeline to the platform's
 unfoldable pub to_platform : Layout → ℕ → ℕ → ℕ → Route
 to_platform l agent slot taken =
-    record { from = agent_x l agent; bend = beside_platform l agent 22; to = beside_platform l agent 5; words = beside_platform l agent 159; slot = slot; taken = taken }
+    record { from = agent_x l agent; bend = beside_platform l agent 22; to = beside_platform l agent 5; words = beside_platform l agent (l.gap / 2); room = room l; slot = slot; taken = taken }
 
 -- the way of a message from the platform: from its lifeline to the agent's
 unfoldable pub to_agent : Layout → ℕ → ℕ → ℕ → Route
 to_agent l agent slot taken =
-    record { from = beside_platform l agent 5; bend = beside_agent l agent 22; to = agent_x l agent; words = beside_platform l agent 159; slot = slot; taken = taken }
+    record { from = beside_platform l agent 5; bend = beside_agent l agent 22; to = agent_x l agent; words = beside_platform l agent (l.gap / 2); room = room l; slot = slot; taken = taken }
 
 -- a way to where a message waits, down, and on
 unfoldable pub bent_text : Point → Point → ℕ → List ℕ
@@ -49,8 +49,8 @@ turn_of r way = if nat_lt r.from r.to then turn.Down (5730 * SLOT / way) else tu
 -- where words stand over a way that goes down by a slot
 unfoldable pub slanted_spot : Route → Spot
 slanted_spot r =
-    record { x = r.words; y = line_y r.slot - 6 + SLOT * min (distance r.from r.words) 4096 / max (distance r.from r.to) 1; turn = turn_of r (max (distance r.from r.to) 1) }
+    record { x = r.words; y = line_y r.slot - 6 + SLOT * min (distance r.from r.words) 4096 / max (distance r.from r.to) 1; room = r.room; turn = turn_of r (max (distance r.from r.to) 1) }
 
 -- where the words of a way stand: over it, in the gap beside the platform
 unfoldable pub spot_of : Route → Spot
-spot_of r = if r.taken == r.slot + 1 then slanted_spot r else record { x = r.words; y = line_y r.slot - 6; turn = turn.Level }
+spot_of r = if r.taken == r.slot + 1 then slanted_spot r else record { x = r.words; y = line_y r.slot - 6; room = r.room; turn = turn.Level }

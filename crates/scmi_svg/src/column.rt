@@ -1,11 +1,12 @@
 //! The columns of states.
 ghost use Rattle.std.specs.Prelude.{◌≡◌, OnOk};
 ghost use Rattle.std.specs.Io.KnownBytes.{Appends};
-ghost use Rattle.scmi_svg.specs.Column.{columns_text, column_text, heading_text, kind_name, spans_text, span_text, state_text, on_text, off_text, pending_text, rate_text, rate_class, hertz_text, in_units, waiting_text, agent_of, queue_text, bar_text, count_text};
+ghost use Rattle.scmi_svg.specs.Column.{columns_text, column_text, heading_text, kind_name, spans_text, span_text, state_text, on_text, off_text, pending_text, clock_text, rate_class, hertz_text, waiting_text, agent_of, queue_text, bar_text, count_text};
 
 use crate::chart::{Column, Kind, Span, State};
 use crate::layout::{Layout, state_y};
 use crate::piece::{Piece, write_pieces};
+use crate::rate::write_rate;
 use crate::shape::{Point, write_box, write_words};
 use std::io;
 use std::io::Write;
@@ -99,7 +100,7 @@ fn write_state<W: Write>(
     match state {
         State::On => write_on(writer, at, height),
         State::Off => write_off(writer, at, height),
-        State::Rate { hertz, is_enabled } => write_rate(writer, at, height, hertz, is_enabled),
+        State::Rate { hertz, is_enabled } => write_clock(writer, at, height, hertz, is_enabled),
         State::Waiting(count) => write_waiting(writer, at, height, agent_of(kind), count),
         State::Pending => write_pending(writer, at, height),
     }
@@ -145,8 +146,8 @@ fn write_pending<W: Write>(writer: &mut W, at: Point, height: u32) -> io::Result
 }
 
 /// Writes a clock's rate: hollow while the clock is disabled.
-#[tactic(auto, unfolding(crate::specs::Column::rate_text))]
-fn write_rate<W: Write>(
+#[tactic(auto, unfolding(crate::specs::Column::clock_text))]
+fn write_clock<W: Write>(
     writer: &mut W,
     at: Point,
     height: u32,
@@ -154,7 +155,7 @@ fn write_rate<W: Write>(
     is_enabled: bool,
 ) -> io::Result<()>
     ensures { OnOk result (Appends (W.contents writer.old) (W.contents writer.new)
-        (rate_text at height hertz is_enabled)) }
+        (clock_text at height hertz is_enabled)) }
 {
     let corner = Point {
         x: at.x.saturating_sub(4),
@@ -170,26 +171,11 @@ fn rate_class(is_enabled: bool) -> &'static str
     if is_enabled { "rate" } else { "rate idle" }
 }
 
-/// Writes a rate in the largest unit that gives a whole number.
+/// Writes a rate beside a point.
+#[tactic(auto, unfolding(crate::specs::Column::hertz_text))]
 fn write_hertz<W: Write>(writer: &mut W, at: Point, hertz: u64) -> io::Result<()>
     ensures { OnOk result (Appends (W.contents writer.old) (W.contents writer.new)
         (hertz_text at hertz)) }
-{
-    if hertz % 1_000 != 0 || hertz == 0 {
-        write_in_units(writer, at, hertz, " Hz")
-    } else if hertz % 1_000_000 != 0 {
-        write_in_units(writer, at, hertz / 1_000, " kHz")
-    } else if hertz % 1_000_000_000 != 0 {
-        write_in_units(writer, at, hertz / 1_000_000, " MHz")
-    } else {
-        write_in_units(writer, at, hertz / 1_000_000_000, " GHz")
-    }
-}
-
-#[tactic(auto, unfolding(crate::specs::Column::in_units))]
-fn write_in_units<W: Write>(writer: &mut W, at: Point, count: u64, unit: &str) -> io::Result<()>
-    ensures { OnOk result (Appends (W.contents writer.old) (W.contents writer.new)
-        (in_units at count unit.now)) }
 {
     write_pieces(
         writer,
@@ -199,11 +185,10 @@ fn write_in_units<W: Write>(writer: &mut W, at: Point, count: u64, unit: &str) -
             Piece::Fixed("\" y=\""),
             Piece::Number(at.y),
             Piece::Fixed("\">"),
-            Piece::Long(count),
-            Piece::Fixed(unit),
-            Piece::Fixed("</text>\n"),
         ],
-    )
+    )?;
+    write_rate(writer, hertz)?;
+    write_pieces(writer, &[Piece::Fixed("</text>\n")])
 }
 
 /// The agent of an outbox, and 0 for another column.

@@ -5,6 +5,7 @@ ghost use Rattle.scmi_svg.specs.Event.{execution_text, advance_text, pill_width,
 
 use crate::layout::{Layout, line_y};
 use crate::mark::Side;
+use crate::measure::width_in;
 use crate::piece::{Piece, write_pieces};
 use crate::shape::{Point, write_box, write_cross, write_words};
 use std::io;
@@ -85,7 +86,7 @@ fn write_sign<W: Write>(writer: &mut W, center: Point, text: &[u8]) -> io::Resul
 fn pill_width(text: &[u8]) -> u32
     ensures { result ≡ pill_width text.now }
 {
-    74 + 6 * text.len().min(30) as u32
+    76 + width_in(text, 11)
 }
 
 /// Writes a close, on the lifeline of the end that closes.
@@ -145,8 +146,8 @@ fn remark_x(layout: &Layout, agent: u8, beside: Side) -> u32
     ensures { result ≡ remark_x layout.now agent beside }
 {
     match beside {
-        Side::Agent => layout.beside_agent(agent, 14),
-        Side::Platform => layout.beside_platform(agent, 14),
+        Side::Agent => layout.beside_agent(agent, 30),
+        Side::Platform => layout.beside_platform(agent, 30),
     }
 }
 
@@ -178,7 +179,7 @@ pub(crate) fn write_fault<W: Write>(
         y: line_y(slot).saturating_sub(4),
     };
     let at = Point {
-        x: fault_x(layout, agent, 26),
+        x: fault_x(layout, agent, 28),
         y: line_y(slot),
     };
     write_cross(writer, "lost", center)?;

@@ -1,25 +1,46 @@
 //! What stands around the marks: the head of the file, title, script, border and legend.
-ghost use Rattle.std.specs.Prelude.{◌≡◌, OnOk};
+ghost use Rattle.std.specs.Prelude.{◌≡◌, ◌<◌, OnOk, length};
 ghost use Rattle.std.specs.Io.KnownBytes.{Appends};
-ghost use Rattle.scmi_svg.specs.Frame.{head_text, sized_text, title_text, paper_text, steps_text, step_text, band_text, shade_text, script_text, number_text, border_text, legend_text, legend_at};
+ghost use Rattle.scmi_svg.specs.Frame.{head_text, sized_text, named_text, title_text, paper_text, steps_text, step_text, band_text, shade_text, script_text, shown_text, cut_at, beginning_text, number_text, border_text, legend_text, opened_text};
 
 use crate::chart::{Chart, Step};
-use crate::layout::{Layout, SHOWN, SLOT, slot_y};
+use crate::layout::{CUT, Layout, SHOWN, SLOT, slot_y};
+use crate::legend::{all_entries, write_entries};
 use crate::piece::{Piece, write_pieces};
 use crate::shape::{Point, write_words};
-use crate::style::{LEGEND, STYLE};
+use crate::style::STYLE;
 use std::io;
 use std::io::Write;
 
 /// Writes the head of the file.
 #[tactic(auto, unfolding(crate::specs::Frame::head_text))]
-pub(crate) fn write_head<W: Write>(writer: &mut W, layout: &Layout) -> io::Result<()>
+pub(crate) fn write_head<W: Write>(writer: &mut W, layout: &Layout, chart: &Chart) -> io::Result<()>
     ensures { OnOk result (Appends (W.contents writer.old) (W.contents writer.new)
-        (head_text layout.now)) }
+        (head_text layout.now chart.now)) }
 {
     let width = layout.width();
     let height = layout.bottom() + 62;
-    write_sized(writer, width, height)
+    write_sized(writer, width, height)?;
+    write_named(writer, &chart.title, &chart.subtitle)
+}
+
+/// Writes the title and what stands below it for a reader of the screen, and the style.
+#[tactic(auto, unfolding(crate::specs::Frame::named_text))]
+fn write_named<'a, W: Write>(writer: &mut W, title: &'a [u8], below: &'a [u8]) -> io::Result<()>
+    ensures { OnOk result (Appends (W.contents writer.old) (W.contents writer.new)
+        (named_text title.now below.now)) }
+{
+    write_pieces(
+        writer,
+        &[
+            Piece::Fixed("<title id=\"title\">"),
+            Piece::Outside(title),
+            Piece::Fixed("</title>\n<desc id=\"below\">SCMI sequence chart: "),
+            Piece::Outside(below),
+            Piece::Fixed("</desc>\n"),
+            Piece::Fixed(STYLE),
+        ],
+    )
 }
 
 #[tactic(auto, unfolding(crate::specs::Frame::sized_text))]
@@ -39,9 +60,8 @@ fn write_sized<W: Write>(writer: &mut W, width: u32, height: u32) -> io::Result<
             Piece::Fixed(" "),
             Piece::Number(height),
             Piece::Fixed(
-                "\" font-family=\"Inter,'Helvetica Neue','DejaVu Sans',sans-serif\" font-size=\"12\">\n",
+                "\" font-family=\"Inter,'Helvetica Neue','DejaVu Sans',sans-serif\" font-size=\"12\" role=\"img\" aria-labelledby=\"title below\">\n",
             ),
-            Piece::Fixed(STYLE),
         ],
     )
 }
@@ -129,7 +149,8 @@ fn write_shade<W: Write>(writer: &mut W, layout: &Layout, step: &Step) -> io::Re
     )
 }
 
-/// Writes the line of the script, up to its sixtieth character, behind its number.
+/// Writes the line of the script behind its number; of a line with more characters than are shown the
+/// words that there is room for, and a sign.
 #[tactic(auto, unfolding(crate::specs::Frame::script_text))]
 fn write_script<W: Write>(writer: &mut W, step: &Step) -> io::Result<()>
     ensures { OnOk result (Appends (W.contents writer.old) (W.contents writer.new)
@@ -139,9 +160,57 @@ fn write_script<W: Write>(writer: &mut W, step: &Step) -> io::Result<()>
         x: 56,
         y: slot_y(step.slot),
     };
-    let shown = step.text.len().min(SHOWN);
     write_line_number(writer, at.y, step.line)?;
-    write_words(writer, "mono", at, 0, 20, &step.text[..shown])
+    write_shown(writer, at, &step.text)
+}
+
+/// Writes the words of a line of the script that are shown.
+#[tactic(auto, unfolding(crate::specs::Frame::shown_text))]
+fn write_shown<W: Write>(writer: &mut W, at: Point, text: &[u8]) -> io::Result<()>
+    ensures { OnOk result (Appends (W.contents writer.old) (W.contents writer.new)
+        (shown_text at text.now)) }
+{
+    if text.len() <= SHOWN {
+        return write_words(writer, "mono", at, 0, 20, text);
+    }
+    let end = cut_at(text, CUT);
+    write_cut(writer, at, &text[..end])
+}
+
+/// How many bytes stand before the last space up to a place; so many as there are up to a place where
+/// there is none.
+fn cut_at(text: &[u8], place: usize) -> usize
+    requires { place < length text.now }
+    ensures value { result ≡ cut_at text.now place }
+    ensures bound { result < length text.now }
+{
+    if place == 0 {
+        return CUT.min(text.len() - 1);
+    }
+    if text[place] == b' ' {
+        return place;
+    }
+    cut_at(text, place - 1)
+}
+
+/// Writes the beginning of a line of the script, and a sign that it is cut.
+#[tactic(auto, unfolding(crate::specs::Frame::beginning_text))]
+fn write_cut<W: Write>(writer: &mut W, at: Point, text: &[u8]) -> io::Result<()>
+    ensures { OnOk result (Appends (W.contents writer.old) (W.contents writer.new)
+        (beginning_text at text.now)) }
+{
+    write_pieces(
+        writer,
+        &[
+            Piece::Fixed("<text class=\"mono\" x=\""),
+            Piece::Number(at.x),
+            Piece::Fixed("\" y=\""),
+            Piece::Number(at.y),
+            Piece::Fixed("\" dy=\"20\">"),
+            Piece::Outside(text),
+            Piece::Fixed(" &#8230;</text>\n"),
+        ],
+    )
 }
 
 #[tactic(auto, unfolding(crate::specs::Frame::number_text))]
@@ -184,16 +253,22 @@ pub(crate) fn write_border<W: Write>(writer: &mut W, layout: &Layout) -> io::Res
 
 /// Writes the legend and the end of the file.
 #[tactic(auto, unfolding(crate::specs::Frame::legend_text))]
-pub(crate) fn write_legend<W: Write>(writer: &mut W, layout: &Layout) -> io::Result<()>
+pub(crate) fn write_legend<W: Write>(
+    writer: &mut W,
+    layout: &Layout,
+    chart: &Chart,
+) -> io::Result<()>
     ensures { OnOk result (Appends (W.contents writer.old) (W.contents writer.new)
-        (legend_text layout.now)) }
+        (legend_text layout.now chart.now)) }
 {
-    write_legend_at(writer, layout.bottom() + 26)
+    write_opening(writer, layout.bottom() + 26)?;
+    write_entries(writer, chart, 0, all_entries())?;
+    write_pieces(writer, &[Piece::Fixed("</svg>\n</svg>\n")])
 }
 
-#[tactic(auto, unfolding(crate::specs::Frame::legend_at))]
-fn write_legend_at<W: Write>(writer: &mut W, y: u32) -> io::Result<()>
-    ensures { OnOk result (Appends (W.contents writer.old) (W.contents writer.new) (legend_at y)) }
+#[tactic(auto, unfolding(crate::specs::Frame::opened_text))]
+fn write_opening<W: Write>(writer: &mut W, y: u32) -> io::Result<()>
+    ensures { OnOk result (Appends (W.contents writer.old) (W.contents writer.new) (opened_text y)) }
 {
     write_pieces(
         writer,
@@ -201,8 +276,6 @@ fn write_legend_at<W: Write>(writer: &mut W, y: u32) -> io::Result<()>
             Piece::Fixed("<svg class=\"legend\" x=\"24\" y=\""),
             Piece::Number(y),
             Piece::Fixed("\">\n"),
-            Piece::Fixed(LEGEND),
-            Piece::Fixed("</svg>\n</svg>\n"),
         ],
     )
 }

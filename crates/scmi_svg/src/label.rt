@@ -1,9 +1,10 @@
 //! What messages say, as words.
 ghost use Rattle.std.specs.Prelude.{◌≡◌, OnOk};
 ghost use Rattle.std.specs.Io.KnownBytes.{Appends};
-ghost use Rattle.scmi_svg.specs.Label.{label_text, front_text, back_text, value_text, tag_text, letters, part_letters, font_size, if_any_text, start_text, place_text, turn_text, turned_text};
+ghost use Rattle.scmi_svg.specs.Label.{label_text, front_text, back_text, value_text, tag_text, font_size, if_any_text, start_text, place_text, turn_text, turned_text};
 
 use crate::mark::Label;
+use crate::needs::{WIDE_GAP, label_width};
 use crate::piece::{Piece, write_pieces};
 use crate::route::{Spot, Turn};
 use std::io;
@@ -15,7 +16,7 @@ pub(crate) fn write_label<W: Write>(writer: &mut W, spot: &Spot, label: &Label) 
     ensures { OnOk result (Appends (W.contents writer.old) (W.contents writer.new)
         (label_text spot.now label.now)) }
 {
-    write_start(writer, spot, font_size(letters(label)))?;
+    write_start(writer, spot, font_size(spot.room, label_width(label)))?;
     write_front(writer, label)?;
     write_back(writer, label)?;
     write_pieces(writer, &[Piece::Fixed("</text>\n")])
@@ -57,27 +58,12 @@ fn write_tag<W: Write>(writer: &mut W, tag: &[u8]) -> io::Result<()>
     write_part(writer, "<tspan class=\"tag\" dx=\"6\">", tag)
 }
 
-/// The letters of a label.
-fn letters(label: &Label) -> u16
-    ensures { result ≡ letters label.now }
+/// The size of words that are so wide, in hundredths of it: 12 pixels, or as many as there is room for,
+/// but no less than 5.
+fn font_size(room: u32, width: u32) -> u32
+    ensures { result ≡ font_size room width }
 {
-    let front = u16::from(part_letters(&label.name)) + u16::from(part_letters(&label.object));
-    front + u16::from(part_letters(&label.value)) + u16::from(part_letters(&label.tag))
-}
-
-/// The letters of a part of a label, as far as they matter for its size.
-fn part_letters(text: &[u8]) -> u8
-    ensures { result ≡ part_letters text.now }
-{
-    text.len().min(99) as u8
-}
-
-/// The size of words of so many letters between two lifelines: 12 pixels, or as many as there is room
-/// for, but no less than 9. A letter is 0.6 of its size wide.
-fn font_size(letters: u16) -> u32
-    ensures { result ≡ font_size letters }
-{
-    (430 / u32::from(letters).max(1)).min(12).max(9)
+    (100 * room.min(WIDE_GAP) / width.max(1)).min(12).max(5)
 }
 
 /// Writes a part of a label, if it has any letters.

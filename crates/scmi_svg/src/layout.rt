@@ -1,22 +1,23 @@
 //! Where things stand, in pixels.
 //!
-//! Slots, agents and columns are numbered by `u16` and `u8`, and a line of the script is cut: so no sum
-//! of these can wrap.
+//! Slots, agents and columns are numbered by `u16` and `u8`, and distances are bounded: so no sum of
+//! these can wrap.
 ghost use Rattle.std.specs.Prelude.{◌≡◌, ◌+◌, ◌<◌, ◌^◌};
-ghost use Rattle.scmi_svg.specs.Layout.{layout_of, longest_from, shown_length, left_agents, platform_x, agent_x, is_left, beside_platform, beside_agent, columns_x, column_x, border_x, width, bottom, slot_y, line_y, state_y};
+ghost use Rattle.scmi_svg.specs.Layout.{layout_of, longest_from, shown_length, least_of, left_agents, platform_x, agent_x, is_left, beside_platform, beside_agent, room, columns_x, column_x, border_x, width, bottom, slot_y, line_y, state_y};
 
 use crate::chart::{Chart, Step};
+use crate::legend::legend_width;
+use crate::measure::width_in;
+use crate::needs::{MARGIN, column_of, gap_of, head_of};
 
 /// The most agents of a chart.
 pub const AGENTS: usize = 8;
 /// The characters of a line of the script that are shown.
 pub const SHOWN: usize = 60;
-/// The distance between two lifelines.
-pub(crate) const GAP: u32 = 318;
+/// Those of a line that has more, and of which some words are left out.
+pub(crate) const CUT: usize = 58;
 /// The height of a slot.
 pub(crate) const SLOT: u32 = 32;
-/// The width of a column.
-pub(crate) const COLUMN: u32 = 104;
 /// The upper edge of the first slot.
 pub(crate) const TOP: u32 = 150;
 
@@ -25,6 +26,14 @@ pub(crate) const TOP: u32 = 150;
 pub(crate) struct Layout {
     /// The first lifeline.
     pub left: u16,
+    /// The distance between two lifelines.
+    pub gap: u16,
+    /// The width of the boxes of the agents' names.
+    pub head: u16,
+    /// The width of a column.
+    pub column: u16,
+    /// The least width of the picture.
+    pub least: u32,
     /// How many agents there are.
     pub agents: u8,
     /// How many columns there are.
@@ -40,10 +49,24 @@ pub(crate) fn layout_of(chart: &Chart) -> Layout
 {
     Layout {
         left: 144 + 6 * u16::from(longest_from(14, &chart.steps)),
+        gap: gap_of(&chart.marks),
+        head: head_of(&chart.lifelines),
+        column: column_of(&chart.columns),
+        least: least_of(chart),
         agents: chart.lifelines.len().min(AGENTS) as u8,
         columns: chart.columns.len().min(255) as u8,
         slots: chart.slots,
     }
+}
+
+/// The least width of the picture: that of the title and of the legend.
+#[tactic(auto, unfolding(crate::specs::Layout::least_of))]
+fn least_of(chart: &Chart) -> u32
+    ensures value { result ≡ least_of chart.now }
+    ensures bound { result < 2 ^ 16 }
+{
+    let title = width_in(&chart.title, 19).max(width_in(&chart.subtitle, 12));
+    48 + title.max(legend_width(chart))
 }
 
 /// The most characters that are shown of a step, or `most` if none has more.
@@ -75,9 +98,9 @@ impl Layout {
     #[tactic(auto, unfolding(crate::specs::Layout::platform_x))]
     pub fn platform_x(&self) -> u32
         ensures value { result ≡ platform_x self.now }
-        ensures bound { result < 2 ^ 20 }
+        ensures bound { result < 2 ^ 25 }
     {
-        u32::from(self.left) + GAP * self.left_agents()
+        u32::from(self.left) + u32::from(self.gap) * self.left_agents()
     }
 
     /// Whether an agent stands to the left of the platform.
@@ -91,19 +114,19 @@ impl Layout {
     #[tactic(auto, unfolding(crate::specs::Layout::agent_x))]
     pub fn agent_x(&self, agent: u8) -> u32
         ensures value { result ≡ agent_x self.now agent }
-        ensures bound { result < 2 ^ 20 }
+        ensures bound { result < 2 ^ 25 }
     {
         let place = if self.is_left(agent) {
             agent.saturating_sub(1)
         } else {
             agent
         };
-        u32::from(self.left) + GAP * u32::from(place)
+        u32::from(self.left) + u32::from(self.gap) * u32::from(place)
     }
 
     /// So far beside the platform's lifeline, towards the agent's.
     #[tactic(auto, unfolding(crate::specs::Layout::beside_platform))]
-    pub fn beside_platform(&self, agent: u8, distance: u8) -> u32
+    pub fn beside_platform(&self, agent: u8, distance: u16) -> u32
         ensures { result ≡ beside_platform self.now agent distance }
     {
         if self.is_left(agent) {
@@ -115,7 +138,7 @@ impl Layout {
 
     /// So far beside the agent's lifeline, towards the platform's.
     #[tactic(auto, unfolding(crate::specs::Layout::beside_agent))]
-    pub fn beside_agent(&self, agent: u8, distance: u8) -> u32
+    pub fn beside_agent(&self, agent: u8, distance: u16) -> u32
         ensures { result ≡ beside_agent self.now agent distance }
     {
         if self.is_left(agent) {
@@ -125,20 +148,31 @@ impl Layout {
         }
     }
 
+    /// The room for words between two lifelines.
+    #[tactic(auto, unfolding(crate::specs::Layout::room))]
+    pub fn room(&self) -> u32
+        ensures value { result ≡ room self.now }
+        ensures bound { result < 2 ^ 16 }
+    {
+        u32::from(self.gap).saturating_sub(MARGIN)
+    }
+
     /// The left edge of the columns.
     #[tactic(auto, unfolding(crate::specs::Layout::columns_x))]
     fn columns_x(&self) -> u32
         ensures value { result ≡ columns_x self.now }
-        ensures bound { result < 2 ^ 20 }
+        ensures bound { result < 2 ^ 25 }
     {
-        u32::from(self.left) + GAP * u32::from(self.agents) + 112
+        let lifelines = u32::from(self.left) + u32::from(self.gap) * u32::from(self.agents);
+        lifelines + u32::from(self.head) / 2 + 46
     }
 
     #[tactic(auto, unfolding(crate::specs::Layout::column_x))]
     pub fn column_x(&self, place: u8) -> u32
         ensures { result ≡ column_x self.now place }
     {
-        self.columns_x() + 10 + COLUMN * u32::from(place)
+        let before = u32::from(self.column) * u32::from(place);
+        self.columns_x() + 10 + before
     }
 
     /// The line between the lifelines and the columns.
@@ -153,7 +187,8 @@ impl Layout {
     pub fn width(&self) -> u32
         ensures { result ≡ width self.now }
     {
-        self.columns_x() + COLUMN * u32::from(self.columns) + 6
+        let columns = self.columns_x() + u32::from(self.column) * u32::from(self.columns) + 6;
+        columns.max(self.least)
     }
 
     /// Where the lifelines end.

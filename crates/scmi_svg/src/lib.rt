@@ -6,17 +6,22 @@
 //! text of a board or a script in it can be read as a part of the drawing.
 #![tactic(auto)]
 
+mod again;
 mod chart;
 mod column;
 mod event;
 mod frame;
 mod label;
 mod layout;
+mod legend;
 mod lifeline;
 mod mark;
 mod marks;
+mod measure;
 mod message;
+mod needs;
 mod piece;
+mod rate;
 mod route;
 mod shape;
 mod style;
@@ -25,4 +30,5 @@ mod write;
 pub use chart::{Chart, Column, Kind, Lifeline, Span, State, Step};
 pub use mark::{Label, Mark, Message, Outcome, Side};
 pub use piece::write_escaped;
+pub use rate::write_rate;
 pub use write::write_chart;

@@ -32,7 +32,7 @@ fn write_lifeline<W: Write>(writer: &mut W, layout: &Layout, lifeline: &Lifeline
 {
     let x = layout.agent_x(lifeline.agent);
     write_life(writer, layout, lifeline, x)?;
-    write_head(writer, lifeline, x)
+    write_head(writer, layout, lifeline, x)
 }
 
 /// Writes the line itself: dotted once the agent has closed its channels.
@@ -100,26 +100,34 @@ fn write_stroke<W: Write>(
 
 /// Writes the head of an agent's lifeline.
 #[tactic(auto, unfolding(crate::specs::Lifeline::head_text))]
-fn write_head<W: Write>(writer: &mut W, lifeline: &Lifeline, x: u32) -> io::Result<()>
+fn write_head<W: Write>(
+    writer: &mut W,
+    layout: &Layout,
+    lifeline: &Lifeline,
+    x: u32,
+) -> io::Result<()>
     ensures { OnOk result (Appends (W.contents writer.old) (W.contents writer.new)
-        (head_text lifeline.now x)) }
+        (head_text layout.now lifeline.now x)) }
 {
-    write_head_box(writer, x.saturating_sub(66), lifeline.agent)?;
+    let width = u32::from(layout.head);
+    write_head_box(writer, x.saturating_sub(width / 2), width, lifeline.agent)?;
     write_words(writer, "who", Point { x, y: 103 }, 0, 0, &lifeline.name)?;
     write_agent_number(writer, x, lifeline.agent)
 }
 
 #[tactic(auto, unfolding(crate::specs::Lifeline::head_box))]
-fn write_head_box<W: Write>(writer: &mut W, x: u32, agent: u8) -> io::Result<()>
+fn write_head_box<W: Write>(writer: &mut W, x: u32, width: u32, agent: u8) -> io::Result<()>
     ensures { OnOk result (Appends (W.contents writer.old) (W.contents writer.new)
-        (head_box x agent)) }
+        (head_box x width agent)) }
 {
     write_pieces(
         writer,
         &[
             Piece::Fixed("<rect class=\"a"),
             Piece::Number(u32::from(agent)),
-            Piece::Fixed(" box\" y=\"84\" width=\"132\" height=\"44\" rx=\"8\" x=\""),
+            Piece::Fixed(" box\" y=\"84\" width=\""),
+            Piece::Number(width),
+            Piece::Fixed("\" height=\"44\" rx=\"8\" x=\""),
             Piece::Number(x),
             Piece::Fixed("\"/>\n"),
         ],

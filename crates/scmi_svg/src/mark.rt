@@ -18,6 +18,8 @@ pub struct Message {
     pub slot: u16,
     pub taken: u16,
     pub label: Label,
+    /// What is shown of it where a reader points at it: its header and words. Empty where there is none.
+    pub detail: Vec<u8>,
 }
 
 /// How a command was answered.

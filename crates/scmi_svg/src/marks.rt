@@ -1,7 +1,7 @@
 //! Marks, as they are drawn.
 ghost use Rattle.std.specs.Prelude.{◌≡◌, OnOk};
 ghost use Rattle.std.specs.Io.KnownBytes.{Appends};
-ghost use Rattle.scmi_svg.specs.Mark.{marks_text, mark_text, shapes_text, opening_text, mark_kind, reply_kind};
+ghost use Rattle.scmi_svg.specs.Mark.{marks_text, mark_text, shapes_text, opening_text, hover_text, detail_text, mark_kind, reply_kind};
 
 use crate::event::{write_advance, write_closed, write_execution, write_fault, write_remark};
 use crate::layout::Layout;
@@ -35,6 +35,7 @@ fn write_mark<W: Write>(writer: &mut W, layout: &Layout, mark: &Mark) -> io::Res
         (mark_text layout.now mark.now)) }
 {
     write_opening(writer, mark_kind(mark))?;
+    write_hover(writer, mark)?;
     write_shapes(writer, layout, mark)?;
     write_pieces(writer, &[Piece::Fixed("</g>\n")])
 }
@@ -52,6 +53,40 @@ fn write_opening<W: Write>(writer: &mut W, kind: &str) -> io::Result<()>
             Piece::Fixed("\">\n"),
         ],
     )
+}
+
+/// Writes what is shown where a reader points at a mark: the header and words of its message.
+fn write_hover<W: Write>(writer: &mut W, mark: &Mark) -> io::Result<()>
+    ensures { OnOk result (Appends (W.contents writer.old) (W.contents writer.new)
+        (hover_text mark.now)) }
+{
+    match mark {
+        Mark::Command { message, .. }
+        | Mark::Withdrawn { message, .. }
+        | Mark::Refused { message }
+        | Mark::Reply { message, .. }
+        | Mark::Delayed { message, .. }
+        | Mark::Notification { message } => write_detail(writer, &message.detail),
+        _ => Ok(()),
+    }
+}
+
+#[tactic(auto, unfolding(crate::specs::Mark::detail_text))]
+fn write_detail<W: Write>(writer: &mut W, detail: &[u8]) -> io::Result<()>
+    ensures { OnOk result (Appends (W.contents writer.old) (W.contents writer.new)
+        (detail_text detail.now)) }
+{
+    match detail {
+        [] => Ok(()),
+        _ => write_pieces(
+            writer,
+            &[
+                Piece::Fixed("<title>"),
+                Piece::Outside(detail),
+                Piece::Fixed("</title>\n"),
+            ],
+        ),
+    }
 }
 
 /// The classes of a mark.

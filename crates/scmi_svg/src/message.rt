@@ -71,7 +71,7 @@ fn write_cut<W: Write>(
     writer: &mut W,
     layout: &Layout,
     message: &Message,
-    way: u8,
+    way: u16,
 ) -> io::Result<()>
     ensures { OnOk result (Appends (W.contents writer.old) (W.contents writer.new)
         (cut_text layout.now message.now way)) }
@@ -87,7 +87,7 @@ fn write_cut_way<W: Write>(
     layout: &Layout,
     agent: u8,
     slot: u16,
-    way: u8,
+    way: u16,
 ) -> io::Result<()>
     ensures { OnOk result (Appends (W.contents writer.old) (W.contents writer.new)
         (cut_way layout.now agent slot way)) }

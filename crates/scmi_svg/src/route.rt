@@ -15,8 +15,9 @@ pub(crate) struct Route {
     /// Where it waits, if it is not taken at once.
     pub bend: u32,
     pub to: u32,
-    /// Where the middle of its words stands.
+    /// Where the middle of its words stands, and how much room they have.
     pub words: u32,
+    pub room: u32,
     pub slot: u16,
     pub taken: u16,
 }
@@ -30,7 +31,8 @@ pub(crate) fn to_platform(layout: &Layout, agent: u8, slot: u16, taken: u16) -> 
         from: layout.agent_x(agent),
         bend: layout.beside_platform(agent, 22),
         to: layout.beside_platform(agent, 5),
-        words: layout.beside_platform(agent, 159),
+        words: layout.beside_platform(agent, layout.gap / 2),
+        room: layout.room(),
         slot,
         taken,
     }
@@ -45,7 +47,8 @@ pub(crate) fn to_agent(layout: &Layout, agent: u8, slot: u16, taken: u16) -> Rou
         from: layout.beside_platform(agent, 5),
         bend: layout.beside_agent(agent, 22),
         to: layout.agent_x(agent),
-        words: layout.beside_platform(agent, 159),
+        words: layout.beside_platform(agent, layout.gap / 2),
+        room: layout.room(),
         slot,
         taken,
     }
@@ -100,6 +103,8 @@ pub(crate) enum Turn {
 pub(crate) struct Spot {
     pub x: u32,
     pub y: u32,
+    /// How much room they have.
+    pub room: u32,
     pub turn: Turn,
 }
 
@@ -114,6 +119,7 @@ pub(crate) fn spot_of(route: &Route) -> Spot
         Spot {
             x: route.words,
             y: line_y(route.slot).saturating_sub(6),
+            room: route.room,
             turn: Turn::Level,
         }
     }
@@ -129,6 +135,7 @@ fn slanted_spot(route: &Route) -> Spot
     Spot {
         x: route.words,
         y: line_y(route.slot).saturating_sub(6) + SLOT * part / way,
+        room: route.room,
         turn: turn_of(route, way),
     }
 }

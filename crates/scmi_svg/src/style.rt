@@ -82,7 +82,80 @@ svg{fill:#1b2733}\n\
 .mark .note{font-size:10px;font-style:italic;fill:#5b6b7b;text-anchor:start}\n\
 .mark .end{text-anchor:end}\n\
 .closed .note{font-size:11px;font-style:normal;font-weight:600;fill:#1b2733}\n\
-.legend{font-size:10.5px;fill:#5b6b7b}\n\
+.again{font-size:10px;font-weight:600;text-anchor:middle;stroke:#fff;stroke-width:4;stroke-linejoin:round;paint-order:stroke}\n\
+.again.left{text-anchor:start}\n\
+.legend text{font-size:10.5px;fill:#5b6b7b;stroke:none;text-anchor:start}\n\
+.legend .number{font-size:9px;font-weight:600}\n\
+.legend .token{stroke:#5b6b7b;stroke-width:1.3}\n\
+@media (prefers-color-scheme:dark){\n\
+svg{fill:#e3e9ef}\n\
+.paper{fill:#12181f}\n\
+.band{fill:#19212a}\n\
+.mono,.soft,.kind,.value,.legend text{fill:#9fb0c0}\n\
+.line{fill:#6d7c8a}\n\
+.platform{fill:#2b3743;stroke:#4d5b69}\n\
+.box{fill:#3d4c5b}\n\
+.a1{stroke:#79aef2;fill:#79aef2}\n\
+.a2{stroke:#ee9a6b;fill:#ee9a6b}\n\
+.a3{stroke:#a3cc6a;fill:#a3cc6a}\n\
+.a4{stroke:#e08ac3;fill:#e08ac3}\n\
+.a5{stroke:#64c7c2;fill:#64c7c2}\n\
+.a6{stroke:#d3bc62;fill:#d3bc62}\n\
+.a7{stroke:#a3a3f0;fill:#a3a3f0}\n\
+.a8{stroke:#e58f8f;fill:#e58f8f}\n\
+.box{stroke:none}\n\
+.a1.box{fill:#2459a6}\n\
+.a2.box{fill:#a3491e}\n\
+.a3.box{fill:#4b6b1f}\n\
+.a4.box{fill:#8a2f6b}\n\
+.a5.box{fill:#1f6b68}\n\
+.a6.box{fill:#6b5a1f}\n\
+.a7.box{fill:#3f3f8a}\n\
+.a8.box{fill:#7a2f2f}\n\
+.who,.what{fill:#fff}\n\
+.border{stroke:#33404d}\n\
+.on,.on.value{fill:#4fc98a}\n\
+.off,.none{fill:#566472}\n\
+.rate{fill:#4db6e2;stroke:#4db6e2}\n\
+.rate.idle{fill:#12181f}\n\
+.hertz{fill:#4db6e2}\n\
+.mark{stroke:#e3e9ef;fill:#e3e9ef}\n\
+.mark text,.again{stroke:#12181f}\n\
+.object,.refused .name,.closed .note{fill:#e3e9ef}\n\
+.tag{fill:#e0a94a}\n\
+.lost,.refused{stroke:#f0766c}\n\
+.refused .tag{fill:#f0766c}\n\
+.reply{stroke:#4fc98a;fill:#4fc98a}\n\
+.reply .object{fill:#4fc98a}\n\
+.refusal{stroke:#f0766c;fill:#f0766c}\n\
+.refusal .object{fill:#f0766c}\n\
+.pending{stroke:#e0a94a;fill:#e0a94a}\n\
+.pending .object{fill:#e0a94a}\n\
+.delayed{stroke:#4db6e2;fill:#4db6e2}\n\
+.delayed .object{fill:#e3e9ef}\n\
+.notification{stroke:#b98cec;fill:#b98cec}\n\
+.notification .object{fill:#e3e9ef}\n\
+.notification .tag,.mark .note{fill:#9fb0c0}\n\
+.token,.post{fill:#12181f}\n\
+.post{stroke:#e3e9ef}\n\
+.delayed .token{stroke:#4db6e2}\n\
+.delayed .in{fill:#4db6e2}\n\
+.mark .in,.legend text{stroke:none}\n\
+.pill{fill:#3a2f14;stroke:#e0a94a}\n\
+.mark .sign{stroke:none}\n\
+.advance .name{fill:#e0a94a}\n\
+.advance.idle .pill{fill:#12181f;stroke:#4d5b69}\n\
+.advance.idle .name,.advance.idle .object{fill:#9fb0c0}\n\
+.count{stroke:none}\n\
+.queue{stroke:none}\n\
+#ink path{fill:#e3e9ef}\n\
+#good path{fill:#4fc98a}\n\
+#bad path{fill:#f0766c}\n\
+#held path{fill:#e0a94a}\n\
+#late path{fill:#4db6e2}\n\
+#note path{fill:#b98cec}\n\
+#hatch rect{fill:#3a2f14}\n\
+}\n\
 </style>\n\
 <defs>\n\
 <marker id=\"ink\" viewBox=\"0 0 10 10\" refX=\"9\" refY=\"5\" markerWidth=\"8\" markerHeight=\"8\" markerUnits=\"userSpaceOnUse\" orient=\"auto\"><path d=\"M0 0.8L10 5L0 9.2z\" fill=\"#1b2733\" stroke=\"none\"/></marker>\n\
@@ -93,25 +166,4 @@ svg{fill:#1b2733}\n\
 <marker id=\"note\" viewBox=\"0 0 10 10\" refX=\"9\" refY=\"5\" markerWidth=\"8\" markerHeight=\"8\" markerUnits=\"userSpaceOnUse\" orient=\"auto\"><path d=\"M0 0.8L10 5L0 9.2z\" fill=\"#7a3fb0\" stroke=\"none\"/></marker>\n\
 <pattern id=\"hatch\" width=\"6\" height=\"6\" patternUnits=\"userSpaceOnUse\" patternTransform=\"rotate(45)\"><rect width=\"6\" height=\"6\" fill=\"#fff6df\"/><line x1=\"0\" y1=\"0\" x2=\"0\" y2=\"6\" stroke=\"#b7791f\" stroke-width=\"2.4\"/></pattern>\n\
 </defs>\n\
-";
-
-/// What the lines and signs mean.
-pub(crate) const LEGEND: &str = "\
-<line x1=\"0\" y1=\"12\" x2=\"26\" y2=\"12\" stroke=\"#1b2733\" stroke-width=\"1.8\" marker-end=\"url(#ink)\"/>\n\
-<text x=\"34\" y=\"16\">command</text>\n\
-<line x1=\"103\" y1=\"12\" x2=\"129\" y2=\"12\" stroke=\"#1a7f4b\" stroke-width=\"1.8\" stroke-dasharray=\"5 3\" marker-end=\"url(#good)\"/>\n\
-<text x=\"137\" y=\"16\">reply</text>\n\
-<line x1=\"194\" y1=\"12\" x2=\"220\" y2=\"12\" stroke=\"#c0362c\" stroke-width=\"1.8\" stroke-dasharray=\"5 3\" marker-end=\"url(#bad)\"/>\n\
-<text x=\"228\" y=\"16\">refusal</text>\n\
-<line x1=\"297\" y1=\"12\" x2=\"323\" y2=\"12\" stroke=\"#0b6e99\" stroke-width=\"1.8\" marker-end=\"url(#late)\"/>\n\
-<text x=\"331\" y=\"16\">delayed response</text>\n\
-<line x1=\"456\" y1=\"12\" x2=\"482\" y2=\"12\" stroke=\"#7a3fb0\" stroke-width=\"1.8\" marker-end=\"url(#note)\"/>\n\
-<text x=\"490\" y=\"16\">notification</text>\n\
-<circle cx=\"598\" cy=\"12\" r=\"8\" fill=\"#fff\" stroke=\"#5b6b7b\" stroke-width=\"1.3\"/>\n\
-<text x=\"598\" y=\"15\" font-size=\"9\" font-weight=\"600\" text-anchor=\"middle\">0</text>\n\
-<text x=\"612\" y=\"16\">token</text>\n\
-<circle cx=\"670\" cy=\"12\" r=\"4\" fill=\"#fff\" stroke=\"#1b2733\" stroke-width=\"1.6\"/>\n\
-<text x=\"680\" y=\"16\">posted to the agent</text>\n\
-<rect x=\"816\" y=\"5\" width=\"6\" height=\"14\" fill=\"url(#hatch)\" stroke=\"#b7791f\" stroke-width=\"0.8\"/>\n\
-<text x=\"828\" y=\"16\">set pending</text>\n\
 ";

@@ -3,6 +3,7 @@ ghost use Rattle.std.specs.Prelude.{◌≡◌, OnOk};
 ghost use Rattle.std.specs.Io.KnownBytes.{Appends};
 ghost use Rattle.scmi_svg.specs.Chart.{svg_text, back_text, lines_text, picture_text};
 
+use crate::again::write_again;
 use crate::chart::Chart;
 use crate::column::write_columns;
 use crate::frame::{write_border, write_head, write_legend, write_steps, write_title};
@@ -28,7 +29,7 @@ fn write_picture<W: Write>(writer: &mut W, layout: &Layout, chart: &Chart) -> io
     write_back(writer, layout, chart)?;
     write_lines(writer, layout, chart)?;
     write_marks(writer, layout, &chart.marks)?;
-    write_legend(writer, layout)
+    write_legend(writer, layout, chart)
 }
 
 /// Writes what stands behind the lifelines.
@@ -37,7 +38,7 @@ fn write_back<W: Write>(writer: &mut W, layout: &Layout, chart: &Chart) -> io::R
     ensures { OnOk result (Appends (W.contents writer.old) (W.contents writer.new)
         (back_text layout.now chart.now)) }
 {
-    write_head(writer, layout)?;
+    write_head(writer, layout, chart)?;
     write_title(writer, chart)?;
     write_steps(writer, layout, &chart.steps)
 }
@@ -51,5 +52,6 @@ fn write_lines<W: Write>(writer: &mut W, layout: &Layout, chart: &Chart) -> io::
     write_lifelines(writer, layout, &chart.lifelines)?;
     write_platform(writer, layout)?;
     write_border(writer, layout)?;
-    write_columns(writer, layout, &chart.columns)
+    write_columns(writer, layout, &chart.columns)?;
+    write_again(writer, layout, chart, &chart.steps)
 }

@@ -1,0 +1,70 @@
+//! Rates, in words.
+ghost use Rattle.std.specs.Prelude.{OnOk};
+ghost use Rattle.std.specs.Io.KnownBytes.{Appends};
+ghost use Rattle.scmi_svg.specs.Rate.{rate_text, scaled_text, fraction_text};
+
+use crate::piece::{Piece, write_pieces};
+use std::io;
+use std::io::Write;
+
+/// Writes a rate in Hz, in the largest unit of which it has one or more and at most three digits behind
+/// the point: 19.2 MHz, 32.768 kHz. The error is the writer's; a part may then be written.
+pub fn write_rate<W: Write>(writer: &mut W, hertz: u64) -> io::Result<()>
+    ensures { OnOk result (Appends (W.contents writer.old) (W.contents writer.new)
+        (rate_text hertz)) }
+{
+    if hertz >= 1_000_000_000 && hertz % 1_000_000 == 0 {
+        write_scaled(writer, hertz / 1_000_000, " GHz")
+    } else if hertz >= 1_000_000 && hertz % 1_000 == 0 {
+        write_scaled(writer, hertz / 1_000, " MHz")
+    } else if hertz >= 1_000 && hertz < 1_000_000 {
+        write_scaled(writer, hertz, " kHz")
+    } else {
+        write_pieces(writer, &[Piece::Long(hertz), Piece::Fixed(" Hz")])
+    }
+}
+
+/// Writes so many thousandths of a unit.
+#[tactic(auto, unfolding(crate::specs::Rate::scaled_text))]
+fn write_scaled<W: Write>(writer: &mut W, thousandths: u64, unit: &str) -> io::Result<()>
+    ensures { OnOk result (Appends (W.contents writer.old) (W.contents writer.new)
+        (scaled_text thousandths unit.now)) }
+{
+    let whole = thousandths / 1_000;
+    write!(writer, "{whole}")?;
+    write_fraction(writer, (thousandths % 1_000) as u32)?;
+    writer.write_all(unit.as_bytes())
+}
+
+/// Writes thousandths behind a point, without the zeros at their end.
+fn write_fraction<W: Write>(writer: &mut W, thousandths: u32) -> io::Result<()>
+    ensures { OnOk result (Appends (W.contents writer.old) (W.contents writer.new)
+        (fraction_text thousandths)) }
+{
+    let tenths = thousandths / 100;
+    let hundredths = thousandths / 10 % 10;
+    if thousandths == 0 {
+        Ok(())
+    } else if thousandths % 100 == 0 {
+        write_pieces(writer, &[Piece::Fixed("."), Piece::Number(tenths)])
+    } else if thousandths % 10 == 0 {
+        write_pieces(
+            writer,
+            &[
+                Piece::Fixed("."),
+                Piece::Number(tenths),
+                Piece::Number(hundredths),
+            ],
+        )
+    } else {
+        write_pieces(
+            writer,
+            &[
+                Piece::Fixed("."),
+                Piece::Number(tenths),
+                Piece::Number(hundredths),
+                Piece::Number(thousandths % 10),
+            ],
+        )
+    }
+}
