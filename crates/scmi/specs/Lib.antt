@@ -2,3 +2,4 @@ pub mod Word
 pub mod Request
 pub mod Texts
 pub mod Program
+pub mod File

@@ -1,25 +1,35 @@
 //! The program for people: it runs sessions, describes areas of shared memory, and draws sessions.
 //!
 //! The main type is `Request`, what the arguments ask for. The main theorem is the contract of
-//! `run_request` with that of `request_of`: where the status is 0, what was written is what the asked
-//! task writes of the input, or the asked text, to the last byte.
+//! `run_request` with those of `request_of` and `file_of`: where the status is 0, what was written is
+//! what the asked task writes of the input, or the asked text, to the last byte.
 #![tactic(auto)]
 
-mod nearest;
+mod file;
 mod refusal;
+mod report;
 mod request;
 mod run;
 mod task;
 mod texts;
 mod word;
 
-use crate::refusal::{WRONG_ARGUMENT, refuse};
-use crate::request::request_of;
+use crate::file::file_of;
+use crate::refusal::{WRONG_ARGUMENT, refuse, refuse_file};
+use crate::report::{report_input, report_output};
+use crate::request::{Request, request_of};
 use crate::run::run_request;
+use scmi_explain::{Kept, LastLine};
 use scmi_modes::RunError;
-use std::io::{BufWriter, Write};
+use std::alloc::Global;
+use std::io::{BufWriter, Eprint, Print, Read, Write};
 use std::process::ExitCode;
-use std::{env, io};
+use std::sync::Wait;
+use std::thread::Threads;
+use std::{env, fs, io};
+
+/// What messages call the input that is no file.
+const STANDARD_INPUT: &str = "standard input";
 
 fn main(rt: HostRuntime) -> ExitCode {
     let alloc = rt.alloc();
@@ -36,20 +46,56 @@ fn main(rt: HostRuntime) -> ExitCode {
     let Ok(arguments) = arguments.collect::<Vec<String>>(alloc) else {
         return lacks_memory(&rt);
     };
-    let Some(request) = request_of(arguments.as_slice()) else {
-        return ExitCode::from(refuse(&rt, alloc, arguments.as_slice()));
-    };
-    let mut reader = rt.reader();
-    // Where there is no memory for a buffer the output goes straight out.
-    let Ok(mut writer) = BufWriter::new(alloc, io::writer(&rt)) else {
-        let mut writer = io::writer(&rt);
-        return ExitCode::from(run_request(&rt, alloc, request, &mut reader, &mut writer));
-    };
-    let status = run_request(&rt, alloc, request, &mut reader, &mut writer);
-    if writer.flush().is_err() {
-        return ExitCode::from(RunError::Write.status());
+    if let Some((task, name)) = file_of(arguments.as_slice()) {
+        return ExitCode::from(match fs::open(&rt, name) {
+            Ok(file) => serve(&rt, alloc, Request::Do(task), name, file),
+            Err(error) => refuse_file(&rt, name, &error),
+        });
     }
-    ExitCode::from(status)
+    ExitCode::from(match request_of(arguments.as_slice()) {
+        Some(request) => serve(&rt, alloc, request, STANDARD_INPUT, rt.reader()),
+        None => refuse(&rt, alloc, arguments.as_slice()),
+    })
+}
+
+/// Does what is asked for with an input of this name, and gives the exit status. What is wrong with the
+/// input, or the output, is said on standard error.
+fn serve<T: Threads + Wait + Sync + Print + Eprint, R: Read + Drop>(
+    rt: &T,
+    alloc: Global,
+    request: Request,
+    name: &str,
+    reader: R,
+) -> u8 {
+    // Where there is no memory for a buffer the output goes straight out.
+    match BufWriter::new(alloc, io::writer(rt)) {
+        Ok(writer) => serve_on(rt, alloc, request, name, reader, writer),
+        Err(_) => serve_on(rt, alloc, request, name, reader, io::writer(rt)),
+    }
+}
+
+/// The same with this output.
+fn serve_on<T: Threads + Wait + Sync + Eprint, R: Read + Drop, W: Write + Drop>(
+    rt: &T,
+    alloc: Global,
+    request: Request,
+    name: &str,
+    reader: R,
+    writer: W,
+) -> u8 {
+    let mut input = Kept::new(alloc, reader);
+    let mut output = LastLine::new(writer);
+    let status = run_request(rt, alloc, request, &mut input, &mut output);
+    let is_flushed = output.flush().is_ok();
+    let unwritten = RunError::Write.status();
+    if status == unwritten || !is_flushed {
+        report_output(rt, output.error());
+        return unwritten;
+    }
+    if status != 0 {
+        report_input(rt, alloc, request, name, &input, output.line());
+    }
+    status
 }
 
 /// Says that there was no memory to read the arguments.

@@ -36,9 +36,10 @@ Usage: scmi [run | decode | chart] [FILE]
   decode  tells what areas of shared memory are
   chart   draws a session as a picture (SVG)
 
-It reads FILE, which the script ./scmi opens, or standard input, and writes to standard output.
+It reads FILE or standard input, and writes to standard output.
 Status: 0 done; 1 the output failed; 2 the input is refused, and the last line says why;
-3 a limit was met; 4 there was no memory; 64 a wrong argument.
+3 a limit was met; 4 there was no memory; 64 a wrong argument; 66 FILE can't be opened.
+After a refusal standard error says which line is wrong, what is wanted, and the likely slip.
 
 Example: scmi run examples/two_agents.in
 ",

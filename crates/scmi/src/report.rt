@@ -1,0 +1,45 @@
+//! What is said on standard error of a run that failed.
+
+use crate::request::Request;
+use crate::task::Task;
+use scmi_explain::{Expected, Fault, Kept, explain};
+use std::alloc::Global;
+use std::io::{Eprint, Error, ErrorKind, Read};
+
+/// Says what is wrong with the input of this name, where a run's last line is a fault.
+pub fn report_input<R: Read + Drop>(
+    rt: &impl Eprint,
+    alloc: Global,
+    request: Request,
+    name: &str,
+    input: &Kept<R>,
+    last_line: &[u8],
+) {
+    let Some(fault) = Fault::of_line(last_line) else {
+        return;
+    };
+    let found = explain(alloc, expected_of(request), input.bytes(), fault);
+    let _ = match input.error() {
+        Some(error) if fault == Fault::Read => eprintln!(rt; "{name}{found}: {error}"),
+        _ => eprintln!(rt; "{name}{found}"),
+    };
+}
+
+/// Says that the output could not be written, and why, where its writer says so; nothing where who read
+/// it went away.
+pub fn report_output(rt: &impl Eprint, error: Option<Error>) {
+    let _ = match error {
+        Some(error) if error.kind() == ErrorKind::BrokenPipe => Ok(()),
+        Some(error) => eprintln!(rt; "scmi: the output could not be written: {error}"),
+        None => eprintln!(rt; "scmi: the output could not be written"),
+    };
+}
+
+/// What the input was to be.
+fn expected_of(request: Request) -> Expected {
+    match request {
+        Request::Do(Task::Decode) => Expected::Dumps,
+        Request::Do(Task::Chart) => Expected::Drawing,
+        _ => Expected::Session,
+    }
+}
