@@ -2,16 +2,18 @@
 ghost use Rattle.std.specs.Prelude.{◌≡◌, ◌≤◌, length, None, Ok, option_map};
 ghost use Rattle.scmi_codec.specs.Payload.{if_success};
 ghost use Rattle.scmi_codec.specs.declared.command.Command.TheVariants.{Power, Clock};
+ghost use Rattle.scmi_codec.specs.declared.frame.Frame.TheVariants.{Good};
 ghost use Rattle.scmi_plan.specs.Plan.{IsLawful};
 ghost use Rattle.scmi_power.specs.PowerTable.{set_now};
 ghost use Rattle.scmi_clock.specs.ClockTable.{rate_now, enabled_now};
-ghost use Rattle.scmi_core.specs.Effect.{effect_in, state_effect, clock_effect};
+ghost use Rattle.scmi_core.specs.Effect.{effect_in, effect_read, state_effect, clock_effect};
 ghost use Rattle.scmi_core.specs.Reply.{reply_words};
 ghost use Rattle.scmi_core.specs.Tables.{situation_in};
 
+use crate::channel::fits_channel;
 use crate::effect::Effect;
 use crate::tables::Tables;
-use scmi_codec::{ClockCommand, Command, Frame, PowerCommand};
+use scmi_codec::{ClockCommand, Command, Frame, Message, PowerCommand};
 use scmi_plan::Plan;
 
 impl Tables {
@@ -23,12 +25,38 @@ impl Tables {
         ensures { result ≡ effect_in plan.now agent frame.now (situation_in agent self.now) }
     {
         match frame {
-            Frame::Good(message) => match Command::read(message) {
-                Ok(Command::Power(command)) => self.power_effect(plan, agent, command),
-                Ok(Command::Clock(command)) => self.clock_effect(plan, agent, command),
-                _ => None,
-            },
+            Frame::Good(message) => self.message_effect(plan, agent, message),
             Frame::Malformed { .. } => None,
+        }
+    }
+
+    /// As `effect_of`, for a message; one that is longer than the agent's channel has none.
+    fn message_effect(&self, plan: &Plan, agent: u32, message: &Message) -> Option<Effect>
+        requires first { 1 ≤ agent }
+        requires last { agent ≤ length plan.now.agents }
+        requires lawful { IsLawful plan.now }
+        ensures { result
+            ≡ effect_in plan.now agent (Good message.now) (situation_in agent self.now) }
+    {
+        if fits_channel(plan, agent, message) {
+            self.read_effect(plan, agent, message)
+        } else {
+            None
+        }
+    }
+
+    /// The effect of a message of an agent that fits its channel, if it has one.
+    fn read_effect(&self, plan: &Plan, agent: u32, message: &Message) -> Option<Effect>
+        requires first { 1 ≤ agent }
+        requires last { agent ≤ length plan.now.agents }
+        requires lawful { IsLawful plan.now }
+        ensures { result
+            ≡ effect_read plan.now agent message.now (situation_in agent self.now) }
+    {
+        match Command::read(message) {
+            Ok(Command::Power(command)) => self.power_effect(plan, agent, command),
+            Ok(Command::Clock(command)) => self.clock_effect(plan, agent, command),
+            _ => None,
         }
     }
 
