@@ -8,8 +8,10 @@
 
 /* Headers without their tokens. */
 enum {
+    KIND = 0x3ffff,
     SET_DEVICE_PERMISSIONS = 0x04009,
     POWER_STATE_GET = 0x04405,
+    CLOCK_PROTOCOL_ATTRIBUTES = 0x05001,
     CLOCK_ATTRIBUTES = 0x05003,
     CLOCK_RATE_GET = 0x05006
 };
@@ -61,6 +63,34 @@ static void say_states(void)
     printf("\n");
 }
 
+/*
+ * The one number in an answer that is not the library's. The platform announces 8 pending sets of clocks, and Linux
+ * then sets each rate asynchronously and waits for a delayed response, for which the SMC transport has no channel.
+ * Told of none, Linux sets rates synchronously. This goes when a board can say that an agent has no way back.
+ */
+static void announce_no_pending_sets(uint8_t *area)
+{
+    if ((area_word(area, AREA_HEADER) & KIND) == CLOCK_PROTOCOL_ATTRIBUTES && area_word(area, AREA_PAYLOAD) == 0)
+        area_set_word(area, AREA_PAYLOAD + 4, area_word(area, AREA_PAYLOAD + 4) & ~0x00ff0000U);
+}
+
+/* Nothing runs here between two SMCs: what was accepted for later completes at once, and its message has no way. */
+static void complete(uint32_t agent)
+{
+    scmi_effect effect;
+
+    while (scmi_ask_advance(&platform, &effect) == SCMI_DONE) {
+        bool made = hardware_make(&effect);
+
+        if ((made ? scmi_advance(&platform) : scmi_fail_advance(&platform)) != SCMI_DONE)
+            return;
+        hardware_say_change(agent, &effect, made);
+    }
+    for (uint32_t to = LINUX; to < FIRMWARE; to++)
+        while (scmi_sent(&platform, to) == SCMI_DONE)
+            printf("SCMI: agent %u: a message that has no way\n", to);
+}
+
 bool controller_serve(uint32_t agent, uint8_t *area)
 {
     scmi_effect effect;
@@ -70,10 +100,12 @@ bool controller_serve(uint32_t agent, uint8_t *area)
 
     if (given != SCMI_DONE)
         return false;
+    announce_no_pending_sets(area);
     if (changes) {
         hardware_say_change(agent, &effect, made);
         say_states();
     }
+    complete(agent);
     return true;
 }
 
