@@ -1,6 +1,6 @@
 -- The mode that a first line names.
 use Rattle.std.proofs.Common.{◌≡◌, ℕ, List, take, get_or, Option, None, Some, IfSome, Result, Ok, Err, OnOk, sym, ap, ◌∙◌, refl, subst, arith}
-use Rattle.scmi_input.specs.Lines.{first_line}
+use Rattle.scmi_input.specs.Lines.{after_line, first_line}
 use Rattle.scmi_input.specs.declared.input.TheConstants.{KEPT_BYTES}
 use Rattle.scmi_modes.specs.AnyMode.{Takes, any_text_of, hardware_text}
 use Rattle.scmi_modes.specs.Mode.{text_of}
@@ -37,16 +37,16 @@ plain_threads (any.Hardware Words) Rings same = let first : 116 ≡ 104 = ap (λ
 plain_threads (any.Hardware Words) Words same = let first : 116 ≡ 104 = ap (λ (xs : List ℕ). get_or xs 0 0) same in absurd (omega (arith, first))
 
 -- the text of a run over one kind is that of each kind whose mode is the same
-pub on_threads : {T E : Type 0} (r : Result T E) (kind : Kind) (old new : Option (List ℕ)) → OnOk r (IsTextOfRun (may_be_full kind) old new) → OnOk r ((k : Kind) → any.Plain (Threads kind) ≡ any.Plain (Threads k) → IsTextOfRun (may_be_full k) old new)
-on_threads (Err e) kind old new holds = tt
-on_threads (Ok x) kind old new holds = λ k same. let is : kind ≡ k = cc in subst (λ q. IsTextOfRun (may_be_full q) old new) is holds
+pub on_threads : {T E : Type 0} (r : Result T E) (kind : Kind) (known old new : Option (List ℕ)) → OnOk r (IsTextOfRun (may_be_full kind) known old new) → OnOk r ((k : Kind) → any.Plain (Threads kind) ≡ any.Plain (Threads k) → IsTextOfRun (may_be_full k) known old new)
+on_threads (Err e) kind known old new holds = tt
+on_threads (Ok x) kind known old new holds = λ k same. let is : kind ≡ k = cc in subst (λ q. IsTextOfRun (may_be_full q) known old new) is holds
 
 -- what holds where the mode is that of threads holds where the first line is its text
-pub where_threads : {T E : Type 0} (r : Result T E) (known : Option (List ℕ)) (m : AnyMode) (kept : List ℕ) (old new : Option (List ℕ)) → IfSome known (λ input. kept ≡ take KEPT_BYTES (first_line input)) → kept ≡ any_text_of m
-    → OnOk r ((k : Kind) → m ≡ any.Plain (Threads k) → IsTextOfRun (may_be_full k) old new) → OnOk r (RunsThreads known old new)
-where_threads (Err e) known m kept old new first is holds = tt
-where_threads (Ok x) None m kept old new first is holds = tt
-where_threads (Ok x) (Some input) m kept old new first is holds = λ k line. holds k (plain_threads m k (ap (λ (xs : List ℕ). take KEPT_BYTES xs) (sym line) ∙ sym first ∙ is))
+pub where_threads : {T E : Type 0} (r : Result T E) (known rest : Option (List ℕ)) (m : AnyMode) (kept : List ℕ) (old new : Option (List ℕ)) → IfSome known (λ input. kept ≡ take KEPT_BYTES (first_line input)) → IfSome known (λ input. rest ≡ Some (after_line input)) → kept ≡ any_text_of m
+    → OnOk r ((k : Kind) → m ≡ any.Plain (Threads k) → IsTextOfRun (may_be_full k) rest old new) → OnOk r (RunsThreads known old new)
+where_threads (Err e) known rest m kept old new first behind is holds = tt
+where_threads (Ok x) None rest m kept old new first behind is holds = tt
+where_threads (Ok x) (Some input) rest m kept old new first behind is holds = λ k line. subst (λ q. IsTextOfRun (may_be_full k) q old new) behind (holds k (plain_threads m k (ap (λ (xs : List ℕ). take KEPT_BYTES xs) (sym line) ∙ sym first ∙ is)))
 
 -- a mode whose text is that of steps over a kind is that mode
 same_steps : (m : Mode) (k : Kind) → take KEPT_BYTES (text_of (Steps k)) ≡ text_of m → m ≡ Steps k
@@ -69,16 +69,16 @@ plain_steps (any.Hardware Words) Rings same = let first : 115 ≡ 104 = ap (λ (
 plain_steps (any.Hardware Words) Words same = let first : 115 ≡ 104 = ap (λ (xs : List ℕ). get_or xs 0 0) same in absurd (omega (arith, first))
 
 -- the text of steps over one kind is that of each kind whose mode is the same
-pub on_steps : {T E : Type 0} (r : Result T E) (kind : Kind) (old new : Option (List ℕ)) → OnOk r (WritesSteps kind old new) → OnOk r ((k : Kind) → any.Plain (Steps kind) ≡ any.Plain (Steps k) → WritesSteps k old new)
-on_steps (Err e) kind old new holds = tt
-on_steps (Ok x) kind old new holds = λ k same. let is : kind ≡ k = cc in subst (λ q. WritesSteps q old new) is holds
+pub on_steps : {T E : Type 0} (r : Result T E) (kind : Kind) (known old new : Option (List ℕ)) → OnOk r (WritesSteps known kind old new) → OnOk r ((k : Kind) → any.Plain (Steps kind) ≡ any.Plain (Steps k) → WritesSteps known k old new)
+on_steps (Err e) kind known old new holds = tt
+on_steps (Ok x) kind known old new holds = λ k same. let is : kind ≡ k = cc in subst (λ q. WritesSteps known q old new) is holds
 
 -- what holds where the mode is that of steps holds where the first line is its text
-pub where_steps : {T E : Type 0} (r : Result T E) (known : Option (List ℕ)) (m : AnyMode) (kept : List ℕ) (old new : Option (List ℕ)) → IfSome known (λ input. kept ≡ take KEPT_BYTES (first_line input)) → kept ≡ any_text_of m
-    → OnOk r ((k : Kind) → m ≡ any.Plain (Steps k) → WritesSteps k old new) → OnOk r (RunsSteps known old new)
-where_steps (Err e) known m kept old new first is holds = tt
-where_steps (Ok x) None m kept old new first is holds = tt
-where_steps (Ok x) (Some input) m kept old new first is holds = λ k line. holds k (plain_steps m k (ap (λ (xs : List ℕ). take KEPT_BYTES xs) (sym line) ∙ sym first ∙ is))
+pub where_steps : {T E : Type 0} (r : Result T E) (known rest : Option (List ℕ)) (m : AnyMode) (kept : List ℕ) (old new : Option (List ℕ)) → IfSome known (λ input. kept ≡ take KEPT_BYTES (first_line input)) → IfSome known (λ input. rest ≡ Some (after_line input)) → kept ≡ any_text_of m
+    → OnOk r ((k : Kind) → m ≡ any.Plain (Steps k) → WritesSteps rest k old new) → OnOk r (RunsSteps known old new)
+where_steps (Err e) known rest m kept old new first behind is holds = tt
+where_steps (Ok x) None rest m kept old new first behind is holds = tt
+where_steps (Ok x) (Some input) rest m kept old new first behind is holds = λ k line. subst (λ q. WritesSteps q k old new) behind (holds k (plain_steps m k (ap (λ (xs : List ℕ). take KEPT_BYTES xs) (sym line) ∙ sym first ∙ is)))
 
 -- a mode whose text is that of hardware over a kind is that mode
 same_hardware : (m : AnyMode) (k : Kind) → take KEPT_BYTES (hardware_text k) ≡ any_text_of m → m ≡ any.Hardware k
@@ -98,16 +98,16 @@ same_hardware (any.Hardware Rings) Words same = let tenth : 119 ≡ 114 = ap (λ
 same_hardware (any.Hardware Words) Words same = refl
 
 -- the text of steps beside hardware over one kind is that of each kind whose mode is the same
-pub on_hardware : {T E : Type 0} (r : Result T E) (kind : Kind) (old new : Option (List ℕ)) → OnOk r (WritesHardware kind old new) → OnOk r ((k : Kind) → any.Hardware kind ≡ any.Hardware k → WritesHardware k old new)
-on_hardware (Err e) kind old new holds = tt
-on_hardware (Ok x) kind old new holds = λ k same. let is : kind ≡ k = cc in subst (λ q. WritesHardware q old new) is holds
+pub on_hardware : {T E : Type 0} (r : Result T E) (kind : Kind) (known old new : Option (List ℕ)) → OnOk r (WritesHardware known kind old new) → OnOk r ((k : Kind) → any.Hardware kind ≡ any.Hardware k → WritesHardware known k old new)
+on_hardware (Err e) kind known old new holds = tt
+on_hardware (Ok x) kind known old new holds = λ k same. let is : kind ≡ k = cc in subst (λ q. WritesHardware known q old new) is holds
 
 -- what holds where the mode is that of hardware holds where the first line is its text
-pub where_hardware : {T E : Type 0} (r : Result T E) (known : Option (List ℕ)) (m : AnyMode) (kept : List ℕ) (old new : Option (List ℕ)) → IfSome known (λ input. kept ≡ take KEPT_BYTES (first_line input)) → kept ≡ any_text_of m
-    → OnOk r ((k : Kind) → m ≡ any.Hardware k → WritesHardware k old new) → OnOk r (RunsHardware known old new)
-where_hardware (Err e) known m kept old new first is holds = tt
-where_hardware (Ok x) None m kept old new first is holds = tt
-where_hardware (Ok x) (Some input) m kept old new first is holds = λ k line. holds k (same_hardware m k (ap (λ (xs : List ℕ). take KEPT_BYTES xs) (sym line) ∙ sym first ∙ is))
+pub where_hardware : {T E : Type 0} (r : Result T E) (known rest : Option (List ℕ)) (m : AnyMode) (kept : List ℕ) (old new : Option (List ℕ)) → IfSome known (λ input. kept ≡ take KEPT_BYTES (first_line input)) → IfSome known (λ input. rest ≡ Some (after_line input)) → kept ≡ any_text_of m
+    → OnOk r ((k : Kind) → m ≡ any.Hardware k → WritesHardware rest k old new) → OnOk r (RunsHardware known old new)
+where_hardware (Err e) known rest m kept old new first behind is holds = tt
+where_hardware (Ok x) None rest m kept old new first behind is holds = tt
+where_hardware (Ok x) (Some input) rest m kept old new first behind is holds = λ k line. subst (λ q. WritesHardware q k old new) behind (holds k (same_hardware m k (ap (λ (xs : List ℕ). take KEPT_BYTES xs) (sym line) ∙ sym first ∙ is)))
 
 not_taken : (m : AnyMode) (k : Kind) → Takes modes.Plain m → m ≡ any.Hardware k → ⊥
 not_taken m k takes is = subst (λ q. Takes modes.Plain q) is takes

@@ -1,5 +1,5 @@
 -- What is written of a run.
-use Rattle.std.proofs.Common.{◌≡◌, ℕ, Bool, ◌+◌, ◌<◌, ◌≤◌, List, [], ◌∷◌, ◌++◌, length, take, drop, get_or, Option, Some, None, Result, Ok, Err, refl, sym, ap, ◌∙◌, subst, arith, append_assoc}
+use Rattle.std.proofs.Common.{◌≡◌, ℕ, Bool, ◌+◌, ◌<◌, ◌≤◌, List, [], ◌∷◌, ◌++◌, length, take, drop, get_or, Option, Some, None, Result, Ok, Err, refl, sym, ap, ◌∙◌, subst, arith, append_assoc, ◌⊎◌, inl, inr}
 use Rattle.std.specs.List.{All, flat_map}
 use Rattle.std.specs.Prelude.{OnOk}
 use Rattle.std.specs.Io.KnownBytes.{Appends}
@@ -59,6 +59,10 @@ none_stopped logs m l = λ k d below. one_runs (get_or logs k d).stopped (m k d 
 pub on_ok : {A E : Type 0} (P Q : Type 0) (r : Result A E) → OnOk r P → (P → Q) → OnOk r Q
 on_ok P Q (Ok x) p f = f p
 on_ok P Q (Err e) p f = tt
+
+pub either_way : {A B C : Type 0} → A ⊎ B → (B → C) → A ⊎ C
+either_way (inl a) f = inl a
+either_way (inr b) f = inr (f b)
 
 -- the lines of steps
 

@@ -1,5 +1,6 @@
 pub mod RunError
 pub mod Reads
+pub mod Input
 pub mod Lines
 pub mod Mode
 pub mod AnyMode
@@ -7,3 +8,4 @@ pub mod Once
 pub mod Steps
 pub mod Runs
 pub mod Program
+pub mod Fault

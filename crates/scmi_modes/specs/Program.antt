@@ -1,5 +1,5 @@
 -- What is written of an input that is known.
-use Rattle.std.specs.Prelude.{◌≡◌, ◌≢◌, ℕ, List, Option, IfSome}
+use Rattle.std.specs.Prelude.{◌≡◌, ◌≢◌, ℕ, List, Option, Some, IfSome}
 use Rattle.scmi_input.specs.Lines.{first_line, after_line}
 use Rattle.scmi_modes.specs.AnyMode.{hardware_text}
 use Rattle.scmi_modes.specs.Mode.{text_of}
@@ -13,20 +13,20 @@ use Rattle.scmi_modes.specs.declared.mode.Mode.TheVariants.{Once, Steps, Threads
 abbrev pub AnswersOnce : Option (List ℕ) → Option (List ℕ) → Option (List ℕ) → Type 0
 AnswersOnce known old new = IfSome known (λ input. first_line input ≡ text_of Once → IsAnswerTo (after_line input) old new)
 
--- where the first line names a mode `threads`, what is written is the text of a run of scripts to their ends
+-- where the first line names a mode `threads`, what is written is the text of a run, to their ends, of the scripts that stand behind it
 abbrev pub RunsThreads : Option (List ℕ) → Option (List ℕ) → Option (List ℕ) → Type 0
 RunsThreads known old new =
-    IfSome known (λ input. (kind : Kind) → first_line input ≡ text_of (Threads kind) → IsTextOfRun (may_be_full kind) old new)
+    IfSome known (λ input. (kind : Kind) → first_line input ≡ text_of (Threads kind) → IsTextOfRun (may_be_full kind) (Some (after_line input)) old new)
 
--- where the first line names a mode `steps`, what is written is the text of all steps of a script on some board
+-- where the first line names a mode `steps`, what is written is the text of all steps that stand behind it, on the board there
 abbrev pub RunsSteps : Option (List ℕ) → Option (List ℕ) → Option (List ℕ) → Type 0
 RunsSteps known old new =
-    IfSome known (λ input. (kind : Kind) → first_line input ≡ text_of (Steps kind) → WritesSteps kind old new)
+    IfSome known (λ input. (kind : Kind) → first_line input ≡ text_of (Steps kind) → WritesSteps (Some (after_line input)) kind old new)
 
--- where the first line names a mode `hardware`, what is written is the text of all steps of a script on some board, beside hardware
+-- the same where it names a mode `hardware`, beside hardware
 abbrev pub RunsHardware : Option (List ℕ) → Option (List ℕ) → Option (List ℕ) → Type 0
 RunsHardware known old new =
-    IfSome known (λ input. (kind : Kind) → first_line input ≡ hardware_text kind → WritesHardware kind old new)
+    IfSome known (λ input. (kind : Kind) → first_line input ≡ hardware_text kind → WritesHardware (Some (after_line input)) kind old new)
 
 -- the first line names no mode `hardware`
 abbrev pub NamesNoHardware : Option (List ℕ) → Type 0

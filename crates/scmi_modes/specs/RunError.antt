@@ -1,7 +1,7 @@
--- The exit statuses of a run.
-use Rattle.std.specs.Prelude.{ℕ}
+-- The faults of a run: exit statuses, texts, and whence they come.
+use Rattle.std.specs.Prelude.{ℕ, List, ◌++◌, codes, decimal}
 use Rattle.scmi_modes.specs.declared.run_error.RunError.{RunError}
-use Rattle.scmi_modes.specs.declared.run_error.RunError.TheVariants.{Size, Read, Board, Script, Plan, Limit, Memory, Write}
+use Rattle.scmi_modes.specs.declared.run_error.RunError.TheVariants.{Mode, Size, Read, Area, Board, Script, Plan, Limit, Memory, Write}
 use Rattle.scmi_board.specs.declared.text_error.TextError.{TextError}
 use Rattle.scmi_board.specs.declared.text_error.TextError.TheVariants as text
 use Rattle.scmi_input.specs.declared.input_error.InputError.{InputError}
@@ -16,6 +16,23 @@ status_of Write = 1
 status_of Limit = 3
 status_of Memory = 4
 status_of _ = 2
+
+-- the text of a fault (own)
+abbrev pub fault_text : RunError → List ℕ
+fault_text Mode = codes "mode"
+fault_text Size = codes "size"
+fault_text Read = codes "read"
+fault_text Area = codes "area"
+fault_text (Board line) = codes "board " ++ decimal line
+fault_text (Script line) = codes "script " ++ decimal line
+fault_text (Plan rule) = codes "plan " ++ decimal rule
+fault_text Limit = codes "limit"
+fault_text Memory = codes "memory"
+fault_text Write = codes "write"
+
+-- the line of a fault, with its line feed
+abbrev pub fault_line : RunError → List ℕ
+fault_line fault = codes "fault " ++ fault_text fault ++ codes "\n"
 
 -- an input that is not read
 abbrev pub fault_of_input : InputError → RunError

@@ -1,5 +1,5 @@
 -- What a script on one thread writes.
-use Rattle.std.specs.Prelude.{◌≡◌, ◌⊎◌, ℕ, Bool, List, [], ◌∷◌, ◌++◌, length, Option, Result, flat_map}
+use Rattle.std.specs.Prelude.{◌≡◌, ◌⊎◌, ℕ, Bool, List, ◌++◌, length, Option, IfSome, Result, Ok, flat_map}
 use Rattle.std.specs.List.{All}
 use Rattle.std.specs.Io.KnownBytes.{Appends}
 use Rattle.scmi_link.specs.View.{CallerView}
@@ -16,6 +16,7 @@ use Rattle.scmi_text.specs.declared.step_line.StepLine.{StepLine}
 use Rattle.scmi_text.specs.declared.step_line.StepLine.TheVariants.{Trace}
 use Rattle.scmi_session.specs.SessionView.{SessionView}
 use Rattle.scmi_session.specs.Run.{Runs, IsGathered}
+use Rattle.scmi_modes.specs.Input.{steps_of_input}
 use Rattle.scmi_modes.specs.Runs.{may_be_full}
 use Rattle.scmi_modes.specs.declared.kind.Kind.{Kind}
 use Rattle.scmi_modes.specs.declared.kind.Kind.TheVariants.{Rings, Words}
@@ -51,18 +52,24 @@ abbrev pub MayHave : ScriptKind → Step → Type 0
 MayHave Plain step = IsWithoutHardware step
 MayHave Hardware step = Unit {0}
 
--- what is written is the text of all steps of a script of this kind on some board
-abbrev pub WritesScript : ScriptKind → Kind → Option (List ℕ) → Option (List ℕ) → Type 0
-WritesScript script kind old new = (board : Board) × (steps : List Step) × All (MayHave script) steps × IsTextOfSteps (may_be_full kind) (shows_close kind) board steps old new
+-- an input, where it is known, stands for this board and these steps of a script of this kind
+abbrev pub AreStepsOf : ScriptKind → Option (List ℕ) → Board → List Step → Type 0
+AreStepsOf script known board steps = IfSome known (λ input. steps_of_input script input ≡ Ok (board, steps))
 
--- what is written is the text of all steps of a script on some board, none of them beside hardware
-abbrev pub WritesSteps : Kind → Option (List ℕ) → Option (List ℕ) → Type 0
-WritesSteps kind old new = WritesScript Plain kind old new
+-- what is written is the text of all steps that the input stands for, on its board, in a script of this kind
+abbrev pub WritesScript : ScriptKind → Option (List ℕ) → Kind → Option (List ℕ) → Option (List ℕ) → Type 0
+WritesScript script known kind old new =
+    (board : Board) × (steps : List Step) × AreStepsOf script known board steps × All (MayHave script) steps × IsTextOfSteps (may_be_full kind) (shows_close kind) board steps old new
 
--- what is written is the text of all steps of a script on some board, beside hardware that refuses where a step says so
-abbrev pub WritesHardware : Kind → Option (List ℕ) → Option (List ℕ) → Type 0
-WritesHardware kind old new = WritesScript Hardware kind old new
+-- what is written is the text of all steps that the input stands for, none of them beside hardware
+abbrev pub WritesSteps : Option (List ℕ) → Kind → Option (List ℕ) → Option (List ℕ) → Type 0
+WritesSteps known kind old new = WritesScript Plain known kind old new
 
--- nothing is written, or the lines of the first steps of a script on some board
-abbrev pub WritesFirstSteps : Kind → Option (List ℕ) → Option (List ℕ) → Type 0
-WritesFirstSteps kind old new = (new ≡ old) ⊎ ((board : Board) × (steps : List Step) × AreStepLines (may_be_full kind) (shows_close kind) board steps old new)
+-- what is written is the text of all steps that the input stands for, beside hardware that refuses where a step says so
+abbrev pub WritesHardware : Option (List ℕ) → Kind → Option (List ℕ) → Option (List ℕ) → Type 0
+WritesHardware known kind old new = WritesScript Hardware known kind old new
+
+-- nothing is written, or the lines of the first steps that the input stands for, on its board
+abbrev pub WritesFirstSteps : ScriptKind → Option (List ℕ) → Kind → Option (List ℕ) → Option (List ℕ) → Type 0
+WritesFirstSteps script known kind old new =
+    (new ≡ old) ⊎ ((board : Board) × (steps : List Step) × AreStepsOf script known board steps × AreStepLines (may_be_full kind) (shows_close kind) board steps old new)

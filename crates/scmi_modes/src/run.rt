@@ -1,10 +1,12 @@
 //! A run from its first line to its exit status.
-ghost use Rattle.std.specs.Prelude.{◌≡◌, ◌≤◌, ◌+◌, ◌*◌, IfErr, IfSome, OnOk};
+ghost use Rattle.std.specs.Prelude.{◌≡◌, ◌≢◌, ◌≤◌, ◌+◌, ◌*◌, IfErr, IfSome, OnOk};
+ghost use Rattle.std.specs.Io.KnownBytes.{Appends};
 ghost use Rattle.scmi_input.specs.declared.input.TheConstants.{INPUT_BYTES};
 ghost use Rattle.scmi_modes.specs.Once.{IsAnswerTo};
 ghost use Rattle.scmi_modes.specs.Program.{AnswersOnce, NamesNoHardware, RunsHardware, RunsSteps, RunsThreads};
 ghost use Rattle.scmi_modes.specs.Reads.{StopsAtFailure};
-ghost use Rattle.scmi_modes.specs.RunError.{status_of};
+ghost use Rattle.scmi_modes.specs.Fault.{EndsWithFault, IsFaultIn, IsFaultOfRun};
+ghost use Rattle.scmi_modes.specs.RunError.{fault_line, status_of};
 ghost use Rattle.scmi_modes.specs.Runs.{IsTextOfRun, may_be_full};
 ghost use Rattle.scmi_modes.specs.Steps.{WritesHardware, WritesSteps};
 ghost use Rattle.scmi_modes.specs.declared.kind.Kind.{Kind as KindOf};
@@ -23,7 +25,7 @@ use std::sync::Wait;
 use std::thread::Threads;
 
 /// Runs an input in the mode among these that its first line names, and gives the exit status: 0, or that of
-/// the error, whose text is written as the last line. A fault that can't be written gives status 1.
+/// the fault, whose text is written as the last line. A fault that can't be written gives status 1.
 pub fn run_program<T: Threads + Wait + Sync, G: Gate, R: Read, W: Write>(
     rt: &T,
     alloc: Global,
@@ -41,6 +43,8 @@ pub fn run_program<T: Threads + Wait + Sync, G: Gate, R: Read, W: Write>(
     ensures hardware { result ≡ 0 →
         RunsHardware (R.remaining reader.old) (W.contents writer.old) (W.contents writer.new) }
     ensures plain { result ≡ 0 → modes ≡ Modes.Plain → NamesNoHardware (R.remaining reader.old) }
+    ensures fault { result ≢ 0 → result ≢ 1 → EndsWithFault modes (R.remaining reader.old) result
+        (W.contents writer.old) (W.contents writer.new) }
 {
     let mut input = Input::new(CountedReader::new(reader));
     run_input(rt, alloc, gate, modes, &mut input, writer)
@@ -65,16 +69,27 @@ pub fn run_input<T: Threads + Wait + Sync, G: Gate, R: CountedRead + Drop, W: Wr
     ensures hardware { result ≡ 0 →
         RunsHardware input.old.left (W.contents writer.old) (W.contents writer.new) }
     ensures plain { result ≡ 0 → modes ≡ Modes.Plain → NamesNoHardware input.old.left }
+    ensures fault { result ≢ 0 → result ≢ 1 → EndsWithFault modes input.old.left result
+        (W.contents writer.old) (W.contents writer.new) }
     ensures reads { input.new.reads ≤ input.old.reads + 2 * (INPUT_BYTES + 1) }
     ensures stops { input.old.since_failure ≡ 0 → input.new.since_failure ≤ 1 }
 {
     match run_mode(rt, alloc, gate, modes, input, writer) {
         Ok(()) => 0,
         Err(RunError::Write) => RunError::Write.status(),
-        Err(fault) => match writeln!(writer, "fault {fault}") {
-            Ok(()) => fault.status(),
-            Err(_) => RunError::Write.status(),
-        },
+        Err(fault) => write_fault(writer, fault),
+    }
+}
+
+/// Writes the line of a fault, and gives its exit status, or that of a failed output.
+fn write_fault<W: Write>(writer: &mut W, fault: RunError) -> u8
+    ensures not_done { result ≢ 0 }
+    ensures fault { result ≢ 1 → (result ≡ status_of fault) × Appends (W.contents writer.old)
+        (W.contents writer.new) (fault_line fault) }
+{
+    match writeln!(writer, "fault {fault}") {
+        Ok(()) => fault.status(),
+        Err(_) => RunError::Write.status(),
     }
 }
 
@@ -95,6 +110,8 @@ fn run_mode<T: Threads + Wait + Sync, G: Gate, R: CountedRead + Drop, W: Write>(
     ensures hardware { OnOk result
         (RunsHardware input.old.left (W.contents writer.old) (W.contents writer.new)) }
     ensures plain { OnOk result (modes ≡ Modes.Plain → NamesNoHardware input.old.left) }
+    ensures faults { IfErr result (λ e.
+        IfSome input.old.left (λ input. IsFaultOfRun modes input e)) }
     ensures kept { IfErr result (λ e. status_of e ≡ 2 → writer.new ≡ writer.old) }
     ensures reads { input.new.reads ≤ input.old.reads + 2 * (INPUT_BYTES + 1) }
     ensures stops { StopsAtFailure result input.old.since_failure input.new.since_failure }
@@ -116,11 +133,16 @@ fn run_in<T: Threads + Wait + Sync, G: Gate, R: CountedRead, W: Write>(
     ensures once { OnOk result (mode ≡ AnyMode.Plain Mode.Once → IfSome (R.remaining reader.old)
         (λ input. IsAnswerTo input (W.contents writer.old) (W.contents writer.new))) }
     ensures threads { OnOk result ((kind : KindOf) → mode ≡ AnyMode.Plain (Mode.Threads kind) →
-        IsTextOfRun (may_be_full kind) (W.contents writer.old) (W.contents writer.new)) }
+        IsTextOfRun (may_be_full kind) (R.remaining reader.old) (W.contents writer.old)
+        (W.contents writer.new)) }
     ensures steps { OnOk result ((kind : KindOf) → mode ≡ AnyMode.Plain (Mode.Steps kind) →
-        WritesSteps kind (W.contents writer.old) (W.contents writer.new)) }
+        WritesSteps (R.remaining reader.old) kind (W.contents writer.old)
+        (W.contents writer.new)) }
     ensures hardware { OnOk result ((kind : KindOf) → mode ≡ AnyMode.Hardware kind →
-        WritesHardware kind (W.contents writer.old) (W.contents writer.new)) }
+        WritesHardware (R.remaining reader.old) kind (W.contents writer.old)
+        (W.contents writer.new)) }
+    ensures faults { IfErr result (λ e.
+        IfSome (R.remaining reader.old) (λ input. IsFaultIn mode input e)) }
     ensures kept { IfErr result (λ e. status_of e ≡ 2 → writer.new ≡ writer.old) }
     ensures reads { R.reads reader.new ≤ R.reads reader.old + (INPUT_BYTES + 1) }
     ensures stops { StopsAtFailure result (R.since_failure reader.old)

@@ -6,41 +6,31 @@ use scmi_board::TextError;
 use scmi_input::InputError;
 use scmi_plan::PlanError;
 use std::alloc::AllocError;
+use std::error::Error;
 use std::fmt;
-use thiserror::Error;
 
 /// Why a run is refused or stops. Its text is what follows the word `fault`.
-#[derive(Clone, Copy, PartialEq, Eq, Error)]
+#[derive(Clone, Copy, PartialEq, Eq)]
 pub enum RunError {
     /// The first line names no mode.
-    #[error("mode")]
     Mode,
     /// The first line, or what follows it, is longer than `INPUT_BYTES`.
-    #[error("size")]
     Size,
     /// A read failed.
-    #[error("read")]
     Read,
     /// The input of the mode `once` is not one line of an area's digits.
-    #[error("area")]
     Area,
     /// This line is no line of a board.
-    #[error("board {0}")]
     Board(u32),
     /// This line is no line of a script.
-    #[error("script {0}")]
     Script(u32),
     /// The board breaks this rule.
-    #[error("plan {0}")]
     Plan(u8),
     /// A limit of the run was met.
-    #[error("limit")]
     Limit,
     /// Memory was refused.
-    #[error("memory")]
     Memory,
     /// The output failed.
-    #[error("write")]
     Write,
 }
 
@@ -55,6 +45,30 @@ impl RunError {
             RunError::Limit => 3,
             RunError::Memory => 4,
             _ => 2,
+        }
+    }
+}
+
+impl Error for RunError {}
+
+impl fmt::Display for RunError {
+    ghost use Rattle.std.specs.Prelude.{Some};
+    ghost use Rattle.scmi_modes.specs.RunError.{fault_text};
+
+    ghost output = { λ fault. Some (fault_text fault) };
+
+    fn fmt<W: fmt::Write>(&self, f: &mut fmt::Formatter<W>) -> fmt::Result {
+        match self {
+            RunError::Mode => write!(f, "mode"),
+            RunError::Size => write!(f, "size"),
+            RunError::Read => write!(f, "read"),
+            RunError::Area => write!(f, "area"),
+            RunError::Board(line) => write!(f, "board {line}"),
+            RunError::Script(line) => write!(f, "script {line}"),
+            RunError::Plan(rule) => write!(f, "plan {rule}"),
+            RunError::Limit => write!(f, "limit"),
+            RunError::Memory => write!(f, "memory"),
+            RunError::Write => write!(f, "write"),
         }
     }
 }

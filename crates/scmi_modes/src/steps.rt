@@ -1,14 +1,17 @@
 //! The modes `steps` and `hardware`: a board and a script, all on one thread.
-ghost use Rattle.std.specs.Prelude.{◌≡◌, ◌≤◌, ◌+◌, ◌⊎◌, List, length, IfErr, IfOk, IsErrOf, OnOk};
+ghost use Rattle.std.specs.Prelude.{◌≡◌, ◌≤◌, ◌+◌, ◌⊎◌, List, length, Ok, IfErr, IfOk, IfSome, IsErrOf, MatchResult, OnOk};
 ghost use Rattle.std.specs.List.{All};
 ghost use Rattle.std.specs.Io.KnownBytes.{Appends};
-ghost use Rattle.scmi_board.specs.TextError.{IsOfScript};
+ghost use Rattle.scmi_board.specs.Lines.{lines_left};
 ghost use Rattle.scmi_ends.specs.Shut.{ShowsClose};
 ghost use Rattle.scmi_text.specs.Step.{IsStepOf};
 ghost use Rattle.scmi_text.specs.StepLine.{step_text};
+ghost use Rattle.scmi_text.specs.TextLines.{GivesScript};
+ghost use Rattle.scmi_modes.specs.Input.{FailsInput, IsFaultOf, script_of_lines, steps_of_input};
 ghost use Rattle.scmi_modes.specs.Reads.{StopsAtFailure};
 ghost use Rattle.scmi_modes.specs.RunError.{status_of};
-ghost use Rattle.scmi_modes.specs.Steps.{AreStepLines, IsTextOfSteps, MayHave, WritesFirstSteps, WritesHardware, WritesScript, WritesSteps};
+ghost use Rattle.scmi_modes.specs.Runs.{may_be_full};
+ghost use Rattle.scmi_modes.specs.Steps.{AreStepLines, IsTextOfSteps, MayHave, WritesFirstSteps, WritesHardware, WritesScript, WritesSteps, shows_close};
 ghost use Rattle.scmi_input.specs.declared.input.TheConstants.{INPUT_BYTES};
 
 use crate::kind::Kind;
@@ -35,9 +38,13 @@ pub fn run_steps<R: CountedRead, W: Write>(
     kind: Kind,
 ) -> Result<(), RunError>
     ensures text { OnOk result
-        (WritesSteps kind (W.contents writer.old) (W.contents writer.new)) }
+        (WritesSteps (R.remaining reader.old) kind (W.contents writer.old)
+        (W.contents writer.new)) }
     ensures memory { IsErrOf result RunError.Memory →
-        WritesFirstSteps kind (W.contents writer.old) (W.contents writer.new) }
+        WritesFirstSteps ScriptKind.Plain (R.remaining reader.old) kind (W.contents writer.old)
+        (W.contents writer.new) }
+    ensures faults { IfErr result (λ e. IfSome (R.remaining reader.old)
+        (λ input. IsFaultOf input (steps_of_input ScriptKind.Plain input) e)) }
     ensures kept { IfErr result (λ e. status_of e ≡ 2 → writer.new ≡ writer.old) }
     ensures reads { R.reads reader.new ≤ R.reads reader.old + (INPUT_BYTES + 1) }
     ensures stops { StopsAtFailure result (R.since_failure reader.old)
@@ -54,9 +61,13 @@ pub fn run_hardware<R: CountedRead, W: Write>(
     kind: Kind,
 ) -> Result<(), RunError>
     ensures text { OnOk result
-        (WritesHardware kind (W.contents writer.old) (W.contents writer.new)) }
+        (WritesHardware (R.remaining reader.old) kind (W.contents writer.old)
+        (W.contents writer.new)) }
     ensures memory { IsErrOf result RunError.Memory →
-        WritesFirstSteps kind (W.contents writer.old) (W.contents writer.new) }
+        WritesFirstSteps ScriptKind.Hardware (R.remaining reader.old) kind (W.contents writer.old)
+        (W.contents writer.new) }
+    ensures faults { IfErr result (λ e. IfSome (R.remaining reader.old)
+        (λ input. IsFaultOf input (steps_of_input ScriptKind.Hardware input) e)) }
     ensures kept { IfErr result (λ e. status_of e ≡ 2 → writer.new ≡ writer.old) }
     ensures reads { R.reads reader.new ≤ R.reads reader.old + (INPUT_BYTES + 1) }
     ensures stops { StopsAtFailure result (R.since_failure reader.old)
@@ -74,23 +85,36 @@ fn run_script<R: CountedRead, W: Write>(
     script: ScriptKind,
 ) -> Result<(), RunError>
     ensures text { OnOk result
-        (WritesScript script kind (W.contents writer.old) (W.contents writer.new)) }
+        (WritesScript script (R.remaining reader.old) kind (W.contents writer.old)
+        (W.contents writer.new)) }
     ensures memory { IsErrOf result RunError.Memory →
-        WritesFirstSteps kind (W.contents writer.old) (W.contents writer.new) }
+        WritesFirstSteps script (R.remaining reader.old) kind (W.contents writer.old)
+        (W.contents writer.new) }
+    ensures faults { IfErr result (λ e. IfSome (R.remaining reader.old)
+        (λ input. IsFaultOf input (steps_of_input script input) e)) }
     ensures kept { IfErr result (λ e. status_of e ≡ 2 → writer.new ≡ writer.old) }
     ensures reads { R.reads reader.new ≤ R.reads reader.old + (INPUT_BYTES + 1) }
     ensures stops { StopsAtFailure result (R.since_failure reader.old)
         (R.since_failure reader.new) }
 {
     let bytes = read_rest(alloc, reader)?;
-    let mut lines = Lines::new(&bytes);
+    let (plan, steps) = read_input(alloc, &bytes, script)?;
+    step_over(alloc, kind, plan, &steps, writer)
+}
+
+/// The board and the steps that stand behind the first line, in a script of this kind.
+fn read_input(alloc: Global, bytes: &[u8], script: ScriptKind) -> Result<(Plan, StepList), RunError>
+    ensures agents { IfOk result (λ read. All (IsStepOf (length read.0.agents)) read.1) }
+    ensures kinds { IfOk result (λ read. All (MayHave script) read.1) }
+    ensures input { MatchResult result
+        (λ read. steps_of_input script bytes.now ≡ Ok (read.0, read.1))
+        (λ e. FailsInput e (steps_of_input script bytes.now)) }
+{
+    let mut lines = Lines::new(bytes);
     let board = read_board(alloc, &mut lines)?;
     let steps = read_script(alloc, &mut lines, board.agent_count()?, script)?;
     let plan = Plan::check(alloc, &board)?;
-    match kind {
-        Kind::Rings => step_through::<RingChannel, W>(alloc, plan, &steps, writer),
-        Kind::Words => step_through::<WordChannel, W>(alloc, plan, &steps, writer),
-    }
+    Ok((plan, steps))
 }
 
 /// The steps of all lines that are left, in a script of this kind.
@@ -102,11 +126,35 @@ fn read_script(
 ) -> Result<StepList, TextError>
     ensures agents { IfOk result (λ steps. All (IsStepOf agents) steps) }
     ensures kinds { IfOk result (λ steps. All (MayHave script) steps) }
-    ensures errors { IfErr result IsOfScript }
+    ensures steps { GivesScript (λ steps. steps) result
+        (script_of_lines script agents (lines_left lines.old)) }
 {
     match script {
         ScriptKind::Plain => read_steps(alloc, lines, agents),
         ScriptKind::Hardware => read_hardware_steps(alloc, lines, agents),
+    }
+}
+
+/// Makes these steps over channels of one kind.
+fn step_over<W: Write>(
+    alloc: Global,
+    kind: Kind,
+    plan: Plan,
+    steps: &StepList,
+    writer: &mut W,
+) -> Result<(), RunError>
+    requires { All (IsStepOf (length plan.agents)) steps.now }
+    ensures text { OnOk result (IsTextOfSteps (may_be_full kind) (shows_close kind) plan steps.now
+        (W.contents writer.old) (W.contents writer.new)) }
+    ensures memory { IsErrOf result RunError.Memory →
+        (W.contents writer.new ≡ W.contents writer.old) ⊎
+        AreStepLines (may_be_full kind) (shows_close kind) plan steps.now
+        (W.contents writer.old) (W.contents writer.new) }
+    ensures errors { IfErr result (λ e. (e ≡ RunError.Memory) ⊎ (e ≡ RunError.Write)) }
+{
+    match kind {
+        Kind::Rings => step_through::<RingChannel, W>(alloc, plan, steps, writer),
+        Kind::Words => step_through::<WordChannel, W>(alloc, plan, steps, writer),
     }
 }
 

@@ -1,12 +1,14 @@
 //! The modes `threads rings` and `threads words`: a board and a script for each agent, each in a
 //! thread of its own.
-ghost use Rattle.std.specs.Prelude.{◌≡◌, ◌≤◌, ◌+◌, ◌⊎◌, None, Some, length, IfErr, IsErrOf, OnOk, IsTrue};
+ghost use Rattle.std.specs.Prelude.{◌≡◌, ◌≤◌, ◌+◌, ◌⊎◌, None, Some, length, Ok, IfErr, IfOk, IfSome, IsErrOf, MatchResult, OnOk, IsTrue};
 ghost use Rattle.std.specs.List.{All};
 ghost use Rattle.std.specs.Io.KnownBytes.{Appends};
 ghost use Rattle.scmi_threads.specs.Scripts.{AreScriptsOf};
 ghost use Rattle.scmi_modes.specs.Reads.{StopsAtFailure};
 ghost use Rattle.scmi_modes.specs.RunError.{status_of};
-ghost use Rattle.scmi_modes.specs.Runs.{IsTextOfRun, IsTextOfStoppedRun, logs_text, may_be_full};
+ghost use Rattle.scmi_text.specs.ScriptText.{scripts_of};
+ghost use Rattle.scmi_modes.specs.Input.{FailsInput, IsFaultOrLimit, scripts_of_input};
+ghost use Rattle.scmi_modes.specs.Runs.{IsTextOfAnyRun, IsTextOfEndedRun, IsTextOfRun, IsTextOfStoppedRun, logs_text, may_be_full};
 ghost use Rattle.scmi_input.specs.declared.input.TheConstants.{INPUT_BYTES};
 
 use crate::kind::Kind;
@@ -36,26 +38,63 @@ pub fn run_threads<T: Threads + Wait + Sync, G: Gate, R: CountedRead, W: Write>(
     writer: &mut W,
     kind: Kind,
 ) -> Result<(), RunError>
-    ensures text { OnOk result
-        (IsTextOfRun (may_be_full kind) (W.contents writer.old) (W.contents writer.new)) }
+    ensures text { OnOk result (IsTextOfRun (may_be_full kind) (R.remaining reader.old)
+        (W.contents writer.old) (W.contents writer.new)) }
     ensures limit { IsErrOf result RunError.Limit →
-        IsTextOfStoppedRun (may_be_full kind) (W.contents writer.old) (W.contents writer.new) }
-    ensures memory { IsErrOf result RunError.Memory →
-        (writer.new ≡ writer.old) ⊎
-        IsTextOfStoppedRun (may_be_full kind) (W.contents writer.old) (W.contents writer.new) }
+        IsTextOfStoppedRun (may_be_full kind) (R.remaining reader.old) (W.contents writer.old)
+        (W.contents writer.new) }
+    ensures memory { IsErrOf result RunError.Memory → (writer.new ≡ writer.old) ⊎
+        IsTextOfStoppedRun (may_be_full kind) (R.remaining reader.old) (W.contents writer.old)
+        (W.contents writer.new) }
+    ensures faults { IfErr result (λ e. IfSome (R.remaining reader.old)
+        (λ input. IsFaultOrLimit input (scripts_of_input input) e)) }
     ensures kept { IfErr result (λ e. status_of e ≡ 2 → writer.new ≡ writer.old) }
     ensures reads { R.reads reader.new ≤ R.reads reader.old + (INPUT_BYTES + 1) }
     ensures stops { StopsAtFailure result (R.since_failure reader.old)
         (R.since_failure reader.new) }
 {
     let bytes = read_rest(alloc, reader)?;
-    let mut lines = Lines::new(&bytes);
+    let (plan, scripts) = read_input(alloc, &bytes)?;
+    run_over(rt, alloc, gate, kind, plan, &scripts, writer)
+}
+
+/// The board and the scripts that stand behind the first line.
+fn read_input(alloc: Global, bytes: &[u8]) -> Result<(Plan, Vec<Script>), RunError>
+    ensures scripts { IfOk result (λ read. AreScriptsOf (length read.0.agents) read.1.items) }
+    ensures input { MatchResult result
+        (λ read. scripts_of_input bytes.now ≡ Ok (read.0, scripts_of read.1.items))
+        (λ e. FailsInput e (scripts_of_input bytes.now)) }
+{
+    let mut lines = Lines::new(bytes);
     let board = read_board(alloc, &mut lines)?;
     let scripts = read_scripts(alloc, &mut lines, board.agent_count()?)?;
     let plan = Plan::check(alloc, &board)?;
+    Ok((plan, scripts))
+}
+
+/// Runs scripts over channels of this kind.
+fn run_over<T: Threads + Wait + Sync, G: Gate, W: Write>(
+    rt: &T,
+    alloc: Global,
+    gate: &G,
+    kind: Kind,
+    plan: Plan,
+    scripts: &[Script],
+    writer: &mut W,
+) -> Result<(), RunError>
+    requires scripts { AreScriptsOf (length plan.agents) scripts.now }
+    ensures text { OnOk result (IsTextOfEndedRun (may_be_full kind) plan scripts.now
+        (W.contents writer.old) (W.contents writer.new)) }
+    ensures limit { IsErrOf result RunError.Limit → IsTextOfAnyRun (may_be_full kind) plan
+        scripts.now (W.contents writer.old) (W.contents writer.new) }
+    ensures memory { IsErrOf result RunError.Memory → (writer.new ≡ writer.old) ⊎
+        IsTextOfAnyRun (may_be_full kind) plan scripts.now (W.contents writer.old)
+        (W.contents writer.new) }
+    ensures errors { IfErr result (λ e. ¬ (status_of e ≡ 2)) }
+{
     match kind {
-        Kind::Rings => write_run::<RingChannel, T, G, W>(rt, alloc, gate, plan, &scripts, writer),
-        Kind::Words => write_run::<WordChannel, T, G, W>(rt, alloc, gate, plan, &scripts, writer),
+        Kind::Rings => write_run::<RingChannel, T, G, W>(rt, alloc, gate, plan, scripts, writer),
+        Kind::Words => write_run::<WordChannel, T, G, W>(rt, alloc, gate, plan, scripts, writer),
     }
 }
 
@@ -70,13 +109,12 @@ fn write_run<C: Channel, T: Threads + Wait + Sync, G: Gate, W: Write>(
     writer: &mut W,
 ) -> Result<(), RunError>
     requires scripts { AreScriptsOf (length plan.agents) scripts.now }
-    ensures text { OnOk result
-        (IsTextOfRun C.FULL (W.contents writer.old) (W.contents writer.new)) }
-    ensures limit { IsErrOf result RunError.Limit →
-        IsTextOfStoppedRun C.FULL (W.contents writer.old) (W.contents writer.new) }
-    ensures memory { IsErrOf result RunError.Memory →
-        (writer.new ≡ writer.old) ⊎
-        IsTextOfStoppedRun C.FULL (W.contents writer.old) (W.contents writer.new) }
+    ensures text { OnOk result (IsTextOfEndedRun C.FULL plan scripts.now
+        (W.contents writer.old) (W.contents writer.new)) }
+    ensures limit { IsErrOf result RunError.Limit → IsTextOfAnyRun C.FULL plan scripts.now
+        (W.contents writer.old) (W.contents writer.new) }
+    ensures memory { IsErrOf result RunError.Memory → (writer.new ≡ writer.old) ⊎
+        IsTextOfAnyRun C.FULL plan scripts.now (W.contents writer.old) (W.contents writer.new) }
     ensures errors { IfErr result (λ e. ¬ (status_of e ≡ 2)) }
 {
     let agents = plan.agents();

@@ -1,7 +1,7 @@
 use Rattle.std.proofs.Common.{◌≡◌, subst, None, inr}
 use Rattle.std.specs.List.{All}
 use Rattle.std.specs.Io.KnownBytes.{Appends}
-use Rattle.scmi_modes.specs.Runs.{IsTextOfOutcome, IsTextOfRun, logs_text}
+use Rattle.scmi_modes.specs.Runs.{IsTextOfEndedRun, IsTextOfOutcome, logs_text}
 use Rattle.scmi_modes.proofs.RunLemmas.{on_ok}
 use Rattle.scmi_modes.proofs.threads.write_run.Goals as goal
 
@@ -9,9 +9,7 @@ pub returns-clause-text : goal.returns-clause-text
 returns-clause-text g c =
     let old = g.W.Write.contents c.args.writer.now in
     let new = g.W.Write.contents c.write_logs.new.writer in
-    let told : IsTextOfOutcome g.C.Channel.FULL c.in-Ok.outcome old new = record {
-      board = c.args.plan;
-      scripts = c.args.scripts.now;
+    let told : IsTextOfOutcome g.C.Channel.FULL c.args.plan c.args.scripts.now c.in-Ok.outcome old new = record {
       of_agents = c.requires.scripts;
       legal = c.in-Ok.ensures.legal;
       count = c.in-Ok.ensures.count;
@@ -19,15 +17,13 @@ returns-clause-text g c =
       headline = c.in-Ok.ensures.headline;
       text = subst (λ logs. Appends old new (logs_text 1 logs)) c.deref.ensures.value c.in_ok-write_logs.ensures.text;
     } in
-    on_ok (All (λ log. log.stopped ≡ None) c.in-Ok.outcome.logs.items) (IsTextOfRun g.C.Channel.FULL old new) c.verdict.result c.verdict.ensures.ok (λ ended. record { outcome = c.in-Ok.outcome; not_stopped = ended; told = told })
+    on_ok (All (λ log. log.stopped ≡ None) c.in-Ok.outcome.logs.items) (IsTextOfEndedRun g.C.Channel.FULL c.args.plan c.args.scripts.now old new) c.verdict.result c.verdict.ensures.ok (λ ended. record { outcome = c.in-Ok.outcome; not_stopped = ended; told = told })
 
 pub returns-clause-limit : goal.returns-clause-limit
 returns-clause-limit g c =
     let old = g.W.Write.contents c.args.writer.now in
     let new = g.W.Write.contents c.write_logs.new.writer in
-    let told : IsTextOfOutcome g.C.Channel.FULL c.in-Ok.outcome old new = record {
-      board = c.args.plan;
-      scripts = c.args.scripts.now;
+    let told : IsTextOfOutcome g.C.Channel.FULL c.args.plan c.args.scripts.now c.in-Ok.outcome old new = record {
       of_agents = c.requires.scripts;
       legal = c.in-Ok.ensures.legal;
       count = c.in-Ok.ensures.count;
@@ -41,9 +37,7 @@ pub returns-clause-memory : goal.returns-clause-memory
 returns-clause-memory g c =
     let old = g.W.Write.contents c.args.writer.now in
     let new = g.W.Write.contents c.write_logs.new.writer in
-    let told : IsTextOfOutcome g.C.Channel.FULL c.in-Ok.outcome old new = record {
-      board = c.args.plan;
-      scripts = c.args.scripts.now;
+    let told : IsTextOfOutcome g.C.Channel.FULL c.args.plan c.args.scripts.now c.in-Ok.outcome old new = record {
       of_agents = c.requires.scripts;
       legal = c.in-Ok.ensures.legal;
       count = c.in-Ok.ensures.count;

@@ -1,0 +1,76 @@
+-- What stands behind the first line of an input: a board and its scripts.
+use Rattle.std.specs.Prelude.{◌≡◌, ℕ, ◌^◌, ◌<◌, nat_le, ⊤, if◌then◌else◌, List, [], length, Some, None, Result, Ok, Err}
+use Rattle.scmi_board.specs.BoardText.{board_left}
+use Rattle.scmi_board.specs.Lines.{Line, LinesView}
+use Rattle.scmi_input.specs.declared.input.TheConstants.{INPUT_BYTES}
+use Rattle.scmi_plan.specs.Board.{Board}
+use Rattle.scmi_plan.specs.PlanError.{first_fault, number}
+use Rattle.scmi_text.specs.ScriptText.{AgentScript, with_line}
+use Rattle.scmi_text.specs.StepText.{hardware_steps_of_lines, steps_of_lines}
+use Rattle.scmi_text.specs.TextLines.{after_lines}
+use Rattle.scmi_text.specs.declared.step.Step.{Step}
+use Rattle.scmi_modes.specs.declared.run_error.RunError.{RunError}
+use Rattle.scmi_modes.specs.declared.run_error.RunError.TheVariants.{Size, Read, Board as BoardFault, Script as ScriptFault, Plan as PlanFault, Limit, Memory, Write}
+use Rattle.scmi_modes.specs.declared.script_kind.ScriptKind.{ScriptKind}
+use Rattle.scmi_modes.specs.declared.script_kind.ScriptKind.TheVariants.{Plain, Hardware}
+
+-- the lines behind the first line
+abbrev pub behind_mode : List ℕ → LinesView
+behind_mode input = record { rest = input; number = 1 }
+
+module _ {A : Type 0} where
+  -- a board with what stands behind it, where it keeps every rule; else the first rule that it breaks
+  unfoldable pub lawful : Board → A → Result (Board × A) RunError
+  lawful board script = elim (first_fault board) [ None ↦ Ok (board, script) | Some rule ↦ Err (PlanFault (number rule)) ]
+
+  -- a board with its scripts, as they are read from lines on a board of so many agents; else the first line that is none of them. A board of 2 ^ 32 agents, which no input has, breaks rule 1 before its scripts are read
+  unfoldable pub with_scripts : (ℕ → List Line → Result A ℕ) → Board → List Line → Result (Board × A) RunError
+  with_scripts scripts board lines =
+      if nat_le (2 ^ 32) (length board.agents) then Err (PlanFault 1) else elim (scripts (length board.agents) lines) [
+        | Err line ↦ Err (ScriptFault line)
+        | Ok script ↦ lawful board script
+      ]
+
+  -- the board and the scripts of an input; else its first fault
+  unfoldable pub input_of : (ℕ → List Line → Result A ℕ) → List ℕ → Result (Board × A) RunError
+  input_of scripts input = elim (board_left (behind_mode input)) [
+    | Err line ↦ Err (BoardFault line)
+    | Ok found ↦ with_scripts scripts found.0 found.1
+  ]
+
+  -- a text that stands for a board and scripts, or for neither, is refused so, unless memory is refused
+  abbrev pub FailsInput : RunError → Result A RunError → Type 0
+  FailsInput (BoardFault line) there = there ≡ Err (BoardFault line)
+  FailsInput (ScriptFault line) there = there ≡ Err (ScriptFault line)
+  FailsInput (PlanFault rule) there = there ≡ Err (PlanFault rule)
+  FailsInput Memory there = ⊤
+  FailsInput _ there = ⊥
+
+  -- a fault of a run of an input that stands for this: its length, or its first fault; a failed output comes only of an input without a fault. That a read failed or that memory was refused says nothing of the input
+  abbrev pub IsFaultOf : List ℕ → Result A RunError → RunError → Type 0
+  IsFaultOf input there Size = INPUT_BYTES < length input
+  IsFaultOf input there Read = ⊤
+  IsFaultOf input there Write = (value : A) × (there ≡ Ok value)
+  IsFaultOf input there fault = FailsInput fault there
+
+  -- the same of a run that may meet a limit, which comes only of an input without a fault
+  abbrev pub IsFaultOrLimit : List ℕ → Result A RunError → RunError → Type 0
+  IsFaultOrLimit input there Limit = (value : A) × (there ≡ Ok value)
+  IsFaultOrLimit input there fault = IsFaultOf input there fault
+
+-- the steps of the lines of a script of this kind; else the number of the first line that is none
+abbrev pub script_of_lines : ScriptKind → ℕ → List Line → Result (List Step) ℕ
+script_of_lines Plain agents lines = steps_of_lines agents lines
+script_of_lines Hardware agents lines = hardware_steps_of_lines agents lines
+
+-- the scripts of lines; else the number of the first line that is none of them
+abbrev pub scripts_of_lines : ℕ → List Line → Result (List AgentScript) ℕ
+scripts_of_lines agents lines = after_lines (with_line agents) [] lines
+
+-- the board and the steps that an input stands for; else its first fault
+abbrev pub steps_of_input : ScriptKind → List ℕ → Result (Board × List Step) RunError
+steps_of_input script input = input_of (script_of_lines script) input
+
+-- the board and the scripts that an input stands for; else its first fault
+abbrev pub scripts_of_input : List ℕ → Result (Board × List AgentScript) RunError
+scripts_of_input input = input_of scripts_of_lines input
