@@ -96,9 +96,11 @@ fn step_through<C: Channel>(
     let events = session.retire().len();
     let title = format!(in alloc; "{} {}", board.vendor, board.sub_vendor)?;
     let subtitle = format!(in alloc;
-        "{}, {} steps, a history of {events} events",
+        "{}, {} step{}, a history of {events} event{}",
         mode.line(),
-        steps.len()
+        steps.len(),
+        plural(steps.len()),
+        plural(events)
     )?;
     Ok(recorder.finish(title.into_bytes(), subtitle.into_bytes())?)
 }
@@ -112,4 +114,9 @@ fn next_text<'a>(lines: &mut Lines<'a>) -> TextLine<'a> {
             text: b"",
         },
     }
+}
+
+/// What stands behind a noun of which there are so many.
+fn plural(count: usize) -> &'static str {
+    if count == 1 { "" } else { "s" }
 }
