@@ -5,3 +5,4 @@ pub mod Lines
 pub mod Number
 pub mod Rows
 pub mod TextError
+pub mod Channels

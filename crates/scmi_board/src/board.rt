@@ -1,7 +1,7 @@
 //! Boards, as they are read.
-ghost use Rattle.std.specs.Prelude.{IfErr};
+ghost use Rattle.std.specs.Prelude.{◌≡◌, IfErr, OnOk};
 ghost use Rattle.scmi_plan.specs.RawPlan.{asked_board};
-ghost use Rattle.scmi_board.specs.BoardText.{GivesBoard, board_left, rows_of};
+ghost use Rattle.scmi_board.specs.BoardText.{GivesBoard, board_left, heading_left, rows_of};
 ghost use Rattle.scmi_board.specs.Items.{items_left};
 ghost use Rattle.scmi_board.specs.LineError.{GivesUnless};
 ghost use Rattle.scmi_board.specs.Lines.{last_number, lines_left};
@@ -29,15 +29,25 @@ pub fn read_board(alloc: Global, lines: &mut Lines<'_>) -> Result<RawPlan, TextE
     ensures board { GivesBoard (λ raw. (asked_board raw, lines_left lines.new)) result
         (board_left lines.old) }
 {
+    let mut board = read_first(alloc, lines)?;
+    read_rows(alloc, &mut board, lines)?;
+    Ok(board)
+}
+
+/// The board of the first line, the heading, which has no rows yet.
+pub(crate) fn read_first(alloc: Global, lines: &mut Lines<'_>) -> Result<RawPlan, TextError>
+    ensures errors { IfErr result IsOfBoard }
+    ensures board { GivesBoard (λ raw. (asked_board raw, lines_left lines.new)) result
+        (heading_left lines.old) }
+    ensures last { OnOk result (last_number lines.new ≡ last_number lines.old) }
+{
     let Some(first) = lines.next_line() else {
         return Err(TextError::Board(lines.last_number()));
     };
-    let mut board = match read_heading(alloc, first.text) {
-        Ok(board) => board,
-        Err(error) => return Err(error.in_board(first.number)),
-    };
-    read_rows(alloc, &mut board, lines)?;
-    Ok(board)
+    match read_heading(alloc, first.text) {
+        Ok(board) => Ok(board),
+        Err(error) => Err(error.in_board(first.number)),
+    }
 }
 
 /// The rows of a board up to its line `end`, added to it.

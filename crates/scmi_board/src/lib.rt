@@ -3,9 +3,12 @@
 //! The main types are `Lines`, what is left of an input, and `Items`, what is left of a line. The main
 //! theorem is the contract of `read_board`: it gives the board that the lines stand for, row by row,
 //! and else the number of the first line that is none of it, unless memory is refused.
+//! `read_board_with_channels` is the same of a text that says what channels the agents have.
 #![tactic(auto)]
 
 mod board;
+mod board_with_channels;
+mod channel_line;
 mod clock_line;
 mod device_line;
 mod domain_line;
@@ -20,6 +23,8 @@ mod text_error;
 mod words;
 
 pub use board::read_board;
+pub use board_with_channels::{BoardWithChannels, read_board_with_channels};
+pub use channel_line::ChannelLine;
 pub use items::Items;
 pub use line_error::LineError;
 pub use lines::{Lines, TextLine, is_significant};

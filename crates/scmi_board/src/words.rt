@@ -12,6 +12,12 @@ pub(crate) const CLOCK: &[u8] = b"clock";
 
 pub(crate) const DEVICE: &[u8] = b"device";
 
+/// The first word of what an agent's channels are.
+pub(crate) const CHANNEL: &[u8] = b"channel";
+
+/// Where the platform can't send to the agent.
+pub(crate) const ONE_WAY: &[u8] = b"one-way";
+
 /// The line behind the last row.
 pub(crate) const END: &[u8] = b"end";
 

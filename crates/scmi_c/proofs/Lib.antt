@@ -1,3 +1,4 @@
 pub mod HandleValues
 pub mod LooseValues
+mod Answering
 mod Codes

@@ -104,7 +104,7 @@ fn add_clocks(alloc: Global, raw: &mut RawPlan) -> Result<(), AllocError> {
 }
 
 /// Adds a clock of these rates: its name, whether it is enabled, and its rate.
-fn add_clock(
+pub fn add_clock(
     alloc: Global,
     raw: &mut RawPlan,
     start: (&str, bool, u64),

@@ -9,6 +9,8 @@ mod boards;
 #[cfg(test)]
 mod calls;
 #[cfg(test)]
+mod channels;
+#[cfg(test)]
 mod controller_calls;
 #[cfg(test)]
 mod core_calls;

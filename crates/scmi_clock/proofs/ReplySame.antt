@@ -12,6 +12,7 @@ pub record SameView (board : Board) (v w : ClockView) : Type 0 where
   pub may : (d : ℕ) → d < length board.clocks → v.may d ≡ w.may d
   pub busy : (d : ℕ) → d < length board.clocks → v.busy d ≡ w.busy d
   pub room : v.room ≡ w.room
+  pub channel : v.channel ≡ w.channel
 
 known : (board : Board) (d : ℕ) → no_clock board d ≡ false → d < length board.clocks
 known board d h = leb-false (length board.clocks) d h
@@ -19,9 +20,9 @@ known board d h = leb-false (length board.clocks) d h
 pub clock_reply-same : (board : Board) (v w : ClockView) → SameView board v w → (c : ClockCommand) → clock_reply board v c ≡ clock_reply board w c
 unfolding clock_reply
 clock_reply-same board v w s clock.Version = refl
-clock_reply-same board v w s clock.Attributes = refl
+clock_reply-same board v w s clock.Attributes = rw (s.channel) refl
 clock_reply-same board v w s (clock.MessageAttributes message) = refl
-clock_reply-same board v w s (clock.Describe d index) = refl
+clock_reply-same board v w s (clock.Describe d index) = rw (s.channel) refl
 clock_reply-same board v w s (clock.ClockAttributes d) = by_clock (cases_Bool (no_clock board d)) where
   by_clock : ((no_clock board d ≡ true) ⊎ (no_clock board d ≡ false)) → clock_reply board v (clock.ClockAttributes d) ≡ clock_reply board w (clock.ClockAttributes d)
   by_clock (inl h) = rw h refl
@@ -29,7 +30,7 @@ clock_reply-same board v w s (clock.ClockAttributes d) = by_clock (cases_Bool (n
 clock_reply-same board v w s (clock.SetRate flags d rate) = by_clock (cases_Bool (no_clock board d)) where
   by_clock : ((no_clock board d ≡ true) ⊎ (no_clock board d ≡ false)) → clock_reply board v (clock.SetRate flags d rate) ≡ clock_reply board w (clock.SetRate flags d rate)
   by_clock (inl h) = rw h refl
-  by_clock (inr h) = let small = known board d h in rw (s.may d small, s.busy d small, s.room) refl
+  by_clock (inr h) = let small = known board d h in rw (s.may d small, s.busy d small, s.room, s.channel) refl
 clock_reply-same board v w s (clock.GetRate d) = by_clock (cases_Bool (no_clock board d)) where
   by_clock : ((no_clock board d ≡ true) ⊎ (no_clock board d ≡ false)) → clock_reply board v (clock.GetRate d) ≡ clock_reply board w (clock.GetRate d)
   by_clock (inl h) = rw h refl

@@ -3,7 +3,7 @@ use Rattle.std.specs.Prelude.{◌≡◌, ℕ, ◌<◌, ◌==◌, Bool, true, fal
 use Rattle.std.specs.Int.{bit_at}
 use Rattle.scmi_codec.specs.declared.clock_command.ClockCommand.{ClockCommand}
 use Rattle.scmi_codec.specs.declared.clock_command.ClockCommand.TheVariants as clock
-use Rattle.scmi_plan.specs.Board.{Board, clock_at}
+use Rattle.scmi_plan.specs.Board.{Board, channel_of, clock_at}
 use Rattle.scmi_codec.specs.Reply.{bit_0, reply_unless}
 use Rattle.scmi_plan.specs.declared.limits.TheConstants.{CLOCKS}
 use Rattle.scmi_plan.specs.declared.load.Load.{Load}
@@ -47,6 +47,7 @@ view_of board permissions table load caller =
       may = λ c. may_change board permissions caller c;
       busy = λ c. is_pending load c;
       room = load.room;
+      channel = channel_of board caller;
     }
 
 -- the supported rate that a set asks for
@@ -88,7 +89,7 @@ only_reads _ = true
 -- the reply to a caller's set, by the permissions and by what pending sets leave free
 abbrev pub set_words : Board → Permissions → ℕ → Load → (flags c rate : ℕ) → List ℕ
 set_words board permissions caller load flags c rate =
-    reply_unless (set_checks board (may_change board permissions caller c) (is_pending load c) load.room flags c rate) (0 ∷ [])
+    reply_unless (set_checks board (channel_of board caller) (may_change board permissions caller c) (is_pending load c) load.room flags c rate) (0 ∷ [])
 
 -- the reply to a caller's configuration, by the permissions
 abbrev pub config_words : Board → Permissions → ℕ → (c attributes : ℕ) → List ℕ

@@ -2,7 +2,8 @@
 ghost use Rattle.std.specs.Prelude.{◌≡◌, ◌≤◌, ◌<◌, ◌≢◌, ◌∷◌, ◌&&◌, ◌||◌, not, true, false, [], if◌then◌else◌, length, is_none, Some, Ok, Err, IfOk, IfErr, OnOk};
 ghost use Rattle.scmi_codec.specs.Reply.{bit_0};
 ghost use Rattle.scmi_codec.specs.Status.{status_word};
-ghost use Rattle.scmi_codec.specs.declared.status.Status.TheVariants.{Success, NotFound, InvalidParameters, Denied, Busy, OutOfRange};
+ghost use Rattle.scmi_codec.specs.declared.status.Status.TheVariants.{Success, NotFound, InvalidParameters, NotSupported, Denied, Busy, OutOfRange};
+ghost use Rattle.scmi_plan.specs.Board.{channel_of};
 ghost use Rattle.scmi_plan.specs.Rates.{HasLawfulRates};
 ghost use Rattle.scmi_plan.specs.declared.limits.TheConstants.{CLOCKS};
 ghost use Rattle.scmi_clock.specs.ClockReply.{no_clock, past_end, rounded_rate};
@@ -24,8 +25,8 @@ pub(crate) struct RateSet {
     pub response_wanted: bool,
 }
 
-/// The checks of 0x5 (DEN0056B, clock management protocol): clock, flags and rate, permission,
-/// pending sets.
+/// The checks of 0x5 (DEN0056B, clock management protocol): clock, flags and rate, a delayed response
+/// that could not be sent, permission, pending sets.
 // It has two callers, and costs each no more than one that is alone.
 #[inline(always)]
 pub(crate) fn check_set(
@@ -51,6 +52,7 @@ pub(crate) fn check_set(
 {
     check_clock(plan, clock)?;
     let set = rounded_set(&plan.clock(clock).rates, flags, rate)?;
+    check_answerable(plan, caller, set.asynchronous)?;
     check_permitted(plan, base, caller, clock)?;
     check_pending(load, clock, set.asynchronous)?;
     Ok(set)
@@ -121,6 +123,19 @@ pub(crate) fn check_index(rates: &Rates, index: u32) -> Result<(), Status>
         Rates::List(list) if index as usize >= list.as_slice().len() => Err(Status::OutOfRange),
         _ => Ok(()),
     }
+}
+
+/// NOT_SUPPORTED where the platform could not tell the caller how an asynchronous set ended (own).
+fn check_answerable(plan: &Plan, caller: u32, asynchronous: bool) -> Result<(), Status>
+    requires first { 1 ≤ caller }
+    requires last { caller ≤ length plan.now.agents }
+    ensures { result ≡ (if (channel_of plan.now caller).one_way && asynchronous
+        then Err NotSupported else Ok tt) }
+{
+    if asynchronous && plan.channel(caller).one_way {
+        return Err(Status::NotSupported);
+    }
+    Ok(())
 }
 
 /// DENIED where the caller may not change the clock.

@@ -89,7 +89,8 @@ impl ClockState {
     /// later: clock, rate in Hz, and whether a delayed response is wanted. The reply begins with a
     /// status: NOT_FOUND for an unknown clock or message id; then OUT_OF_RANGE for an index past a
     /// list of rates, INVALID_PARAMETERS for unknown flags or attributes or where no rate lies in
-    /// the asked direction; then DENIED where the caller may not change the clock; then BUSY for a
+    /// the asked direction; then NOT_SUPPORTED for an asynchronous set of a caller that the platform
+    /// can't send to (own); then DENIED where the caller may not change the clock; then BUSY for a
     /// set while the clock has a pending one, or for an asynchronous set that has no room. A set
     /// rounds its rate to a supported one. A synchronous set and a configuration take effect at
     /// once; an asynchronous set changes nothing. A command that is refused changes nothing.
@@ -121,10 +122,12 @@ impl ClockState {
     {
         match command {
             ClockCommand::Version => version(reply),
-            ClockCommand::Attributes => attributes(plan, reply),
+            ClockCommand::Attributes => attributes(plan, plan.channel(caller), reply),
             ClockCommand::MessageAttributes { message } => message_attributes(message, reply),
             ClockCommand::ClockAttributes { clock } => clock_attributes(plan, self, clock, reply),
-            ClockCommand::Describe { clock, index } => describe(plan, clock, index, reply),
+            ClockCommand::Describe { clock, index } => {
+                describe(plan, plan.channel(caller), clock, index, reply);
+            }
             ClockCommand::SetRate { flags, clock, rate } => {
                 return self.set_rate(plan, base, caller, flags, clock, rate, load, reply);
             }

@@ -1,9 +1,10 @@
 //! The replies to the commands that change nothing.
-ghost use Rattle.std.specs.Prelude.{◌≡◌, ◌<◌, ◌≤◌, ◌^◌, ◌∷◌, [], length, false};
+ghost use Rattle.std.specs.Prelude.{◌≡◌, ◌<◌, ◌≤◌, ◌^◌, ◌+◌, ◌*◌, ◌∷◌, [], length, false};
+ghost use Rattle.scmi_plan.specs.Board.{IsChannel, whole_channel};
 ghost use Rattle.scmi_plan.specs.Rates.{HasLawfulRates};
 ghost use Rattle.scmi_plan.specs.declared.limits.TheConstants.{RATES};
 ghost use Rattle.scmi_plan.specs.declared.rates.Rates.TheVariants.{List, Steps};
-ghost use Rattle.scmi_clock.specs.ClockReply.{attributes_reply, message_reply, clock_attributes_reply, describe_reply, rate_reply, past_end, rates_words, rates_word};
+ghost use Rattle.scmi_clock.specs.ClockReply.{attributes_reply, most_rates, message_reply, clock_attributes_reply, describe_reply, rate_reply, past_end, rates_words, rates_word};
 ghost use Rattle.scmi_clock.specs.ClockTable.{rate_at, enabled_at};
 
 use crate::checks::{check_clock, check_index};
@@ -12,16 +13,13 @@ use scmi_codec::{
     CLOCK_PROTOCOL, PAYLOAD_WORDS, Payload, SUCCESS, Status, is_listed, name_words, rate_words,
     set_payload, set_refusal,
 };
-use scmi_plan::{Plan, Rates};
+use scmi_plan::{AgentChannel, Plan, Rates};
 
 /// The version of the clock protocol: major 1, minor 0 (own).
 const VERSION: u32 = 0x0001_0000;
 
 /// The most sets that are pending in all, of clocks and of domains (own).
 pub const PENDING_SETS: usize = 8;
-
-/// The most rates of one reply: two words each, after the status and the flags word.
-const MOST_RATES: usize = (PAYLOAD_WORDS - 2) / 2;
 
 /// The flags word of a triplet: bit 12, and three rates.
 const TRIPLET: u32 = 0x1003;
@@ -33,14 +31,17 @@ pub(crate) fn version(reply: &mut Payload)
     set_payload(reply, &[SUCCESS, VERSION]);
 }
 
-/// 0x1: the most pending sets in bits [23:16], the number of clocks in [15:0].
-pub(crate) fn attributes(plan: &Plan, reply: &mut Payload)
-    ensures { reply.new.items ≡ attributes_reply plan.now }
+/// 0x1: the most pending sets in bits [23:16], none for an agent that the platform can't send to
+/// (own), and the number of clocks in [15:0].
+pub(crate) fn attributes(plan: &Plan, channel: AgentChannel, reply: &mut Payload)
+    ensures { reply.new.items ≡ attributes_reply plan.now channel }
 {
-    set_payload(
-        reply,
-        &[SUCCESS, (PENDING_SETS as u32) << 16 | plan.clocks()],
-    );
+    let announced = if channel.one_way {
+        0
+    } else {
+        PENDING_SETS as u32
+    };
+    set_payload(reply, &[SUCCESS, announced << 16 | plan.clocks()]);
 }
 
 /// 0x2: no attributes; NOT_FOUND for an id that the protocol lacks.
@@ -69,10 +70,17 @@ pub(crate) fn clock_attributes(plan: &Plan, state: &ClockState, clock: u32, repl
     );
 }
 
-/// 0x4: the rates of a list from an index on, as many as a reply holds, or a triplet whatever the
-/// index (own).
-pub(crate) fn describe(plan: &Plan, clock: u32, index: u32, reply: &mut Payload)
-    ensures { reply.new.items ≡ describe_reply plan.now clock index }
+/// 0x4: the rates of a list from an index on, as many as the channel has room for, or a triplet
+/// whatever the index (own).
+pub(crate) fn describe(
+    plan: &Plan,
+    channel: AgentChannel,
+    clock: u32,
+    index: u32,
+    reply: &mut Payload,
+)
+    requires { IsChannel channel }
+    ensures { reply.new.items ≡ describe_reply plan.now channel clock index }
 {
     if let Err(status) = check_clock(plan, clock) {
         set_refusal(reply, status);
@@ -83,7 +91,7 @@ pub(crate) fn describe(plan: &Plan, clock: u32, index: u32, reply: &mut Payload)
         set_refusal(reply, status);
         return;
     }
-    set_rates(rates, index, reply);
+    set_rates(channel, rates, index, reply);
 }
 
 /// 0x6: the rate.
@@ -98,25 +106,27 @@ pub(crate) fn current_rate(plan: &Plan, state: &ClockState, clock: u32, reply: &
     set_payload(reply, &[SUCCESS, low, high]);
 }
 
-fn set_rates(rates: &Rates, index: u32, reply: &mut Payload)
+fn set_rates(channel: AgentChannel, rates: &Rates, index: u32, reply: &mut Payload)
+    requires channel { IsChannel channel }
     requires lawful { HasLawfulRates rates.now }
     requires index { past_end rates.now index ≡ false }
-    ensures { reply.new.items ≡ 0 ∷ rates_words rates.now index }
+    ensures { reply.new.items ≡ 0 ∷ rates_words channel rates.now index }
 {
     match rates {
-        Rates::List(list) => set_rate_list(list.as_slice(), index as usize, reply),
+        Rates::List(list) => set_rate_list(channel, list.as_slice(), index as usize, reply),
         Rates::Steps { low, high, step } => set_triplet(*low, *high, *step, reply),
     }
 }
 
-/// As many rates from an index on as a reply holds, and how many remain.
-fn set_rate_list(list: &[u64], index: usize, reply: &mut Payload)
+/// As many rates from an index on as the channel has room for, and how many remain.
+fn set_rate_list(channel: AgentChannel, list: &[u64], index: usize, reply: &mut Payload)
+    requires channel { IsChannel channel }
     requires few { length list.now ≤ RATES }
     requires index { index < length list.now }
-    ensures { reply.new.items ≡ 0 ∷ rates_words (List list.now) index }
+    ensures { reply.new.items ≡ 0 ∷ rates_words channel (List list.now) index }
 {
     let left = list.len() - index;
-    let count = left.min(MOST_RATES);
+    let count = left.min(most_rates(channel));
     let mut words = [0; PAYLOAD_WORDS];
     words[0] = SUCCESS;
     words[1] = rates_word(left - count, count);
@@ -131,6 +141,15 @@ fn set_rate_list(list: &[u64], index: usize, reply: &mut Payload)
     set_payload(reply, &words[..size]);
 }
 
+/// The most rates of one reply: two words each, after the status and the flags word.
+fn most_rates(channel: AgentChannel) -> usize
+    requires { IsChannel channel }
+    ensures rates { result ≡ most_rates channel }
+    ensures few { 2 + 2 * result ≤ channel.words }
+{
+    (channel.words as usize - 2) / 2
+}
+
 /// The flags word of a list: rates that remain in bits [31:16], rates returned in [11:0].
 fn rates_word(remaining: usize, returned: usize) -> u32
     requires remaining { remaining < 2 ^ 16 }
@@ -141,7 +160,7 @@ fn rates_word(remaining: usize, returned: usize) -> u32
 }
 
 fn set_triplet(low: u64, high: u64, step: u64, reply: &mut Payload)
-    ensures { reply.new.items ≡ 0 ∷ rates_words (Steps low high step) 0 }
+    ensures { reply.new.items ≡ 0 ∷ rates_words whole_channel (Steps low high step) 0 }
 {
     let [a, b] = rate_words(low);
     let [c, d] = rate_words(high);

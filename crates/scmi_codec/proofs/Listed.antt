@@ -1,5 +1,5 @@
 -- What is so of each row of the tables of messages.
-use Rattle.std.proofs.Common.{◌≡◌, ◌≤◌, ℕ, ◌==◌, nat_le, Bool, true, false, List, [], ◌∷◌, Option, Some, None, IfSome, option_map, refl, sym, subst, if◌then◌else◌, arith}
+use Rattle.std.proofs.Common.{◌≡◌, ◌≤◌, ℕ, ◌==◌, nat_le, Bool, true, false, List, [], ◌∷◌, Option, Some, None, IfSome, option_map, sym, subst, if◌then◌else◌, arith}
 use Rattle.std.specs.List.{list_all}
 use Rattle.scmi_codec.specs.Listing.{HeldRow, said, Said, rows_of, row_in, listed_row, words_of}
 

@@ -9,9 +9,13 @@ use Rattle.scmi_codec.specs.declared.frame.Frame.TheVariants.{Good, Malformed}
 use Rattle.scmi_codec.specs.declared.frame.Answer.{Answer}
 use Rattle.scmi_codec.specs.declared.frame.Answer.TheVariants.{Reply, Released, ChannelError}
 
+-- whether a length in bytes is 4 + 4k, k from 0 to so many words (own)
+abbrev pub is_well_formed_within : ℕ → ℕ → Bool
+is_well_formed_within words n = nat_le 4 n && (nat_le n (4 + 4 * words) && (n % 4 == 0))
+
 -- whether a length in bytes is 4 + 4k, k from 0 to the most words of a payload (own)
 abbrev pub is_well_formed : ℕ → Bool
-is_well_formed n = nat_le 4 n && (nat_le n (4 + 4 * PAYLOAD_WORDS) && (n % 4 == 0))
+is_well_formed n = is_well_formed_within PAYLOAD_WORDS n
 
 -- the channel status word of an area
 abbrev pub status_at : List ℕ → ℕ
@@ -25,34 +29,50 @@ length_at area = word_at 0x14 area
 abbrev pub header_at : List ℕ → ℕ
 header_at area = word_at 0x18 area
 
--- the frame that an area stands for
-abbrev pub frame_of : List ℕ → Frame
-frame_of area =
-    if is_well_formed (length_at area)
+-- the frame that an area of so many payload words stands for
+abbrev pub frame_within : ℕ → List ℕ → Frame
+frame_within words area =
+    if is_well_formed_within words (length_at area)
     then Good (record {
       header = header_of (header_at area);
       payload = record { items = words_at 0x1C ((length_at area - 4) / 4) area };
     })
     else Malformed (length_at area) (header_at area)
 
+-- the frame that an area stands for
+abbrev pub frame_of : List ℕ → Frame
+frame_of area = frame_within PAYLOAD_WORDS area
+
 -- the message of a header word and payload words
 abbrev pub message_of : ℕ → List ℕ → Message
 message_of word words = record { header = header_of word; payload = record { items = words } }
 
+-- what a callee finds in an area of so many payload words: nothing while the channel is free
+abbrev pub waiting_within : ℕ → List ℕ → Option Frame
+waiting_within words area = if status_at area % 2 == 1 then None else Some (frame_within words area)
+
 -- what a callee finds: nothing while the channel is free
 abbrev pub frame_waiting : List ℕ → Option Frame
-frame_waiting area = if status_at area % 2 == 1 then None else Some (frame_of area)
+frame_waiting area = waiting_within PAYLOAD_WORDS area
+
+-- an area of so many payload words stands for a status and a frame
+pub record StandsWithin (words : ℕ) (area : List ℕ) (s : ℕ) (f : Frame) : Type 0 where
+  pub status : status_at area ≡ s
+  pub frame : frame_within words area ≡ f
 
 -- an area stands for a status and a frame
-pub record StandsFor (area : List ℕ) (s : ℕ) (f : Frame) : Type 0 where
-  pub status : status_at area ≡ s
-  pub frame : frame_of area ≡ f
+abbrev pub StandsFor : List ℕ → ℕ → Frame → Type 0
+StandsFor area s f = StandsWithin PAYLOAD_WORDS area s f
+
+-- an area of so many payload words stands for an answer to a frame
+abbrev pub StandsForAnswerWithin : ℕ → List ℕ → Frame → Answer → Type 0
+StandsForAnswerWithin words area frame (Reply m) = StandsWithin words area 1 (Good m)
+StandsForAnswerWithin words area frame Released = StandsWithin words area 1 frame
+StandsForAnswerWithin words area frame ChannelError = StandsWithin words area 3 frame
 
 -- an area stands for an answer to a frame
 abbrev pub StandsForAnswer : List ℕ → Frame → Answer → Type 0
-StandsForAnswer area frame (Reply m) = StandsFor area 1 (Good m)
-StandsForAnswer area frame Released = StandsFor area 1 frame
-StandsForAnswer area frame ChannelError = StandsFor area 3 frame
+StandsForAnswer area frame answer = StandsForAnswerWithin PAYLOAD_WORDS area frame answer
 
 -- a byte that is none of the status word, the length, the header and a message's payload
 abbrev pub IsOutside : Message → ℕ → Type 0

@@ -11,4 +11,5 @@ pub mod PowerCommand
 pub mod ClockCommand
 pub mod Command
 pub mod Area
+pub mod ChannelArea
 pub mod Name

@@ -1,38 +1,33 @@
--- Status codes (DEN0056B, status codes), as words in two's complement.
-use Rattle.std.specs.Prelude.{ℕ, zero, suc, ◌-◌, ◌^◌, ◌==◌, Option, List, [], ◌∷◌}
+-- Status codes and their names (DEN0056B, status codes): the table is a constant of the program.
+use Rattle.std.specs.Prelude.{ℕ, ◌==◌, get_or, map, Option, List, []}
 use Rattle.std.specs.List.{find}
+use Rattle.std.specs.Option.{option_map}
 use Rattle.scmi_codec.specs.declared.status.Status.{Status}
 use Rattle.scmi_codec.specs.declared.status.Status.TheVariants.{Success, NotSupported, InvalidParameters, Denied, NotFound, OutOfRange, Busy, CommsError, GenericError, HardwareError, ProtocolError}
+use Rattle.scmi_codec.specs.declared.status.TheConstants.{STATUSES}
 
--- the size of the code, which is 0 or below
-abbrev pub minus_code : Status → ℕ
-minus_code Success = 0
-minus_code NotSupported = 1
-minus_code InvalidParameters = 2
-minus_code Denied = 3
-minus_code NotFound = 4
-minus_code OutOfRange = 5
-minus_code Busy = 6
-minus_code CommsError = 7
-minus_code GenericError = 8
-minus_code HardwareError = 9
-minus_code ProtocolError = 10
+-- the row of a status in the table, counted from 0
+abbrev pub place : Status → ℕ
+place Success = 0
+place NotSupported = 1
+place InvalidParameters = 2
+place Denied = 3
+place NotFound = 4
+place OutOfRange = 5
+place Busy = 6
+place CommsError = 7
+place GenericError = 8
+place HardwareError = 9
+place ProtocolError = 10
 
--- the word of a number that is 0 or below
-abbrev pub minus_word : ℕ → ℕ
-minus_word zero = 0
-minus_word (suc n) = 2 ^ 32 - suc n
-
--- the payload word of a status
+-- the payload word of a status: its code, 0 or below, in two's complement
 abbrev pub status_word : Status → ℕ
-status_word s = minus_word (minus_code s)
+status_word s = get_or (map (λ row. row.word) STATUSES) (place s) 0
 
--- every status, SUCCESS first
-abbrev pub all_statuses : List Status
-all_statuses =
-    Success ∷ NotSupported ∷ InvalidParameters ∷ Denied ∷ NotFound ∷ OutOfRange ∷ Busy ∷ CommsError ∷ GenericError
-    ∷ HardwareError ∷ ProtocolError ∷ []
+-- the name of a status
+abbrev pub status_name : Status → List ℕ
+status_name s = get_or (map (λ row. row.name.now) STATUSES) (place s) []
 
 -- the status of a code, if there is one
 abbrev pub status_of : ℕ → Option Status
-status_of word = find (λ s. status_word s == word) all_statuses
+status_of word = option_map (λ row. row.status) (find (λ row. row.word == word) STATUSES)

@@ -1,35 +1,23 @@
 //! The shared area of a channel.
-ghost use Rattle.std.specs.Prelude.{◌≡◌, ◌+◌, ◌*◌, ◌^◌, ◌<◌, ◌≤◌, ℕ, length, IsOk, OnOk, OnErr, IfErr, ◌↔◌, ◌≢◌, true, is_some, is_none, slice_index};
-ghost use Rattle.std.specs.List.{AllByRecursion};
-ghost use Rattle.scmi_codec.specs.Header.{header_of};
-ghost use Rattle.scmi_codec.specs.Word.{words_at, put_words};
-ghost use Rattle.scmi_codec.specs.Area.{frame_of, frame_waiting, header_at, message_of, area_after_answer, area_after_post, area_after_write, is_well_formed, StandsFor, StandsForAnswer, IsUntouched, IsOutside};
-ghost use Rattle.scmi_codec.specs.declared.frame.Frame.TheVariants.{Good, Malformed};
+ghost use Rattle.std.specs.Prelude.{◌≡◌, ℕ, length, IsOk, OnOk, OnErr, IfErr, ◌↔◌, ◌≢◌, true, is_some, is_none, slice_index};
+ghost use Rattle.scmi_codec.specs.Area.{frame_of, frame_waiting, header_at, message_of, area_after_answer, area_after_post, is_well_formed, StandsForAnswer, IsUntouched, IsOutside};
+ghost use Rattle.scmi_codec.specs.declared.frame.Frame.TheVariants.{Good};
 ghost use Rattle.scmi_codec.specs.declared.frame.Answer.TheVariants.{Reply};
 ghost use Rattle.scmi_codec.specs.declared.area.TheConstants.{AREA_BYTES};
-ghost use Rattle.scmi_codec.specs.declared.payload.TheConstants.{PAYLOAD_WORDS};
 
+use crate::area_layout::PAYLOAD_AT;
+use crate::area_reader::{is_marked_free, is_well_formed_within, read_frame};
+use crate::area_writer::{put_answer, put_message, put_response};
 use crate::channel_status::ChannelStatus;
 use crate::frame::{Answer, Frame};
-use crate::header::Header;
 use crate::message::Message;
-use crate::payload::{PAYLOAD_WORDS, Payload, resize};
-use crate::word::{read_word, write_word};
+use crate::payload::{PAYLOAD_WORDS, Payload};
 use arrayvec::ArrayVec;
 use bitflags::Flags;
 use thiserror::Error;
 
 /// The size of an area in bytes: the fields before the payload, and the payload (own).
 pub const AREA_BYTES: usize = PAYLOAD_AT + 4 * PAYLOAD_WORDS;
-
-// The places of the fields, in bytes (DEN0056B, shared memory transport).
-const STATUS_AT: usize = 0x04;
-
-const LENGTH_AT: usize = 0x14;
-
-const HEADER_AT: usize = 0x18;
-
-const PAYLOAD_AT: usize = 0x1c;
 
 /// Why an area was not read or written.
 #[derive(Clone, Copy, PartialEq, Eq, Debug, Error)]
@@ -43,7 +31,7 @@ pub enum AreaError {
 pub fn is_well_formed(length: u32) -> bool
     ensures { result ≡ is_well_formed length }
 {
-    length >= 4 && length <= 4 + 4 * PAYLOAD_WORDS as u32 && length % 4 == 0
+    is_well_formed_within(length, PAYLOAD_WORDS)
 }
 
 /// The frame that a caller has posted, or `None` for a free channel: of the status word, bit 0 alone
@@ -71,7 +59,7 @@ pub fn read_area_into(area: &[u8], frame: &mut Frame) -> Result<bool, AreaError>
     if is_free(area)? {
         return Ok(false);
     }
-    read_frame(area, frame);
+    read_frame(area, PAYLOAD_WORDS, frame);
     Ok(true)
 }
 
@@ -81,8 +69,7 @@ pub fn is_free(area: &[u8]) -> Result<bool, AreaError>
     ensures wrong_size { length area.now ≢ AREA_BYTES → result ≡ Err AreaError.WrongSize }
 {
     check_size(area)?;
-    let status = ChannelStatus::from_bits_retain(read_word(area, STATUS_AT));
-    Ok(status.contains(ChannelStatus::FREE))
+    Ok(is_marked_free(area))
 }
 
 /// Refuses bytes that are no area for their number.
@@ -95,98 +82,6 @@ fn check_size(area: &[u8]) -> Result<(), AreaError>
         Ok(())
     } else {
         Err(AreaError::WrongSize)
-    }
-}
-
-/// Reads the frame that stands in an area, whatever its status word, into `frame`.
-fn read_frame(area: &[u8], frame: &mut Frame)
-    requires { length area.now ≡ AREA_BYTES }
-    ensures { frame.new ≡ frame_of area.now }
-{
-    let length = read_word(area, LENGTH_AT);
-    let header = read_word(area, HEADER_AT);
-    if !is_well_formed(length) {
-        frame.set_malformed(length, header);
-        return;
-    }
-    let count = ((length - 4) / 4) as usize;
-    match frame {
-        Frame::Good(message) => read_message(area, header, count, message),
-        Frame::Malformed { .. } => read_anew(area, header, count, frame),
-    }
-}
-
-/// Reads a message as `read_message` into a frame that holds none.
-#[inline(never)]
-fn read_anew(area: &[u8], header: u32, count: usize, frame: &mut Frame)
-    requires few { count ≤ PAYLOAD_WORDS }
-    requires size { length area.now ≡ AREA_BYTES }
-    ensures { frame.new ≡ Good (message_of header (words_at 0x1C count area.now)) }
-{
-    let mut message = Message::default();
-    read_message(area, header, count, &mut message);
-    *frame = Frame::Good(message);
-}
-
-/// Reads a message of this header word and so many payload words of an area into `message`.
-#[inline(always)]
-fn read_message(area: &[u8], header: u32, count: usize, message: &mut Message)
-    requires few { count ≤ PAYLOAD_WORDS }
-    requires size { length area.now ≡ AREA_BYTES }
-    ensures header { message.new.header ≡ header_of header }
-    ensures words { message.new.payload.items ≡ words_at 0x1C count area.now }
-{
-    message.header = Header::unpack(header);
-    read_payload(area, count, &mut message.payload);
-}
-
-fn read_payload(area: &[u8], count: usize, payload: &mut Payload)
-    requires few { count ≤ PAYLOAD_WORDS }
-    requires size { length area.now ≡ AREA_BYTES }
-    ensures { payload.new.items ≡ words_at 0x1C count area.now }
-{
-    resize(payload, count);
-    read_words(area, payload.as_mut_slice());
-}
-
-/// Reads the first payload words of an area over as many others. Commands have four at most, which
-/// take no loop.
-fn read_words(area: &[u8], words: &mut [u32])
-    requires few { length words.old ≤ PAYLOAD_WORDS }
-    requires size { length area.now ≡ AREA_BYTES }
-    ensures { words.new ≡ words_at 0x1C (length words.old) area.now }
-{
-    match words.len() {
-        0 => {}
-        1 => words[0] = read_word(area, PAYLOAD_AT),
-        2 => {
-            words[0] = read_word(area, PAYLOAD_AT);
-            words[1] = read_word(area, PAYLOAD_AT + 4);
-        }
-        3 => {
-            words[0] = read_word(area, PAYLOAD_AT);
-            words[1] = read_word(area, PAYLOAD_AT + 4);
-            words[2] = read_word(area, PAYLOAD_AT + 8);
-        }
-        4 => {
-            words[0] = read_word(area, PAYLOAD_AT);
-            words[1] = read_word(area, PAYLOAD_AT + 4);
-            words[2] = read_word(area, PAYLOAD_AT + 8);
-            words[3] = read_word(area, PAYLOAD_AT + 12);
-        }
-        _ => read_many(area, words),
-    }
-}
-
-/// Reads the first payload words of an area over as many others.
-#[inline(never)]
-fn read_many(area: &[u8], words: &mut [u32])
-    requires few { length words.old ≤ PAYLOAD_WORDS }
-    requires size { length area.now ≡ AREA_BYTES }
-    ensures { words.new ≡ words_at 0x1C (length words.old) area.now }
-{
-    for i in 0..words.len() {
-        words[i] = read_word(area, PAYLOAD_AT + 4 * i);
     }
 }
 
@@ -204,14 +99,7 @@ pub fn write_answer(area: &mut [u8], answer: &Answer) -> Result<(), AreaError>
     ensures errors { IfErr result (λ e. e ≡ AreaError.WrongSize) }
 {
     check_size(area)?;
-    match answer {
-        Answer::Reply(message) => write_with_status(area, message, ChannelStatus::FREE.bits()),
-        Answer::Released => write_word(area, STATUS_AT, ChannelStatus::FREE.bits()),
-        Answer::ChannelError => {
-            let status = ChannelStatus::FREE.union(ChannelStatus::ERROR);
-            write_word(area, STATUS_AT, status.bits());
-        }
-    }
+    put_answer(area, answer);
     Ok(())
 }
 
@@ -228,7 +116,7 @@ pub fn write_reply(area: &mut [u8], message: &Message) -> Result<(), AreaError>
     ensures errors { IfErr result (λ e. e ≡ AreaError.WrongSize) }
 {
     check_size(area)?;
-    write_with_status(area, message, ChannelStatus::FREE.bits());
+    put_message(area, message, ChannelStatus::FREE.bits());
     Ok(())
 }
 
@@ -247,9 +135,7 @@ pub fn write_response(area: &mut [u8], payload: &Payload) -> Result<(), AreaErro
     ensures errors { IfErr result (λ e. e ≡ AreaError.WrongSize) }
 {
     check_size(area)?;
-    // A word written back as it was read takes no access.
-    let header = read_word(area, HEADER_AT);
-    write_parts(area, header, payload, ChannelStatus::FREE.bits());
+    put_response(area, payload.as_slice());
     Ok(())
 }
 
@@ -266,69 +152,6 @@ pub fn write_message(area: &mut [u8], message: &Message) -> Result<(), AreaError
     ensures errors { IfErr result (λ e. e ≡ AreaError.WrongSize) }
 {
     check_size(area)?;
-    write_with_status(area, message, 0);
+    put_message(area, message, 0);
     Ok(())
-}
-
-/// Writes a message, and then the status word.
-fn write_with_status(area: &mut [u8], message: &Message, status: u32)
-    requires { length area.old ≡ AREA_BYTES }
-    ensures written { area.new ≡ area_after_write status message.now area.old }
-    ensures stands { StandsFor area.new status (Good message.now) }
-    ensures rest { (i : ℕ) → IsOutside message.now i →
-        slice_index area.new i ≡ slice_index area.old i }
-{
-    write_parts(area, message.header.pack(), &message.payload, status);
-}
-
-/// Writes a message of this header word, and then the status word.
-fn write_parts(area: &mut [u8], header: u32, payload: &Payload, status: u32)
-    requires { length area.old ≡ AREA_BYTES }
-    ensures written { area.new ≡
-        area_after_write status (message_of header payload.now.items) area.old }
-    ensures stands { StandsFor area.new status (Good (message_of header payload.now.items)) }
-    ensures rest { (i : ℕ) → IsOutside (message_of header payload.now.items) i →
-        slice_index area.new i ≡ slice_index area.old i }
-{
-    let words = payload.as_slice();
-    write_word(area, LENGTH_AT, 4 + 4 * words.len() as u32);
-    write_word(area, HEADER_AT, header);
-    write_payload(area, words);
-    write_word(area, STATUS_AT, status);
-}
-
-/// Writes the payload words. Most replies have one to three, which take no loop.
-fn write_payload(area: &mut [u8], words: &[u32])
-    requires size { length area.old ≡ AREA_BYTES }
-    requires few { length words.now ≤ PAYLOAD_WORDS }
-    ensures written { area.new ≡ put_words 0x1C words.now area.old }
-    ensures words { AllByRecursion (λ w. w < 2 ^ 32) words.now }
-{
-    match words.len() {
-        0 => {}
-        1 => write_word(area, PAYLOAD_AT, words[0]),
-        2 => {
-            write_word(area, PAYLOAD_AT, words[0]);
-            write_word(area, PAYLOAD_AT + 4, words[1]);
-        }
-        3 => {
-            write_word(area, PAYLOAD_AT, words[0]);
-            write_word(area, PAYLOAD_AT + 4, words[1]);
-            write_word(area, PAYLOAD_AT + 8, words[2]);
-        }
-        _ => write_words(area, words),
-    }
-}
-
-/// Writes words as the payload of an area.
-#[inline(never)]
-fn write_words(area: &mut [u8], words: &[u32])
-    requires size { length area.old ≡ AREA_BYTES }
-    requires few { length words.now ≤ PAYLOAD_WORDS }
-    ensures written { area.new ≡ put_words 0x1C words.now area.old }
-    ensures words { AllByRecursion (λ w. w < 2 ^ 32) words.now }
-{
-    for (i, word) in words.iter().enumerate() {
-        write_word(area, PAYLOAD_AT + 4 * i, *word);
-    }
 }

@@ -22,6 +22,7 @@ impl Command {
     /// The command that a message carries, or the status of the first check that it fails (own
     /// order): PROTOCOL_ERROR for a type other than 0, NOT_SUPPORTED for an unknown protocol or
     /// message id, PROTOCOL_ERROR for another number of payload words than the command has.
+    #[inline(always)]
     pub fn read(message: &Message) -> Result<Command, Status>
         ensures value { result ≡ command_of message.now }
         ensures payload { IfOk result (λ c. message.now.payload.items ≡ command_words c) }

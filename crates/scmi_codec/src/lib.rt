@@ -2,12 +2,17 @@
 //!
 //! The main types are `Message`, a header with its payload, and `Command`, what a message asks for.
 //! The main theorems are the contracts of `read_area`, `write_message` and `write_answer` (what the
-//! bytes of an area stand for, every other byte kept) and of `Command::read` and `pack` (each undoes
+//! bytes of an area stand for, every other byte kept; `read_channel_area` and its kin are the same in
+//! an area of the size that a board gives a channel) and of `Command::read` and `pack` (each undoes
 //! the other).
 #![tactic(auto)]
 
 mod area;
+mod area_layout;
+mod area_reader;
+mod area_writer;
 mod base_command;
+mod channel_area;
 mod channel_status;
 mod clock_command;
 mod command;
@@ -30,6 +35,11 @@ pub use area::{
     write_message, write_reply, write_response,
 };
 pub use base_command::{BASE_PROTOCOL, BaseCommand};
+pub use channel_area::{
+    ChannelAreaError, LEAST_AREA_BYTES, LEAST_PAYLOAD_WORDS, channel_bytes, channel_words,
+    is_channel_free, is_channel_size, read_channel_area, read_channel_area_into,
+    write_channel_answer, write_channel_message, write_channel_response,
+};
 pub use channel_status::ChannelStatus;
 pub use clock_command::{CLOCK_PROTOCOL, ClockCommand};
 pub use command::Command;
@@ -46,5 +56,5 @@ pub use payload::{
 pub use power_command::{POWER_PROTOCOL, PowerCommand};
 pub use rate::{rate_of, rate_words};
 pub use rate_flags::RateFlags;
-pub use status::Status;
+pub use status::{STATUSES, Status, StatusRow};
 pub use word::write_word;

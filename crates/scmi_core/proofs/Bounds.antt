@@ -29,13 +29,13 @@ use Rattle.scmi_core.specs.declared.event.Event.{Event}
 use Rattle.scmi_core.specs.declared.event.Event.TheVariants.{Command, Advance, Sent, CommandFailed, AdvanceFailed}
 use Rattle.scmi_core.specs.declared.tables.Tables.{Tables}
 use Rattle.std.specs.Option.{option_to_list, option_and_then}
-use Rattle.scmi_core.specs.Deed.{Deed, success_with, fold_with_prefix}
+use Rattle.scmi_core.specs.Deed.{Deed, success_of, success_with, fold_with_prefix}
 use Rattle.scmi_core.specs.Value.{Change, Thing, State, Rate, Enabled, completed_set, failed_set, change_by}
 use Rattle.scmi_core.specs.Pending.{acceptance, accepted_sets, advances, pending_sets, pending_of, sets_by, is_advance}
 use Rattle.scmi_core.specs.Outbox.{failed_response_for, failed_response_to, messages_made, made_by, outbox_after, sent_count, is_sent_by, response_for, response_to, notice_in, situation_after}
 use Rattle.scmi_core.specs.History.{deeds, deed_after, outbox}
 use Rattle.scmi_core.specs.Legal.{IsLegal}
-use Rattle.scmi_core.specs.Reply.{reply_words}
+use Rattle.scmi_core.specs.Reply.{fits_channel, reply_words}
 use Rattle.scmi_core.specs.Situation.{Situation, has_room, power_view, clock_view}
 use Rattle.scmi_core.specs.Tables.{load_at}
 use Rattle.scmi_core.specs.Bounds.{HasBounds}
@@ -55,16 +55,6 @@ room_of false false false false true later room ok l = absurd (cc)
 room_of false false false false false true true ok l = refl
 room_of false false false false false true false ok l = absurd (cc)
 room_of false false false false false false room ok l = absurd (cc)
-
-room_of_clock : (c1 c2 c4 busy later room : Bool)
-    → begins_with_success (reply_unless ((c1, NotFound) ∷ (c2, InvalidParameters) ∷ (c4, Denied) ∷ (busy || (later && not room), Busy) ∷ []) (0 ∷ [])) ≡ true → later ≡ true → room ≡ true
-room_of_clock true c2 c4 busy later room ok l = absurd (cc)
-room_of_clock false true c4 busy later room ok l = absurd (cc)
-room_of_clock false false true busy later room ok l = absurd (cc)
-room_of_clock false false false true later room ok l = absurd (cc)
-room_of_clock false false false false true true ok l = refl
-room_of_clock false false false false true false ok l = absurd (cc)
-room_of_clock false false false false false room ok l = absurd (cc)
 
 later_bit : {A : Type 0} (b : Bool) (x : A) {y : A} → (if b then Some x else None) ≡ Some y → b ≡ true
 later_bit true x e = refl
@@ -93,7 +83,7 @@ clock-room board v (clock.ClockAttributes d) set ok e = absurd (cc)
 clock-room board v (clock.Describe d index) set ok e = absurd (cc)
 clock-room board v (clock.GetRate d) set ok e = absurd (cc)
 clock-room board v (clock.Config d attributes) set ok e = absurd (cc)
-clock-room board v (clock.SetRate flags d rate) set ok e = room_of_clock _ _ _ _ (bit_0 flags) v.room ok (later_bit (bit_0 flags) _ e)
+clock-room board v (clock.SetRate flags d rate) set ok e = room_of _ _ _ _ _ (bit_0 flags) v.room ok (later_bit (bit_0 flags) _ e)
 
 then_some : {A B : Type 0} (b : Bool) (o : Option A) (f : A → Option B) (y : B) → option_and_then f (if b then o else None) ≡ Some y → (b ≡ true) × (option_and_then f o ≡ Some y)
 then_some true o f y e = (refl, e)
@@ -268,7 +258,11 @@ bounds-sent board h b enough had =
 
 bounds-more : (board : Board) (h : List Deed) (e : Event) → advances h ≤ length (accepted_sets board h) → ((a : ℕ) → sent_count a h ≤ length (messages_made board a h)) → HasBounds board h → HasBounds board (h ++ deed_after board h e ∷ [])
 bounds-more board h (Command b (Good m)) enough enough_sent had =
-    settled board h (deed_after board h (Command b (Good m))) refl (λ a. refl) refl refl enough enough_sent (fits board h b m.header (command_of m) had _ refl)
+    settled board h (deed_after board h (Command b (Good m))) refl (λ a. refl) refl refl enough enough_sent (by (fits_channel board b m)) where
+      by : (short : Bool)
+          → Fits board h (option_and_then (acceptance board) (success_of b m.header (command_of m) (if short then reply_words board b (situation_after board b h) (command_of m) else [])))
+      by true = fits board h b m.header (command_of m) had _ refl
+      by false = fits-none board h had
 bounds-more board h (Command b (Malformed len header)) enough enough_sent had =
     settled board h (deed_after board h (Command b (Malformed len header))) refl (λ a. refl) refl refl enough enough_sent (fits-none board h had)
 bounds-more board h (CommandFailed b (Good m)) enough enough_sent had =

@@ -28,13 +28,13 @@ use Rattle.scmi_clock.specs.SetFlags.{is_asynchronous, is_response_wanted}
 use Rattle.scmi_core.specs.declared.event.Event.{Event}
 use Rattle.scmi_core.specs.declared.event.Event.TheVariants.{Command, Advance, Sent, CommandFailed, AdvanceFailed}
 use Rattle.scmi_core.specs.declared.pending_set.PendingSet.{PendingSet}
-use Rattle.scmi_core.specs.Deed.{Success, fold_with_prefix, success_at, success_with}
-use Rattle.scmi_core.specs.History.{deed_after, deeds, scmi}
+use Rattle.scmi_core.specs.Deed.{Success, fold_with_prefix, success_at, success_of, success_with}
+use Rattle.scmi_core.specs.History.{deed_after, deeds}
 use Rattle.scmi_core.specs.Laws.{HasCause, HasIntegrity, change_asked, may_after, resource_of}
 use Rattle.scmi_core.specs.Legal.{CanFollow, IsLegal}
 use Rattle.scmi_core.specs.Outbox.{situation_after}
 use Rattle.scmi_core.specs.Pending.{acceptance, pending_sets, rate_set, state_set}
-use Rattle.scmi_core.specs.Reply.{reply_words}
+use Rattle.scmi_core.specs.Reply.{fits_channel, reply_words}
 use Rattle.scmi_core.specs.Situation.{Situation, clock_view, power_view}
 use Rattle.scmi_core.specs.Value.{Change, Enabled, Rate, State, bit_value, change_now, changes, completion}
 use Rattle.scmi_core.proofs.Deeds.{changes-push}
@@ -51,13 +51,6 @@ set-allowed true c2 c3 false busy ok = absurd (cc)
 set-allowed false true c3 false busy ok = absurd (cc)
 set-allowed false false true false busy ok = absurd (cc)
 set-allowed false false false false busy ok = absurd (cc)
-
-rate-allowed : (c1 c2 may busy : Bool)
-    → begins_with_success (reply_unless ((c1, NotFound) ∷ (c2, InvalidParameters) ∷ (not may, Denied) ∷ (busy, Busy) ∷ []) (0 ∷ [])) ≡ true → may ≡ true
-rate-allowed c1 c2 true busy ok = refl
-rate-allowed true c2 false busy ok = absurd (cc)
-rate-allowed false true false busy ok = absurd (cc)
-rate-allowed false false false busy ok = absurd (cc)
 
 config-allowed : (c1 c2 may : Bool) → begins_with_success (reply_unless ((c1, NotFound) ∷ (c2, InvalidParameters) ∷ (not may, Denied) ∷ []) (0 ∷ [])) ≡ true → may ≡ true
 config-allowed c1 c2 true ok = refl
@@ -115,7 +108,7 @@ module _ (board : Board) (a : ℕ) (header : HeaderFields) (s : Situation) (chan
   clock-own (clock.Describe c index) ok is = absurd (cc)
   clock-own (clock.GetRate c) ok is = absurd (cc)
   clock-own (clock.Config c attributes) ok is = own (record { thing = Enabled c; value = bit_value (bit_0 attributes); causer = a }) refl (config-allowed _ _ _ ok) is
-  clock-own (clock.SetRate flags c rate) ok is = own (rate_given a (c, set_rate board flags c rate)) refl (rate-allowed _ _ _ _ ok) (by (is_asynchronous flags) is) where
+  clock-own (clock.SetRate flags c rate) ok is = own (rate_given a (c, set_rate board flags c rate)) refl (set-allowed _ _ _ _ _ ok) (by (is_asynchronous flags) is) where
     by : (later : Bool)
         → option_or (option_or (option_map (rate_given a) (if later then None else Some (c, set_rate board flags c rate))) None)
         (option_map completion (option_map (rate_set a header) (if later then Some (c, set_rate board flags c rate, is_response_wanted flags) else None))) ≡ Some change
@@ -195,9 +188,9 @@ cause-kept board h e change had = record {
 
 -- a command is the cause of what it asked for
 cause : (board : Board) (h : List Event) (a : ℕ) (m : Message) (change : Change) → IsAgent (length board.agents) a
-    → option_and_then (change_asked board) (success_at (Command a (Good m)) (scmi board a m h).payload.items) ≡ Some change → HasCause board (h ++ Command a (Good m) ∷ []) change
+    → option_and_then (change_asked board) (success_at (Command a (Good m)) (deed_after board (deeds board h) (Command a (Good m))).reply) ≡ Some change → HasCause board (h ++ Command a (Good m) ∷ []) change
 cause board h a m change agent asked =
-    let is = asked-own board a m.header (situation_after board a (deeds board h)) change (command_of m) asked in
+    let is = given (fits_channel board a m) asked in
     let back = sym is.causer in
     record {
       before = h;
@@ -205,9 +198,14 @@ cause board h a m change agent asked =
       after = [];
       place = ap (λ x. h ++ Command x (Good m) ∷ []) back;
       agent = subst (IsAgent (length board.agents)) back agent;
-      asked = subst (λ x. option_and_then (change_asked board) (success_at (Command x (Good m)) (scmi board x m h).payload.items) ≡ Some change) back asked;
+      asked = subst (λ x. option_and_then (change_asked board) (success_at (Command x (Good m)) (deed_after board (deeds board h) (Command x (Good m))).reply) ≡ Some change) back asked;
       allowed = subst (λ x. may_after board h x change.thing ≡ true) back is.allowed;
-    }
+    } where
+      given : (short : Bool)
+          → option_and_then (change_asked board) (success_of a m.header (command_of m) (if short then reply_words board a (situation_after board a (deeds board h)) (command_of m) else [])) ≡ Some change
+          → IsOwn board a (situation_after board a (deeds board h)) change
+      given true asked = asked-own board a m.header (situation_after board a (deeds board h)) change (command_of m) asked
+      given false asked = absurd (cc)
 
 -- each change so far, and each that a pending set is to make, has its cause
 record HasCauses (board : Board) (h : List Event) : Type 0 where
@@ -251,7 +249,7 @@ module _ (board : Board) (h : List Event) (legal : IsLegal board h) (had : HasCa
 
   causes : (e : Event) → CanFollow board h e → HasCauses board (h ++ e ∷ [])
   causes (Command a (Good m)) follows =
-      let success = success_at (Command a (Good m)) (scmi board a m h).payload.items in
+      let success = success_at (Command a (Good m)) (deed_after board (deeds board h) (Command a (Good m))).reply in
       let set = option_and_then (acceptance board) success in
       causes-more board h (Command a (Good m)) legal had
       (λ change is. cause board h a m change follows (now-asked board success change is))

@@ -12,6 +12,7 @@ use Rattle.scmi_codec.specs.declared.status.Status.{Status}
 use Rattle.scmi_codec.specs.declared.status.Status.TheVariants as status
 use Rattle.scmi_codec.specs.declared.message.Message.{Message}
 use Rattle.scmi_codec.specs.declared.frame.Frame.TheVariants.{Good}
+use Rattle.scmi_codec.specs.declared.frame.Answer.TheVariants.{Reply, ChannelError}
 use Rattle.scmi_codec.specs.declared.command.Command as codec
 use Rattle.scmi_codec.specs.declared.command.Command.TheVariants.{Base, Power, Clock}
 use Rattle.scmi_codec.specs.declared.power_command.PowerCommand.{PowerCommand}
@@ -31,8 +32,8 @@ use Rattle.scmi_core.specs.declared.effect.Effect.{Effect}
 use Rattle.scmi_core.specs.declared.effect.Effect.TheVariants as effect
 use Rattle.scmi_core.specs.declared.tables.Tables.{Tables}
 use Rattle.scmi_core.specs.Deed.{success_of, success_with}
-use Rattle.scmi_core.specs.Effect.{clock_effect, effect_in, effect_of, state_effect}
-use Rattle.scmi_core.specs.Reply.{reply_words}
+use Rattle.scmi_core.specs.Effect.{clock_effect, effect_in, effect_of, effect_read, state_effect}
+use Rattle.scmi_core.specs.Reply.{answer_in, fits_channel, reply_in, reply_words}
 use Rattle.scmi_core.specs.Situation.{Situation, clock_view, power_view}
 use Rattle.scmi_core.specs.Step.{HasAnswered, HasStepped, SameButOutboxes, announced_at}
 use Rattle.scmi_core.specs.Tables.{outbox_at, situation_in}
@@ -164,14 +165,14 @@ module _ (board : Board) (a : ℕ) (header : HeaderFields) (s : Situation) where
       let v = power_view board a s in
       (no_domain board domain, status.NotFound)
       ∷ (other_bits flags || not (is_state state), status.InvalidParameters)
-      ∷ (not (has_kind (domain_at board domain) flags), status.NotSupported)
+      ∷ (not (has_kind v.channel (domain_at board domain) flags), status.NotSupported)
       ∷ (not (v.may domain), status.Denied)
       ∷ (v.busy domain || (bit_0 flags && not v.room), status.Busy)
       ∷ []
 
   -- the checks of a set of a clock's rate, and of a configuration
   abbrev rate_checks : (flags k asked : ℕ) → List Check
-  rate_checks flags k asked = let v = clock_view board a s in set_checks board (v.may k) (v.busy k) v.room flags k asked
+  rate_checks flags k asked = let v = clock_view board a s in set_checks board v.channel (v.may k) (v.busy k) v.room flags k asked
 
   abbrev clock_checks : (k attributes : ℕ) → List Check
   clock_checks k attributes = config_checks board ((clock_view board a s).may k) k attributes
@@ -274,12 +275,26 @@ module _ (board : Board) (a : ℕ) (header : HeaderFields) (s : Situation) where
 
 -- what a reply of SUCCESS alone leaves is what the message leaves
 answered : (board : Board) (a : ℕ) (m : Message) (t new : Tables) (r : Result codec.Command Status)
-    → command_of m ≡ r → reply_words board a (situation_in a t) (command_of m) ≡ 0 ∷ []
+    → fits_channel board a m ≡ true → command_of m ≡ r → reply_words board a (situation_in a t) (command_of m) ≡ 0 ∷ []
     → HasStepped board t (success_of a m.header r (0 ∷ [])) None new → HasAnswered board a (Good m) t new
-answered board a m t new r read reply stepped =
+answered board a m t new r short read reply stepped =
     subst (λ o. HasStepped board t o None new)
-    (ap (λ c. success_of a m.header c (0 ∷ [])) (sym read) ∙ ap (success_of a m.header (command_of m)) (sym reply))
+    (ap (λ c. success_of a m.header c (0 ∷ [])) (sym read)
+    ∙ ap (success_of a m.header (command_of m)) (sym (ap (λ b. if b then reply_words board a (situation_in a t) (command_of m) else []) short ∙ reply)))
     stepped
+
+-- a message that fits its channel is answered by its reply
+pub answer-fits : (board : Board) (a : ℕ) (m : Message) (s : Situation) → fits_channel board a m ≡ true → answer_in board a (Good m) s ≡ Reply (reply_in board a m s)
+answer-fits board a m s short = ap (λ b. if b then Reply (reply_in board a m s) else ChannelError) short
+
+-- a message with an effect fits its channel
+pub effect-fits : (board : Board) (a : ℕ) (m : Message) (s : Situation) (e : Effect) → effect_in board a (Good m) s ≡ Some e
+    → (fits_channel board a m ≡ true) × (effect_by board a m.header s (command_of m) ≡ Some e)
+effect-fits board a m s e = by (fits_channel board a m) refl where
+  by : (b : Bool) → fits_channel board a m ≡ b → (if b then effect_read board a m s else None) ≡ Some e
+      → (fits_channel board a m ≡ true) × (effect_by board a m.header s (command_of m) ≡ Some e)
+  by true short has = (short, has)
+  by false long has = absurd (cc)
 
 pub state-committed : (board : Board) (t new : Tables) (power' : PowerTables) (a : ℕ) (m : Message) (d state before : ℕ)
     → IsLawful board → 1 ≤ a → a ≤ length board.agents
@@ -291,8 +306,9 @@ pub state-committed : (board : Board) (t new : Tables) (power' : PowerTables) (a
     → outbox_at new x ≡ outbox_at t x ++ announced_at (record { base = t.base; power = power'; clocks = t.clocks; pending = t.pending; outboxes = t.outboxes }) x a (Some (d, state)) before)
     → HasAnswered board a (Good m) t new
 state-committed board t new power' a m d state before law lo hi has states subs was kept told =
-    let set = state-set board a m.header (situation_in a t) (command_of m) d state has in
-    answered board a m t new (Ok (Power set.command)) set.read set.reply
+    let fit = effect-fits board a m (situation_in a t) (effect.State d state) has in
+    let set = state-set board a m.header (situation_in a t) (command_of m) d state fit.1 in
+    answered board a m t new (Ok (Power set.command)) fit.0 set.read set.reply
     (power-stepped board t (record { base = t.base; power = power'; clocks = t.clocks; pending = t.pending; outboxes = t.outboxes }) new power' a m.header set.command
     (0 ∷ []) (Some (d, state)) None before law.few_domains law.few_agents lo hi (sym set.now) (sym set.later) states
     (λ x e lo' hi' small.
@@ -310,8 +326,9 @@ pub rate-committed : (board : Board) (t new : Tables) (clocks' : ClockTables) (a
     → new ≡ record { base = t.base; power = t.power; clocks = clocks'; pending = t.pending; outboxes = t.outboxes }
     → HasAnswered board a (Good m) t new
 rate-committed board t new clocks' a m c rate law lo hi has rates same is =
-    let set = rate-set board a m.header (situation_in a t) (command_of m) c rate has in
-    rw is (answered board a m t (record { base = t.base; power = t.power; clocks = clocks'; pending = t.pending; outboxes = t.outboxes }) (Ok (Clock set.command)) set.read set.reply
+    let fit = effect-fits board a m (situation_in a t) (effect.Rate c rate) has in
+    let set = rate-set board a m.header (situation_in a t) (command_of m) c rate fit.1 in
+    rw is (answered board a m t (record { base = t.base; power = t.power; clocks = clocks'; pending = t.pending; outboxes = t.outboxes }) (Ok (Clock set.command)) fit.0 set.read set.reply
     (clock-stepped board t (record { base = t.base; power = t.power; clocks = clocks'; pending = t.pending; outboxes = t.outboxes }) clocks' a m.header set.command
     (0 ∷ []) None law.few_clocks lo hi (sym set.later)
     (λ k small. rates k small ∙ ap (λ o. clock_table.set_to o k (clock_table.rate_at t.clocks k)) (sym set.now))
@@ -328,8 +345,9 @@ pub enabled-committed : (board : Board) (t new : Tables) (clocks' : ClockTables)
     → new ≡ record { base = t.base; power = t.power; clocks = clocks'; pending = t.pending; outboxes = t.outboxes }
     → HasAnswered board a (Good m) t new
 enabled-committed board t new clocks' a m c enabled law lo hi has same configured is =
-    let set = config-set board a m.header (situation_in a t) (command_of m) c enabled has in
-    rw is (answered board a m t (record { base = t.base; power = t.power; clocks = clocks'; pending = t.pending; outboxes = t.outboxes }) (Ok (Clock set.command)) set.read set.reply
+    let fit = effect-fits board a m (situation_in a t) (effect.Enabled c enabled) has in
+    let set = config-set board a m.header (situation_in a t) (command_of m) c enabled fit.1 in
+    rw is (answered board a m t (record { base = t.base; power = t.power; clocks = clocks'; pending = t.pending; outboxes = t.outboxes }) (Ok (Clock set.command)) fit.0 set.read set.reply
     (clock-stepped board t (record { base = t.base; power = t.power; clocks = clocks'; pending = t.pending; outboxes = t.outboxes }) clocks' a m.header set.command
     (0 ∷ []) None law.few_clocks lo hi (sym set.later)
     (λ k small. ap (λ l. get_or l k 0) same ∙ ap (λ o. clock_table.set_to o k (clock_table.rate_at t.clocks k)) (sym set.other))

@@ -2,7 +2,6 @@
 use Rattle.std.proofs.Common.{◌≡◌, ℕ, ◌+◌, ◌≤◌, ◌==◌, true, false, List, [], ◌∷◌, ◌++◌, length, drop, slice_get, Option, None, unwrap_or, refl, sym, ap, ◌∙◌, arith, if◌then◌else◌}
 use Rattle.std.proofs.lemmas.List.{append-nil, drop-drop}
 use Rattle.std.specs.Option.{option_to_list, option_and_then, option_map_or}
-use Rattle.scmi_codec.specs.Command.{command_of}
 use Rattle.scmi_codec.specs.declared.frame.Frame.TheVariants.{Good, Malformed}
 use Rattle.scmi_codec.specs.declared.message.Message.{Message}
 use Rattle.scmi_plan.specs.Board.{Board}
@@ -14,7 +13,7 @@ use Rattle.scmi_core.specs.History.{deed_after}
 use Rattle.scmi_core.specs.Outbox.{failed_response_for, is_sent_by, made_by, made_in, messages_made, outbox_after, sent_count, situation_after}
 use Rattle.scmi_core.specs.Pending.{acceptance, accepted_sets, advances, is_advance, pending_sets}
 use Rattle.scmi_core.specs.Permissions.{permission_in}
-use Rattle.scmi_core.specs.Reply.{reply_words}
+use Rattle.scmi_core.specs.Reply.{words_given}
 use Rattle.scmi_core.specs.Situation.{Situation}
 use Rattle.scmi_core.specs.Subscriptions.{subscription}
 use Rattle.scmi_core.specs.Value.{Change, change_by, change_of, completed_set, failed_set, value_in}
@@ -139,7 +138,7 @@ module _ (board : Board) (b : ℕ) (h : List Deed) where
 
 -- agents that stand alike see one event alike
 pub deed-same : (board : Board) (h k : List Deed) (e : Event) → ((a : ℕ) → situation_after board a h ≡ situation_after board a k) → deed_after board h e ≡ deed_after board k e
-deed-same board h k (Command a (Good m)) same = ap (λ s. record { event = Command a (Good m); reply = reply_words board a s (command_of m) }) (same a)
+deed-same board h k (Command a (Good m)) same = ap (λ s. record { event = Command a (Good m); reply = words_given board a s m }) (same a)
 deed-same board h k (Command a (Malformed len header)) same = refl
 deed-same board h k (CommandFailed a (Good m)) same = refl
 deed-same board h k (CommandFailed a (Malformed len header)) same = refl

@@ -197,7 +197,7 @@ module _ (board : Board) (h k : List Event) (same : (c : ℕ) → situation_afte
   both-follow AdvanceFailed follows = subst (λ pending. 0 < length pending) (sym one-pending) follows
   both-follow (Sent c) follows = (follows.0, follows.1, subst (λ s. 0 < length s.outbox) (sym (same c)) follows.2)
 
-answers-push : (board : Board) (b : ℕ) (h : List Event) (e : Event) → answers_to board b (h ++ e ∷ []) ≡ answers_to board b h ++ answer_for board b h e
+pub answers-push : (board : Board) (b : ℕ) (h : List Event) (e : Event) → answers_to board b (h ++ e ∷ []) ≡ answers_to board b h ++ answer_for board b h e
 unfolding answers_to
 answers-push board b h e = fold_with_prefix-push (λ before so_far event. so_far ++ answer_for board b before event) [] [] h e
 

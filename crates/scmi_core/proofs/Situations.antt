@@ -4,7 +4,8 @@ use Rattle.std.specs.Int.{bit_at}
 use Rattle.std.specs.Option.{option_map_or}
 use Rattle.std.proofs.lemmas.List.{append-nil}
 use Rattle.scmi_codec.specs.declared.status.Status.{Status}
-use Rattle.scmi_codec.specs.declared.frame.Answer.TheVariants.{Reply}
+use Rattle.scmi_codec.specs.declared.frame.Answer.TheVariants.{Reply, ChannelError}
+use Rattle.scmi_codec.specs.declared.message.Message.{Message}
 use Rattle.scmi_codec.specs.declared.frame.Frame.{Frame}
 use Rattle.scmi_codec.specs.declared.frame.Frame.TheVariants.{Good, Malformed}
 use Rattle.scmi_codec.specs.Command.{command_of}
@@ -33,7 +34,7 @@ use Rattle.scmi_core.specs.Value.{Change, Thing, State, Rate, Enabled, bit_value
 use Rattle.scmi_core.specs.Pending.{has_set_of, pending_sets, sets_by}
 use Rattle.scmi_core.specs.Situation.{Situation, has_room, power_view, clock_view}
 use Rattle.scmi_core.specs.Outbox.{messages_made, made_in, notice_in, response_for, situation_after, state_changed}
-use Rattle.scmi_core.specs.Reply.{answer_in, reply_words}
+use Rattle.scmi_core.specs.Reply.{answer_in, fits_channel, reply_words, words_given}
 use Rattle.scmi_core.specs.Step.{set_clock, set_domain}
 use Rattle.scmi_core.specs.Tables.{IsThing, situation_in}
 use Rattle.scmi_core.proofs.Deeds.{messages_made-push}
@@ -80,6 +81,7 @@ module _ (board : Board) (a : ℕ) (s u : Situation) (same : SameSituation board
         may = λ d small. may-same board s.allowed u.allowed (resource.Domain d) same.allowed;
         busy = λ d small. ap (has_set_of (resource.Domain d)) same.pending;
         room = room-same;
+        channel = refl;
       }) c
   reply-same (Ok (Clock c)) =
       clock_same.clock_reply-same board (clock_view board a s) (clock_view board a u)
@@ -89,11 +91,16 @@ module _ (board : Board) (a : ℕ) (s u : Situation) (same : SameSituation board
         may = λ k small. may-same board s.allowed u.allowed (resource.Clock k) same.allowed;
         busy = λ k small. ap (has_set_of (resource.Clock k)) same.pending;
         room = room-same;
+        channel = refl;
       }) c
+
+  -- also where it may be longer than the channel
+  pub given-same : (m : Message) → words_given board a s m ≡ words_given board a u m
+  given-same m = ap (λ words. if fits_channel board a m then words else []) (reply-same (command_of m))
 
   -- one answer to each frame
   pub answer-same : (frame : Frame) → answer_in board a frame s ≡ answer_in board a frame u
-  answer-same (Good m) = ap (λ words. Reply (record { header = m.header; payload = record { items = words } })) (reply-same (command_of m))
+  answer-same (Good m) = ap (λ words. if fits_channel board a m then Reply (record { header = m.header; payload = record { items = words } }) else ChannelError) (reply-same (command_of m))
   answer-same (Malformed len header) = refl
 
   notice-same : (change : Change) → IsThing board change.thing → notice_in s change ≡ notice_in u change
@@ -129,7 +136,7 @@ power-reply board t a load (power.MessageAttributes message) few busy room = ref
 power-reply board t a load (power.DomainAttributes d) few busy room = refl
 power-reply board t a load (power.Set flags d state) few busy room =
     power_same.power_reply-same board (power_table.view_of board t.base t.power load a) (power_view board a (situation_in a t))
-    (record { state = λ e small. refl; may = λ e small. refl; busy = λ e small. busy e (omega arith); room = room }) (power.Set flags d state)
+    (record { state = λ e small. refl; may = λ e small. refl; busy = λ e small. busy e (omega arith); room = room; channel = refl }) (power.Set flags d state)
 power-reply board t a load (power.Get d) few busy room = refl
 power-reply board t a load (power.Notify d enable) few busy room = refl
 
@@ -149,6 +156,6 @@ clock-reply board t a load (clock.ClockAttributes c) few busy room = ap (λ b. c
 clock-reply board t a load (clock.Describe c index) few busy room = refl
 clock-reply board t a load (clock.SetRate flags c rate) few busy room =
     clock_same.clock_reply-same board (clock_table.view_of board t.base t.clocks load a) (clock_view board a (situation_in a t))
-    (record { rate = λ e small. refl; enabled = λ e small. bit_said (clock_table.enabled_at t.clocks e); may = λ e small. refl; busy = λ e small. busy e (omega arith); room = room }) (clock.SetRate flags c rate)
+    (record { rate = λ e small. refl; enabled = λ e small. bit_said (clock_table.enabled_at t.clocks e); may = λ e small. refl; busy = λ e small. busy e (omega arith); room = room; channel = refl }) (clock.SetRate flags c rate)
 clock-reply board t a load (clock.GetRate c) few busy room = refl
 clock-reply board t a load (clock.Config c attributes) few busy room = refl

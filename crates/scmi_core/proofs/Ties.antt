@@ -11,6 +11,7 @@ use Rattle.scmi_codec.specs.Payload.{begins_with_success}
 use Rattle.scmi_codec.specs.declared.status.Status.{Status}
 use Rattle.scmi_codec.specs.declared.message.Message.{Message}
 use Rattle.scmi_codec.specs.declared.frame.Frame.{Frame}
+use Rattle.scmi_codec.specs.declared.frame.Answer.TheVariants.{Reply, ChannelError}
 use Rattle.scmi_codec.specs.declared.frame.Frame.TheVariants.{Good, Malformed}
 use Rattle.scmi_plan.specs.Board.{Board}
 use Rattle.scmi_plan.specs.Plan.{IsLawful}
@@ -28,17 +29,17 @@ use Rattle.scmi_core.specs.Permissions.{permission_in, has_permission}
 use Rattle.scmi_core.specs.Subscriptions.{subscription, is_subscriber}
 use Rattle.scmi_core.specs.Value.{value, change_by, completed_set, failed_set, Thing, State, Rate, Enabled, bit_value, value_in, value_at_start, change_of}
 use Rattle.scmi_core.specs.Pending.{acceptance, pending_sets}
-use Rattle.scmi_core.specs.Outbox.{failed_response_for, failed_words, messages_made, made_by, made_in, outbox_after, sent_count, is_sent_by, situation_after}
+use Rattle.scmi_core.specs.Outbox.{failed_response_for, failed_words, message_with, messages_made, made_by, made_in, outbox_after, sent_count, is_sent_by, situation_after}
 use Rattle.scmi_core.specs.History.{answer_to, deeds, outbox}
 use Rattle.scmi_core.specs.Legal.{CanFollow}
-use Rattle.scmi_core.specs.Effect.{effect_after, effect_in, effect_of}
-use Rattle.scmi_core.specs.Reply.{answer_in, reply_words}
+use Rattle.scmi_core.specs.Effect.{effect_after, effect_in, effect_of, effect_read}
+use Rattle.scmi_core.specs.Reply.{answer_in, fits_channel, reply_in, reply_words, words_given}
 use Rattle.scmi_core.specs.Tables.{outbox_at, situation_in, value_at, IsThing, IsOfBoard}
 use Rattle.scmi_core.specs.Step.{HasAnswered, HasFailed, rest_of, HasStepped}
 use Rattle.scmi_core.specs.Agreement.{Agrees}
 use Rattle.scmi_core.proofs.Deeds.{added_success, made_by-unfailed, has_permission-push, is_subscriber-push, value-push, pending_sets-push, pending_sets-advance, pending_sets-failed, outbox-push, IsLegal-push, sent_count-push}
 use Rattle.scmi_core.proofs.Legal.{IsLegal-nil, deeds-push, advances_le-accepted, sent_le-made}
-use Rattle.scmi_core.proofs.Situations.{SameSituation, answer-same, messages_made-same, messages_made-sent, nothing-made, reply-same}
+use Rattle.scmi_core.proofs.Situations.{SameSituation, answer-same, messages_made-same, messages_made-sent, nothing-made, given-same, reply-same}
 
 -- the tables say of each agent what the history says
 pub same-situation : (board : Board) (t : Tables) (h : List Event) (a : ℕ) → Agrees board t h → IsLawful board → 1 ≤ a → a ≤ length board.agents
@@ -99,18 +100,18 @@ module _ (board : Board) (t new : Tables) (h : List Event) (deed : Deed) (agrees
 
 -- a command
 pub Agrees-command : (board : Board) (t new : Tables) (h : List Event) (a : ℕ) (m : Message) (reply : List ℕ) → Agrees board t h → IsLawful board → 1 ≤ a → a ≤ length board.agents
-    → reply ≡ reply_words board a (situation_in a t) (command_of m) → HasStepped board t (success_of a m.header (command_of m) reply) None new
+    → reply ≡ words_given board a (situation_in a t) m → HasStepped board t (success_of a m.header (command_of m) reply) None new
     → Agrees board new (h ++ Command a (Good m) ∷ [])
 Agrees-command board t new h a m reply agrees law lo hi is stepped =
-    let words : reply ≡ reply_words board a (situation_after board a (deeds board h)) (command_of m) = is ∙ reply-same board a (situation_in a t) (situation_after board a (deeds board h)) (same-situation board t h a agrees law lo hi) (command_of m) in
-    let deed : Deed = record { event = Command a (Good m); reply = reply_words board a (situation_after board a (deeds board h)) (command_of m) } in
-    let stepped' : HasStepped board t (success_of a m.header (command_of m) (reply_words board a (situation_after board a (deeds board h)) (command_of m))) None new = subst (λ r. HasStepped board t (success_of a m.header (command_of m) r) None new) words stepped in
+    let words : reply ≡ words_given board a (situation_after board a (deeds board h)) m = is ∙ given-same board a (situation_in a t) (situation_after board a (deeds board h)) (same-situation board t h a agrees law lo hi) m in
+    let deed : Deed = record { event = Command a (Good m); reply = words_given board a (situation_after board a (deeds board h)) m } in
+    let stepped' : HasStepped board t (success_of a m.header (command_of m) (words_given board a (situation_after board a (deeds board h)) m)) None new = subst (λ r. HasStepped board t (success_of a m.header (command_of m) r) None new) words stepped in
     Agrees-deed board t new h deed agrees law stepped'
     (stepped'.pending ∙ ap (λ p. p ++ option_to_list (option_and_then (acceptance board) (added_success deed))) agrees.pending ∙ sym (pending_sets-push board (deeds board h) deed refl (advances_le-accepted board h agrees.legal)))
     refl (Command a (Good m)) (deeds-push board h (Command a (Good m))) (lo, hi) (λ x. refl)
 
 -- an event that is neither a success nor a completion
-nothing-stepped : (board : Board) (t : Tables) → HasStepped board t None None t
+pub nothing-stepped : (board : Board) (t : Tables) → HasStepped board t None None t
 nothing-stepped board t = record {
   permissions = λ a d scope lo small. refl;
   subscriptions = λ a d lo hi small. refl;
@@ -128,6 +129,28 @@ unread-stepped board t a header s reply = by (begins_with_success reply) where
   by true = nothing-stepped board t
   by false = nothing-stepped board t
 
+-- a message that is longer than its channel leaves everything as it was
+pub long-stepped : (board : Board) (t : Tables) (a : ℕ) (m : Message) → fits_channel board a m ≡ false → HasAnswered board a (Good m) t t
+long-stepped board t a m long =
+    subst (λ b. HasStepped board t (success_of a m.header (command_of m) (if b then reply_words board a (situation_in a t) (command_of m) else [])) None t) (sym long) (nothing-stepped board t)
+
+pub long-answer : (board : Board) (t : Tables) (a : ℕ) (m : Message) → fits_channel board a m ≡ false → ChannelError ≡ answer_in board a (Good m) (situation_in a t)
+long-answer board t a m long = sym (ap (λ b. if b then Reply (reply_in board a m (situation_in a t)) else ChannelError) long)
+
+-- another one leaves what its reply says
+pub short-stepped : (board : Board) (t new : Tables) (a : ℕ) (m : Message) (reply : List ℕ) → fits_channel board a m ≡ true
+    → reply ≡ reply_words board a (situation_in a t) (command_of m) → HasStepped board t (success_of a m.header (command_of m) reply) None new
+    → HasAnswered board a (Good m) t new
+short-stepped board t new a m reply short is stepped =
+    subst (λ words. HasStepped board t (success_of a m.header (command_of m) words) None new)
+    (is ∙ sym (ap (λ b. if b then reply_words board a (situation_in a t) (command_of m) else []) short)) stepped
+
+pub short-answer : (board : Board) (t : Tables) (a : ℕ) (m : Message) (reply : List ℕ) → fits_channel board a m ≡ true
+    → reply ≡ reply_words board a (situation_in a t) (command_of m) → Reply (message_with m.header reply) ≡ answer_in board a (Good m) (situation_in a t)
+short-answer board t a m reply short is =
+    ap (λ words. Reply (message_with m.header words)) is
+    ∙ sym (ap (λ b. if b then Reply (reply_in board a m (situation_in a t)) else ChannelError) short)
+
 -- a malformed frame
 pub Agrees-malformed : (board : Board) (t : Tables) (h : List Event) (a len header : ℕ) → Agrees board t h → IsLawful board → 1 ≤ a → a ≤ length board.agents
     → Agrees board t (h ++ Command a (Malformed len header) ∷ [])
@@ -141,7 +164,7 @@ Agrees-malformed board t h a len header agrees law lo hi =
 pub Agrees-answered : (board : Board) (t new : Tables) (h : List Event) (a : ℕ) (frame : Frame) → Agrees board t h → IsLawful board → 1 ≤ a → a ≤ length board.agents
     → HasAnswered board a frame t new → Agrees board new (h ++ Command a frame ∷ [])
 Agrees-answered board t new h a (Good m) agrees law lo hi answered =
-    Agrees-command board t new h a m (reply_words board a (situation_in a t) (command_of m)) agrees law lo hi refl answered
+    Agrees-command board t new h a m (words_given board a (situation_in a t) m) agrees law lo hi refl answered
 Agrees-answered board t new h a (Malformed len header) agrees law lo hi answered =
     subst (λ s. Agrees board s (h ++ Command a (Malformed len header) ∷ [])) (sym answered) (Agrees-malformed board t h a len header agrees law lo hi)
 
@@ -169,9 +192,14 @@ Agrees-advance board t new h agrees law waiting stepped =
 -- the effect of a frame by the tables is that by the history
 pub effect-table : (board : Board) (t : Tables) (h : List Event) (a : ℕ) (frame : Frame) → Agrees board t h → IsLawful board → 1 ≤ a → a ≤ length board.agents
     → effect_in board a frame (situation_in a t) ≡ effect_after board h (Command a frame)
-effect-table board t h a (Good m) agrees law lo hi =
-    ap (λ words. option_map effect_of (change_of board (success_of a m.header (command_of m) words) None))
-    (reply-same board a (situation_in a t) (situation_after board a (deeds board h)) (same-situation board t h a agrees law lo hi) (command_of m))
+effect-table board t h a (Good m) agrees law lo hi = by (fits_channel board a m) where
+  by : (short : Bool)
+      → (if short then effect_read board a m (situation_in a t) else None)
+      ≡ option_map effect_of (change_of board (success_of a m.header (command_of m) (if short then reply_words board a (situation_after board a (deeds board h)) (command_of m) else [])) None)
+  by true =
+      ap (λ words. option_map effect_of (change_of board (success_of a m.header (command_of m) words) None))
+      (reply-same board a (situation_in a t) (situation_after board a (deeds board h)) (same-situation board t h a agrees law lo hi) (command_of m))
+  by false = refl
 effect-table board t h a (Malformed len header) agrees law lo hi = refl
 
 -- a command that failed

@@ -19,11 +19,11 @@ use Rattle.scmi_plan.specs.Board.{Board}
 use Rattle.scmi_base.specs.BaseReply.{base_reply, no_agent, no_device, no_protocol}
 use Rattle.scmi_core.specs.declared.event.Event.{Event}
 use Rattle.scmi_core.specs.declared.event.Event.TheVariants.{Command, Advance, Sent, CommandFailed, AdvanceFailed}
-use Rattle.scmi_core.specs.Deed.{fold_with_prefix, success_with, successes}
+use Rattle.scmi_core.specs.Deed.{fold_with_prefix, success_of, success_with, successes}
 use Rattle.scmi_core.specs.History.{deed_after, deeds}
 use Rattle.scmi_core.specs.Laws.{HasTrustedPermissions, IsTrusted}
 use Rattle.scmi_core.specs.Outbox.{situation_after}
-use Rattle.scmi_core.specs.Reply.{reply_words}
+use Rattle.scmi_core.specs.Reply.{fits_channel, reply_words}
 use Rattle.scmi_core.specs.Situation.{Situation}
 use Rattle.scmi_core.proofs.Deeds.{added_success, successes-push}
 use Rattle.scmi_core.proofs.Legal.{Grown, deeds-push, empty, grow, grown}
@@ -89,7 +89,11 @@ success-trusted board a header s (Ok (Base c)) = by (begins_with_success (base_r
   by false ok = All-nil (IsTrusted board)
 
 deed-trusted : (board : Board) (h : List Event) (e : Event) → All (IsTrusted board) (option_to_list (added_success (deed_after board (deeds board h) e)))
-deed-trusted board h (Command a (Good m)) = success-trusted board a m.header (situation_after board a (deeds board h)) (command_of m)
+deed-trusted board h (Command a (Good m)) = by (fits_channel board a m) where
+  by : (short : Bool)
+      → All (IsTrusted board) (option_to_list (success_of a m.header (command_of m) (if short then reply_words board a (situation_after board a (deeds board h)) (command_of m) else [])))
+  by true = success-trusted board a m.header (situation_after board a (deeds board h)) (command_of m)
+  by false = All-nil (IsTrusted board)
 deed-trusted board h (Command a (Malformed len header)) = All-nil (IsTrusted board)
 deed-trusted board h (CommandFailed a (Good m)) = All-nil (IsTrusted board)
 deed-trusted board h (CommandFailed a (Malformed len header)) = All-nil (IsTrusted board)

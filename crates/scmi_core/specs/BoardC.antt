@@ -1,6 +1,7 @@
 -- Boards of one agent and its clocks, for worked examples.
 use Rattle.std.specs.Prelude.{true, [], ◌∷◌, codes, replicate}
-use Rattle.scmi_plan.specs.Board.{Board}
+use Rattle.scmi_plan.specs.Board.{Board, whole_channel}
+use Rattle.scmi_plan.specs.declared.limits.TheConstants.{AGENTS}
 use Rattle.scmi_plan.specs.declared.rates.Rates.TheVariants as rates
 
 -- one agent, and nine clocks of the rates 1 and 2; no domain and no device
@@ -15,6 +16,7 @@ board_c =
       domains = [];
       clocks = replicate 9 (record { name = codes "c"; enabled = true; rate = 1; rates = rates.List (1 ∷ 2 ∷ []) });
       devices = [];
+      channels = replicate AGENTS whole_channel;
     }
 
 -- the same board with one clock, of the rates 1 to 64

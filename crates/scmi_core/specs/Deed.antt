@@ -10,7 +10,8 @@ use Rattle.scmi_codec.specs.declared.command.Command as codec
 use Rattle.scmi_core.specs.declared.event.Event.{Event}
 use Rattle.scmi_core.specs.declared.event.Event.TheVariants.{Command}
 
--- an event, and the payload words of its reply; none where the event is no well-formed command, done or failed
+-- an event, and the payload words of its reply; none where the event is no well-formed command that fits its channel,
+-- done or failed
 pub record Deed : Type 0 where
   pub event : Event
   pub reply : List ℕ

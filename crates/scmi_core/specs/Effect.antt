@@ -1,7 +1,8 @@
 -- What a history changes of the hardware.
-use Rattle.std.specs.Prelude.{ℕ, ◌==◌, Bool, List, Option, None, option_map, map}
+use Rattle.std.specs.Prelude.{ℕ, ◌==◌, Bool, if◌then◌else◌, List, Option, None, option_map, map}
 use Rattle.std.specs.Option.{option_or}
 use Rattle.scmi_codec.specs.Command.{command_of}
+use Rattle.scmi_codec.specs.declared.message.Message.{Message}
 use Rattle.scmi_codec.specs.declared.frame.Frame.{Frame}
 use Rattle.scmi_codec.specs.declared.frame.Frame.TheVariants.{Good, Malformed}
 use Rattle.scmi_plan.specs.Board.{Board}
@@ -12,7 +13,7 @@ use Rattle.scmi_core.specs.declared.pending_set.Setting.{Setting}
 use Rattle.scmi_core.specs.declared.pending_set.Setting.TheVariants as setting
 use Rattle.scmi_core.specs.Deed.{success_of}
 use Rattle.scmi_core.specs.History.{deeds, deed_after}
-use Rattle.scmi_core.specs.Reply.{reply_words}
+use Rattle.scmi_core.specs.Reply.{fits_channel, reply_words}
 use Rattle.scmi_core.specs.Situation.{Situation}
 use Rattle.scmi_core.specs.Value.{Change, Enabled, Rate, State, Thing, change_by, change_of, changes}
 
@@ -45,7 +46,11 @@ effect_after board h event = option_map effect_of (change_by board (deeds board 
 unfoldable pub effects : Board → List Event → List Effect
 effects board h = map effect_of (changes board (deeds board h))
 
--- the effect of a frame of agent a, by the agent's situation
+-- the effect of a message of agent a that is read, by the agent's situation
+abbrev pub effect_read : Board → ℕ → Message → Situation → Option Effect
+effect_read board a m s = option_map effect_of (change_of board (success_of a m.header (command_of m) (reply_words board a s (command_of m))) None)
+
+-- the effect of a frame of agent a, by the agent's situation; one that is longer than its channel has none
 abbrev pub effect_in : Board → ℕ → Frame → Situation → Option Effect
-effect_in board a (Good m) s = option_map effect_of (change_of board (success_of a m.header (command_of m) (reply_words board a s (command_of m))) None)
+effect_in board a (Good m) s = if fits_channel board a m then effect_read board a m s else None
 effect_in board a (Malformed len header) s = None

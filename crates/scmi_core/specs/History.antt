@@ -1,7 +1,6 @@
 -- The history of a platform: a list of events, oldest first. Each event is judged at its prefix, the events before it.
 use Rattle.std.specs.Prelude.{◌≡◌, ℕ, Bool, List, [], ◌∷◌, ◌++◌, length, take, Option, Some, None}
 use Rattle.std.specs.List.{fold}
-use Rattle.scmi_codec.specs.Command.{command_of}
 use Rattle.scmi_codec.specs.declared.message.Message.{Message}
 use Rattle.scmi_codec.specs.declared.frame.Frame.{Frame}
 use Rattle.scmi_codec.specs.declared.frame.Frame.TheVariants.{Good}
@@ -17,12 +16,12 @@ use Rattle.scmi_core.specs.declared.event.Event.TheVariants.{Command, CommandFai
 use Rattle.scmi_core.specs.Deed.{Deed}
 use Rattle.scmi_core.specs.Outbox.{failed_words, messages_made, outbox_after, sent_count, situation_after}
 use Rattle.scmi_core.specs.Pending.{is_pending, pending_sets}
-use Rattle.scmi_core.specs.Reply.{answer_in, failed_answer, reply_in, reply_words}
+use Rattle.scmi_core.specs.Reply.{answer_in, failed_answer, reply_in, words_given}
 use Rattle.scmi_core.specs.Value.{Thing, value}
 
 -- an event with the payload of its reply, after these deeds
 abbrev pub deed_after : Board → List Deed → Event → Deed
-deed_after board h (Command a (Good m)) = record { event = Command a (Good m); reply = reply_words board a (situation_after board a h) (command_of m) }
+deed_after board h (Command a (Good m)) = record { event = Command a (Good m); reply = words_given board a (situation_after board a h) m }
 deed_after board h (CommandFailed a (Good m)) = record { event = CommandFailed a (Good m); reply = failed_words }
 deed_after board h event = record { event = event; reply = [] }
 
@@ -30,7 +29,7 @@ deed_after board h event = record { event = event; reply = [] }
 unfoldable pub deeds : Board → List Event → List Deed
 deeds board h = fold (λ before event. before ++ deed_after board before event ∷ []) [] h
 
--- the reply to a message of agent a after a history
+-- the reply to a message of agent a after a history, where it fits its channel
 abbrev pub scmi : Board → ℕ → Message → List Event → Message
 scmi board a m h = reply_in board a m (situation_after board a (deeds board h))
 

@@ -15,7 +15,7 @@ use Rattle.scmi_core.specs.declared.event.Event.{Event}
 use Rattle.scmi_core.specs.declared.event.Event.TheVariants.{Command}
 use Rattle.scmi_core.specs.Agents.{answers_to, frame_from, frames_of}
 use Rattle.scmi_core.specs.Deed.{Success, flat_map_with_prefix, success_at, successes}
-use Rattle.scmi_core.specs.History.{deed_after, deeds, delivered_messages, made_for, scmi}
+use Rattle.scmi_core.specs.History.{deed_after, deeds, delivered_messages, made_for}
 use Rattle.scmi_core.specs.Legal.{IsLegal}
 use Rattle.scmi_core.specs.Outbox.{situation_after}
 use Rattle.scmi_core.specs.Pending.{acceptance}
@@ -66,7 +66,7 @@ pub record HasCause (board : Board) (h : List Event) (change : Change) : Type 0 
   pub after : List Event
   pub place : h ≡ before ++ Command change.causer (Good message) ∷ after
   pub agent : IsAgent (length board.agents) change.causer
-  pub asked : option_and_then (change_asked board) (success_at (Command change.causer (Good message)) (scmi board change.causer message before).payload.items) ≡ Some change
+  pub asked : option_and_then (change_asked board) (success_at (Command change.causer (Good message)) (deed_after board (deeds board before) (Command change.causer (Good message))).reply) ≡ Some change
   pub allowed : may_after board before change.causer change.thing ≡ true
 
 -- each change came of such a command

@@ -14,6 +14,7 @@ pub mod Agents
 pub mod Legal
 pub mod Bounds
 pub mod Laws
+pub mod Channels
 pub mod Mark
 pub mod Trace
 pub mod Platform
@@ -24,3 +25,4 @@ pub mod Agreement
 pub mod Standing
 pub mod BoardB
 pub mod BoardC
+pub mod BoardD

@@ -1,5 +1,5 @@
 -- The reply to a command, and the answer to a frame, by the situation of its agent.
-use Rattle.std.specs.Prelude.{ℕ, List, [], ◌∷◌, Result, Ok, Err}
+use Rattle.std.specs.Prelude.{ℕ, Bool, nat_le, if◌then◌else◌, List, [], ◌∷◌, length, Result, Ok, Err}
 use Rattle.scmi_codec.specs.Command.{command_of}
 use Rattle.scmi_codec.specs.declared.status.Status.{Status}
 use Rattle.scmi_codec.specs.declared.message.Message.{Message}
@@ -10,7 +10,7 @@ use Rattle.scmi_codec.specs.declared.frame.Answer.TheVariants.{Reply, ChannelErr
 use Rattle.scmi_codec.specs.declared.command.Command.TheVariants.{Base, Power, Clock}
 use Rattle.scmi_codec.specs.Status.{status_word}
 use Rattle.scmi_codec.specs.declared.command.Command as codec
-use Rattle.scmi_plan.specs.Board.{Board}
+use Rattle.scmi_plan.specs.Board.{Board, channel_of}
 use Rattle.scmi_base.specs.BaseReply.{base_reply}
 use Rattle.scmi_power.specs.PowerReply.{power_reply}
 use Rattle.scmi_clock.specs.ClockReply.{clock_reply}
@@ -24,13 +24,22 @@ reply_words board a s (Ok (Base c)) = base_reply board a c
 reply_words board a s (Ok (Power c)) = power_reply board (power_view board a s) c
 reply_words board a s (Ok (Clock c)) = clock_reply board (clock_view board a s) c
 
+-- whether a message of agent a has no more payload words than its channel
+abbrev pub fits_channel : Board → ℕ → Message → Bool
+fits_channel board a m = nat_le (length m.payload.items) (channel_of board a).words
+
+-- the payload of the reply that a message of agent a gets; one that is longer than its channel gets none
+abbrev pub words_given : Board → ℕ → Situation → Message → List ℕ
+words_given board a s m = if fits_channel board a m then reply_words board a s (command_of m) else []
+
 -- the reply to a message of agent a: the message's header, and the payload
 abbrev pub reply_in : Board → ℕ → Message → Situation → Message
 reply_in board a m s = message_with m.header (reply_words board a s (command_of m))
 
--- the answer to a frame of agent a: the reply to a message, a channel error to a malformed frame
+-- the answer to a frame of agent a: the reply to a message, a channel error to a malformed frame and to one that is
+-- longer than its channel
 abbrev pub answer_in : Board → ℕ → Frame → Situation → Answer
-answer_in board a (Good m) s = Reply (reply_in board a m s)
+answer_in board a (Good m) s = if fits_channel board a m then Reply (reply_in board a m s) else ChannelError
 answer_in board a (Malformed len header) s = ChannelError
 
 -- the answer to a frame whose change the hardware refused: the message's header, and HARDWARE_ERROR alone

@@ -1,7 +1,7 @@
 -- Where an agent stands with the platform.
 use Rattle.std.specs.Prelude.{ℕ, Bool, List, length, ◌==◌}
 use Rattle.scmi_codec.specs.declared.message.Message.{Message}
-use Rattle.scmi_plan.specs.Board.{Board}
+use Rattle.scmi_plan.specs.Board.{Board, channel_of}
 use Rattle.scmi_plan.specs.declared.resource.Resource.TheVariants as resource
 use Rattle.scmi_base.specs.Permission.{may}
 use Rattle.scmi_base.specs.declared.scope.Scope.{Scope}
@@ -36,6 +36,7 @@ power_view board a s =
       may = λ d. may board s.allowed (resource.Domain d);
       busy = λ d. has_set_of (resource.Domain d) s.pending;
       room = has_room a s;
+      channel = channel_of board a;
     }
 
 -- what the replies of the clock protocol to agent a read
@@ -47,4 +48,5 @@ clock_view board a s =
       may = λ c. may board s.allowed (resource.Clock c);
       busy = λ c. has_set_of (resource.Clock c) s.pending;
       room = has_room a s;
+      channel = channel_of board a;
     }

@@ -27,7 +27,7 @@ use Rattle.scmi_core.specs.Deed.{Success, success_of}
 use Rattle.scmi_core.specs.Pending.{acceptance}
 use Rattle.scmi_core.specs.Permissions.{permission_in}
 use Rattle.scmi_core.specs.Outbox.{failed_response_for, made_in, state_changed}
-use Rattle.scmi_core.specs.Reply.{reply_words}
+use Rattle.scmi_core.specs.Reply.{words_given}
 use Rattle.scmi_core.specs.Subscriptions.{subscription}
 use Rattle.scmi_core.specs.declared.outboxes.TheConstants.{OUTBOX_ROOM}
 
@@ -52,7 +52,7 @@ HasExecuted board a header command reply t new = HasStepped board t (success_of 
 
 -- what a frame of agent a leaves; one that is malformed changes nothing
 abbrev pub HasAnswered : Board → ℕ → Frame → Tables → Tables → Type 0
-HasAnswered board a (Good m) t new = HasExecuted board a m.header (command_of m) (reply_words board a (situation_in a t) (command_of m)) t new
+HasAnswered board a (Good m) t new = HasExecuted board a m.header (command_of m) (words_given board a (situation_in a t) m) t new
 HasAnswered board a (Malformed len header) t new = new ≡ t
 
 -- nothing but outboxes changed

@@ -1,10 +1,11 @@
 //! What is left of an effect that the hardware made.
 ghost use Rattle.std.specs.Prelude.{◌≡◌, ◌≤◌, length, Some};
+ghost use Rattle.scmi_codec.specs.declared.frame.Answer.TheVariants.{Reply};
 ghost use Rattle.scmi_codec.specs.declared.frame.Frame.TheVariants.{Good};
 ghost use Rattle.scmi_plan.specs.Plan.{IsLawful};
 ghost use Rattle.scmi_core.specs.Effect.{effect_in};
 ghost use Rattle.scmi_core.specs.History.{answer_with};
-ghost use Rattle.scmi_core.specs.Reply.{answer_in, reply_in};
+ghost use Rattle.scmi_core.specs.Reply.{answer_in};
 ghost use Rattle.scmi_core.specs.Step.{HasAnswered};
 ghost use Rattle.scmi_core.specs.Tables.{situation_in};
 
@@ -16,6 +17,7 @@ use scmi_plan::Plan;
 
 impl Tables {
     /// As `answer`, for a frame whose effect the hardware made; nothing is decided again.
+    #[inline(always)]
     pub fn commit(
         &mut self,
         plan: &Plan,
@@ -43,6 +45,7 @@ impl Tables {
     }
 
     /// As `commit`, for a message. One with an effect succeeds, and its reply is SUCCESS alone.
+    #[inline(always)]
     fn commit_message(
         &mut self,
         plan: &Plan,
@@ -56,8 +59,8 @@ impl Tables {
         requires lawful { IsLawful plan.now }
         requires effect { effect_in plan.now agent (Good message.now) (situation_in agent self.old)
             ≡ Some effect }
-        ensures answer { reply.new
-            ≡ reply_in plan.now agent message.now (situation_in agent self.old) }
+        ensures answer { Reply reply.new
+            ≡ answer_in plan.now agent (Good message.now) (situation_in agent self.old) }
         ensures stepped { HasAnswered plan.now agent (Good message.now) self.old self.new }
     {
         reply.header = message.header;

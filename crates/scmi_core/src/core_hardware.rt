@@ -139,6 +139,7 @@ impl Core {
     }
 
     /// As `execute`, for a command whose effect the hardware made; nothing is decided again.
+    #[inline(always)]
     fn commit(&mut self, agent: u32, frame: &Frame, effect: Effect, reply: &mut Message) -> Answered
         requires agent { IsAgent (length self.old.board.agents) agent }
         requires room { 0 < self.old.room }

@@ -1,21 +1,27 @@
 //! What a command or a completion is to change of the hardware.
-ghost use Rattle.std.specs.Prelude.{◌≡◌, ◌≤◌, length, None, Ok, option_map};
+ghost use Rattle.std.specs.Prelude.{◌≡◌, ◌≤◌, ◌==◌, ◌&&◌, ◌||◌, length, None, Ok, option_map};
 ghost use Rattle.scmi_codec.specs.Payload.{if_success};
 ghost use Rattle.scmi_codec.specs.declared.command.Command.TheVariants.{Power, Clock};
+ghost use Rattle.scmi_codec.specs.declared.frame.Frame.TheVariants.{Good};
 ghost use Rattle.scmi_plan.specs.Plan.{IsLawful};
 ghost use Rattle.scmi_power.specs.PowerTable.{set_now};
 ghost use Rattle.scmi_clock.specs.ClockTable.{rate_now, enabled_now};
-ghost use Rattle.scmi_core.specs.Effect.{effect_in, state_effect, clock_effect};
+ghost use Rattle.scmi_core.specs.Effect.{effect_in, effect_read, state_effect, clock_effect};
 ghost use Rattle.scmi_core.specs.Reply.{reply_words};
 ghost use Rattle.scmi_core.specs.Tables.{situation_in};
 
+use crate::channel::fits_channel;
 use crate::effect::Effect;
 use crate::tables::Tables;
-use scmi_codec::{ClockCommand, Command, Frame, PowerCommand};
+use scmi_codec::{
+    CLOCK_PROTOCOL, ClockCommand, Command, Frame, Header, Message, POWER_PROTOCOL, PowerCommand,
+};
 use scmi_plan::Plan;
 
 impl Tables {
-    /// The effect of a frame of an agent, if it has one.
+    /// The effect of a frame of an agent, if it has one. A message that has none by its header is not
+    /// read.
+    #[inline(always)]
     pub fn effect_of(&self, plan: &Plan, agent: u32, frame: &Frame) -> Option<Effect>
         requires first { 1 ≤ agent }
         requires last { agent ≤ length plan.now.agents }
@@ -23,12 +29,41 @@ impl Tables {
         ensures { result ≡ effect_in plan.now agent frame.now (situation_in agent self.now) }
     {
         match frame {
-            Frame::Good(message) => match Command::read(message) {
-                Ok(Command::Power(command)) => self.power_effect(plan, agent, command),
-                Ok(Command::Clock(command)) => self.clock_effect(plan, agent, command),
-                _ => None,
-            },
-            Frame::Malformed { .. } => None,
+            Frame::Good(message) if may_have_effect(&message.header) => {
+                self.message_effect(plan, agent, message)
+            }
+            _ => None,
+        }
+    }
+
+    /// As `effect_of`, for a message; one that is longer than the agent's channel has none.
+    #[inline(never)]
+    fn message_effect(&self, plan: &Plan, agent: u32, message: &Message) -> Option<Effect>
+        requires first { 1 ≤ agent }
+        requires last { agent ≤ length plan.now.agents }
+        requires lawful { IsLawful plan.now }
+        ensures { result
+            ≡ effect_in plan.now agent (Good message.now) (situation_in agent self.now) }
+    {
+        if fits_channel(plan, agent, message) {
+            self.read_effect(plan, agent, message)
+        } else {
+            None
+        }
+    }
+
+    /// The effect of a message of an agent that fits its channel, if it has one.
+    fn read_effect(&self, plan: &Plan, agent: u32, message: &Message) -> Option<Effect>
+        requires first { 1 ≤ agent }
+        requires last { agent ≤ length plan.now.agents }
+        requires lawful { IsLawful plan.now }
+        ensures { result
+            ≡ effect_read plan.now agent message.now (situation_in agent self.now) }
+    {
+        match Command::read(message) {
+            Ok(Command::Power(command)) => self.power_effect(plan, agent, command),
+            Ok(Command::Clock(command)) => self.clock_effect(plan, agent, command),
+            _ => None,
         }
     }
 
@@ -77,4 +112,16 @@ impl Tables {
             },
         }
     }
+}
+
+/// Whether a message with this header may have an effect: POWER_STATE_SET, CLOCK_RATE_SET and
+/// CLOCK_CONFIG_SET may.
+fn may_have_effect(header: &Header) -> bool
+    ensures { result ≡ (header.now.protocol == 0x11 && header.now.id == 0x4
+        || header.now.protocol == 0x14 && (header.now.id == 0x5 || header.now.id == 0x7)) }
+{
+    matches!(
+        (header.protocol, header.id),
+        (POWER_PROTOCOL, 0x4) | (CLOCK_PROTOCOL, 0x5 | 0x7)
+    )
 }

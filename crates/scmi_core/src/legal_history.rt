@@ -3,6 +3,8 @@ ghost use Rattle.std.specs.Prelude.{◌≡◌, ◌++◌, ◌∷◌, [], ℕ, Lis
 ghost use Rattle.std.specs.Option.{option_to_list};
 ghost use Rattle.scmi_plan.specs.Board.{Board};
 ghost use Rattle.scmi_core.specs.Bounds.{HasBounds, HasResponses};
+ghost use Rattle.scmi_plan.specs.Plan.{IsLawful};
+ghost use Rattle.scmi_core.specs.Channels.{KeepsChannels};
 ghost use Rattle.scmi_core.specs.Effect.{effect_after, effects};
 ghost use Rattle.scmi_core.specs.History.{deeds};
 ghost use Rattle.scmi_core.specs.Laws.{AreAlikeBut, HasIntegrity, HasIsolation, HasTrustedPermissions, is_refused};
@@ -25,6 +27,8 @@ impl Trace {
             → HasIntegrity board self.now.events }
         ensures permissions { (board : Board) → IsLegal board self.now.events
             → HasTrustedPermissions board self.now.events }
+        ensures channels { (board : Board) → IsLawful board → IsLegal board self.now.events
+            → KeepsChannels board self.now.events }
     {
         every_legal_history();
     }
@@ -37,7 +41,8 @@ impl Trace {
 /// no delayed response is lost. A command that is refused moves nobody. Without all the commands
 /// that an agent had refused, a history is as legal, and the same to every other agent. Each
 /// change came of a command whose agent might make that change there, and what agents may do is
-/// said by the trusted agent alone. What a history changes of the hardware is what each event
+/// said by the trusted agent alone. Each answer and each message has room in its agent's channels,
+/// and for an agent that the platform can't send to none is made. What a history changes of the hardware is what each event
 /// changes, in order.
 pub fn every_legal_history()
     ensures bounds { (board : Board) (h : List Event) → IsLegal board h
@@ -52,6 +57,8 @@ pub fn every_legal_history()
         → HasIntegrity board h }
     ensures permissions { (board : Board) (h : List Event) → IsLegal board h
         → HasTrustedPermissions board h }
+    ensures channels { (board : Board) (h : List Event) → IsLawful board → IsLegal board h
+        → KeepsChannels board h }
     ensures effects { (board : Board) (h : List Event) (event : Event)
         → effects board (h ++ event ∷ [])
         ≡ effects board h ++ option_to_list (effect_after board h event) }

@@ -6,6 +6,7 @@
 #![tactic(auto)]
 
 mod answered;
+mod channel;
 mod commit;
 mod core_effects;
 mod core_error;

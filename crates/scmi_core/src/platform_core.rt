@@ -4,6 +4,7 @@ ghost use Rattle.std.specs.Option.{option_copied};
 ghost use Rattle.scmi_plan.specs.Agent.{IsAgent, IsNoAgent};
 ghost use Rattle.scmi_plan.specs.declared.limits.TheConstants.{AGENTS};
 ghost use Rattle.scmi_core.specs.Bounds.{HasBounds, HasResponses};
+ghost use Rattle.scmi_core.specs.Channels.{KeepsChannels};
 ghost use Rattle.scmi_core.specs.History.{HasNothingFor, IsIdle, answer_to, answer_with, deeds, outbox};
 ghost use Rattle.scmi_core.specs.Legal.{IsLegal};
 ghost use Rattle.scmi_core.specs.declared.event.Event.TheVariants.{Command as Called, Advance, Sent};
@@ -223,14 +224,17 @@ impl Core {
     }
 
     /// The events so far. They are a legal history: at most 8 sets are pending in it, each agent's
-    /// outbox and pending sets are at most 16, and no delayed response is lost.
+    /// outbox and pending sets are at most 16, no delayed response is lost, and what an agent got has
+    /// room in its channels.
     #[tactic(auto, using(crate::proofs::Bounds::bounds, crate::proofs::Responses::responses))]
     pub fn trace(&self) -> &Trace
         ensures events { result.now.events ≡ self.now.history }
         ensures legal { IsLegal self.now.board self.now.history }
         ensures bounds { HasBounds self.now.board (deeds self.now.board self.now.history) }
         ensures responses { HasResponses self.now.board (deeds self.now.board self.now.history) }
+        ensures channels { KeepsChannels self.now.board self.now.history }
     {
+        let _agents = self.platform.agents();
         &self.trace
     }
 
@@ -242,7 +246,9 @@ impl Core {
         ensures legal { IsLegal self.board self.history }
         ensures bounds { HasBounds self.board (deeds self.board self.history) }
         ensures responses { HasResponses self.board (deeds self.board self.history) }
+        ensures channels { KeepsChannels self.board self.history }
     {
+        let _agents = self.platform.agents();
         let Core { trace, .. } = self;
         trace
     }

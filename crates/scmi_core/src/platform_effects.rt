@@ -90,6 +90,7 @@ impl Platform {
     }
 
     /// What the command of an agent of the board is to change of the hardware.
+    #[inline(always)]
     pub(crate) fn effect_in(&self, agent: u32, frame: &Frame) -> Option<Effect>
         requires first { 1 ≤ agent }
         requires last { agent ≤ length self.now.board.agents }

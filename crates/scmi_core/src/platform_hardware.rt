@@ -114,6 +114,7 @@ impl Platform {
     }
 
     /// As `execute`, for a command whose effect the hardware made; nothing is decided again.
+    #[inline(always)]
     pub(crate) fn commit(
         &mut self,
         agent: u32,

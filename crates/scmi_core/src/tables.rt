@@ -5,6 +5,7 @@ ghost use Rattle.std.specs.Int.{bit_at};
 ghost use Rattle.scmi_base.specs.Permission.{is_allowed};
 ghost use Rattle.scmi_base.specs.declared.scope.Scope.{Scope};
 ghost use Rattle.scmi_codec.specs.Command.{command_of};
+ghost use Rattle.scmi_codec.specs.declared.frame.Frame.TheVariants.{Good};
 ghost use Rattle.scmi_codec.specs.declared.command.Command.TheVariants.{Base, Power, Clock};
 ghost use Rattle.scmi_power.specs.PowerTable.{state_at, is_subscribed};
 ghost use Rattle.scmi_plan.specs.Agent.{IsAgent};
@@ -23,6 +24,7 @@ ghost use Rattle.scmi_core.specs.declared.outboxes.TheConstants.{OUTBOX_ROOM};
 ghost use Rattle.scmi_clock.specs.declared.discovery.TheConstants.{PENDING_SETS};
 
 use crate::answered::Answered;
+use crate::channel::fits_channel;
 use crate::outboxes::Outboxes;
 use crate::pending::Pending;
 use crate::pending_set::{PendingSet, Setting};
@@ -85,12 +87,32 @@ impl Tables {
         ensures stepped { HasAnswered plan.now agent frame.now self.old self.new }
     {
         match frame {
-            Frame::Good(message) => {
-                reply.header = message.header;
-                self.execute(plan, agent, message, &mut reply.payload);
-                Answered::Reply
-            }
+            Frame::Good(message) => self.answer_message(plan, agent, message, reply),
             Frame::Malformed { .. } => Answered::ChannelError,
+        }
+    }
+
+    /// As `answer`, for a message; one that is longer than the agent's channel is malformed (own).
+    fn answer_message(
+        &mut self,
+        plan: &Plan,
+        agent: u32,
+        message: &Message,
+        reply: &mut Message,
+    ) -> Answered
+        requires first { 1 ≤ agent }
+        requires last { agent ≤ length plan.now.agents }
+        requires lawful { IsLawful plan.now }
+        ensures answer { answer_with result reply.new
+            ≡ answer_in plan.now agent (Good message.now) (situation_in agent self.old) }
+        ensures stepped { HasAnswered plan.now agent (Good message.now) self.old self.new }
+    {
+        if fits_channel(plan, agent, message) {
+            reply.header = message.header;
+            self.execute(plan, agent, message, &mut reply.payload);
+            Answered::Reply
+        } else {
+            Answered::ChannelError
         }
     }
 

@@ -9,19 +9,7 @@ use scmi_codec::{BASE_PROTOCOL, CLOCK_PROTOCOL, POWER_PROTOCOL, Status};
 pub fn status_name(status: Status) -> &'static str
     ensures { result.now ≡ status_text status }
 {
-    match status {
-        Status::Success => "SUCCESS",
-        Status::NotSupported => "NOT_SUPPORTED",
-        Status::InvalidParameters => "INVALID_PARAMETERS",
-        Status::Denied => "DENIED",
-        Status::NotFound => "NOT_FOUND",
-        Status::OutOfRange => "OUT_OF_RANGE",
-        Status::Busy => "BUSY",
-        Status::CommsError => "COMMS_ERROR",
-        Status::GenericError => "GENERIC_ERROR",
-        Status::HardwareError => "HARDWARE_ERROR",
-        Status::ProtocolError => "PROTOCOL_ERROR",
-    }
+    status.name()
 }
 
 /// The short name of a protocol of the profile; `None` for any other.

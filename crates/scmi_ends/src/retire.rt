@@ -1,6 +1,7 @@
 //! How the ends of all channels are gathered.
 ghost use Rattle.std.specs.Prelude.{◌≡◌, List, map, Option};
 ghost use Rattle.std.specs.List.{AllZip};
+ghost use Rattle.scmi_core.specs.Channels.{KeepsChannels};
 ghost use Rattle.scmi_core.specs.Bounds.{HasBounds, HasResponses};
 ghost use Rattle.scmi_core.specs.Driven.{HasMade};
 ghost use Rattle.scmi_core.specs.History.{deeds};
@@ -36,6 +37,7 @@ impl<C: Channel> Controller<C> {
         ensures legal { IsLegal self.board result.events }
         ensures bounds { HasBounds self.board (deeds self.board result.events) }
         ensures responses { HasResponses self.board (deeds self.board result.events) }
+        ensures channels { KeepsChannels self.board result.events }
         ensures headline { Headlines self.board result.events 1 agents.items self.callees
             self.callers }
         ensures shut { StayShut result.events self.callees self.closed_at }

@@ -1,16 +1,16 @@
 -- The tests of a board's rules decide what a lawful board is.
-use Rattle.std.proofs.Common.{◌≡◌, ◌⊎◌, inl, inr, ◌↔◌, ℕ, zero, suc, ◌+◌, ◌-◌, ◌*◌, ◌/◌, ◌%◌, ◌^◌, ◌<◌, ◌≤◌, ◌==◌, nat_le, nat_lt, Bool, true, false, not, ◌&&◌, if◌then◌else◌, List, [], ◌∷◌, length, map, get_or, Some, None, refl, sym, ap, subst, ◌∙◌, arith, Decides, Contains, mod-lt, string_bytes}
+use Rattle.std.proofs.Common.{◌≡◌, ◌⊎◌, inl, inr, ◌↔◌, ℕ, zero, suc, ◌+◌, ◌-◌, ◌*◌, ◌/◌, ◌%◌, ◌^◌, ◌<◌, ◌≤◌, ◌==◌, nat_le, nat_lt, Bool, true, false, not, ◌&&◌, if◌then◌else◌, List, [], ◌∷◌, length, map, get_or, replicate, Some, None, refl, sym, ap, subst, ◌∙◌, arith, Decides, Contains, mod-lt, string_bytes}
 use Rattle.std.specs.List.{All, list_all, list_any, range_with_len, IsAllAdjacentAnswer}
 use Rattle.std.specs.List.Sorted.{IsStrictlyIncreasing}
 use Rattle.std.proofs.lemmas.Bool.Decides.{leb_tells, Decides-eqb, Decides-ltb, Decides-and, Decides-like, Decides-by_and, Decides-by_or}
 use Rattle.std.proofs.lemmas.List.{get_or_default, get_or-map, length-map}
-use Rattle.std.proofs.lemmas.List.Elements.{All-from_get_or}
+use Rattle.std.proofs.lemmas.List.Elements.{All-from_get_or, All-replicate}
 use Rattle.std.proofs.lemmas.List.FromFn.{length-map-range_with_len, get_or-map-range_with_len}
 use Rattle.std.proofs.lemmas.Nat.{div-add-mod', le-div}
 use Rattle.std.proofs.Math.Nat.{mul-mod_left, zero-mul, le-div_iff_mul-le}
 use Rattle.scmi_codec.specs.Name.{IsName}
 use Rattle.scmi_codec.specs.declared.name.TheConstants.{NAME_BYTES}
-use Rattle.scmi_plan.specs.Board.{Board}
+use Rattle.scmi_plan.specs.Board.{Board, IsChannel, whole_channel}
 use Rattle.scmi_plan.specs.Plan.{IsLawful}
 use Rattle.scmi_plan.specs.Rates.{HasLawfulRates, IsSupported}
 use Rattle.scmi_plan.specs.PlanError.{is_name, rises, is_lawful_list, is_lawful, supports, has_lawful_counts, has_lawful_names, has_lawful_clocks, has_lawful_devices, has_trusted_agent, first_fault}
@@ -138,7 +138,7 @@ pub Decides-below_next : (r : Bool) (xs : List ℕ) → IsAllAdjacentAnswer (λ 
 Decides-below_next true xs below = (λ _ k h. (Decides-ltb (get_or xs k 0) (get_or xs (k + 1) 0)).0 (sym (below k 0 h)), λ _. refl)
 Decides-below_next false xs falls = (λ e. cc, λ up. falls.2 0 ∙ (Decides-ltb (get_or xs falls.0 0) (get_or xs (falls.0 + 1) 0)).1 (up falls.0 falls.1))
 
-module _ (board : Board) where
+module _ (board : Board) (each : length board.channels ≡ AGENTS) (channels : All IsChannel board.channels) where
   abbrev IsWithin : Device → Type 0
   IsWithin device = (device.domains < 2 ^ length board.domains) × (device.clocks < 2 ^ length board.clocks)
 
@@ -191,6 +191,8 @@ module _ (board : Board) where
         known_clocks = λ d small. (devices d _ small).1;
         trusted = w.1.0;
         trusted_agent = w.1.1;
+        channels = each;
+        lawful_channels = channels;
       })
       (λ law. (
         (
@@ -221,12 +223,20 @@ Decides-none true true false d e = (λ h. cc, λ h. cc)
 Decides-none true true true false e = (λ h. cc, λ h. cc)
 Decides-none true true true true false = (λ h. cc, λ h. cc)
 
--- a board breaks no rule exactly where it is lawful
-pub lawful : (board : Board) → (first_fault board ≡ None) ↔ IsLawful board
-lawful board =
+-- a board whose channels are lawful breaks no rule if and only if it is lawful
+lawful_but : (board : Board) → length board.channels ≡ AGENTS → All IsChannel board.channels → (first_fault board ≡ None) ↔ IsLawful board
+lawful_but board each channels =
     let none = Decides-none (has_lawful_counts board) (has_lawful_names board) (has_lawful_clocks board) (has_lawful_devices board) (has_trusted_agent board) in
-    let law = Decides-tests board in
+    let law = Decides-tests board each channels in
     (λ h. law.0 (none.0 h), λ w. none.1 (law.1 w))
+
+-- whole channels are lawful
+whole_channels : All IsChannel (replicate AGENTS whole_channel)
+whole_channels = All-replicate IsChannel AGENTS whole_channel (omega arith, omega arith)
+
+-- a board that was written down breaks no rule if and only if it is lawful
+pub lawful : (raw : RawPlan) → (first_fault (asked_board raw) ≡ None) ↔ IsLawful (asked_board raw)
+lawful raw = lawful_but (asked_board raw) refl whole_channels
 
 -- a set has only members below a count where nothing is left above it
 pub Decides-below : (set p : ℕ) → 0 < p → Decides (set / p == 0) (set < p)

@@ -1,5 +1,6 @@
 -- The limits of a board that code and definitions share, each as the profile has it.
-use Rattle.std.proofs.Common.{◌≡◌, refl}
+use Rattle.std.proofs.Common.{◌≡◌, false, refl}
+use Rattle.scmi_plan.specs.declared.agent_channel.TheConstants.{LEAST_CHANNEL_WORDS, WHOLE_CHANNEL}
 use Rattle.scmi_plan.specs.declared.limits.TheConstants.{AGENTS, DOMAINS, CLOCKS, DEVICES, RATES}
 
 agents : AGENTS ≡ 8
@@ -16,3 +17,9 @@ devices = refl
 
 rates : RATES ≡ 64
 rates = refl
+
+channel_words : LEAST_CHANNEL_WORDS ≡ 8
+channel_words = refl
+
+whole : WHOLE_CHANNEL ≡ record { words = 64; one_way = false }
+whole = refl

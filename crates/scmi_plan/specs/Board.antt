@@ -1,6 +1,9 @@
 -- The board that a platform controller serves, and what a device holds.
-use Rattle.std.specs.Prelude.{ℕ, ◌<◌, ◌==◌, Bool, false, List, [], length, get_or}
+use Rattle.std.specs.Prelude.{ℕ, ◌<◌, ◌≤◌, ◌-◌, ◌==◌, Bool, false, List, [], length, get_or, set}
 use Rattle.std.specs.Int.{bit_at}
+use Rattle.scmi_codec.specs.declared.payload.TheConstants.{PAYLOAD_WORDS}
+use Rattle.scmi_plan.specs.declared.agent_channel.AgentChannel.{AgentChannel}
+use Rattle.scmi_plan.specs.declared.agent_channel.TheConstants.{LEAST_CHANNEL_WORDS}
 use Rattle.scmi_plan.specs.declared.domain.Domain.{Domain}
 use Rattle.scmi_plan.specs.declared.clock.Clock.{Clock}
 use Rattle.scmi_plan.specs.declared.device.Device.{Device}
@@ -18,6 +21,24 @@ pub record Board : Type 0 where
   pub domains : List Domain
   pub clocks : List Clock
   pub devices : List Device
+  -- of each agent that a board may have, from agent 1 on
+  pub channels : List AgentChannel
+
+-- the channels of an agent of whom nothing else is said: 64 words of payload, both ways (own)
+abbrev pub whole_channel : AgentChannel
+whole_channel = record { words = PAYLOAD_WORDS; one_way = false }
+
+-- a channel has room for 8 to 64 words of payload (own)
+abbrev pub IsChannel : AgentChannel → Type 0
+IsChannel channel = (LEAST_CHANNEL_WORDS ≤ channel.words) × (channel.words ≤ PAYLOAD_WORDS)
+
+-- an agent's channels
+abbrev pub channel_of : Board → ℕ → AgentChannel
+channel_of board a = get_or board.channels (a - 1) whole_channel
+
+-- the same board with other channels of one agent
+abbrev pub with_channel : Board → ℕ → AgentChannel → Board
+with_channel board a channel = record board { channels = set board.channels (a - 1) channel }
 
 -- whether a device holds a resource
 abbrev pub holds : Device → Resource → Bool

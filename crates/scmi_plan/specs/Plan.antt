@@ -1,8 +1,8 @@
 -- A lawful board, and what a plan holds of one.
-use Rattle.std.specs.Prelude.{ℕ, ◌<◌, ◌≤◌, ◌^◌, length}
+use Rattle.std.specs.Prelude.{ℕ, ◌<◌, ◌≤◌, ◌^◌, ◌≡◌, length}
 use Rattle.std.specs.List.{All}
 use Rattle.scmi_codec.specs.Name.{IsName}
-use Rattle.scmi_plan.specs.Board.{Board, domain_at, clock_at, device_at}
+use Rattle.scmi_plan.specs.Board.{Board, IsChannel, domain_at, clock_at, device_at}
 use Rattle.scmi_plan.specs.Rates.{HasLawfulRates, IsSupported}
 use Rattle.scmi_plan.specs.declared.limits.TheConstants.{AGENTS, DOMAINS, CLOCKS, DEVICES}
 use Rattle.scmi_plan.specs.declared.plan.Plan.TheInside.{Inside}
@@ -19,6 +19,7 @@ board_of p =
       domains = p.domains.items;
       clocks = p.clocks.items;
       devices = p.devices.items;
+      channels = p.channels;
     }
 
 -- a board that keeps the limits and rules of the profile (own)
@@ -39,3 +40,5 @@ pub record IsLawful (board : Board) : Type 0 where
   pub known_clocks : (d : ℕ) → d < length board.devices → (device_at board d).clocks < 2 ^ length board.clocks
   pub trusted : 1 ≤ board.trusted
   pub trusted_agent : board.trusted ≤ length board.agents
+  pub channels : length board.channels ≡ AGENTS
+  pub lawful_channels : All IsChannel board.channels

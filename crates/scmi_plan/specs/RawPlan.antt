@@ -1,6 +1,7 @@
 -- The board that a raw plan writes down.
-use Rattle.std.specs.Prelude.{map, string_bytes}
-use Rattle.scmi_plan.specs.Board.{Board}
+use Rattle.std.specs.Prelude.{map, replicate, string_bytes}
+use Rattle.scmi_plan.specs.Board.{Board, whole_channel}
+use Rattle.scmi_plan.specs.declared.limits.TheConstants.{AGENTS}
 use Rattle.scmi_plan.specs.declared.domain.Domain.{Domain}
 use Rattle.scmi_plan.specs.declared.clock.Clock.{Clock}
 use Rattle.scmi_plan.specs.declared.raw_plan.RawPlan.{RawPlan}
@@ -22,7 +23,7 @@ asked_domain raw =
 abbrev pub asked_clock : RawClock → Clock
 asked_clock raw = record { name = string_bytes raw.name; enabled = raw.enabled; rate = raw.rate; rates = raw.rates }
 
--- the board with its names as bytes
+-- the board with its names as bytes, and whole channels
 abbrev pub asked_board : RawPlan → Board
 asked_board raw =
     record {
@@ -34,4 +35,5 @@ asked_board raw =
       domains = map asked_domain raw.domains.items;
       clocks = map asked_clock raw.clocks.items;
       devices = raw.devices.items;
+      channels = replicate AGENTS whole_channel;
     }

@@ -5,7 +5,9 @@
 //! first rule that it breaks; want of memory comes last.
 #![tactic(auto)]
 
+mod agent_channel;
 mod build;
+mod channel_error;
 mod clock;
 mod device;
 mod domain;
@@ -18,6 +20,8 @@ mod rates;
 mod raw_plan;
 mod resource;
 
+pub use agent_channel::{AgentChannel, LEAST_CHANNEL_WORDS, WHOLE_CHANNEL};
+pub use channel_error::ChannelError;
 pub use clock::Clock;
 pub use device::Device;
 pub use domain::Domain;

@@ -1,21 +1,27 @@
 //! A lawful board.
-ghost use Rattle.std.specs.Prelude.{◌≡◌, ◌≢◌, ◌↔◌, ◌<◌, ◌≤◌, ◌-◌, length, get_or, [], None, Some, Err, IfOk, IfErr, OnOk, IsOkUnless, IsErrOf};
-ghost use Rattle.scmi_plan.specs.Board.{holds, IsOnBoard, domain_at, clock_at, device_at};
+ghost use Rattle.std.specs.Prelude.{◌≡◌, ◌≢◌, ◌↔◌, ◌<◌, ◌≤◌, ◌-◌, ◌⊎◌, length, get_or, [], None, Some, Err, IfOk, IfErr, OnOk, OnErr, IsOkUnless, IsErrOf};
+ghost use Rattle.scmi_codec.specs.declared.payload.TheConstants.{PAYLOAD_WORDS};
+ghost use Rattle.scmi_plan.specs.Agent.{IsAgent, IsNoAgent};
+ghost use Rattle.scmi_plan.specs.declared.agent_channel.TheConstants.{LEAST_CHANNEL_WORDS};
+ghost use Rattle.scmi_plan.specs.Board.{IsChannel, channel_of, with_channel, holds, IsOnBoard, domain_at, clock_at, device_at};
 ghost use Rattle.scmi_plan.specs.Plan.{IsLawful};
 ghost use Rattle.scmi_plan.specs.PlanError.{first_fault};
 ghost use Rattle.scmi_plan.specs.RawPlan.{asked_board};
 ghost use Rattle.scmi_plan.specs.Rates.{HasLawfulRates};
 ghost use Rattle.scmi_plan.specs.declared.plan_error.PlanError.TheVariants.{Memory};
 
+use crate::agent_channel::{AgentChannel, LEAST_CHANNEL_WORDS, WHOLE_CHANNEL};
 use crate::build::{build_agents, build_clocks, build_devices, build_domains, build_name};
+use crate::channel_error::ChannelError;
 use crate::clock::Clock;
 use crate::device::Device;
 use crate::domain::Domain;
 use crate::fault::first_fault;
+use crate::limits::AGENTS;
 use crate::plan_error::PlanError;
 use crate::raw_plan::RawPlan;
 use crate::resource::Resource;
-use scmi_codec::Name;
+use scmi_codec::{Name, PAYLOAD_WORDS};
 use std::alloc::{AllocError, Global};
 use std::marker::Model;
 
@@ -30,6 +36,7 @@ pub struct Plan {
     domains: Vec<Domain>,
     clocks: Vec<Clock>,
     devices: Vec<Device>,
+    channels: [AgentChannel; AGENTS],
 }
 
 impl Model for Plan {
@@ -79,6 +86,7 @@ impl Plan {
             domains: build_domains(alloc, &raw.domains)?,
             clocks: build_clocks(alloc, &raw.clocks)?,
             devices: build_devices(alloc, &raw.devices)?,
+            channels: [WHOLE_CHANNEL; AGENTS],
         })
     }
 
@@ -125,6 +133,40 @@ impl Plan {
         ensures { result.now ≡ get_or self.now.agents (agent - 1) [] }
     {
         &self.agents[agent as usize - 1]
+    }
+
+    /// What an agent's channels are. `Plan::check` gives each agent whole ones: 64 words of payload,
+    /// both ways.
+    pub fn channel(&self, agent: u32) -> AgentChannel
+        requires first { 1 ≤ agent }
+        requires last { agent ≤ length self.now.agents }
+        ensures row { result ≡ channel_of self.now agent }
+        ensures lawful { IsChannel result }
+    {
+        self.channels[agent as usize - 1]
+    }
+
+    /// Says what an agent's channels are (own). `NoAgent` where the board lacks the agent, and then
+    /// `Words` where they have fewer than 8 words of payload or more than 64; nothing changed then.
+    /// It takes no memory.
+    pub fn set_channel(&mut self, agent: u32, channel: AgentChannel) -> Result<(), ChannelError>
+        ensures ok { OnOk result (self.new ≡ with_channel self.old agent channel) }
+        ensures no_agent { (result ≡ Err ChannelError.NoAgent)
+            ↔ IsNoAgent (length self.old.agents) agent }
+        ensures words { (result ≡ Err ChannelError.Words)
+            ↔ (IsAgent (length self.old.agents) agent
+            × ((channel.words < LEAST_CHANNEL_WORDS) ⊎ (PAYLOAD_WORDS < channel.words))) }
+        ensures err { OnErr result (self.new ≡ self.old) }
+    {
+        if agent == 0 || agent > self.agents() {
+            return Err(ChannelError::NoAgent);
+        }
+        if channel.words < LEAST_CHANNEL_WORDS || channel.words > PAYLOAD_WORDS as u32 {
+            return Err(ChannelError::Words);
+        }
+        let place = agent as usize - 1;
+        self.channels[place] = channel;
+        Ok(())
     }
 
     /// The number of power domains, at most 32. They are numbered from 0.

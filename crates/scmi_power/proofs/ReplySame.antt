@@ -6,12 +6,13 @@ use Rattle.scmi_codec.specs.declared.power_command.PowerCommand.TheVariants as p
 use Rattle.scmi_plan.specs.Board.{Board}
 use Rattle.scmi_power.specs.PowerReply.{PowerView, power_reply, no_domain}
 
--- two views say the same of each domain of the board, and of room
+-- two views say the same of each domain of the board, of room and of the channels
 pub record SameView (board : Board) (v w : PowerView) : Type 0 where
   pub state : (d : ℕ) → d < length board.domains → v.state d ≡ w.state d
   pub may : (d : ℕ) → d < length board.domains → v.may d ≡ w.may d
   pub busy : (d : ℕ) → d < length board.domains → v.busy d ≡ w.busy d
   pub room : v.room ≡ w.room
+  pub channel : v.channel ≡ w.channel
 
 -- a domain that is not unknown is one of the board
 known : (board : Board) (d : ℕ) → no_domain board d ≡ false → d < length board.domains
@@ -23,11 +24,11 @@ unfolding power_reply
 power_reply-same board v w s power.Version = refl
 power_reply-same board v w s power.Attributes = refl
 power_reply-same board v w s (power.MessageAttributes message) = refl
-power_reply-same board v w s (power.DomainAttributes d) = refl
+power_reply-same board v w s (power.DomainAttributes d) = rw (s.channel) refl
 power_reply-same board v w s (power.Set flags d state) = by_domain (cases_Bool (no_domain board d)) where
   by_domain : ((no_domain board d ≡ true) ⊎ (no_domain board d ≡ false)) → power_reply board v (power.Set flags d state) ≡ power_reply board w (power.Set flags d state)
   by_domain (inl h) = rw h refl
-  by_domain (inr h) = let small = known board d h in rw (s.may d small, s.busy d small, s.room) refl
+  by_domain (inr h) = let small = known board d h in rw (s.may d small, s.busy d small, s.room, s.channel) refl
 power_reply-same board v w s (power.Get d) = by_domain (cases_Bool (no_domain board d)) where
   by_domain : ((no_domain board d ≡ true) ⊎ (no_domain board d ≡ false)) → power_reply board v (power.Get d) ≡ power_reply board w (power.Get d)
   by_domain (inl h) = rw h refl
@@ -35,4 +36,4 @@ power_reply-same board v w s (power.Get d) = by_domain (cases_Bool (no_domain bo
 power_reply-same board v w s (power.Notify d enable) = by_domain (cases_Bool (no_domain board d)) where
   by_domain : ((no_domain board d ≡ true) ⊎ (no_domain board d ≡ false)) → power_reply board v (power.Notify d enable) ≡ power_reply board w (power.Notify d enable)
   by_domain (inl h) = rw h refl
-  by_domain (inr h) = rw (s.may d (known board d h)) refl
+  by_domain (inr h) = rw (s.may d (known board d h), s.channel) refl

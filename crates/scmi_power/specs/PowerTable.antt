@@ -4,7 +4,7 @@ use Rattle.std.specs.Int.{bit_at}
 use Rattle.scmi_codec.specs.Payload.{if_success}
 use Rattle.scmi_codec.specs.declared.power_command.PowerCommand.{PowerCommand}
 use Rattle.scmi_codec.specs.declared.power_command.PowerCommand.TheVariants as power
-use Rattle.scmi_plan.specs.Board.{Board, domain_at}
+use Rattle.scmi_plan.specs.Board.{Board, channel_of, domain_at}
 use Rattle.scmi_plan.specs.declared.domain.Domain.{Domain}
 use Rattle.scmi_power.specs.PowerReply.{PowerView, state_on, state_off, set_reply, notify_reply}
 use Rattle.scmi_codec.specs.Reply.{bit_0}
@@ -55,6 +55,7 @@ view_of board permissions table load caller =
       may = may_change board permissions caller;
       busy = is_busy load;
       room = load.room;
+      channel = channel_of board caller;
     }
 
 -- the domain and state that a successful command sets at once
@@ -86,11 +87,11 @@ only_reads _ = true
 -- the reply to a caller's set, by the permissions and by what pending sets leave free
 abbrev pub set_words : Board → Permissions → ℕ → Load → (flags d state : ℕ) → List ℕ
 set_words board permissions caller load flags d state =
-    set_reply board (may_change board permissions caller d) (is_busy load d) load.room flags d state
+    set_reply board (channel_of board caller) (may_change board permissions caller d) (is_busy load d) load.room flags d state
 
 -- the reply to a caller's request for notifications, by the permissions
 abbrev pub notify_words : Board → Permissions → ℕ → (d enable : ℕ) → List ℕ
-notify_words board permissions caller d enable = notify_reply board (may_change board permissions caller d) d enable
+notify_words board permissions caller d enable = notify_reply board (channel_of board caller) (may_change board permissions caller d) d enable
 
 -- the states of a table after a set, if there is one
 abbrev pub HasSet : Option (ℕ × ℕ) → PowerTables → PowerTables → Type 0

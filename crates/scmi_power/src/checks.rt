@@ -5,13 +5,14 @@ ghost use Rattle.scmi_codec.specs.Status.{status_word};
 ghost use Rattle.scmi_codec.specs.declared.status.Status.TheVariants.{Success, NotFound, NotSupported, Denied, Busy};
 ghost use Rattle.scmi_plan.specs.Plan.{IsLawful};
 ghost use Rattle.scmi_plan.specs.declared.limits.TheConstants.{AGENTS, DOMAINS};
-ghost use Rattle.scmi_power.specs.PowerReply.{no_domain, supports};
+ghost use Rattle.scmi_power.specs.PowerReply.{has_notifications, no_domain, supports};
 ghost use Rattle.scmi_power.specs.PowerTable.{may_change, is_busy, set_words, notify_words};
 
+use crate::domain_attributes::{has_asynchronous, has_notifications};
 use crate::domain_state::check_state;
 use scmi_base::BaseState;
 use scmi_codec::{Status, single_flag};
-use scmi_plan::{Domain, Load, Plan, Resource};
+use scmi_plan::{AgentChannel, Domain, Load, Plan, Resource};
 
 /// The checks of 0x4 (DEN0056B, power domain management protocol): domain, flags, state, kind of
 /// set, permission, pending sets. Answers whether the set is asynchronous.
@@ -38,7 +39,7 @@ pub(crate) fn check_set(
     check_domain(plan, domain)?;
     let asynchronous = single_flag(flags)?;
     check_state(state)?;
-    check_kind(plan.domain(domain), asynchronous)?;
+    check_kind(plan.channel(caller), plan.domain(domain), asynchronous)?;
     check_permission(plan, base, caller, domain)?;
     check_free(domain, asynchronous, load)?;
     Ok(asynchronous)
@@ -65,7 +66,7 @@ pub(crate) fn check_notify(
 {
     check_domain(plan, domain)?;
     let enabled = single_flag(enable)?;
-    check_notifications(plan.domain(domain))?;
+    check_notifications(plan.channel(caller), plan.domain(domain))?;
     check_permission(plan, base, caller, domain)?;
     Ok(enabled)
 }
@@ -83,12 +84,12 @@ pub(crate) fn check_domain(plan: &Plan, domain: u32) -> Result<(), Status>
     Ok(())
 }
 
-/// NOT_SUPPORTED where a domain has no sets of a kind.
-fn check_kind(row: &Domain, asynchronous: bool) -> Result<(), Status>
-    ensures { result ≡ (if supports row.now asynchronous then Ok tt else Err NotSupported) }
+/// NOT_SUPPORTED where a domain has no sets of a kind for an agent.
+fn check_kind(channel: AgentChannel, row: &Domain, asynchronous: bool) -> Result<(), Status>
+    ensures { result ≡ (if supports channel row.now asynchronous then Ok tt else Err NotSupported) }
 {
     let supported = if asynchronous {
-        row.asynchronous
+        has_asynchronous(channel, row)
     } else {
         row.synchronous
     };
@@ -98,11 +99,12 @@ fn check_kind(row: &Domain, asynchronous: bool) -> Result<(), Status>
     Ok(())
 }
 
-/// NOT_SUPPORTED where a domain has no notifications.
-fn check_notifications(row: &Domain) -> Result<(), Status>
-    ensures { result ≡ (if row.now.notify then Ok tt else Err NotSupported) }
+/// NOT_SUPPORTED where a domain has no notifications for an agent.
+fn check_notifications(channel: AgentChannel, row: &Domain) -> Result<(), Status>
+    ensures { result
+        ≡ (if has_notifications channel row.now then Ok tt else Err NotSupported) }
 {
-    if !row.notify {
+    if !has_notifications(channel, row) {
         return Err(Status::NotSupported);
     }
     Ok(())

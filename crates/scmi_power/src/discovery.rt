@@ -7,7 +7,7 @@ use crate::domain_attributes::attributes_of;
 use scmi_codec::{
     POWER_PROTOCOL, Payload, SUCCESS, Status, is_listed, name_words, set_payload, set_refusal,
 };
-use scmi_plan::Plan;
+use scmi_plan::{AgentChannel, Plan};
 
 /// The version of the power domain protocol: major 2, minor 0.
 const VERSION: u32 = 0x0002_0000;
@@ -49,15 +49,21 @@ pub(crate) fn message_attributes(message: u32, reply: &mut Payload)
     }
 }
 
-/// 0x3: what a domain supports, and its name; NOT_FOUND for a domain that the board lacks.
-pub(crate) fn domain_attributes(plan: &Plan, domain: u32, reply: &mut Payload)
-    ensures { reply.new.items ≡ domain_reply plan.now domain }
+/// 0x3: what a domain supports for an agent, and its name; NOT_FOUND for a domain that the board
+/// lacks.
+pub(crate) fn domain_attributes(
+    plan: &Plan,
+    channel: AgentChannel,
+    domain: u32,
+    reply: &mut Payload,
+)
+    ensures { reply.new.items ≡ domain_reply plan.now channel domain }
 {
     match check_domain(plan, domain) {
         Ok(()) => {
             let row = plan.domain(domain);
             let [a, b, c, d] = name_words(&row.name);
-            set_payload(reply, &[SUCCESS, attributes_of(row), a, b, c, d]);
+            set_payload(reply, &[SUCCESS, attributes_of(channel, row), a, b, c, d]);
         }
         Err(status) => set_refusal(reply, status),
     }

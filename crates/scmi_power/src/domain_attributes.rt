@@ -1,8 +1,8 @@
 //! The attributes of a power domain.
 ghost use Rattle.std.specs.Prelude.{◌≡◌};
-ghost use Rattle.scmi_power.specs.PowerReply.{attributes, bit};
+ghost use Rattle.scmi_power.specs.PowerReply.{attributes, bit, has_asynchronous, has_notifications};
 
-use scmi_plan::Domain;
+use scmi_plan::{AgentChannel, Domain};
 
 /// The domain has notifications of its changes.
 const NOTIFICATIONS: u32 = 1 << 31;
@@ -13,13 +13,28 @@ const ASYNCHRONOUS: u32 = 1 << 30;
 /// The domain can be set synchronously.
 const SYNCHRONOUS: u32 = 1 << 29;
 
-/// What a domain supports, as a word of attributes.
-pub(crate) fn attributes_of(row: &Domain) -> u32
-    ensures { result ≡ attributes row.now }
+/// What a domain supports for an agent, as a word of attributes.
+pub(crate) fn attributes_of(channel: AgentChannel, row: &Domain) -> u32
+    ensures { result ≡ attributes channel row.now }
 {
-    flag(row.notify, NOTIFICATIONS)
-        + flag(row.asynchronous, ASYNCHRONOUS)
+    flag(has_notifications(channel, row), NOTIFICATIONS)
+        + flag(has_asynchronous(channel, row), ASYNCHRONOUS)
         + flag(row.synchronous, SYNCHRONOUS)
+}
+
+/// Whether a domain has notifications for an agent: none where the platform can't send to it (own).
+pub(crate) fn has_notifications(channel: AgentChannel, row: &Domain) -> bool
+    ensures { result ≡ has_notifications channel row.now }
+{
+    !channel.one_way && row.notify
+}
+
+/// Whether a domain has asynchronous sets for an agent: none where the platform can't send to it
+/// (own).
+pub(crate) fn has_asynchronous(channel: AgentChannel, row: &Domain) -> bool
+    ensures { result ≡ has_asynchronous channel row.now }
+{
+    !channel.one_way && row.asynchronous
 }
 
 /// The bits of an attribute that a domain has, or none.

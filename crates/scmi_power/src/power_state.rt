@@ -58,7 +58,7 @@ impl PowerState {
     /// Executes a command of a caller and writes the reply, which begins with a status: NOT_FOUND
     /// for an unknown domain or message id; then INVALID_PARAMETERS for flag bits besides bit 0 or
     /// for a word that is no state; then NOT_SUPPORTED for a kind of set, or notifications, that
-    /// the domain lacks; then DENIED for a domain that the caller may not change; then BUSY for a
+    /// the domain lacks, or that would send to a caller to which the platform can't (own); then DENIED for a domain that the caller may not change; then BUSY for a
     /// set of a domain that has a pending set, or for an asynchronous set without room. A command
     /// that is refused changes nothing. A synchronous set takes effect here; an asynchronous one is
     /// only named, for `complete`.
@@ -90,7 +90,9 @@ impl PowerState {
             PowerCommand::Version => version(reply),
             PowerCommand::Attributes => attributes(plan, reply),
             PowerCommand::MessageAttributes { message } => message_attributes(message, reply),
-            PowerCommand::DomainAttributes { domain } => domain_attributes(plan, domain, reply),
+            PowerCommand::DomainAttributes { domain } => {
+                domain_attributes(plan, plan.channel(caller), domain, reply);
+            }
             PowerCommand::Set {
                 flags,
                 domain,

@@ -2,24 +2,25 @@ use Rattle.std.proofs.Common.{sym, ◌∙◌}
 use Rattle.scmi_plan.specs.RawPlan.{asked_board}
 use Rattle.scmi_board.specs.BoardText.{rows_of}
 use Rattle.scmi_board.specs.Lines.{last_number, line_of, lines_left}
-use Rattle.scmi_board.proofs.BoardLemmas.{rows_end, rows_go_on, rows_missing, rows_stop}
+use Rattle.scmi_board.specs.Rows.{with_row}
+use Rattle.scmi_board.proofs.BoardLemmas.{lines_end, lines_go_on, lines_missing, lines_stop}
 use Rattle.scmi_board.proofs.LineLemmas.{last_is}
 use Rattle.scmi_board.proofs.board.read_rows.Goals as goal
 
 pub returns-then-eq : goal.returns-then-eq
 returns-then-eq c =
-    rows_end (last_number c.args.lines.now) (asked_board c.loop-line.board) (lines_left c.loop-line.lines) (line_of c.in-Some.line) (lines_left c.next_line.new.self) _ c.in-Some.ensures.lines (sym c.if-eq.ensures) c.loop-line.invariant.so_far
+    lines_end with_row (last_number c.args.lines.now) (asked_board c.loop-line.board) (lines_left c.loop-line.lines) (line_of c.in-Some.line) (lines_left c.next_line.new.self) _ c.in-Some.ensures.lines (sym c.if-eq.ensures) c.loop-line.invariant.so_far
 
 pub returns-in-Err : goal.returns-in-Err
 returns-in-Err c =
-    rw c.in_board.ensures (rows_stop (last_number c.args.lines.now) (asked_board c.loop-line.board) (lines_left c.loop-line.lines) (line_of c.in-Some.line) (lines_left c.next_line.new.self) (rows_of (last_number c.args.lines.now) (asked_board c.args.board.now) (lines_left c.args.lines.now)) c.in-Err.error c.in-Some.ensures.lines (sym c.if-eq.ensures) c.in-Err.ensures c.loop-line.invariant.so_far)
+    rw c.in_board.ensures (lines_stop with_row (last_number c.args.lines.now) (asked_board c.loop-line.board) (lines_left c.loop-line.lines) (line_of c.in-Some.line) (lines_left c.next_line.new.self) (rows_of (last_number c.args.lines.now) (asked_board c.args.board.now) (lines_left c.args.lines.now)) c.in-Err.error c.in-Some.ensures.lines (sym c.if-eq.ensures) c.in-Err.ensures c.loop-line.invariant.so_far)
 
 pub loop-line-preserved : goal.loop-line-preserved
 loop-line-preserved c = record {
-  so_far = rows_go_on (last_number c.args.lines.now) (asked_board c.loop-line.board) (asked_board c.read_row.new.board) (lines_left c.loop-line.lines) (line_of c.in-Some.line) (lines_left c.next_line.new.self) (rows_of (last_number c.args.lines.now) (asked_board c.args.board.now) (lines_left c.args.lines.now)) c.in-Some.ensures.lines (sym c.if-eq.ensures) c.in_default-read_row.ensures c.loop-line.invariant.so_far;
+  so_far = lines_go_on with_row (last_number c.args.lines.now) (asked_board c.loop-line.board) (asked_board c.read_row.new.board) (lines_left c.loop-line.lines) (line_of c.in-Some.line) (lines_left c.next_line.new.self) (rows_of (last_number c.args.lines.now) (asked_board c.args.board.now) (lines_left c.args.lines.now)) c.in-Some.ensures.lines (sym c.if-eq.ensures) c.in_default-read_row.ensures c.loop-line.invariant.so_far;
   last = c.in-Some.ensures.last ∙ c.loop-line.invariant.last;
 }
 
 pub returns : goal.returns
 returns c =
-    rows_missing (last_number c.args.lines.now) (asked_board c.loop-line.board) (lines_left c.loop-line.lines) c.last_number.result (rows_of (last_number c.args.lines.now) (asked_board c.args.board.now) (lines_left c.args.lines.now)) c.in_default.ensures.lines (sym c.loop-line.invariant.last ∙ sym c.in_default.ensures.last ∙ last_is c.next_line.new.self.number c.next_line.new.self.rest c.in_default.ensures.end ∙ sym c.last_number.ensures) c.loop-line.invariant.so_far
+    lines_missing with_row (last_number c.args.lines.now) (asked_board c.loop-line.board) (lines_left c.loop-line.lines) c.last_number.result (rows_of (last_number c.args.lines.now) (asked_board c.args.board.now) (lines_left c.args.lines.now)) c.in_default.ensures.lines (sym c.loop-line.invariant.last ∙ sym c.in_default.ensures.last ∙ last_is c.next_line.new.self.number c.next_line.new.self.rest c.in_default.ensures.end ∙ sym c.last_number.ensures) c.loop-line.invariant.so_far

@@ -31,9 +31,11 @@ loop-rate-preserved c =
     let word = rates_word (length c.args.list.now - c.args.index - count) count in
     let r = get_or rates l.rate-index 0 in
     let most = c.min-count.ensures in
+    let room = c.most_rates.ensures.few in
+    let most_words = c.requires.channel.1 in
     let returned = length-take (c.args.index + count - c.args.index) (drop c.args.index c.args.list.now) in
     let within = c.loop-rate-test.true in
-    let fits : l.size + 1 < length l.words = omega (arith, most, returned, within, l.invariant.place, l.invariant.whole) in
+    let fits : l.size + 1 < length l.words = omega (arith, most, room, most_words, returned, within, l.invariant.place, l.invariant.whole) in
     record {
       place = omega (arith, l.invariant.place);
       whole = simp length-set l.invariant.whole;

@@ -1,5 +1,5 @@
-use Rattle.std.proofs.Common.{rules, ◌∙◌, ap}
-use Rattle.scmi_codec.specs.Listing.{said, row_in}
+use Rattle.std.proofs.Common.{◌∙◌, ap}
+use Rattle.scmi_codec.specs.Listing.{row_in}
 use Rattle.scmi_codec.proofs.Listed.{few_held}
 use Rattle.scmi_codec.proofs.listing.listed_row.Goals as goal
 

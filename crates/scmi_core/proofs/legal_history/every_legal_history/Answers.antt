@@ -1,5 +1,6 @@
 use Rattle.scmi_core.proofs.Bounds.{bounds}
 use Rattle.scmi_core.proofs.Causes.{integrity}
+use Rattle.scmi_core.proofs.Channels.{channels}
 use Rattle.scmi_core.proofs.EffectsMade.{effects-push}
 use Rattle.scmi_core.proofs.Isolation.{isolation, refused}
 use Rattle.scmi_core.proofs.Responses.{responses}
@@ -14,5 +15,6 @@ returns c = record {
   isolation = isolation;
   integrity = integrity;
   permissions = λ board h legal. permissions board h;
+  channels = channels;
   effects = effects-push;
 }

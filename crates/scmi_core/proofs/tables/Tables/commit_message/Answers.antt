@@ -1,14 +1,17 @@
 use Rattle.std.proofs.Common.{◌<◌, length, Some, refl, sym, ap, ◌∙◌, arith}
 use Rattle.scmi_codec.specs.Command.{command_of}
+use Rattle.scmi_codec.specs.declared.frame.Answer.TheVariants.{Reply}
+use Rattle.scmi_core.specs.declared.effect.Effect.TheVariants as effect
 use Rattle.scmi_core.specs.Outbox.{message_with}
 use Rattle.scmi_core.specs.Tables.{situation_in}
-use Rattle.scmi_core.proofs.Commits.{state-set, rate-set, config-set, state-committed, rate-committed, enabled-committed}
+use Rattle.scmi_core.proofs.Commits.{answer-fits, effect-fits, state-set, rate-set, config-set, state-committed, rate-committed, enabled-committed}
 use Rattle.scmi_core.proofs.tables.Tables.commit_message.Goals as goal
 
 pub state-before-requires : goal.state-before-requires
 state-before-requires c =
     let m = c.args.message.now in
-    let set = state-set c.args.plan.now c.args.agent m.header (situation_in c.args.agent c.args.self.now) (command_of m) c.in-State.domain c.in-State.state (c.requires.effect ∙ ap Some c.in-State.is) in
+    let set = state-set c.args.plan.now c.args.agent m.header (situation_in c.args.agent c.args.self.now) (command_of m) c.in-State.domain c.in-State.state
+    (effect-fits c.args.plan.now c.args.agent m (situation_in c.args.agent c.args.self.now) (effect.State c.in-State.domain c.in-State.state) (c.requires.effect ∙ ap Some c.in-State.is)).1 in
     let known : c.in-State.domain < length c.args.plan.now.domains = set.known in
     let few = c.requires.lawful.few_domains in
     omega (arith, known, few)
@@ -16,7 +19,8 @@ state-before-requires c =
 pub complete-requires : goal.complete-requires
 complete-requires c =
     let m = c.args.message.now in
-    let set = state-set c.args.plan.now c.args.agent m.header (situation_in c.args.agent c.args.self.now) (command_of m) c.in-State.domain c.in-State.state (c.requires.effect ∙ ap Some c.in-State.is) in
+    let set = state-set c.args.plan.now c.args.agent m.header (situation_in c.args.agent c.args.self.now) (command_of m) c.in-State.domain c.in-State.state
+    (effect-fits c.args.plan.now c.args.agent m (situation_in c.args.agent c.args.self.now) (effect.State c.in-State.domain c.in-State.state) (c.requires.effect ∙ ap Some c.in-State.is)).1 in
     let known : c.in-State.domain < length c.args.plan.now.domains = set.known in
     let few = c.requires.lawful.few_domains in
     omega (arith, known, few)
@@ -24,7 +28,8 @@ complete-requires c =
 pub announce-requires-clause-domain : goal.announce-requires-clause-domain
 announce-requires-clause-domain c =
     let m = c.args.message.now in
-    let set = state-set c.args.plan.now c.args.agent m.header (situation_in c.args.agent c.args.self.now) (command_of m) c.in-State.domain c.in-State.state (c.requires.effect ∙ ap Some c.in-State.is) in
+    let set = state-set c.args.plan.now c.args.agent m.header (situation_in c.args.agent c.args.self.now) (command_of m) c.in-State.domain c.in-State.state
+    (effect-fits c.args.plan.now c.args.agent m (situation_in c.args.agent c.args.self.now) (effect.State c.in-State.domain c.in-State.state) (c.requires.effect ∙ ap Some c.in-State.is)).1 in
     let known : c.in-State.domain < length c.args.plan.now.domains = set.known in
     let few = c.requires.lawful.few_domains in
     omega (arith, known, few)
@@ -32,7 +37,8 @@ announce-requires-clause-domain c =
 pub complete-requires-in-Rate : goal.complete-requires-in-Rate
 complete-requires-in-Rate c =
     let m = c.args.message.now in
-    let set = rate-set c.args.plan.now c.args.agent m.header (situation_in c.args.agent c.args.self.now) (command_of m) c.in-Rate.clock c.in-Rate.rate (c.requires.effect ∙ ap Some c.in-Rate.is) in
+    let set = rate-set c.args.plan.now c.args.agent m.header (situation_in c.args.agent c.args.self.now) (command_of m) c.in-Rate.clock c.in-Rate.rate
+    (effect-fits c.args.plan.now c.args.agent m (situation_in c.args.agent c.args.self.now) (effect.Rate c.in-Rate.clock c.in-Rate.rate) (c.requires.effect ∙ ap Some c.in-Rate.is)).1 in
     let known : c.in-Rate.clock < length c.args.plan.now.clocks = set.known in
     let few = c.requires.lawful.few_clocks in
     omega (arith, known, few)
@@ -40,7 +46,8 @@ complete-requires-in-Rate c =
 pub set_enabled-requires : goal.set_enabled-requires
 set_enabled-requires c =
     let m = c.args.message.now in
-    let set = config-set c.args.plan.now c.args.agent m.header (situation_in c.args.agent c.args.self.now) (command_of m) c.in-Enabled.clock c.in-Enabled.enabled (c.requires.effect ∙ ap Some c.in-Enabled.is) in
+    let set = config-set c.args.plan.now c.args.agent m.header (situation_in c.args.agent c.args.self.now) (command_of m) c.in-Enabled.clock c.in-Enabled.enabled
+    (effect-fits c.args.plan.now c.args.agent m (situation_in c.args.agent c.args.self.now) (effect.Enabled c.in-Enabled.clock c.in-Enabled.enabled) (c.requires.effect ∙ ap Some c.in-Enabled.is)).1 in
     let known : c.in-Enabled.clock < length c.args.plan.now.clocks = set.known in
     let few = c.requires.lawful.few_clocks in
     omega (arith, known, few)
@@ -48,8 +55,10 @@ set_enabled-requires c =
 pub returns-in-State-clause-answer : goal.returns-in-State-clause-answer
 returns-in-State-clause-answer c =
     let m = c.args.message.now in
-    let set = state-set c.args.plan.now c.args.agent m.header (situation_in c.args.agent c.args.self.now) (command_of m) c.in-State.domain c.in-State.state (c.requires.effect ∙ ap Some c.in-State.is) in
-    ap (message_with m.header) (c.set_payload.ensures ∙ sym set.reply)
+    let s = situation_in c.args.agent c.args.self.now in
+    let fit = effect-fits c.args.plan.now c.args.agent m s (effect.State c.in-State.domain c.in-State.state) (c.requires.effect ∙ ap Some c.in-State.is) in
+    let set = state-set c.args.plan.now c.args.agent m.header s (command_of m) c.in-State.domain c.in-State.state fit.1 in
+    ap (λ words. Reply (message_with m.header words)) (c.set_payload.ensures ∙ sym set.reply) ∙ sym (answer-fits c.args.plan.now c.args.agent m s fit.0)
 
 pub returns-in-State-clause-stepped : goal.returns-in-State-clause-stepped
 returns-in-State-clause-stepped c =
@@ -63,8 +72,10 @@ returns-in-State-clause-stepped c =
 pub returns-in-Rate-clause-answer : goal.returns-in-Rate-clause-answer
 returns-in-Rate-clause-answer c =
     let m = c.args.message.now in
-    let set = rate-set c.args.plan.now c.args.agent m.header (situation_in c.args.agent c.args.self.now) (command_of m) c.in-Rate.clock c.in-Rate.rate (c.requires.effect ∙ ap Some c.in-Rate.is) in
-    ap (message_with m.header) (c.set_payload.ensures ∙ sym set.reply)
+    let s = situation_in c.args.agent c.args.self.now in
+    let fit = effect-fits c.args.plan.now c.args.agent m s (effect.Rate c.in-Rate.clock c.in-Rate.rate) (c.requires.effect ∙ ap Some c.in-Rate.is) in
+    let set = rate-set c.args.plan.now c.args.agent m.header s (command_of m) c.in-Rate.clock c.in-Rate.rate fit.1 in
+    ap (λ words. Reply (message_with m.header words)) (c.set_payload.ensures ∙ sym set.reply) ∙ sym (answer-fits c.args.plan.now c.args.agent m s fit.0)
 
 pub returns-in-Rate-clause-stepped : goal.returns-in-Rate-clause-stepped
 returns-in-Rate-clause-stepped c =
@@ -76,8 +87,10 @@ returns-in-Rate-clause-stepped c =
 pub returns-in-Enabled-clause-answer : goal.returns-in-Enabled-clause-answer
 returns-in-Enabled-clause-answer c =
     let m = c.args.message.now in
-    let set = config-set c.args.plan.now c.args.agent m.header (situation_in c.args.agent c.args.self.now) (command_of m) c.in-Enabled.clock c.in-Enabled.enabled (c.requires.effect ∙ ap Some c.in-Enabled.is) in
-    ap (message_with m.header) (c.set_payload.ensures ∙ sym set.reply)
+    let s = situation_in c.args.agent c.args.self.now in
+    let fit = effect-fits c.args.plan.now c.args.agent m s (effect.Enabled c.in-Enabled.clock c.in-Enabled.enabled) (c.requires.effect ∙ ap Some c.in-Enabled.is) in
+    let set = config-set c.args.plan.now c.args.agent m.header s (command_of m) c.in-Enabled.clock c.in-Enabled.enabled fit.1 in
+    ap (λ words. Reply (message_with m.header words)) (c.set_payload.ensures ∙ sym set.reply) ∙ sym (answer-fits c.args.plan.now c.args.agent m s fit.0)
 
 pub returns-in-Enabled-clause-stepped : goal.returns-in-Enabled-clause-stepped
 returns-in-Enabled-clause-stepped c =

@@ -1,0 +1,126 @@
+//! Reading what stands in an area, whatever its size.
+ghost use Rattle.std.specs.Prelude.{◌≡◌, ◌==◌, ◌%◌, ◌+◌, ◌*◌, ◌≤◌, length};
+ghost use Rattle.scmi_codec.specs.Header.{header_of};
+ghost use Rattle.scmi_codec.specs.Word.{words_at};
+ghost use Rattle.scmi_codec.specs.Area.{frame_within, message_of, status_at, is_well_formed_within};
+ghost use Rattle.scmi_codec.specs.declared.frame.Frame.TheVariants.{Good};
+ghost use Rattle.scmi_codec.specs.declared.payload.TheConstants.{PAYLOAD_WORDS};
+
+use crate::area_layout::{HEADER_AT, LENGTH_AT, PAYLOAD_AT, STATUS_AT};
+use crate::channel_status::ChannelStatus;
+use crate::frame::Frame;
+use crate::header::Header;
+use crate::message::Message;
+use crate::payload::{PAYLOAD_WORDS, Payload, resize};
+use crate::word::read_word;
+use arrayvec::ArrayVec;
+use bitflags::Flags;
+
+/// Whether a length in bytes, of header and payload, is 4 + 4k with k from 0 to `words` (own).
+pub(crate) fn is_well_formed_within(length: u32, words: usize) -> bool
+    requires few { words ≤ PAYLOAD_WORDS }
+    ensures { result ≡ is_well_formed_within words length }
+{
+    length >= 4 && length <= 4 + 4 * words as u32 && length % 4 == 0
+}
+
+/// Whether the status word marks the channel free: bit 0 alone decides (own).
+pub(crate) fn is_marked_free(area: &[u8]) -> bool
+    requires room { 8 ≤ length area.now }
+    ensures { result ≡ (status_at area.now % 2 == 1) }
+{
+    let status = ChannelStatus::from_bits_retain(read_word(area, STATUS_AT));
+    status.contains(ChannelStatus::FREE)
+}
+
+/// Reads the frame that stands in an area of so many payload words, whatever its status word, into
+/// `frame`.
+pub(crate) fn read_frame(area: &[u8], words: usize, frame: &mut Frame)
+    requires few { words ≤ PAYLOAD_WORDS }
+    requires room { 0x1C + 4 * words ≤ length area.now }
+    ensures { frame.new ≡ frame_within words area.now }
+{
+    let length = read_word(area, LENGTH_AT);
+    let header = read_word(area, HEADER_AT);
+    if !is_well_formed_within(length, words) {
+        frame.set_malformed(length, header);
+        return;
+    }
+    let count = ((length - 4) / 4) as usize;
+    match frame {
+        Frame::Good(message) => read_message(area, header, count, message),
+        Frame::Malformed { .. } => read_anew(area, header, count, frame),
+    }
+}
+
+/// Reads a message as `read_message` into a frame that holds none.
+#[inline(never)]
+fn read_anew(area: &[u8], header: u32, count: usize, frame: &mut Frame)
+    requires few { count ≤ PAYLOAD_WORDS }
+    requires room { 0x1C + 4 * count ≤ length area.now }
+    ensures { frame.new ≡ Good (message_of header (words_at 0x1C count area.now)) }
+{
+    let mut message = Message::default();
+    read_message(area, header, count, &mut message);
+    *frame = Frame::Good(message);
+}
+
+/// Reads a message of this header word and so many payload words of an area into `message`.
+#[inline(always)]
+fn read_message(area: &[u8], header: u32, count: usize, message: &mut Message)
+    requires few { count ≤ PAYLOAD_WORDS }
+    requires room { 0x1C + 4 * count ≤ length area.now }
+    ensures header { message.new.header ≡ header_of header }
+    ensures words { message.new.payload.items ≡ words_at 0x1C count area.now }
+{
+    message.header = Header::unpack(header);
+    read_payload(area, count, &mut message.payload);
+}
+
+fn read_payload(area: &[u8], count: usize, payload: &mut Payload)
+    requires few { count ≤ PAYLOAD_WORDS }
+    requires room { 0x1C + 4 * count ≤ length area.now }
+    ensures { payload.new.items ≡ words_at 0x1C count area.now }
+{
+    resize(payload, count);
+    read_words(area, payload.as_mut_slice());
+}
+
+/// Reads the first payload words of an area over as many others. Commands have four at most, which
+/// take no loop.
+fn read_words(area: &[u8], words: &mut [u32])
+    requires room { 0x1C + 4 * length words.old ≤ length area.now }
+    ensures { words.new ≡ words_at 0x1C (length words.old) area.now }
+{
+    match words.len() {
+        0 => {}
+        1 => words[0] = read_word(area, PAYLOAD_AT),
+        2 => {
+            words[0] = read_word(area, PAYLOAD_AT);
+            words[1] = read_word(area, PAYLOAD_AT + 4);
+        }
+        3 => {
+            words[0] = read_word(area, PAYLOAD_AT);
+            words[1] = read_word(area, PAYLOAD_AT + 4);
+            words[2] = read_word(area, PAYLOAD_AT + 8);
+        }
+        4 => {
+            words[0] = read_word(area, PAYLOAD_AT);
+            words[1] = read_word(area, PAYLOAD_AT + 4);
+            words[2] = read_word(area, PAYLOAD_AT + 8);
+            words[3] = read_word(area, PAYLOAD_AT + 12);
+        }
+        _ => read_many(area, words),
+    }
+}
+
+/// Reads the first payload words of an area over as many others.
+#[inline(never)]
+fn read_many(area: &[u8], words: &mut [u32])
+    requires room { 0x1C + 4 * length words.old ≤ length area.now }
+    ensures { words.new ≡ words_at 0x1C (length words.old) area.now }
+{
+    for i in 0..words.len() {
+        words[i] = read_word(area, PAYLOAD_AT + 4 * i);
+    }
+}

@@ -1,0 +1,424 @@
+-- What an agent gets in a legal history has room in its channels, and an agent that the platform can't send to gets no message.
+use Rattle.std.proofs.Common.{◌≡◌, ◌⊎◌, inl, inr, ℕ, zero, suc, ◌+◌, ◌≤◌, ◌==◌, ◌&&◌, nat_lt, Bool, true, false, not, List, [], ◌∷◌, ◌++◌, length, drop, slice_get, Option, Some, None, Result, Ok, Err, option_map, unwrap_or, refl, sym, ap, ◌∙◌, subst, arith, if◌then◌else◌}
+use Rattle.std.specs.List.{All}
+use Rattle.std.specs.Option.{option_and_then, option_map_or, option_to_list}
+use Rattle.std.proofs.lemmas.List.{append-nil}
+use Rattle.std.proofs.lemmas.List.Elements.{All-append, All-cons, All-drop, All-head, All-nil}
+use Rattle.std.proofs.lemmas.Bool.{cases_Bool, eqb-true}
+use Rattle.scmi_codec.specs.Command.{command_of}
+use Rattle.scmi_codec.specs.Header.{HeaderFields}
+use Rattle.scmi_codec.specs.Payload.{begins_with_success}
+use Rattle.scmi_codec.specs.Reply.{bit_0, reply_unless}
+use Rattle.scmi_codec.specs.declared.status.Status.{Status}
+use Rattle.scmi_codec.specs.declared.status.Status.TheVariants.{NotFound, InvalidParameters, NotSupported, Denied, Busy}
+use Rattle.scmi_codec.specs.declared.message.Message.{Message}
+use Rattle.scmi_codec.specs.declared.frame.Frame.{Frame}
+use Rattle.scmi_codec.specs.declared.frame.Frame.TheVariants.{Good, Malformed}
+use Rattle.scmi_codec.specs.declared.frame.Answer.TheVariants.{Reply, ChannelError}
+use Rattle.scmi_codec.specs.declared.command.Command as codec
+use Rattle.scmi_codec.specs.declared.command.Command.TheVariants.{Base, Power, Clock}
+use Rattle.scmi_codec.specs.declared.power_command.PowerCommand.{PowerCommand}
+use Rattle.scmi_codec.specs.declared.power_command.PowerCommand.TheVariants as power
+use Rattle.scmi_codec.specs.declared.clock_command.ClockCommand.{ClockCommand}
+use Rattle.scmi_codec.specs.declared.clock_command.ClockCommand.TheVariants as clock
+use Rattle.scmi_plan.specs.Board.{Board, channel_of}
+use Rattle.scmi_plan.specs.Plan.{IsLawful}
+use Rattle.scmi_base.specs.Permission.{reset_by}
+use Rattle.scmi_power.specs.PowerReply.{power_reply}
+use Rattle.scmi_power.specs.PowerTable.{notification, set_later}
+use Rattle.scmi_clock.specs.ClockReply.{clock_reply}
+use Rattle.scmi_clock.specs.ClockTable.{rate_later}
+use Rattle.scmi_core.specs.declared.event.Event.{Event}
+use Rattle.scmi_core.specs.declared.event.Event.TheVariants.{Command, Advance, Sent, CommandFailed, AdvanceFailed}
+use Rattle.scmi_core.specs.declared.pending_set.PendingSet.{PendingSet}
+use Rattle.scmi_core.specs.declared.pending_set.Setting.{Setting}
+use Rattle.scmi_core.specs.declared.pending_set.Setting.TheVariants as setting
+use Rattle.scmi_core.specs.Agents.{answer_for, answers_to}
+use Rattle.scmi_core.specs.Channels.{IsAnswerWithin, IsOneWay, IsWithin, KeepsChannels}
+use Rattle.scmi_core.specs.Deed.{Deed, fold_with_prefix, success_of, success_with}
+use Rattle.scmi_core.specs.History.{answer_to, deed_after, deeds, made_for, outbox}
+use Rattle.scmi_core.specs.Legal.{IsLegal}
+use Rattle.scmi_core.specs.Outbox.{failed_response_for, failed_response_to, failed_words, made_in, message_with, messages_made, notice_in, response_for, response_to, sent_count, situation_after, state_changed}
+use Rattle.scmi_core.specs.Pending.{acceptance, sets_by}
+use Rattle.scmi_core.specs.Reply.{fits_channel, reply_words}
+use Rattle.scmi_core.specs.Situation.{Situation, clock_view, power_view}
+use Rattle.scmi_core.specs.Subscriptions.{subscription, subscription_after_reset}
+use Rattle.scmi_core.specs.Value.{Change, Enabled, Rate, State, Thing}
+use Rattle.scmi_core.proofs.Deeds.{added_success}
+use Rattle.scmi_core.proofs.Following.{change_in, completed_in, failed_in, made_next, messages-next, next, pending_next, situation-next}
+use Rattle.scmi_core.proofs.Isolation.{answers-push}
+use Rattle.scmi_core.proofs.Legal.{Grown, IsLegal-front, advances_le-accepted, deeds-push, empty, grow, grown, sent_le-made}
+use Rattle.scmi_core.proofs.Room.{lawful_channel, reply-within}
+use Rattle.scmi_core.proofs.Situations.{nothing_if}
+
+-- WHAT AN AGENT IS ANSWERED
+
+answer-within : (board : Board) (a : ℕ) (frame : Frame) (h : List Event) → IsLawful board → IsAnswerWithin board a (answer_to board a frame h)
+answer-within board a (Good m) h law = by (fits_channel board a m) where
+  by : (short : Bool)
+      → IsAnswerWithin board a (if short then Reply (message_with m.header (reply_words board a (situation_after board a (deeds board h)) (command_of m))) else ChannelError)
+  by true = reply-within board a (situation_after board a (deeds board h)) (command_of m) law
+  by false = tt
+answer-within board a (Malformed len header) h law = tt
+
+one-answer : (board : Board) (a : ℕ) (h : List Event) (e : Event) → IsLawful board → All (IsAnswerWithin board a) (answer_for board a h e)
+one-answer board a h (Command c frame) law = by (a == c) refl where
+  by : (own : Bool) → (a == c) ≡ own → All (IsAnswerWithin board a) (if own then answer_to board c frame h ∷ [] else [])
+  by true own =
+      All-cons (IsAnswerWithin board a) (answer_to board c frame h) []
+      (subst (λ x. IsAnswerWithin board a (answer_to board x frame h)) (eqb-true a c own) (answer-within board a frame h law)) (All-nil (IsAnswerWithin board a))
+  by false other = All-nil (IsAnswerWithin board a)
+one-answer board a h (CommandFailed c (Good m)) law = by (a == c) where
+  by : (own : Bool) → All (IsAnswerWithin board a) (if own then Reply (message_with m.header failed_words) ∷ [] else [])
+  by true =
+      let least = (lawful_channel board a law).0 in
+      All-cons (IsAnswerWithin board a) (Reply (message_with m.header failed_words)) [] (omega (arith, least)) (All-nil (IsAnswerWithin board a))
+  by false = All-nil (IsAnswerWithin board a)
+one-answer board a h (CommandFailed c (Malformed len header)) law = by (a == c) where
+  by : (own : Bool) → All (IsAnswerWithin board a) (if own then ChannelError ∷ [] else [])
+  by true = All-cons (IsAnswerWithin board a) ChannelError [] tt (All-nil (IsAnswerWithin board a))
+  by false = All-nil (IsAnswerWithin board a)
+one-answer board a h Advance law = All-nil (IsAnswerWithin board a)
+one-answer board a h AdvanceFailed law = All-nil (IsAnswerWithin board a)
+one-answer board a h (Sent c) law = All-nil (IsAnswerWithin board a)
+
+answers_of : (board : Board) (a : ℕ) {h : List Event} → IsLawful board → Grown h → All (IsAnswerWithin board a) (answers_to board a h)
+unfolding answers_to fold_with_prefix
+answers_of board a law empty = All-nil (IsAnswerWithin board a)
+answers_of board a law (grow {xs} g e) =
+    subst (All (IsAnswerWithin board a)) (sym (answers-push board a xs e))
+    (All-append (IsAnswerWithin board a) (answers_to board a xs) (answer_for board a xs e) (answers_of board a law g) (one-answer board a xs e law))
+
+-- WHAT IS MADE FOR IT
+
+module _ (board : Board) (b : ℕ) (eight : 8 ≤ (channel_of board b).words) where
+  abbrev Fits : Message → Type 0
+  Fits = IsWithin board b
+
+  one-if : (x : Bool) (m : Message) → Fits m → All Fits (if x then m ∷ [] else [])
+  one-if true m short = All-cons Fits m [] short (All-nil Fits)
+  one-if false m short = All-nil Fits
+
+  all-if : (x : Bool) (ms : List Message) → All Fits ms → All Fits (if x then ms else [])
+  all-if true ms all = all
+  all-if false ms all = All-nil Fits
+
+  response-short : (header : HeaderFields) (set : Setting) → Fits (response_to header set)
+  response-short header (setting.State d state) = omega (arith, eight)
+  response-short header (setting.Rate c rate) = omega (arith, eight)
+
+  responses-short : (done : Option PendingSet) → All Fits (option_map_or (response_for b) done [])
+  responses-short None = All-nil Fits
+  responses-short (Some p) = one-if (p.agent == b && p.wanted) (response_to p.header p.setting) (response-short p.header p.setting)
+
+  failed-short : (failed : Option PendingSet) → All Fits (option_map_or (failed_response_for b) failed [])
+  failed-short None = All-nil Fits
+  failed-short (Some p) = one-if (p.agent == b && p.wanted) (failed_response_to p.header) (omega (arith, eight))
+
+  notices-short : (s : Situation) (change : Option Change) → All Fits (option_map_or (notice_in s) change [])
+  notices-short s None = All-nil Fits
+  notices-short s (Some change) = by change.thing where
+    by : (x : Thing) → All Fits (notice_in s (record { thing = x; value = change.value; causer = change.causer }))
+    by (State d) = one-if (not (change.value == s.value (State d)) && s.subscribed d) (state_changed change.causer d change.value) (omega (arith, eight))
+    by (Rate k) = All-nil Fits
+    by (Enabled k) = All-nil Fits
+
+  made-short : (s : Situation) (deed : Deed) → All Fits (made_next board b s deed)
+  made-short s deed =
+      let done = completed_in s.pending deed.event in
+      let change = change_in board s.pending deed in
+      let responses = option_map_or (response_for b) done [] in
+      let load = length s.outbox + length responses + length (sets_by b (pending_next board s.pending deed)) in
+      All-append Fits (option_map_or (failed_response_for b) (failed_in s.pending deed.event) []) (made_in b s (pending_next board s.pending deed) done change)
+      (failed-short (failed_in s.pending deed.event))
+      (All-append Fits responses (if nat_lt load 16 then option_map_or (notice_in s) change [] else []) (responses-short done)
+      (all-if (nat_lt load 16) (option_map_or (notice_in s) change []) (notices-short s change)))
+
+  made_of : {h : List Event} → Grown h → IsLegal board h → All Fits (messages_made board b (deeds board h))
+  unfolding deeds fold_with_prefix
+  made_of empty legal = All-nil Fits
+  made_of (grow {xs} g e) legal =
+      let front = IsLegal-front board xs e legal in
+      let ds = deeds board xs in
+      let deed = deed_after board ds e in
+      subst (All Fits) (sym (ap (messages_made board b) (deeds-push board xs e) ∙ messages-next board b ds e (advances_le-accepted board xs front)))
+      (All-append Fits (messages_made board b ds) (made_next board b (situation_after board b ds) deed) (made_of g front) (made-short (situation_after board b ds) deed))
+
+-- AN AGENT THAT THE PLATFORM CAN'T SEND TO
+
+then_some : {A B : Type 0} (b : Bool) (o : Option A) (f : A → Option B) (y : B) → option_and_then f (if b then o else None) ≡ Some y → (b ≡ true) × (option_and_then f o ≡ Some y)
+then_some true o f y e = (refl, e)
+then_some false o f y e = absurd (cc)
+
+mapped : {A B : Type 0} (f : A → B) (o : Option A) (y : B) → option_map f o ≡ Some y → (x : A) × (o ≡ Some x) × (f x ≡ y)
+mapped f None y e = absurd (cc)
+mapped f (Some x) y e = (x, refl, ap (λ o. option_map_or (λ z. z) o y) e)
+
+later_bit : {A : Type 0} (b : Bool) (x : A) {y : A} → (if b then Some x else None) ≡ Some y → b ≡ true
+later_bit true x e = refl
+later_bit false x e = absurd (cc)
+
+-- what succeeds at 0x11 and has the platform send is of an agent that it can send to
+set-sent : (c1 c2 c4 c5 later one_way asynchronous synchronous : Bool)
+    → begins_with_success (reply_unless ((c1, NotFound) ∷ (c2, InvalidParameters) ∷ (not (if later then not one_way && asynchronous else synchronous), NotSupported) ∷ (c4, Denied) ∷ (c5, Busy) ∷ []) (0 ∷ [])) ≡ true
+    → later ≡ true → one_way ≡ false
+set-sent c1 c2 c4 c5 later false asynchronous synchronous ok is = refl
+set-sent true c2 c4 c5 later true asynchronous synchronous ok is = absurd (cc)
+set-sent false true c4 c5 later true asynchronous synchronous ok is = absurd (cc)
+set-sent false false c4 c5 true true asynchronous synchronous ok is = absurd (cc)
+set-sent false false c4 c5 false true asynchronous synchronous ok is = absurd (cc)
+
+notify-sent : (c1 c2 c4 one_way notify : Bool)
+    → begins_with_success (reply_unless ((c1, NotFound) ∷ (c2, InvalidParameters) ∷ (not (not one_way && notify), NotSupported) ∷ (c4, Denied) ∷ []) (0 ∷ [])) ≡ true → one_way ≡ false
+notify-sent c1 c2 c4 false notify ok = refl
+notify-sent true c2 c4 true notify ok = absurd (cc)
+notify-sent false true c4 true notify ok = absurd (cc)
+notify-sent false false c4 true notify ok = absurd (cc)
+
+-- and at 0x14
+rate-sent : (c1 c2 c4 c5 later one_way : Bool)
+    → begins_with_success (reply_unless ((c1, NotFound) ∷ (c2, InvalidParameters) ∷ (one_way && later, NotSupported) ∷ (c4, Denied) ∷ (c5, Busy) ∷ []) (0 ∷ [])) ≡ true
+    → later ≡ true → one_way ≡ false
+rate-sent c1 c2 c4 c5 later false ok is = refl
+rate-sent true c2 c4 c5 later true ok is = absurd (cc)
+rate-sent false true c4 c5 later true ok is = absurd (cc)
+rate-sent false false c4 c5 true true ok is = absurd (cc)
+rate-sent false false c4 c5 false true ok is = absurd (cc)
+
+module _ (board : Board) (a : ℕ) (header : HeaderFields) (s : Situation) where
+  power-sent : (c : PowerCommand) (set : ℕ × ℕ) → begins_with_success (power_reply board (power_view board a s) c) ≡ true → set_later c ≡ Some set → (channel_of board a).one_way ≡ false
+  unfolding power_reply
+  power-sent power.Version set ok e = absurd (cc)
+  power-sent power.Attributes set ok e = absurd (cc)
+  power-sent (power.MessageAttributes message) set ok e = absurd (cc)
+  power-sent (power.DomainAttributes d) set ok e = absurd (cc)
+  power-sent (power.Get d) set ok e = absurd (cc)
+  power-sent (power.Notify d enable) set ok e = absurd (cc)
+  power-sent (power.Set flags d state) set ok e = set-sent _ _ _ _ (bit_0 flags) (channel_of board a).one_way _ _ ok (later_bit (bit_0 flags) (d, state) e)
+
+  clock-sent : (c : ClockCommand) (set : ℕ × ℕ × Bool) → begins_with_success (clock_reply board (clock_view board a s) c) ≡ true → rate_later board c ≡ Some set → (channel_of board a).one_way ≡ false
+  unfolding clock_reply
+  clock-sent clock.Version set ok e = absurd (cc)
+  clock-sent clock.Attributes set ok e = absurd (cc)
+  clock-sent (clock.MessageAttributes message) set ok e = absurd (cc)
+  clock-sent (clock.ClockAttributes d) set ok e = absurd (cc)
+  clock-sent (clock.Describe d index) set ok e = absurd (cc)
+  clock-sent (clock.GetRate d) set ok e = absurd (cc)
+  clock-sent (clock.Config d attributes) set ok e = absurd (cc)
+  clock-sent (clock.SetRate flags d rate) set ok e = rate-sent _ _ _ _ (bit_0 flags) (channel_of board a).one_way ok (later_bit (bit_0 flags) _ e)
+
+  -- a set that is accepted for later is its caller's, whom the platform can send to
+  accepted-sent : (r : Result codec.Command Status) (p : PendingSet)
+      → option_and_then (acceptance board) (if begins_with_success (reply_words board a s r) then success_with a header r else None) ≡ Some p
+      → (p.agent ≡ a) × ((channel_of board a).one_way ≡ false)
+  unfolding reply_words
+  accepted-sent (Err e) p is = let two = then_some (begins_with_success (reply_words board a s (Err e))) (success_with a header (Err e)) (acceptance board) p is in let no = two.1 in absurd (cc)
+  accepted-sent (Ok (Base c)) p is = let two = then_some (begins_with_success (reply_words board a s (Ok (Base c)))) (success_with a header (Ok (Base c))) (acceptance board) p is in let no = two.1 in absurd (cc)
+  accepted-sent (Ok (Power c)) p is =
+      let two = then_some (begins_with_success (reply_words board a s (Ok (Power c)))) (success_with a header (Ok (Power c))) (acceptance board) p is in
+      let set = mapped _ (set_later c) p two.1 in
+      (sym (ap (λ q. q.agent) set.2), power-sent c set.0 two.0 set.1)
+  accepted-sent (Ok (Clock c)) p is =
+      let two = then_some (begins_with_success (reply_words board a s (Ok (Clock c)))) (success_with a header (Ok (Clock c))) (acceptance board) p is in
+      let set = mapped _ (rate_later board c) p two.1 in
+      (sym (ap (λ q. q.agent) set.2), clock-sent c set.0 two.0 set.1)
+
+  -- a request for notifications too
+  asked-sent : (c : PowerCommand) (b d : ℕ) (told : Bool) → begins_with_success (power_reply board (power_view board a s) c) ≡ true → notification b d a c ≡ Some told
+      → ((a == b) ≡ true) × ((channel_of board a).one_way ≡ false)
+  unfolding power_reply
+  asked-sent power.Version b d told ok e = absurd (cc)
+  asked-sent power.Attributes b d told ok e = absurd (cc)
+  asked-sent (power.MessageAttributes message) b d told ok e = absurd (cc)
+  asked-sent (power.DomainAttributes domain) b d told ok e = absurd (cc)
+  asked-sent (power.Get domain) b d told ok e = absurd (cc)
+  asked-sent (power.Set flags domain state) b d told ok e = absurd (cc)
+  asked-sent (power.Notify domain enable) b d told ok e = (own (a == b) (domain == d) e, notify-sent _ _ _ (channel_of board a).one_way _ ok) where
+    own : (x y : Bool) → (if x && y then Some (bit_0 enable) else None) ≡ Some told → x ≡ true
+    own true y is = refl
+    own false y is = absurd (cc)
+
+-- what an agent that the platform can't send to never has: a request for notifications, and a pending set
+record IsUnsent (b : ℕ) (s : Situation) : Type 0 where
+  pub subscribed : (d : ℕ) → s.subscribed d ≡ false
+  pub pending : All (λ p. (p.agent == b) ≡ false) s.pending
+
+both_ways : (b : Bool) → b ≡ true → b ≡ false → ⊥
+both_ways true is not = absurd (cc)
+both_ways false is not = absurd (cc)
+
+All-option : {X : Type 0} (P : X → Type 0) (o : Option X) → ((x : X) → o ≡ Some x → P x) → All P (option_to_list o)
+All-option P None each = All-nil P
+All-option P (Some x) each = All-cons P x [] (each x refl) (All-nil P)
+
+-- so it is given no message
+module _ (board : Board) (b : ℕ) (s : Situation) (quiet : IsUnsent b s) where
+  first-silent : (ps : List PendingSet) → All (λ p. (p.agent == b) ≡ false) ps → option_map_or (response_for b) (slice_get ps 0) [] ≡ []
+  first-silent [] all = refl
+  first-silent (p ∷ ps) all = ap (λ own. if own && p.wanted then response_to p.header p.setting ∷ [] else []) (All-head (λ q. (q.agent == b) ≡ false) p ps all)
+
+  failed-silent : (ps : List PendingSet) → All (λ p. (p.agent == b) ≡ false) ps → option_map_or (failed_response_for b) (slice_get ps 0) [] ≡ []
+  failed-silent [] all = refl
+  failed-silent (p ∷ ps) all = ap (λ own. if own && p.wanted then failed_response_to p.header ∷ [] else []) (All-head (λ q. (q.agent == b) ≡ false) p ps all)
+
+  no-response : (e : Event) → option_map_or (response_for b) (completed_in s.pending e) [] ≡ []
+  no-response Advance = first-silent s.pending quiet.pending
+  no-response AdvanceFailed = refl
+  no-response (Command a frame) = refl
+  no-response (CommandFailed a frame) = refl
+  no-response (Sent a) = refl
+
+  no-failure : (e : Event) → option_map_or (failed_response_for b) (failed_in s.pending e) [] ≡ []
+  no-failure AdvanceFailed = failed-silent s.pending quiet.pending
+  no-failure Advance = refl
+  no-failure (Command a frame) = refl
+  no-failure (CommandFailed a frame) = refl
+  no-failure (Sent a) = refl
+
+  untold : (x : Bool) (m : Message) → (if x && false then m ∷ [] else []) ≡ []
+  untold true m = refl
+  untold false m = refl
+
+  no-notice : (change : Option Change) → option_map_or (notice_in s) change [] ≡ []
+  no-notice None = refl
+  no-notice (Some change) = by change.thing where
+    by : (x : Thing) → notice_in s (record { thing = x; value = change.value; causer = change.causer }) ≡ []
+    by (State d) =
+        ap (λ told. if not (change.value == s.value (State d)) && told then state_changed change.causer d change.value ∷ [] else []) (quiet.subscribed d)
+        ∙ untold (not (change.value == s.value (State d))) (state_changed change.causer d change.value)
+    by (Rate k) = refl
+    by (Enabled k) = refl
+
+  nothing-made : (deed : Deed) → made_next board b s deed ≡ []
+  nothing-made deed =
+      let left = pending_next board s.pending deed in
+      let done = completed_in s.pending deed.event in
+      let change = change_in board s.pending deed in
+      ap (λ failures. failures ++ made_in b s left done change) (no-failure deed.event)
+      ∙ ap (λ responses. responses ++ (if nat_lt (length s.outbox + length responses + length (sets_by b left)) 16 then option_map_or (notice_in s) change [] else [])) (no-response deed.event)
+      ∙ ap (λ notices. if nat_lt (length s.outbox + 0 + length (sets_by b left)) 16 then notices else []) (no-notice change)
+      ∙ nothing_if (nat_lt (length s.outbox + 0 + length (sets_by b left)) 16)
+
+module _ (board : Board) (b : ℕ) (one_way : IsOneWay board b) where
+  -- a success leaves it without a request
+  reset-off : (d : ℕ) (old : Bool) (reset : Option ℕ) → old ≡ false → unwrap_or (subscription_after_reset b reset) old ≡ false
+  reset-off d old None off = off
+  reset-off d old (Some agent) off = by (agent == b) where
+    by : (own : Bool) → unwrap_or (if own then Some false else None) old ≡ false
+    by true = refl
+    by false = off
+
+  off : (a : ℕ) (header : HeaderFields) (s : Situation) (r : Result codec.Command Status) (d : ℕ) (old : Bool) → old ≡ false
+      → unwrap_or (option_and_then (subscription b d) (if begins_with_success (reply_words board a s r) then success_with a header r else None)) old ≡ false
+  unfolding reply_words
+  off a header s (Err e) d old was = by (begins_with_success (reply_words board a s (Err e))) where
+    by : (ok : Bool) → unwrap_or (option_and_then (subscription b d) (if ok then success_with a header (Err e) else None)) old ≡ false
+    by true = was
+    by false = was
+  off a header s (Ok (Base c)) d old was = by (begins_with_success (reply_words board a s (Ok (Base c)))) where
+    by : (ok : Bool) → unwrap_or (option_and_then (subscription b d) (if ok then success_with a header (Ok (Base c)) else None)) old ≡ false
+    by true = reset-off d old (reset_by c) was
+    by false = was
+  off a header s (Ok (Clock c)) d old was = by (begins_with_success (reply_words board a s (Ok (Clock c)))) where
+    by : (ok : Bool) → unwrap_or (option_and_then (subscription b d) (if ok then success_with a header (Ok (Clock c)) else None)) old ≡ false
+    by true = was
+    by false = was
+  off a header s (Ok (Power c)) d old was = by (begins_with_success (power_reply board (power_view board a s) c)) refl where
+    asked : begins_with_success (power_reply board (power_view board a s) c) ≡ true → (o : Option Bool) → notification b d a c ≡ o → unwrap_or o old ≡ false
+    asked ok None is = was
+    asked ok (Some told) is =
+        let sent = asked-sent board a header s c b d told ok is in
+        absurd (both_ways (channel_of board b).one_way one_way (subst (λ x. (channel_of board x).one_way ≡ false) (eqb-true a b sent.0) sent.1))
+
+    by : (ok : Bool) → begins_with_success (power_reply board (power_view board a s) c) ≡ ok
+        → unwrap_or (option_and_then (subscription b d) (if ok then success_with a header (Ok (Power c)) else None)) old ≡ false
+    by true ok = asked ok (notification b d a c) refl
+    by false ok = was
+
+  -- nor does it leave it a pending set
+  others : (a : ℕ) (header : HeaderFields) (s : Situation) (r : Result codec.Command Status)
+      → All (λ p. (p.agent == b) ≡ false) (option_to_list (option_and_then (acceptance board) (if begins_with_success (reply_words board a s r) then success_with a header r else None)))
+  others a header s r = All-option (λ p. (p.agent == b) ≡ false) _ other where
+    other : (p : PendingSet) → option_and_then (acceptance board) (if begins_with_success (reply_words board a s r) then success_with a header r else None) ≡ Some p → (p.agent == b) ≡ false
+    other p is = by (cases_Bool (p.agent == b)) where
+      by : ((p.agent == b) ≡ true) ⊎ ((p.agent == b) ≡ false) → (p.agent == b) ≡ false
+      by (inl own) =
+          let sent = accepted-sent board a header s r p is in
+          absurd (both_ways (channel_of board b).one_way one_way (subst (λ x. (channel_of board x).one_way ≡ false) (sym sent.0 ∙ eqb-true p.agent b own) sent.1))
+      by (inr another) = another
+
+  module _ (h : List Deed) (s : Situation) (quiet : IsUnsent b s) where
+    unsubscribed : (e : Event) (d : ℕ) → unwrap_or (option_and_then (subscription b d) (added_success (deed_after board h e))) (s.subscribed d) ≡ false
+    unsubscribed (Command a (Good m)) d = by (fits_channel board a m) where
+      by : (short : Bool)
+          → unwrap_or (option_and_then (subscription b d) (success_of a m.header (command_of m) (if short then reply_words board a (situation_after board a h) (command_of m) else []))) (s.subscribed d) ≡ false
+      by true = off a m.header (situation_after board a h) (command_of m) d (s.subscribed d) (quiet.subscribed d)
+      by false = quiet.subscribed d
+    unsubscribed (Command a (Malformed len header)) d = quiet.subscribed d
+    unsubscribed (CommandFailed a (Good m)) d = quiet.subscribed d
+    unsubscribed (CommandFailed a (Malformed len header)) d = quiet.subscribed d
+    unsubscribed Advance d = quiet.subscribed d
+    unsubscribed AdvanceFailed d = quiet.subscribed d
+    unsubscribed (Sent a) d = quiet.subscribed d
+
+    abbrev Others : List PendingSet → Type 0
+    Others ps = All (λ p. (p.agent == b) ≡ false) ps
+
+    none-more : Others (s.pending ++ [])
+    none-more = subst (All (λ p. (p.agent == b) ≡ false)) (sym (append-nil s.pending)) quiet.pending
+
+    not-pending : (e : Event) → All (λ p. (p.agent == b) ≡ false) (pending_next board s.pending (deed_after board h e))
+    not-pending (Command a (Good m)) = All-append (λ p. (p.agent == b) ≡ false) s.pending _ quiet.pending (by (fits_channel board a m)) where
+      by : (short : Bool)
+          → All (λ p. (p.agent == b) ≡ false) (option_to_list (option_and_then (acceptance board) (success_of a m.header (command_of m) (if short then reply_words board a (situation_after board a h) (command_of m) else []))))
+      by true = others a m.header (situation_after board a h) (command_of m)
+      by false = All-nil (λ p. (p.agent == b) ≡ false)
+    not-pending (Command a (Malformed len header)) = none-more
+    not-pending (CommandFailed a (Good m)) = none-more
+    not-pending (CommandFailed a (Malformed len header)) = none-more
+    not-pending (Sent a) = none-more
+    not-pending Advance = All-drop (λ p. (p.agent == b) ≡ false) 1 s.pending quiet.pending
+    not-pending AdvanceFailed = All-drop (λ p. (p.agent == b) ≡ false) 1 s.pending quiet.pending
+
+  record IsSilent (h : List Event) : Type 0 where
+    pub quiet : IsUnsent b (situation_after board b (deeds board h))
+    pub made : messages_made board b (deeds board h) ≡ []
+
+  silent_of : {h : List Event} → Grown h → IsLegal board h → IsSilent h
+  unfolding deeds fold_with_prefix
+  silent_of empty legal = record {
+    quiet = record { subscribed = λ d. refl; pending = All-nil (λ p. (p.agent == b) ≡ false) };
+    made = refl;
+  }
+  silent_of (grow {xs} g e) legal =
+      let front = IsLegal-front board xs e legal in
+      let had = silent_of g front in
+      let ds = deeds board xs in
+      let deed = deed_after board ds e in
+      let s = situation_after board b ds in
+      let enough = advances_le-accepted board xs front in
+      let stands : situation_after board b (deeds board (xs ++ e ∷ [])) ≡ next board b s deed =
+      ap (situation_after board b) (deeds-push board xs e) ∙ situation-next board b ds e enough (sent_le-made board xs front b) in
+      record {
+        quiet = subst (IsUnsent b) (sym stands) (record { subscribed = unsubscribed ds s had.quiet e; pending = not-pending ds s had.quiet e });
+        made =
+            ap (messages_made board b) (deeds-push board xs e)
+            ∙ messages-next board b ds e enough
+            ∙ ap (λ ms. ms ++ made_next board b s deed) had.made
+            ∙ nothing-made board b s had.quiet deed;
+      }
+
+-- THE LAW
+
+drop-nil : (n : ℕ) → ◌≡◌ {A = List Message} (drop n []) []
+drop-nil zero = refl
+drop-nil (suc n) = refl
+
+pub channels : (board : Board) (h : List Event) → IsLawful board → IsLegal board h → KeepsChannels board h
+unfolding made_for outbox
+channels board h law legal = record {
+  answers = λ a. answers_of board a law (grown h);
+  made = λ a. made_of board a (lawful_channel board a law).0 (grown h) legal;
+  none_made = λ a one_way. (silent_of board a one_way (grown h) legal).made;
+  outbox = λ a one_way. ap (drop (sent_count a (deeds board h))) (silent_of board a one_way (grown h) legal).made ∙ drop-nil (sent_count a (deeds board h));
+}

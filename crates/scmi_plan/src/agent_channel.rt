@@ -1,0 +1,20 @@
+//! What an agent's channels are.
+
+use scmi_codec::{LEAST_PAYLOAD_WORDS, PAYLOAD_WORDS};
+
+/// The fewest payload words of a channel (own): every reply but a list of rates fits them.
+pub const LEAST_CHANNEL_WORDS: u32 = LEAST_PAYLOAD_WORDS as u32;
+
+/// The channels of an agent of whom nothing else is said: 64 words of payload, both ways.
+pub const WHOLE_CHANNEL: AgentChannel = AgentChannel {
+    words: PAYLOAD_WORDS as u32,
+    one_way: false,
+};
+
+/// What an agent's channels are (own): how many words of payload each of them has room for, 8 to 64,
+/// and whether the platform can't send to the agent, which then has no P2A channel.
+#[derive(Clone, Copy, PartialEq, Eq, Debug, Drop)]
+pub struct AgentChannel {
+    pub words: u32,
+    pub one_way: bool,
+}
