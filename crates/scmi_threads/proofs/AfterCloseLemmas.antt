@@ -14,7 +14,7 @@ use Rattle.scmi_core.specs.declared.event.Event.{Event}
 use Rattle.scmi_ends.specs.Each.{AllFrom}
 use Rattle.scmi_threads.specs.Lines.{closing_of, first_closing}
 use Rattle.scmi_threads.specs.Logs.{LogHeadline}
-use Rattle.scmi_threads.specs.Parts.{Part, Writes, CallWrites, call_answered, call_found_no_place, call_ran_out, call_had_no_room, UntilWrites, state_seen, state_not_seen, state_ran_out, state_found_no_place, state_had_no_room, P2aWrites, messages_taken, messages_ran_out, messages_had_no_room, CloseWrites, close_done, close_had_no_room, ClosedWrites, call_refused, state_refused, none_asked_for, none_came, closed_again, line_had_no_room}
+use Rattle.scmi_threads.specs.Parts.{Part, Writes, CallWrites, call_answered, call_did_not_fit, call_found_no_place, call_ran_out, call_had_no_room, UntilWrites, state_seen, state_not_seen, state_ran_out, state_found_no_place, state_had_no_room, P2aWrites, messages_taken, messages_ran_out, messages_had_no_room, CloseWrites, close_done, close_had_no_room, ClosedWrites, call_refused, state_refused, none_asked_for, none_came, closed_again, line_had_no_room}
 use Rattle.scmi_threads.specs.ScriptLogs.{Follows, all_done, ends_here, goes_on, IsScriptLog, is_close}
 use Rattle.scmi_threads.specs.AfterClose.{up_to_close, SaysNothing, EndsAtClose}
 use Rattle.scmi_threads.specs.declared.agent_log.AgentLog.{AgentLog}
@@ -80,6 +80,7 @@ messages_silent (m ∷ messages) = messages_silent messages
 
 call_silent : (full : Bool) (n protocol id : ℕ) (payload : ArrayVec ℕ) (s : Option Stop) (part : Part) → CallWrites full n protocol id payload s part → first_closing part.lines ≡ None
 call_silent full n protocol id payload _ _ (call_answered reply) = refl
+call_silent full n protocol id payload _ _ (call_did_not_fit long) = refl
 call_silent full n protocol id payload _ _ (call_found_no_place may) = refl
 call_silent full n protocol id payload _ _ call_ran_out = refl
 call_silent full n protocol id payload _ _ call_had_no_room = refl

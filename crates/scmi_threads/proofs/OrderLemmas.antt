@@ -6,7 +6,7 @@ use Rattle.std.proofs.lemmas.List.Elements.{All-head, All-tail, All-cons, All-ni
 use Rattle.arrayvec.specs.ArrayVec.{ArrayVec}
 use Rattle.scmi_codec.specs.declared.message.Message.{Message}
 use Rattle.scmi_codec.specs.declared.frame.Frame.{Frame}
-use Rattle.scmi_codec.specs.declared.frame.Answer.TheVariants.{Reply}
+use Rattle.scmi_codec.specs.declared.frame.Answer.TheVariants.{Reply, ChannelError}
 use Rattle.scmi_link.specs.View.{CallerView, IsOutstanding}
 use Rattle.scmi_link.specs.declared.closing.Closing.TheVariants.{Idle, Withdrawn}
 use Rattle.scmi_link.specs.declared.closing.Closing.{Closing}
@@ -14,7 +14,7 @@ use Rattle.scmi_link.specs.declared.post_error.PostError.{PostError}
 use Rattle.scmi_link.specs.declared.post_error.PostError.TheVariants as post
 use Rattle.scmi_threads.specs.Logs.{IsSameLog}
 use Rattle.scmi_threads.specs.Orders.{IsAtRest, LeavesRest, HasAsked, HasAskedFor, HasLooked, HasMore, HasDone, IsUnmoved, HasTaken, IsGot, IsRefusal, ShowsState, ending, stop_of, stop_of_seen, lines_of_seen}
-use Rattle.scmi_threads.specs.Parts.{Part, HasState, Writes, only_lines, command, state_commands, IsForNothing, CallWrites, call_answered, call_found_no_place, call_ran_out, call_had_no_room, UntilWrites, state_seen, state_not_seen, state_ran_out, state_found_no_place, state_had_no_room, P2aWrites, messages_taken, messages_ran_out, messages_had_no_room, CloseWrites, close_done, close_had_no_room, ClosedWrites, call_refused, state_refused, none_asked_for, none_came, closed_again, line_had_no_room}
+use Rattle.scmi_threads.specs.Parts.{Part, HasState, Writes, only_lines, command, state_commands, IsForNothing, CallWrites, call_answered, call_did_not_fit, call_found_no_place, call_ran_out, call_had_no_room, UntilWrites, state_seen, state_not_seen, state_ran_out, state_found_no_place, state_had_no_room, P2aWrites, messages_taken, messages_ran_out, messages_had_no_room, CloseWrites, close_done, close_had_no_room, ClosedWrites, call_refused, state_refused, none_asked_for, none_came, closed_again, line_had_no_room}
 use Rattle.scmi_threads.specs.declared.agent_log.AgentLog.{AgentLog}
 use Rattle.scmi_threads.specs.declared.line.Line.{Line}
 use Rattle.scmi_threads.specs.declared.line.Line.TheVariants as line
@@ -195,6 +195,20 @@ call_done full protocol id payload (line.Got words) v w before mid after asked r
         read = noted.read ∙ asked.2.2;
         taken = none_more before.p2a.items after.p2a.items (noted.taken ∙ rest.taken);
         lines = noted_more (line.Got words) before mid after same noted ∙ ap (λ ws. before.lines.items ++ line.Got ws ∷ []) asked.2.1;
+      };
+      closed = λ s. rest.closed;
+      not_stopped = noted.stopped ∙ rest.stopped;
+    }
+call_done full protocol id payload line.Error v w before mid after asked rest same noted =
+    let part : Part = record { posted = command (length before.posted.items) protocol id payload ∷ []; read = ChannelError ∷ []; taken = []; lines = line.Error ∷ [] } in
+    record {
+      part = part;
+      writes = while_open full v.closed (length before.posted.items) (order.Call protocol id payload) None part asked.0 (call_did_not_fit asked.2.0);
+      more = record {
+        posted = noted.posted ∙ asked.1;
+        read = noted.read ∙ asked.2.1;
+        taken = none_more before.p2a.items after.p2a.items (noted.taken ∙ rest.taken);
+        lines = noted_more line.Error before mid after same noted;
       };
       closed = λ s. rest.closed;
       not_stopped = noted.stopped ∙ rest.stopped;
@@ -403,6 +417,7 @@ module _ (full : Bool) (domain state k protocol id : ℕ) (payload : ArrayVec �
         read = asked.2 ∙ so_far.read;
         lines = refl;
       }
+  looked_in_vain line.Error below asked not = absurd (omega (arith, asked.2.0, ap length w))
   looked_in_vain _ below asked not = absurd asked.2
 
 pub looked_to_the_end : (full closed : Bool) (domain state k : ℕ) (before after : AgentLog) → k ≡ 100_000 → HasAskedFor closed domain state k before after → HasLooked full closed domain state (Ok false) before after
@@ -472,6 +487,7 @@ writes_rest full true n o part w = let still = stays_still o None part w in ap l
 writes_rest full false n (order.Call protocol id payload) part w = call_rest part w where
   call_rest : (part : Part) → CallWrites full n protocol id payload None part → length part.posted ≡ length part.read
   call_rest _ (call_answered reply) = refl
+  call_rest _ (call_did_not_fit long) = refl
   call_rest _ (call_found_no_place why) = refl
 writes_rest full false n (order.Until domain state) part w = until_rest part w where
   until_rest : (part : Part) → UntilWrites full n domain state None part → length part.posted ≡ length part.read

@@ -1,13 +1,15 @@
 -- What the calls that carry out an order leave.
-use Rattle.std.specs.Prelude.{◌≡◌, ℕ, Bool, true, false, ◌||◌, List, [], ◌∷◌, ◌++◌, length, map, Option, Some, None, Result, Ok, Err}
+use Rattle.std.specs.Prelude.{◌≡◌, ◌<◌, ℕ, Bool, true, false, ◌||◌, List, [], ◌∷◌, ◌++◌, length, map, Option, Some, None, Result, Ok, Err}
 use Rattle.std.specs.List.{All}
 use Rattle.scmi_codec.specs.declared.message.Message.{Message}
 use Rattle.scmi_codec.specs.declared.frame.Frame.{Frame}
+use Rattle.scmi_codec.specs.declared.frame.Frame.TheVariants.{Good}
 use Rattle.scmi_codec.specs.declared.frame.Answer.{Answer}
-use Rattle.scmi_codec.specs.declared.frame.Answer.TheVariants.{Reply}
+use Rattle.scmi_codec.specs.declared.frame.Answer.TheVariants.{Reply, ChannelError}
 use Rattle.scmi_link.specs.View.{CallerView}
 use Rattle.scmi_link.specs.declared.post_error.PostError.{PostError}
 use Rattle.scmi_link.specs.declared.post_error.PostError.TheVariants as post
+use Rattle.scmi_plan.specs.declared.agent_channel.TheConstants.{LEAST_CHANNEL_WORDS}
 use Rattle.scmi_threads.specs.Parts.{Part, HasState, Writes, state_commands}
 use Rattle.scmi_threads.specs.ScriptLogs.{is_close}
 use Rattle.scmi_threads.specs.declared.agent_log.AgentLog.{AgentLog}
@@ -18,15 +20,22 @@ use Rattle.scmi_threads.specs.declared.order.Order.TheVariants as order
 use Rattle.scmi_threads.specs.declared.stop.Stop.{Stop}
 use Rattle.scmi_threads.specs.declared.stop.Stop.TheVariants as stop
 
--- the answer is a reply
-abbrev pub IsReply : Answer → Type 0
-IsReply (Reply m) = Unit {0}
-IsReply _ = ⊥
+-- what a command is answered: a reply, or a channel error where it has more words than the shortest channel
+abbrev pub IsAnswerTo : Frame → Answer → Type 0
+IsAnswerTo frame (Reply m) = Unit {0}
+IsAnswerTo (Good m) ChannelError = LEAST_CHANNEL_WORDS < length m.payload.items
+IsAnswerTo _ _ = ⊥
 
--- nothing has disturbed the agent: it was told of no close, and each answer that it read is a reply
+-- each answer is one to the command at its place
+abbrev pub AreAnswersTo : List Frame → List Answer → Type 0
+AreAnswersTo frames [] = Unit {0}
+AreAnswersTo [] (answer ∷ answers) = Unit {0}
+AreAnswersTo (frame ∷ frames) (answer ∷ answers) = IsAnswerTo frame answer × AreAnswersTo frames answers
+
+-- nothing has disturbed the agent: it was told of no close, and each answer that it read is one to its command
 pub record IsUndisturbed (caller : CallerView) : Type 0 where
   pub told : caller.told ≡ false
-  pub replies : All IsReply caller.read
+  pub answers : AreAnswersTo caller.posted caller.read
 
 -- an answer was read for each frame that was posted
 abbrev pub IsAtRest : AgentLog → Type 0
@@ -38,11 +47,12 @@ pub record LeavesRest (old new : CallerView) (before after : AgentLog) : Type 0 
   pub stopped : after.stopped ≡ before.stopped
   pub closed : new.closed ≡ old.closed
 
--- a wait for a reply, by its line: a reply was read, or none
-abbrev pub HasAwaited : Line → List Answer → List Answer → Type 0
-HasAwaited (line.Got words) old new = (reply : Message) × (words ≡ reply.payload) × (new ≡ old ++ Reply reply ∷ [])
-HasAwaited line.Limit old new = new ≡ old
-HasAwaited _ old new = ⊥
+-- a wait for the answer to a command, by its line: a reply or a channel error was read, or nothing
+abbrev pub HasAwaited : Frame → Line → List Answer → List Answer → Type 0
+HasAwaited command (line.Got words) old new = (reply : Message) × (words ≡ reply.payload) × (new ≡ old ++ Reply reply ∷ [])
+HasAwaited command line.Error old new = IsAnswerTo command ChannelError × (new ≡ old ++ ChannelError ∷ [])
+HasAwaited command line.Limit old new = new ≡ old
+HasAwaited command _ old new = ⊥
 
 -- what a post can be refused for: the script has closed, or it has not and the kind of channel may have no place
 abbrev pub IsRefusal : Bool → Bool → PostError → Type 0
@@ -53,7 +63,7 @@ IsRefusal full closed _ = ⊥
 -- a call of a command, by its line: it was refused, or the script had not closed, and it was posted and waited for
 abbrev pub HasAsked : Bool → Bool → Frame → Line → AgentLog → AgentLog → Type 0
 HasAsked full closed command (line.NotPosted error) before after = IsRefusal full closed error × (after.posted.items ≡ before.posted.items) × (after.read.items ≡ before.read.items)
-HasAsked full closed command line before after = (closed ≡ false) × (after.posted.items ≡ before.posted.items ++ command ∷ []) × HasAwaited line before.read.items after.read.items
+HasAsked full closed command line before after = (closed ≡ false) × (after.posted.items ≡ before.posted.items ++ command ∷ []) × HasAwaited command line before.read.items after.read.items
 
 -- the line says that a reply came
 abbrev pub IsGot : Line → Type 0

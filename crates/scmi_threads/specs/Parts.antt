@@ -6,10 +6,11 @@ use Rattle.scmi_codec.specs.declared.message.Message.{Message}
 use Rattle.scmi_codec.specs.declared.frame.Frame.{Frame}
 use Rattle.scmi_codec.specs.declared.frame.Frame.TheVariants.{Good}
 use Rattle.scmi_codec.specs.declared.frame.Answer.{Answer}
-use Rattle.scmi_codec.specs.declared.frame.Answer.TheVariants.{Reply}
+use Rattle.scmi_codec.specs.declared.frame.Answer.TheVariants.{Reply, ChannelError}
 use Rattle.scmi_codec.specs.declared.header.TheConstants.{TOKENS}
 use Rattle.scmi_link.specs.declared.closing.Closing.TheVariants.{Idle}
 use Rattle.scmi_link.specs.declared.post_error.PostError.TheVariants as post
+use Rattle.scmi_plan.specs.declared.agent_channel.TheConstants.{LEAST_CHANNEL_WORDS}
 use Rattle.scmi_threads.specs.declared.line.Line.{Line}
 use Rattle.scmi_threads.specs.declared.line.Line.TheVariants as line
 use Rattle.scmi_threads.specs.declared.order.Order.{Order}
@@ -45,6 +46,8 @@ only_lines lines = record { posted = []; read = []; taken = []; lines = lines }
 pub data CallWrites (full : Bool) (n protocol id : ℕ) (payload : ArrayVec ℕ) : Option Stop → Part → Type 0 where
   -- its frame was posted, and its line has the payload of the reply that was read for it
   call_answered : (reply : Message) → CallWrites full n protocol id payload None (record { posted = command n protocol id payload ∷ []; read = Reply reply ∷ []; taken = []; lines = line.Got reply.payload ∷ [] })
+  -- its frame was posted, and is longer than the agent's channel, which may be one of the shortest
+  call_did_not_fit : LEAST_CHANNEL_WORDS < length payload.items → CallWrites full n protocol id payload None (record { posted = command n protocol id payload ∷ []; read = ChannelError ∷ []; taken = []; lines = line.Error ∷ [] })
   -- the channel had no place for it
   call_found_no_place : full ≡ true → CallWrites full n protocol id payload None (only_lines (line.NotPosted post.Full ∷ []))
   -- its turns ran out, and the script ended

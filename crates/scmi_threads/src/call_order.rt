@@ -35,7 +35,8 @@ fn ending_of(line: &Line) -> Result<(), Stop>
 }
 
 impl<'a, C: Channel> ScriptRun<'a, C> {
-    ghost use Rattle.std.specs.Prelude.{◌≡◌, ◌<◌, ◌++◌, ◌∷◌, [], false, length, vec_len, vec_capacity, IfOk, IfErr, OnOk, OnErr};
+    ghost use Rattle.std.specs.Prelude.{◌≡◌, ◌<◌, ◌++◌, ◌∷◌, [], List, false, length, vec_len, vec_capacity, IfOk, IfErr, OnOk, OnErr};
+    ghost use Rattle.scmi_codec.specs.declared.frame.Frame.{Frame};
     ghost use Rattle.scmi_link.specs.View.{knows_close};
     ghost use Rattle.scmi_threads.specs.Lines.{IsOfCall};
     ghost use Rattle.scmi_threads.specs.Logs.{IsSameLog};
@@ -95,7 +96,7 @@ impl<'a, C: Channel> ScriptRun<'a, C> {
     }
 
     // Posts a command, and notes it, for which there is room.
-    #[tactic(auto, using(crate::proofs::TokenLemmas::next_push, crate::proofs::ClosesLemmas::stays_open, crate::proofs::ClosesLemmas::is_refused))]
+    #[tactic(auto, using(crate::proofs::TokenLemmas::next_push, crate::proofs::ClosesLemmas::stays_open, crate::proofs::ClosesLemmas::is_refused, crate::proofs::Answered::before_post))]
     fn post_command(&mut self, protocol: u8, id: u8, payload: &Payload) -> Result<(), PostError>
         requires { vec_len self.old.log.posted < vec_capacity self.old.log.posted }
         ensures ran { HasRun self.old self.new }
@@ -127,15 +128,17 @@ impl<'a, C: Channel> ScriptRun<'a, C> {
     }
 
     // Waits for the reply, and notes it, for which there is room. Gives the line that says so.
-    #[tactic(auto, using(crate::proofs::ClosesLemmas::has_waited))]
+    #[tactic(auto, using(crate::proofs::ClosesLemmas::has_waited, crate::proofs::Answered::before_wait, crate::proofs::Answered::answer_read))]
     fn await_reply<R: Wait>(&mut self, rt: &R) -> Line
         requires room { vec_len self.old.log.read < vec_capacity self.old.log.read }
         requires unclosed { self.old.end.caller.closed ≡ false }
         ensures ran { HasRun self.old self.new }
         ensures lines { self.new.log.lines ≡ self.old.log.lines }
         ensures of_call { IsOfCall result }
-        ensures awaited { IsUndisturbed self.new.end.caller →
-            HasAwaited result self.old.log.read.items self.new.log.read.items }
+        ensures awaited { (frames : List Frame) (command : Frame)
+            → self.old.log.posted.items ≡ frames ++ command ∷ []
+            → length frames ≡ length self.old.log.read.items → IsUndisturbed self.new.end.caller
+            → HasAwaited command result self.old.log.read.items self.new.log.read.items }
         ensures posted { self.new.log.posted ≡ self.old.log.posted }
         ensures rest { LeavesRest self.old.end.caller self.new.end.caller self.old.log
             self.new.log }

@@ -100,6 +100,7 @@ pub fn run_agents_on<C: Channel, G: Gate, H: Hardware + Send + Drop, R: Threads 
         → HasMade before plan outcome.trace.events (H.applied result.1)) }
     ensures unasked { OnErr result.0 (result.1 ≡ hardware) }
 {
+    let agents = plan.agents() as usize;
     let core = Core::new(alloc, plan);
     let Ok((controller, links, ends)) = connect::<C>(alloc, core) else {
         return (Err(AllocError), hardware);
@@ -108,10 +109,10 @@ pub fn run_agents_on<C: Channel, G: Gate, H: Hardware + Send + Drop, R: Threads 
         return (Err(AllocError), hardware);
     };
     // What gives the ends and the logs back takes no memory, so that it cannot be refused.
-    let Ok(room) = Vec::with_capacity(alloc, script_runs.len()) else {
+    let Ok(room) = Vec::with_capacity(alloc, agents) else {
         return (Err(AllocError), hardware);
     };
-    let Ok(logs) = Vec::with_capacity(alloc, script_runs.len()) else {
+    let Ok(logs) = Vec::with_capacity(alloc, agents) else {
         return (Err(AllocError), hardware);
     };
     let ((controller, memory, hardware), script_runs) = run_beside(
