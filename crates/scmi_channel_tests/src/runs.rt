@@ -188,6 +188,8 @@ struct Meeting {
 }
 
 impl Gate for Meeting {
+    ghost asked = { λ gate agent line. ⊤ };
+
     fn before<R: Wait>(&self, _rt: &R, agent: u32, line: u32) {
         if line != 2 {
             return;

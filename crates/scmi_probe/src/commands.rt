@@ -2,18 +2,29 @@
 
 use crate::lines::Lines;
 use crate::plans::new_plan;
+use crate::registers::Registers;
 use scmi_codec::{Frame, Header, Message, Payload};
-use scmi_core::{Core, Platform};
+use scmi_core::{Core, Hardware, NoHardware, Platform};
 use scmi_plan::Plan;
 use std::alloc::{Alloc, Allocator, Global};
 use std::env::{self, Args, Env};
 use std::io::Write;
 
+/// What a command is executed beside.
+#[derive(Clone, Copy)]
+enum Beside {
+    Nothing,
+    NoHardware,
+    Registers,
+}
+
 /// What the arguments `command platform COUNT PROTOCOL MESSAGE WORD ..` ask for; with `core` the
-/// platform keeps its history.
+/// platform keeps its history, and with `+none` or `+driver` behind that word the commands are
+/// executed beside hardware that does nothing, or that writes a register for each change.
 #[derive(Drop)]
 pub struct Commands {
     keeps_history: bool,
+    beside: Beside,
     count: u32,
     frame: Frame,
 }
@@ -26,8 +37,10 @@ impl Commands {
         if arguments.next()?.as_str() != "command" {
             return None;
         }
+        let (keeps_history, beside) = executed_by(arguments.next()?.as_str())?;
         Some(Commands {
-            keeps_history: arguments.next()?.as_str() == "core",
+            keeps_history,
+            beside,
             count: arguments.next()?.parse().ok()?,
             frame: Frame::Good(message_of(arguments)?),
         })
@@ -42,28 +55,75 @@ impl Commands {
         if self.keeps_history {
             self.execute_on_core(lines, Core::new(alloc, plan));
         } else {
-            self.execute_on_platform(lines, plan);
+            self.execute_on_platform(lines, Platform::new(plan));
         }
     }
 
-    fn execute_on_platform<W: Write>(&self, lines: &mut Lines<'_, W>, plan: Plan) {
-        let mut platform = Platform::new(plan);
+    fn execute_on_platform<W: Write>(&self, lines: &mut Lines<'_, W>, platform: Platform) {
+        let mut platform = platform;
         let mut reply = Message::default();
-        'commands: for _ in 0..self.count {
-            let _ = platform.command(1, &self.frame, &mut reply);
+        match self.beside {
+            Beside::Nothing => {
+                'commands: for _ in 0..self.count {
+                    let _ = platform.command(1, &self.frame, &mut reply);
+                }
+            }
+            Beside::NoHardware => self.platform_beside(&mut platform, &mut reply, NoHardware),
+            Beside::Registers => self.platform_beside(&mut platform, &mut reply, Registers::new()),
         }
         lines.message("reply", &reply);
+    }
+
+    fn platform_beside<H: Hardware + Drop>(
+        &self,
+        platform: &mut Platform,
+        reply: &mut Message,
+        mut hardware: H,
+    ) {
+        'commands: for _ in 0..self.count {
+            let _ = platform.command_on(&mut hardware, 1, &self.frame, reply);
+        }
     }
 
     fn execute_on_core<W: Write>(&self, lines: &mut Lines<'_, W>, core: Core) {
         let mut core = core;
         let mut reply = Message::default();
-        'commands: for _ in 0..self.count {
-            let _ = core.command_into(1, &self.frame, &mut reply);
+        match self.beside {
+            Beside::Nothing => {
+                'commands: for _ in 0..self.count {
+                    let _ = core.command_into(1, &self.frame, &mut reply);
+                }
+            }
+            Beside::NoHardware => self.core_beside(&mut core, &mut reply, NoHardware),
+            Beside::Registers => self.core_beside(&mut core, &mut reply, Registers::new()),
         }
         lines.message("reply", &reply);
         lines.number("trace", core.trace().len());
     }
+
+    fn core_beside<H: Hardware + Drop>(
+        &self,
+        core: &mut Core,
+        reply: &mut Message,
+        mut hardware: H,
+    ) {
+        'commands: for _ in 0..self.count {
+            let _ = core.command_on(&mut hardware, 1, &self.frame, reply);
+        }
+    }
+}
+
+/// Whether the platform keeps its history, and what it executes commands beside.
+fn executed_by(word: &str) -> Option<(bool, Beside)> {
+    Some(match word {
+        "platform" => (false, Beside::Nothing),
+        "platform+none" => (false, Beside::NoHardware),
+        "platform+driver" => (false, Beside::Registers),
+        "core" => (true, Beside::Nothing),
+        "core+none" => (true, Beside::NoHardware),
+        "core+driver" => (true, Beside::Registers),
+        _ => return None,
+    })
 }
 
 /// The message that arguments name: protocol, message and payload words.

@@ -3,7 +3,7 @@
 //!
 //! With the arguments `exchange words|rings COUNT WORDS` it makes one exchange again and again, in
 //! place of the calls; with `command platform|core COUNT PROTOCOL MESSAGE WORD ..` a platform
-//! executes one command.
+//! executes one command, and with `platform+none`, `platform+driver` and their kin beside hardware.
 #![tactic(auto)]
 
 mod board;
@@ -13,6 +13,7 @@ mod core_calls;
 mod exchanges;
 mod lines;
 mod plans;
+mod registers;
 mod session;
 
 use crate::channels::{make_channel, serve_again, withdraw};

@@ -1,13 +1,14 @@
 -- A script that was run order by order.
-use Rattle.std.proofs.Common.{◌≡◌, ℕ, ◌+◌, ◌<◌, ◌≤◌, Bool, false, ◌||◌, List, [], ◌∷◌, ◌++◌, length, take, drop, get_or, Option, Some, None, refl, sym, ap, ap₂, ◌∙◌, subst}
+use Rattle.std.proofs.Common.{◌≡◌, ℕ, suc, ◌+◌, ◌<◌, ◌≤◌, Bool, false, ◌||◌, List, [], ◌∷◌, ◌++◌, length, take, drop, get_or, Option, Some, None, inl, inr, refl, sym, ap, ap₂, ◌∙◌, subst, arith}
 use Rattle.std.specs.List.{flat_map}
+use Rattle.std.proofs.lemmas.Bool.Decides.{leb_tells}
 use Rattle.std.proofs.lemmas.List.{append-nil, length-append, take_more, drop_more, take_all, take-append-drop}
 use Rattle.std.proofs.lemmas.Grind.{flat_map-append}
 use Rattle.scmi_link.specs.View.{CallerView, new_caller}
 use Rattle.scmi_threads.specs.Logs.{IsEmptyLog}
 use Rattle.scmi_threads.specs.Orders.{HasDone, HasMore, IsAtRest}
 use Rattle.scmi_threads.specs.Parts.{Part, Writes}
-use Rattle.scmi_threads.specs.ScriptLogs.{Follows, all_done, ends_here, goes_on, IsMadeOf, IsScriptLog, is_close}
+use Rattle.scmi_threads.specs.ScriptLogs.{Follows, all_done, ends_here, goes_on, IsGatedLog, IsMadeOf, IsScriptLog, is_close, line_number}
 use Rattle.scmi_threads.specs.declared.agent_log.AgentLog.{AgentLog}
 use Rattle.scmi_threads.specs.declared.order.Order.{Order}
 use Rattle.scmi_threads.specs.declared.stop.Stop.{Stop}
@@ -38,6 +39,15 @@ follows_more x p (goes_on closed n y xs _ q ps v f) w = goes_on closed n y (xs +
 follows_to : {full closed : Bool} {n : ℕ} {xs : List Order} {ps : List Part} (x : Order) (rest : List Order) (why : Stop) (p : Part) → Follows full closed n xs None ps → Writes full (closed_after closed xs) (posted_after n ps) x (Some why) p → Follows full closed n (xs ++ x ∷ rest) (Some why) (ps ++ p ∷ [])
 follows_to x rest why p (all_done closed n) w = ends_here closed n x rest why p w
 follows_to x rest why p (goes_on closed n y xs _ q ps v f) w = goes_on closed n y (xs ++ x ∷ rest) (Some why) q (ps ++ p ∷ []) v (follows_to x rest why p f w)
+
+-- each order wrote a part
+follows_long : {full closed : Bool} {n : ℕ} {xs : List Order} {ps : List Part} → Follows full closed n xs None ps → length ps ≡ length xs
+follows_long (all_done closed n) = refl
+follows_long (goes_on closed n y xs _ q ps v f) = ap suc (follows_long f)
+
+-- the gate was asked before one line more
+pub asked_more : (asked : ℕ → Type 0) (i : ℕ) → ((k : ℕ) → k < i → asked (line_number k)) → asked (line_number i) → (k : ℕ) → k < i + 1 → asked (line_number k)
+asked_more asked i before now k below = elim (leb_tells i k) [ inl at ↦ subst (λ j. asked (line_number j)) (omega (arith, at.1, below)) now | inr less ↦ before k less.1 ]
 
 -- these orders were carried out, and none ended the script
 pub record HasFollowed (full : Bool) (orders : List Order) (caller : CallerView) (log : AgentLog) : Type 0 where
@@ -87,21 +97,24 @@ followed_more full xs x v w before after f d =
       not_stopped = d.not_stopped ∙ f.not_stopped;
     }
 
-pub followed_to : (full : Bool) (script xs rest : List Order) (x : Order) (why : Stop) (v w : CallerView) (before mid after : AgentLog) → xs ++ x ∷ rest ≡ script → HasFollowed full xs v before → HasDone full x (Some why) v w before mid → after.posted.items ≡ mid.posted.items → after.read.items ≡ mid.read.items → after.p2a.items ≡ mid.p2a.items → after.lines.items ≡ mid.lines.items → after.stopped ≡ Some why → IsScriptLog full script after
-followed_to full script xs rest x why v w before mid after is f d p r t l s =
+pub followed_to : (full : Bool) (asked : ℕ → Type 0) (script xs rest : List Order) (x : Order) (why : Stop) (v w : CallerView) (before mid after : AgentLog) → xs ++ x ∷ rest ≡ script → HasFollowed full xs v before → HasDone full x (Some why) v w before mid → after.posted.items ≡ mid.posted.items → after.read.items ≡ mid.read.items → after.p2a.items ≡ mid.p2a.items → after.lines.items ≡ mid.lines.items → after.stopped ≡ Some why → ((k : ℕ) → k < length xs + 1 → asked (line_number k)) → IsGatedLog full asked script after
+followed_to full asked script xs rest x why v w before mid after is f d p r t l s gate =
     let made = made_more f.parts d.part before mid f.made d.more in
-    record {
+    let script_log : IsScriptLog full script after = record {
       parts = f.parts ++ d.part ∷ [];
       made = record { posted = p ∙ made.posted; read = r ∙ made.read; taken = t ∙ made.taken; lines = l ∙ made.lines };
       follows = subst (λ o. Follows full false 0 script o (f.parts ++ d.part ∷ [])) (sym s) (subst (λ os. Follows full false 0 os (Some why) (f.parts ++ d.part ∷ [])) is (follows_to x rest why d.part f.follows (writes_after full xs x (Some why) v w before mid f d)));
-    }
+    } in
+    record { script = script_log; gate = λ k below. gate k (omega (arith, below, length-append f.parts (d.part ∷ []), follows_long f.follows)) }
 
-pub followed_all : (full : Bool) (xs : List Order) (v : CallerView) (log : AgentLog) → HasFollowed full xs v log → IsScriptLog full xs log
-followed_all full xs v log f = record {
-  parts = f.parts;
-  made = f.made;
-  follows = subst (λ o. Follows full false 0 xs o f.parts) (sym f.not_stopped) f.follows;
-}
+pub followed_all : (full : Bool) (asked : ℕ → Type 0) (xs : List Order) (v : CallerView) (log : AgentLog) → HasFollowed full xs v log → ((k : ℕ) → k < length xs → asked (line_number k)) → IsGatedLog full asked xs log
+followed_all full asked xs v log f gate =
+    let script_log : IsScriptLog full xs log = record {
+      parts = f.parts;
+      made = f.made;
+      follows = subst (λ o. Follows full false 0 xs o f.parts) (sym f.not_stopped) f.follows;
+    } in
+    record { script = script_log; gate = λ k below. gate k (omega (arith, below, follows_long f.follows)) }
 
 -- the orders up to the i-th, and the others
 

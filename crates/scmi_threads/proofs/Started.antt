@@ -8,7 +8,7 @@ use Rattle.std.proofs.lemmas.List.Elements.{All-head, All-tail}
 use Rattle.scmi_ends.specs.Each.{AllFrom}
 use Rattle.scmi_ends.specs.AgentView.{AgentView, IsNewAgent}
 use Rattle.scmi_threads.specs.Orders.{IsUndisturbed}
-use Rattle.scmi_threads.specs.ScriptLogs.{IsScriptLog, orders_of}
+use Rattle.scmi_threads.specs.ScriptLogs.{IsGatedLog, orders_of}
 use Rattle.scmi_threads.specs.ScriptRuns.{HasPlayed, IsStarted}
 use Rattle.scmi_threads.specs.declared.script.Script.{Script}
 use Rattle.scmi_threads.specs.declared.script_run.ScriptRun.{ScriptRun}
@@ -53,14 +53,19 @@ pub all_items : {S N : Type 0} (g : S → N) (es : List N) (ss : List S) (all : 
 all_items g es [] all h none = sym (append-nil es) ∙ h
 all_items g es (x ∷ ss) all h none = absurd (omega arith)
 
+-- what holds of each holds of each in a weaker form
+pub all_gated : {X : Type 0} (P Q : ℕ → X → Type 0) → ((a : ℕ) (x : X) → P a x → Q a x) → (n : ℕ) (xs : List X) → AllFrom P n xs → AllFrom Q n xs
+all_gated P Q f n [] h = tt
+all_gated P Q f n (x ∷ xs) h = (f n x h.0, all_gated P Q f (n + 1) xs h.1)
+
 -- each log follows its agent's script
 
 module _ {C Caller Callee Rest : Type 0} {g : _} where
-  pub all_follow : (full : _) (scripts : List Script) (n : ℕ) (old new : List (ScriptRun C Caller Callee Rest g)) → AllFrom (IsStarted scripts) n old → AllZip (HasPlayed full) old new → All (λ agent. IsUndisturbed agent.caller) (map (λ script_run. script_run.end) new) → AllFrom (λ a log. IsScriptLog full (orders_of scripts a) log) n (map (λ script_run. script_run.log) new)
-  all_follow full scripts n [] [] started played quiet = tt
-  all_follow full scripts n [] (y ∷ new) started played quiet = absurd played
-  all_follow full scripts n (x ∷ old) [] started played quiet = absurd played
-  all_follow full scripts n (x ∷ old) (y ∷ new) started played quiet = (
-    subst (λ orders. IsScriptLog full orders y.log) started.0.orders (played.0.log started.0.log started.0.caller (All-head (λ agent. IsUndisturbed agent.caller) y.end (map (λ script_run. script_run.end) new) quiet)),
-    all_follow full scripts (n + 1) old new started.1 played.1 (All-tail (λ agent. IsUndisturbed agent.caller) y.end (map (λ script_run. script_run.end) new) quiet),
+  pub all_follow : (full : _) (asked : ℕ → ℕ → Type 0) (scripts : List Script) (n : ℕ) (old new : List (ScriptRun C Caller Callee Rest g)) → AllFrom (IsStarted scripts) n old → AllZip (HasPlayed full asked) old new → All (λ agent. IsUndisturbed agent.caller) (map (λ script_run. script_run.end) new) → AllFrom (λ a log. IsGatedLog full (asked a) (orders_of scripts a) log) n (map (λ script_run. script_run.log) new)
+  all_follow full asked scripts n [] [] started played quiet = tt
+  all_follow full asked scripts n [] (y ∷ new) started played quiet = absurd played
+  all_follow full asked scripts n (x ∷ old) [] started played quiet = absurd played
+  all_follow full asked scripts n (x ∷ old) (y ∷ new) started played quiet = (
+    subst (λ a. IsGatedLog full (asked a) (orders_of scripts n) y.log) started.0.id (subst (λ orders. IsGatedLog full (asked x.end.id) orders y.log) started.0.orders (played.0.log started.0.log started.0.caller (All-head (λ agent. IsUndisturbed agent.caller) y.end (map (λ script_run. script_run.end) new) quiet))),
+    all_follow full asked scripts (n + 1) old new started.1 played.1 (All-tail (λ agent. IsUndisturbed agent.caller) y.end (map (λ script_run. script_run.end) new) quiet),
   )

@@ -1,5 +1,5 @@
 -- How a log follows its script.
-use Rattle.std.specs.Prelude.{◌≡◌, ◌==◌, ℕ, ◌+◌, Bool, true, false, ◌||◌, if◌then◌else◌, List, [], ◌∷◌, length, Option, Some, None}
+use Rattle.std.specs.Prelude.{◌≡◌, ◌==◌, ℕ, ◌+◌, ◌-◌, ◌^◌, ◌<◌, min, Bool, true, false, ◌||◌, if◌then◌else◌, List, [], ◌∷◌, length, Option, Some, None}
 use Rattle.std.specs.List.{flat_map}
 use Rattle.scmi_threads.specs.Parts.{Part, Writes}
 use Rattle.scmi_threads.specs.declared.agent_log.AgentLog.{AgentLog}
@@ -31,6 +31,15 @@ pub record IsScriptLog (full : Bool) (orders : List Order) (log : AgentLog) : Ty
   pub parts : List Part
   pub made : IsMadeOf parts log
   pub follows : Follows full false 0 orders log.stopped parts
+
+-- the number that a gate is given of the line behind these many others
+abbrev pub line_number : ℕ → ℕ
+line_number k = min (k + 1) (2 ^ 32 - 1)
+
+-- the log follows the script, and the gate was asked before each line of it that was begun
+pub record IsGatedLog (full : Bool) (asked : ℕ → Type 0) (orders : List Order) (log : AgentLog) : Type 0 where
+  pub script : IsScriptLog full orders log
+  pub gate : (k : ℕ) → k < length script.parts → asked (line_number k)
 
 -- the orders of an agent; none where it has no script
 abbrev pub orders_of : List Script → ℕ → List Order

@@ -19,7 +19,7 @@ pub(crate) fn run_scripts<'a, C: Channel, G: Gate, R: Threads + Wait + Sync>(
     ended: &AtomicUsize,
     mut script_runs: Vec<ScriptRun<'a, C>>,
 ) -> Vec<ScriptRun<'a, C>>
-    ensures { AllZip (HasPlayed C.FULL) script_runs.entry.items result.items }
+    ensures { AllZip (HasPlayed C.FULL (G.asked gate.now)) script_runs.entry.items result.items }
 {
     run_all(rt, gate, ended, &mut script_runs);
     script_runs
@@ -32,7 +32,7 @@ fn run_all<C: Channel, G: Gate, R: Threads + Wait + Sync>(
     ended: &AtomicUsize,
     script_runs: &mut [ScriptRun<'_, C>],
 )
-    ensures { AllZip (HasPlayed C.FULL) script_runs.old script_runs.new }
+    ensures { AllZip (HasPlayed C.FULL (G.asked gate.now)) script_runs.old script_runs.new }
 {
     run_each(rt, gate, ended, script_runs);
 }
@@ -45,14 +45,15 @@ fn run_each<C: Channel, G: Gate, R: Threads + Wait + Sync>(
     script_runs: &mut [ScriptRun<'_, C>],
 )
     ensures { (i : ℕ) (d : _) → i < length script_runs.old →
-        HasPlayed C.FULL (slice_index_or script_runs.old i d) (slice_index_or script_runs.new i d) }
+        HasPlayed C.FULL (G.asked gate.now) (slice_index_or script_runs.old i d)
+        (slice_index_or script_runs.new i d) }
 {
     for_each_mut(
         rt,
         script_runs,
         AGENTS,
         &|_, script_run: &mut ScriptRun<'_, C>|
-            ensures { HasPlayed C.FULL script_run.old script_run.new }
+            ensures { HasPlayed C.FULL (G.asked gate.now) script_run.old script_run.new }
         {
             script_run.run(rt, gate);
             ended.fetch_add(1, Ordering::SeqCst);

@@ -35,7 +35,8 @@ pub(crate) fn run_beside<
     requires open_ends { IsOpenToAll controller }
     ensures goes_on { GoesOn C.identity links.now controller (H.applied hardware)
         result.0.0 (H.applied result.0.2) }
-    ensures ran { AllZip (HasPlayed C.FULL) script_runs.entry.items result.1.items }
+    ensures ran { AllZip (HasPlayed C.FULL (G.asked gate.now)) script_runs.entry.items
+        result.1.items }
 {
     let ended = AtomicUsize::new(0);
     join(
@@ -47,7 +48,7 @@ pub(crate) fn run_beside<
                 result.0 (H.applied result.2) }
         { run_rounds(rt, links, &ended, controller, hardware) },
         || -> Vec<ScriptRun<C>>
-            ensures { AllZip (HasPlayed C.FULL) script_runs.entry.items result.items }
+            ensures { AllZip (HasPlayed C.FULL (G.asked gate.now)) script_runs.entry.items result.items }
         { run_scripts(rt, gate, &ended, script_runs) },
     )
 }

@@ -58,7 +58,7 @@ impl<'a, C: Channel> ScriptRun<'a, C> {
 
     /// Runs the script, up to the first order that gives up.
     pub(crate) fn run<G: Gate, R: Wait>(&mut self, rt: &R, gate: &G)
-        ensures { HasPlayed C.FULL self.old self.new }
+        ensures { HasPlayed C.FULL (G.asked gate.now) self.old self.new }
     {
         let script = self.script;
         let mut line = 0u32;

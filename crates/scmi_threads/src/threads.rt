@@ -8,7 +8,7 @@ ghost use Rattle.scmi_core.specs.declared.effect.Effect.{Effect};
 ghost use Rattle.scmi_ends.specs.Each.{AllFrom};
 ghost use Rattle.scmi_threads.specs.AfterClose.{EndsAtClose};
 ghost use Rattle.scmi_threads.specs.Logs.{LogHeadline};
-ghost use Rattle.scmi_threads.specs.ScriptLogs.{IsScriptLog, orders_of};
+ghost use Rattle.scmi_threads.specs.ScriptLogs.{IsGatedLog, IsScriptLog, orders_of};
 ghost use Rattle.scmi_threads.specs.Scripts.{AreScriptsOf};
 
 use crate::both_sides::run_beside;
@@ -40,7 +40,7 @@ use std::thread::Threads;
 /// took are those delivered, at most the last left out, and with its outbox they are all that was
 /// made for it, where no delayed response is lost; and its n-th command has token (n - 1) modulo
 /// 1,024. Each log follows its agent's script order by order, and to its end where it was not
-/// stopped. After a close that succeeded no further command of the script is executed: its other
+/// stopped, and before each line that was begun the gate was asked with that agent and line. After a close that succeeded no further command of the script is executed: its other
 /// orders post nothing, read no answer and take no message. Want of memory before the scripts start
 /// is the only refusal.
 pub fn run_agents<C: Channel, G: Gate, R: Threads + Wait + Sync>(
@@ -58,6 +58,9 @@ pub fn run_agents<C: Channel, G: Gate, R: Threads + Wait + Sync>(
     ensures count { IfOk result (λ outcome. vec_len outcome.logs ≡ length plan.agents) }
     ensures scripts { IfOk result (λ outcome.
         AllFrom (λ a log. IsScriptLog C.FULL (orders_of scripts.now a) log) 1 outcome.logs.items) }
+    ensures gate { IfOk result (λ outcome.
+        AllFrom (λ a log. IsGatedLog C.FULL (G.asked gate.now a) (orders_of scripts.now a) log)
+        1 outcome.logs.items) }
     ensures headline { IfOk result (λ outcome.
         AllFrom (λ a log. LogHeadline plan outcome.trace.events a log) 1 outcome.logs.items) }
     ensures closed { IfOk result (λ outcome. AllFrom (λ a log.
@@ -90,6 +93,9 @@ pub fn run_agents_on<C: Channel, G: Gate, H: Hardware + Send + Drop, R: Threads 
     ensures count { IfOk result.0 (λ outcome. vec_len outcome.logs ≡ length plan.agents) }
     ensures scripts { IfOk result.0 (λ outcome.
         AllFrom (λ a log. IsScriptLog C.FULL (orders_of scripts.now a) log) 1 outcome.logs.items) }
+    ensures gate { IfOk result.0 (λ outcome.
+        AllFrom (λ a log. IsGatedLog C.FULL (G.asked gate.now a) (orders_of scripts.now a) log)
+        1 outcome.logs.items) }
     ensures headline { IfOk result.0 (λ outcome.
         AllFrom (λ a log. LogHeadline plan outcome.trace.events a log) 1 outcome.logs.items) }
     ensures closed { IfOk result.0 (λ outcome. AllFrom (λ a log.

@@ -34,6 +34,7 @@ links-preserved g c =
       p2a = started (λ s. s.end.p2a_identity) (λ k. g.C.Channel.identity k.p2a) c.links.script_runs.items c.push.new.self.items c.args.links.now c.links.i c.new-script_run.result c.index-links-i.result c.links-test.true c.links.invariant.p2a c.in_ok-push.ensures.items (ap (λ e. e.p2a_identity) c.new-script_run.ensures.end ∙ both.0.fits.of_p2a);
       started = subst (AllFrom (IsStarted c.args.scripts.now) 1) (sym c.in_ok-push.ensures.items) (all_push (IsStarted c.args.scripts.now) 1 c.links.script_runs.items c.new-script_run.result c.links.invariant.started (record {
         orders = ap (λ s. s.now) c.new-script_run.ensures.script ∙ c.script_of-script.ensures ∙ ap (orders_of c.args.scripts.now) (c.id.ensures ∙ first.0 ∙ sym many);
+        id = ap (λ e. e.id) c.new-script_run.ensures.end ∙ first.0 ∙ sym many;
         log = c.new-script_run.ensures.log;
         caller = ap (λ e. e.caller) c.new-script_run.ensures.end ∙ both.0.caller;
       }));

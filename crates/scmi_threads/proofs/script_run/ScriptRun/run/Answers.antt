@@ -1,13 +1,27 @@
-use Rattle.std.proofs.Common.{◌+◌, ◌≤◌, length, take, drop, refl, arith, subst}
+use Rattle.std.proofs.Common.{◌≡◌, ◌∙◌, ℕ, ◌+◌, ◌-◌, ◌^◌, ◌<◌, ◌≤◌, min, length, take, drop, refl, sym, arith, subst}
+use Rattle.std.proofs.lemmas.List.{length-take}
+use Rattle.scmi_threads.specs.ScriptLogs.{line_number}
 use Rattle.scmi_threads.proofs.ScriptRunLemmas.{has_run}
-use Rattle.scmi_threads.proofs.ScriptLemmas.{HasFollowed, nothing_followed, followed_more, followed_to, followed_all, take_next, all_orders, whole}
+use Rattle.scmi_threads.proofs.ScriptLemmas.{HasFollowed, nothing_followed, followed_more, followed_to, followed_all, take_next, all_orders, whole, asked_more}
 use Rattle.scmi_threads.proofs.script_run.ScriptRun.run.Goals as goal
+use Rattle.scmi_threads.proofs.script_run.ScriptRun.run.Goals.{After-before}
 
 pub orders-init : goal.orders-init
 orders-init g c = record {
-  ran = record { a2p = refl; p2a = refl; script = refl; undisturbed = λ u. u };
+  ran = record { a2p = refl; p2a = refl; script = refl; id = refl; undisturbed = λ u. u };
   followed = λ empty new u. nothing_followed g.C.Channel.FULL c.args.self.now.end.caller c.args.self.now.log empty new;
+  line = refl;
+  gate = λ k below. absurd (omega (arith, below));
 }
+
+next_line : (i line next : ℕ) → line ≡ min i (2 ^ 32 - 1) → next ≡ min (line + 1) (2 ^ 32 - 1) → next ≡ line_number i
+next_line i line next is more = omega (arith, is, more)
+
+-- the gate was asked before this line too
+asked_now : (g : _) (c : After-before g) (k : ℕ) → k < c.orders.order-index + 1 → g.G.Gate.asked c.args.gate.now c.args.self.now.end.id (line_number k)
+asked_now g c = asked_more (g.G.Gate.asked c.args.gate.now c.args.self.now.end.id) c.orders.order-index c.orders.invariant.gate
+    (subst (λ n. g.G.Gate.asked c.args.gate.now c.args.self.now.end.id n) (next_line c.orders.order-index c.orders.line c.saturating_add-line.result c.orders.invariant.line c.saturating_add-line.ensures)
+    (subst (λ id. g.G.Gate.asked c.args.gate.now id c.saturating_add-line.result) (c.id.ensures ∙ c.orders.invariant.ran.id) c.before.ensures))
 
 pub orders-preserved : goal.orders-preserved
 orders-preserved g c =
@@ -22,6 +36,8 @@ orders-preserved g c =
           let f = c.orders.invariant.followed empty new (c.step.ensures.ran.undisturbed u) in
           subst (λ orders. HasFollowed g.C.Channel.FULL orders after.end.caller after.log) (take_next script i order c.orders-test.true c.order-item.is)
           (followed_more g.C.Channel.FULL (take i script) order mid.end.caller after.end.caller mid.log after.log f (c.in_default.ensures.done u f.rest));
+      line = next_line i c.orders.line c.saturating_add-line.result c.orders.invariant.line c.saturating_add-line.ensures;
+      gate = asked_now g (goal.at.orders-preserved g c).After-before;
     }
 
 pub returns-in-Err : goal.returns-in-Err
@@ -33,10 +49,11 @@ returns-in-Err g c =
     let after = c.step.new.self in
     let ran = has_run c.args.self.now mid after c.orders.invariant.ran c.step.ensures.ran in
     record {
-      ran = record { a2p = ran.a2p; p2a = ran.p2a; script = ran.script; undisturbed = ran.undisturbed };
+      ran = record { a2p = ran.a2p; p2a = ran.p2a; script = ran.script; id = ran.id; undisturbed = ran.undisturbed };
       log = λ empty new u.
           let f = c.orders.invariant.followed empty new (c.step.ensures.ran.undisturbed u) in
-          followed_to g.C.Channel.FULL script (take i script) (drop (i + 1) script) order c.in-Err.stop mid.end.caller after.end.caller mid.log after.log _ (all_orders script i order c.orders-test.true c.order-item.is) f (c.in-Err.ensures.done u f.rest) refl refl refl refl refl;
+          followed_to g.C.Channel.FULL (g.G.Gate.asked c.args.gate.now c.args.self.now.end.id) script (take i script) (drop (i + 1) script) order c.in-Err.stop mid.end.caller after.end.caller mid.log after.log _ (all_orders script i order c.orders-test.true c.order-item.is) f (c.in-Err.ensures.done u f.rest) refl refl refl refl refl
+          (λ k below. asked_now g (goal.at.returns-in-Err g c).After-before k (omega (arith, below, length-take i script, c.orders-test.true)));
     }
 
 pub returns : goal.returns
@@ -48,5 +65,6 @@ returns g c =
       ran = c.orders.invariant.ran;
       log = λ empty new u.
           let all : length script ≤ i = omega (arith, c.orders-test.false) in
-          followed_all g.C.Channel.FULL script after.end.caller after.log (subst (λ orders. HasFollowed g.C.Channel.FULL orders after.end.caller after.log) (whole script i all) (c.orders.invariant.followed empty new u));
+          followed_all g.C.Channel.FULL (g.G.Gate.asked c.args.gate.now c.args.self.now.end.id) script after.end.caller after.log (subst (λ orders. HasFollowed g.C.Channel.FULL orders after.end.caller after.log) (whole script i all) (c.orders.invariant.followed empty new u))
+          (λ k below. c.orders.invariant.gate k (omega (arith, below, all)));
     }
