@@ -1,4 +1,5 @@
 //! Agents in threads of their own, over words and over rings.
+ghost use Rattle.std.specs.Prelude.{⊤};
 
 use crate::boards::reference_plan;
 use scmi_board::Lines;

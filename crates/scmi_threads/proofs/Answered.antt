@@ -14,21 +14,21 @@ use Rattle.scmi_ends.specs.Poll.{Waits}
 use Rattle.scmi_threads.specs.Lines.{answer_line}
 use Rattle.scmi_threads.specs.Orders.{AreAnswersTo, HasAwaited, IsAnswerTo, IsUndisturbed}
 
-fewer_posted : (fs : List Frame) (f : Frame) (as : List Answer) → AreAnswersTo (fs ++ f ∷ []) as → AreAnswersTo fs as
+fewer_posted : (fs : List Frame) (f : Frame) (rs : List Answer) → AreAnswersTo (fs ++ f ∷ []) rs → AreAnswersTo fs rs
 fewer_posted fs f [] h = tt
-fewer_posted [] f (a ∷ as) h = tt
-fewer_posted (g ∷ fs) f (a ∷ as) h = (h.0, fewer_posted fs f as h.1)
+fewer_posted [] f (a ∷ rs) h = tt
+fewer_posted (g ∷ fs) f (a ∷ rs) h = (h.0, fewer_posted fs f rs h.1)
 
-fewer_read : (fs : List Frame) (as : List Answer) (a : Answer) → AreAnswersTo fs (as ++ a ∷ []) → AreAnswersTo fs as
+fewer_read : (fs : List Frame) (rs : List Answer) (a : Answer) → AreAnswersTo fs (rs ++ a ∷ []) → AreAnswersTo fs rs
 fewer_read fs [] a h = tt
-fewer_read [] (b ∷ as) a h = tt
-fewer_read (f ∷ fs) (b ∷ as) a h = (h.0, fewer_read fs as a h.1)
+fewer_read [] (b ∷ rs) a h = tt
+fewer_read (f ∷ fs) (b ∷ rs) a h = (h.0, fewer_read fs rs a h.1)
 
-last_answer : (fs : List Frame) (f : Frame) (as : List Answer) (a : Answer) → length fs ≡ length as → AreAnswersTo (fs ++ f ∷ []) (as ++ a ∷ []) → IsAnswerTo f a
+last_answer : (fs : List Frame) (f : Frame) (rs : List Answer) (a : Answer) → length fs ≡ length rs → AreAnswersTo (fs ++ f ∷ []) (rs ++ a ∷ []) → IsAnswerTo f a
 last_answer [] f [] a e h = h.0
-last_answer [] f (b ∷ as) a e h = absurd (omega (arith, e))
+last_answer [] f (b ∷ rs) a e h = absurd (omega (arith, e))
 last_answer (g ∷ fs) f [] a e h = absurd (omega (arith, e))
-last_answer (g ∷ fs) f (b ∷ as) a e h = last_answer fs f as a (omega (arith, e)) h.1
+last_answer (g ∷ fs) f (b ∷ rs) a e h = last_answer fs f rs a (omega (arith, e)) h.1
 
 first_of : (b c : Bool) → (b || c) ≡ false → b ≡ false
 first_of false c h = refl

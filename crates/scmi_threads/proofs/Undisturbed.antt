@@ -54,7 +54,7 @@ all_first P [] ys h = All-nil P
 all_first P (x ∷ xs) ys h = All-cons P x xs (All-head P x (xs ++ ys) h) (all_first P xs ys (All-tail P x (xs ++ ys) h))
 
 -- one frame more, where there is one
-with_frame : Option Frame → List Frame
+abbrev with_frame : Option Frame → List Frame
 with_frame None = []
 with_frame (Some f) = f ∷ []
 
@@ -62,17 +62,17 @@ more_frames : (fs : List Frame) (o : Option Frame) (rest : List Frame) → fs ++
 more_frames fs None rest = ap (λ xs. xs ++ rest) (sym (append-nil fs))
 more_frames fs (Some f) rest = sym (append_assoc fs (f ∷ []) rest)
 
-both_longer : (fs gs : List Frame) (as bs : List Answer) → AllZip IsAnswerTo fs as → AllZip IsAnswerTo gs bs → AllZip IsAnswerTo (fs ++ gs) (as ++ bs)
+both_longer : (fs gs : List Frame) (rs bs : List Answer) → AllZip IsAnswerTo fs rs → AllZip IsAnswerTo gs bs → AllZip IsAnswerTo (fs ++ gs) (rs ++ bs)
 both_longer [] gs [] bs z y = y
-both_longer [] gs (a ∷ as) bs z y = absurd z
+both_longer [] gs (a ∷ rs) bs z y = absurd z
 both_longer (f ∷ fs) gs [] bs z y = absurd z
-both_longer (f ∷ fs) gs (a ∷ as) bs z y = (z.0, both_longer fs gs as bs z.1 y)
+both_longer (f ∷ fs) gs (a ∷ rs) bs z y = (z.0, both_longer fs gs rs bs z.1 y)
 
 -- the answers that were read, of frames that may be followed by others
-of_first : (fs gs : List Frame) (as bs : List Answer) → AllZip IsAnswerTo fs (as ++ bs) → AreAnswersTo (fs ++ gs) as
+of_first : (fs gs : List Frame) (rs bs : List Answer) → AllZip IsAnswerTo fs (rs ++ bs) → AreAnswersTo (fs ++ gs) rs
 of_first fs gs [] bs z = tt
-of_first [] gs (a ∷ as) bs z = absurd z
-of_first (f ∷ fs) gs (a ∷ as) bs z = (z.0, of_first fs gs as bs z.1)
+of_first [] gs (a ∷ rs) bs z = absurd z
+of_first (f ∷ fs) gs (a ∷ rs) bs z = (z.0, of_first fs gs rs bs z.1)
 
 too_long : (n words least : ℕ) → nat_le n words ≡ false → least ≤ words → least < n
 too_long n words least over fits = omega (arith, leb-false n words over, fits)
@@ -121,7 +121,7 @@ module _ (board : Board) (lawful : IsLawful board) where
   undisturbed h a e d c log p o is =
       let posted : All IsGood e.caller.posted = subst (All IsGood) is.posted (all_good log.posted.items (subst (All HasToken) (sym log.tokens_are) (all_have_tokens (length log.posted.items)))) in
       let executed : All IsGood (frames_of a h) = elim (p.commands.executed) [ inl same ↦ subst (All IsGood) (sym same) posted | inr most ↦ all_first IsGood (frames_of a h) (most.0 ∷ []) (subst (All IsGood) most.1 posted) ] in
-      let answers : AllZip IsAnswerTo (frames_of a h) (e.caller.read ++ p.commands.replies.0) = subst (AllZip IsAnswerTo (frames_of a h)) (p.commands.replies.1) (all_answered board a lawful h executed) in
+      let answers : AllZip IsAnswerTo (frames_of a h) (e.caller.read ++ p.commands.replies.0) = subst (AllZip IsAnswerTo (frames_of a h)) (sym p.commands.replies.1) (all_answered board a lawful h executed) in
       record {
         told = never_told e.caller.told d.closed p.commands.agent_told o;
         answers = elim (p.commands.executed) [ inl same ↦ subst (λ fs. AreAnswersTo fs e.caller.read) (append-nil (frames_of a h) ∙ same) (of_first (frames_of a h) [] e.caller.read p.commands.replies.0 answers) | inr most ↦ subst (λ fs. AreAnswersTo fs e.caller.read) (sym most.1) (of_first (frames_of a h) (most.0 ∷ []) e.caller.read p.commands.replies.0 answers) ];

@@ -53,7 +53,7 @@ fn run_each<C: Channel, G: Gate, R: Threads + Wait + Sync>(
         script_runs,
         AGENTS,
         &|_, script_run: &mut ScriptRun<'_, C>|
-            ensures { HasPlayed C.FULL (G.asked gate.now) script_run.old script_run.new }
+            ensures { HasPlayed C.FULL (G.asked gate.entry.now) script_run.old script_run.new }
         {
             script_run.run(rt, gate);
             ended.fetch_add(1, Ordering::SeqCst);

@@ -48,7 +48,7 @@ pub(crate) fn run_beside<
                 result.0 (H.applied result.2) }
         { run_rounds(rt, links, &ended, controller, hardware) },
         || -> Vec<ScriptRun<C>>
-            ensures { AllZip (HasPlayed C.FULL (G.asked gate.now)) script_runs.entry.items result.items }
+            ensures { AllZip (HasPlayed C.FULL (G.asked gate.entry.now)) script_runs.entry.items result.items }
         { run_scripts(rt, gate, &ended, script_runs) },
     )
 }

@@ -1,4 +1,6 @@
 //! What an agent's thread passes before each line of its script.
+ghost use Rattle.std.specs.Prelude.{⊤};
+
 use std::sync::Wait;
 
 /// What an agent's thread passes before each line of its script. A test can hold an agent there.

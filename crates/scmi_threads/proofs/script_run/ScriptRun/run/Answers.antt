@@ -1,10 +1,9 @@
-use Rattle.std.proofs.Common.{◌≡◌, ◌∙◌, ℕ, ◌+◌, ◌-◌, ◌^◌, ◌<◌, ◌≤◌, min, length, take, drop, refl, sym, arith, subst}
+use Rattle.std.proofs.Common.{◌≡◌, ◌∙◌, ℕ, ◌+◌, ◌-◌, ◌^◌, ◌<◌, ◌≤◌, min, length, take, drop, refl, sym, arith, rules, subst}
 use Rattle.std.proofs.lemmas.List.{length-take}
 use Rattle.scmi_threads.specs.ScriptLogs.{line_number}
 use Rattle.scmi_threads.proofs.ScriptRunLemmas.{has_run}
 use Rattle.scmi_threads.proofs.ScriptLemmas.{HasFollowed, nothing_followed, followed_more, followed_to, followed_all, take_next, all_orders, whole, asked_more}
 use Rattle.scmi_threads.proofs.script_run.ScriptRun.run.Goals as goal
-use Rattle.scmi_threads.proofs.script_run.ScriptRun.run.Goals.{After-before}
 
 pub orders-init : goal.orders-init
 orders-init g c = record {
@@ -18,10 +17,8 @@ next_line : (i line next : ℕ) → line ≡ min i (2 ^ 32 - 1) → next ≡ min
 next_line i line next is more = omega (arith, is, more)
 
 -- the gate was asked before this line too
-asked_now : (g : _) (c : After-before g) (k : ℕ) → k < c.orders.order-index + 1 → g.G.Gate.asked c.args.gate.now c.args.self.now.end.id (line_number k)
-asked_now g c = asked_more (g.G.Gate.asked c.args.gate.now c.args.self.now.end.id) c.orders.order-index c.orders.invariant.gate
-    (subst (λ n. g.G.Gate.asked c.args.gate.now c.args.self.now.end.id n) (next_line c.orders.order-index c.orders.line c.saturating_add-line.result c.orders.invariant.line c.saturating_add-line.ensures)
-    (subst (λ id. g.G.Gate.asked c.args.gate.now id c.saturating_add-line.result) (c.id.ensures ∙ c.orders.invariant.ran.id) c.before.ensures))
+asked_now : (asked : ℕ → ℕ → Type 0) (id own i line next : ℕ) → line ≡ min i (2 ^ 32 - 1) → next ≡ min (line + 1) (2 ^ 32 - 1) → own ≡ id → ((k : ℕ) → k < i → asked id (line_number k)) → asked own next → (k : ℕ) → k < i + 1 → asked id (line_number k)
+asked_now asked id own i line next is more same before now = asked_more (asked id) i before (subst (asked id) (next_line i line next is more) (subst (λ n. asked n next) same now))
 
 pub orders-preserved : goal.orders-preserved
 orders-preserved g c =
@@ -37,7 +34,7 @@ orders-preserved g c =
           subst (λ orders. HasFollowed g.C.Channel.FULL orders after.end.caller after.log) (take_next script i order c.orders-test.true c.order-item.is)
           (followed_more g.C.Channel.FULL (take i script) order mid.end.caller after.end.caller mid.log after.log f (c.in_default.ensures.done u f.rest));
       line = next_line i c.orders.line c.saturating_add-line.result c.orders.invariant.line c.saturating_add-line.ensures;
-      gate = asked_now g (goal.at.orders-preserved g c).After-before;
+      gate = asked_now (g.G.Gate.asked c.args.gate.now) c.args.self.now.end.id c.id.result i c.orders.line c.saturating_add-line.result c.orders.invariant.line c.saturating_add-line.ensures (c.id.ensures ∙ c.orders.invariant.ran.id) c.orders.invariant.gate (search rules);
     }
 
 pub returns-in-Err : goal.returns-in-Err
@@ -53,7 +50,7 @@ returns-in-Err g c =
       log = λ empty new u.
           let f = c.orders.invariant.followed empty new (c.step.ensures.ran.undisturbed u) in
           followed_to g.C.Channel.FULL (g.G.Gate.asked c.args.gate.now c.args.self.now.end.id) script (take i script) (drop (i + 1) script) order c.in-Err.stop mid.end.caller after.end.caller mid.log after.log _ (all_orders script i order c.orders-test.true c.order-item.is) f (c.in-Err.ensures.done u f.rest) refl refl refl refl refl
-          (λ k below. asked_now g (goal.at.returns-in-Err g c).After-before k (omega (arith, below, length-take i script, c.orders-test.true)));
+          (λ k below. asked_now (g.G.Gate.asked c.args.gate.now) c.args.self.now.end.id c.id.result i c.orders.line c.saturating_add-line.result c.orders.invariant.line c.saturating_add-line.ensures (c.id.ensures ∙ c.orders.invariant.ran.id) c.orders.invariant.gate (search rules) k (omega (arith, below, length-take i script, c.orders-test.true)));
     }
 
 pub returns : goal.returns

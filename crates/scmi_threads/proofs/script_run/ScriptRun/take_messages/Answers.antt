@@ -5,7 +5,7 @@ use Rattle.scmi_threads.proofs.script_run.ScriptRun.take_messages.Goals as goal
 
 pub messages-init : goal.messages-init
 messages-init g c = record {
-  ran = record { a2p = refl; p2a = refl; script = refl; undisturbed = λ u. u };
+  ran = record { a2p = refl; p2a = refl; script = refl; id = refl; undisturbed = λ u. u };
   unmoved = record { posted = refl; read = refl; stopped = refl; closed = refl };
   taken = none_taken c.args.self.now.end.caller.closed c.args.self.now.log c.args.self.now.log refl refl;
 }
