@@ -284,7 +284,7 @@ module _ {D : Type 0} (f : D → CallerView) (board : Board) (a i : ℕ) (vs : L
 
   -- a flush, after its `collect`
   agrees_after_collect : (w : CallerView) (full : Bool) (h' : List Event) (r : Flushed) → w.posted ≡ (f x).posted → IsLegal board h' → FlushesOne full board a h w r h' (f d) → EndsAgree board h' vs (map f (set ds i d)) ps
-  agrees_after_collect w full h' flushed.Waiting p legal s = subst (λ k. EndsAgree board k vs (map f (set ds i d)) ps) (sym s.0) (agrees_caller (ap (λ u. u.posted) s.1 ∙ p))
+  agrees_after_collect w full h' flushed.Waiting p legal s = subst (λ k. EndsAgree board k vs (map f (set ds i d)) ps) (sym s.0) (agrees_caller (elim s.1 [ inl waits ↦ ap (λ u. u.posted) waits.1 | inr full ↦ ap (λ u. u.posted) full.0.same ] ∙ p))
   agrees_after_collect w full h' flushed.Nothing p legal s = subst (λ k. EndsAgree board k vs (map f (set ds i d)) ps) (sym s.0) (agrees_caller (ap (λ u. u.posted) s.1 ∙ p))
   agrees_after_collect w full h' flushed.Closed p legal s = subst (λ k. EndsAgree board k vs (map f (set ds i d)) ps) (sym s.0) (agrees_caller (ap (λ u. u.posted) s.1.told ∙ p))
   agrees_after_collect w full h' flushed.Posted p legal s =

@@ -1,9 +1,9 @@
 -- What flushing an agent's outbox leaves.
-use Rattle.std.specs.Prelude.{◌≡◌, ◌⊎◌, ℕ, ◌-◌, ◌<◌, Bool, true, false, List, [], ◌∷◌, ◌++◌, length, slice_set, slice_get, Some}
+use Rattle.std.specs.Prelude.{◌≡◌, ◌⊎◌, ℕ, ◌-◌, ◌<◌, Bool, false, List, [], ◌∷◌, ◌++◌, length, slice_set, slice_get, Some}
 use Rattle.scmi_codec.specs.declared.frame.Frame.TheVariants.{Good}
 use Rattle.scmi_codec.specs.declared.message.Message.{Message}
-use Rattle.scmi_link.specs.View.{CallerView, IsOutstanding, knows_close}
-use Rattle.scmi_link.specs.Calls.{IsRefused, Collects}
+use Rattle.scmi_link.specs.View.{CallerView, IsOutstanding, knows_close, one_more}
+use Rattle.scmi_link.specs.Calls.{IsRefused, FindsNoPlace, Collects}
 use Rattle.scmi_link.specs.declared.collected.Collected.{Collected}
 use Rattle.scmi_plan.specs.Board.{Board}
 use Rattle.scmi_core.specs.History.{outbox}
@@ -13,17 +13,17 @@ use Rattle.scmi_ends.specs.declared.flushed.Flushed.{Flushed}
 use Rattle.scmi_ends.specs.declared.flushed.Flushed.TheVariants as flushed
 use Rattle.scmi_ends.specs.ControllerView.{ControllerView, caller_of}
 
--- the first message of agent a's outbox is posted, and the history says so
+-- the first message of agent a's outbox is posted, by one post, and the history says so
 pub record PostsFirst (board : Board) (a : ℕ) (h : List Event) (old : CallerView) (h' : List Event) (new : CallerView) : Type 0 where
   pub message : Message
   pub first : slice_get (outbox board a h) 0 ≡ Some message
   pub unclosed : knows_close old ≡ false
   pub event : h' ≡ h ++ Sent a ∷ []
-  pub end : new ≡ record old { posted = old.posted ++ Good message ∷ [] }
+  pub end : new ≡ record old { posted = old.posted ++ Good message ∷ []; posts = one_more old.posts }
 
--- what follows the `collect` at the end of an agent's P2A channel: the first that applies of still outstanding (or full), empty outbox, closed and posted
+-- what follows the `collect` at the end of an agent's P2A channel: no post, where one is still outstanding or else the outbox is empty; or one post, which finds the channel closed, or without a place, or is made
 abbrev pub FlushesOne : Bool → Board → ℕ → List Event → CallerView → Flushed → List Event → CallerView → Type 0
-FlushesOne full board a h old flushed.Waiting h' new = (h' ≡ h) × (new ≡ old) × (IsOutstanding old ⊎ (full ≡ true))
+FlushesOne full board a h old flushed.Waiting h' new = (h' ≡ h) × ((IsOutstanding old × (new ≡ old)) ⊎ (FindsNoPlace full old new × (0 < length (outbox board a h))))
 FlushesOne full board a h old flushed.Nothing h' new = (h' ≡ h) × (new ≡ old) × (¬ (IsOutstanding old)) × (outbox board a h ≡ [])
 FlushesOne full board a h old flushed.Closed h' new = (h' ≡ h) × IsRefused old new × (¬ (IsOutstanding old)) × (0 < length (outbox board a h))
 FlushesOne full board a h old flushed.Posted h' new = PostsFirst board a h old h' new

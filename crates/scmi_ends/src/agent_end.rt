@@ -89,10 +89,10 @@ impl<C: Channel> AgentEnd<C> {
     /// 1,023.
     ///
     /// Tokens are counted from 0, and only a successful call moves them on, by one modulo 1,024
-    /// (own). The first that applies: `Outstanding` where the answer to the post before was not
-    /// collected; `Closed` where the agent has closed, or is now told that the platform has; `Full`
-    /// where the channel has no place. After `Closed` the agent knows of the close; nothing else
-    /// changed.
+    /// (own). It is one post, whatever it answers. The first that applies: `Outstanding` where the
+    /// answer to the post before was not collected; `Closed` where the agent has closed, or is now
+    /// told that the platform has; `Full` where the channel has no place. After `Closed` the agent
+    /// knows of the close; nothing else changed.
     pub fn call(
         &mut self,
         link: &Link<C>,
@@ -123,7 +123,7 @@ impl<C: Channel> AgentEnd<C> {
     }
 
     /// Posts a message on A2P as it stands, with its own token; that of the next `call` stays. It
-    /// is refused as `call` is.
+    /// is one post, and refused as `call` is.
     pub fn post(&mut self, link: &Link<C>, message: &Message) -> Result<(), PostError>
         requires { IsOfLink (C.identity link.now.a2p) (C.identity link.now.p2a) self.old }
         ensures same { self.new ≡ record self.old { caller = self.new.caller } }
@@ -135,7 +135,8 @@ impl<C: Channel> AgentEnd<C> {
     /// Posts a frame on A2P whose length in bytes is not well formed (own).
     ///
     /// The length is that of header and payload in bytes. `WellFormed` where it is 4 + 4k with k
-    /// from 0 to `PAYLOAD_WORDS`, and then nothing changed. Else it is refused as `call` is.
+    /// from 0 to `PAYLOAD_WORDS`, and then nothing changed. Else it is one post, and refused as
+    /// `call` is.
     pub fn post_malformed(
         &mut self,
         link: &Link<C>,

@@ -211,6 +211,7 @@ impl<C: Channel> Controller<C> {
     ///
     /// The first that applies: `Waiting` where the message before is still outstanding; `Nothing`
     /// where the outbox is empty; `Closed` where the channel is; `Waiting` where it has no place.
+    /// It posts only where a message is in the outbox and none is outstanding, and then once.
     /// `NoAgent`, looked at first, where the board lacks the agent (own); `Memory` where the trace
     /// could not grow. After either nothing was collected or posted, and nothing changed.
     pub fn flush(&mut self, links: &[Link<C>], agent: u32) -> Result<Flushed, ServeError>

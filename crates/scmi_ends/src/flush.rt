@@ -9,8 +9,8 @@ use crate::flushed::Flushed;
 use scmi_core::Core;
 use scmi_link::{Channel, PostError};
 
-// Collects on P2A into `buffers`, and then posts the first message of the agent's outbox. The trace
-// has room for it.
+// Collects on P2A into `buffers`, and then posts the first message of the agent's outbox, once. The
+// trace has room for it.
 #[tactic(auto, using(crate::proofs::Places::nothing_first))]
 pub(crate) fn flush_one<C: Channel>(
     core: &mut Core,

@@ -21,6 +21,7 @@ caller_rings_view c =
       closed = c.closed;
       told = c.told;
       left = c.left;
+      posts = c.posts;
       collects = c.collects;
     }
 

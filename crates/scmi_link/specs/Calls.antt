@@ -20,25 +20,25 @@ with_word v = record v { told = v.told || not v.closed }
 
 -- a caller's post is refused as `Closed`: it has closed, or was told that the callee has
 pub record IsRefused (old new : CallerView) : Type 0 where
-  pub told : new ≡ with_word old
+  pub told : new ≡ record (with_word old) { posts = one_more old.posts }
   pub known : knows_close new ≡ true
 
 -- an open caller with nothing outstanding posts a frame
 pub record PostsFrame (old : CallerView) (frame : Frame) (new : CallerView) : Type 0 where
   pub unclosed : knows_close old ≡ false
   pub none_outstanding : ¬ (IsOutstanding old)
-  pub posted : new ≡ record old { posted = old.posted ++ frame ∷ [] }
+  pub posted : new ≡ record old { posted = old.posted ++ frame ∷ []; posts = one_more old.posts }
 
 -- a post finds no place, which only a channel that may be full answers
 pub record FindsNoPlace (may_be_full : Bool) (old new : CallerView) : Type 0 where
   pub may : may_be_full ≡ true
   pub unclosed : knows_close old ≡ false
   pub none_outstanding : ¬ (IsOutstanding old)
-  pub same : new ≡ old
+  pub same : new ≡ record old { posts = one_more old.posts }
 
--- what a refused post leaves, by its reason: the first that applies
+-- what a refused post leaves, by its reason: the first that applies; it is one call, as one that posts is
 abbrev pub RefusesPost : Bool → CallerView → PostError → CallerView → Type 0
-RefusesPost may_be_full old refused.Outstanding new = IsOutstanding old × (new ≡ old)
+RefusesPost may_be_full old refused.Outstanding new = IsOutstanding old × (new ≡ record old { posts = one_more old.posts })
 RefusesPost may_be_full old refused.Closed new = (¬ (IsOutstanding old)) × IsRefused old new
 RefusesPost may_be_full old refused.Full new = FindsNoPlace may_be_full old new
 RefusesPost may_be_full old refused.WellFormed new = ⊥

@@ -10,6 +10,7 @@ pub record CallerView : Type 0 where
   pub closed : Bool  -- it has closed
   pub told : Bool  -- it was told that the callee has closed
   pub left : Bool  -- its last post was withdrawn or given up
+  pub posts : ℕ  -- its calls of `post`, modulo 2^64
   pub collects : ℕ  -- its calls of `collect`, modulo 2^64
 
 -- what the callee has done
@@ -22,7 +23,7 @@ pub record CalleeView : Type 0 where
 
 -- a caller that has done nothing
 abbrev pub new_caller : CallerView
-new_caller = record { posted = []; read = []; closed = false; told = false; left = false; collects = 0 }
+new_caller = record { posted = []; read = []; closed = false; told = false; left = false; posts = 0; collects = 0 }
 
 -- a callee that has done nothing
 abbrev pub new_callee : CalleeView

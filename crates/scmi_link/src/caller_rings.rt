@@ -29,6 +29,8 @@ pub struct CallerRings {
     pub(crate) left: bool,
     // The channel's envelope, while no frame is on its way in it.
     pub(crate) envelope: Option<Box<Envelope>>,
+    // Its calls of `post`, modulo 2^64.
+    pub(crate) posts: u64,
     // Its calls of `collect`, modulo 2^64.
     pub(crate) collects: u64,
     ghost counted: { length (frames_in (sent frames)) ≡ length (answers_among (received answers)) +
@@ -44,7 +46,7 @@ impl CallerRings {
     ghost use Rattle.std.specs.Prelude.{◌≡◌, ◌<◌, true, false, OnOk, IfErr};
     ghost use Rattle.scmi_codec.specs.declared.frame.Frame.TheVariants.{Good, Malformed};
     ghost use Rattle.scmi_codec.specs.declared.message.Message.{Message};
-    ghost use Rattle.scmi_link.specs.View.{IsOutstanding, knows_close};
+    ghost use Rattle.scmi_link.specs.View.{IsOutstanding, knows_close, one_more};
     ghost use Rattle.scmi_link.specs.Calls.{Posts, RefusesPost, Collects, ClosesCaller, collected_by};
     ghost use Rattle.scmi_link.specs.CallerRings.{caller_rings_view, SameCallerRings, IsIdleOrInService};
 
@@ -77,10 +79,11 @@ impl CallerRings {
         Ok(())
     }
 
-    // Whether the caller may post, and there is a place for it.
+    // Counts a post, and says whether the caller may and there is a place for it.
     fn may_post(&mut self) -> Result<(), PostError>
         ensures rings { SameCallerRings self.old self.new }
-        ensures same { OnOk result (caller_rings_view self.new ≡ caller_rings_view self.old) }
+        ensures counts { OnOk result (caller_rings_view self.new ≡
+            record (caller_rings_view self.old) { posts = one_more self.old.posts }) }
         ensures room { OnOk result (0 < known_free self.new.frames) }
         ensures idle { OnOk result (self.new.waiting ≡ false) }
         ensures unclosed { OnOk result (knows_close (caller_rings_view self.new) ≡ false) }
@@ -88,6 +91,7 @@ impl CallerRings {
         ensures refused { IfErr result (λ reason.
             RefusesPost true (caller_rings_view self.old) reason (caller_rings_view self.new)) }
     {
+        self.posts = self.posts.wrapping_add(1);
         if self.waiting {
             return Err(PostError::Outstanding);
         }

@@ -24,7 +24,7 @@ use std::alloc::Global;
 /// the end was made by this channel. None of the calls but `make` takes memory, and none waits.
 ///
 /// A contract sees an end as what it has done: the frames and answers that went through it, whether
-/// it has closed, whether it was told that the other end has, and how often it looked.
+/// it has closed, whether it was told that the other end has, and how often it posted or looked.
 /// Where the ends share words, the loads, stores and exchanges that one call makes are counted.
 pub trait Channel: Sync + Drop {
     /// The end that posts frames and collects their answers.
@@ -78,8 +78,9 @@ pub trait Channel: Sync + Drop {
     ///
     /// The first that applies: `Outstanding` where the answer to the post before was not collected;
     /// `Closed` where the caller has closed, or is now told that the callee has; `Full` where the
-    /// representation has no place. After `Closed` the caller knows of the close, if it did not
-    /// close itself, and nothing else changed; after the others nothing did.
+    /// representation has no place. Every call counts as one post. After `Closed` the caller knows
+    /// of the close, if it did not close itself, and nothing else changed; after the others nothing
+    /// did.
     fn post(&self, caller: &mut Self::Caller, message: &Message) -> Result<(), PostError>
         requires { caller_identity caller.old ≡ identity self.now }
         ensures identity { caller_identity caller.new ≡ caller_identity caller.old }
@@ -106,7 +107,8 @@ pub trait Channel: Sync + Drop {
 
     /// Posts a frame whose length in bytes is not well formed.
     ///
-    /// `WellFormed` where the length is well formed, and then nothing changed. Else as `post`.
+    /// `WellFormed` where the length is well formed, and then nothing changed, nor is a post counted.
+    /// Else as `post`.
     fn post_malformed(
         &self,
         caller: &mut Self::Caller,

@@ -96,6 +96,7 @@ impl Channel for RingChannel {
                 waiting: false,
                 left: false,
                 envelope: Some(envelope),
+                posts: 0,
                 collects: 0,
             },
         };

@@ -32,6 +32,7 @@ word_caller_view caller = record {
   closed = caller.closed;
   told = caller.told;
   left = is_left caller.phase;
+  posts = caller.posts;
   collects = caller.collects;
 }
 

@@ -20,6 +20,7 @@ pub struct WordCaller {
     pub(crate) told: bool,
     // The status that the last answer left, without the closed mark: what a post must find.
     pub(crate) free: u64,
+    pub(crate) posts: u64,
     pub(crate) collects: u64,
     ghost seated: { HasCaller seat },
     ghost remembers: { CallerRemembers (caller_of seat) phase free closed told },
@@ -57,6 +58,7 @@ impl WordCaller {
         ensures steps { let message : Message = record { header = header; payload = payload.now } in
             word_caller_steps self.old (call_post (Good message) result) self.new }
     {
+        self.posts = self.posts.wrapping_add(1);
         self.may_post()?;
         write_command(table, &mut self.seat, header, payload);
         if hand_over(table, &mut self.seat, self.free) {
@@ -94,6 +96,7 @@ impl WordCaller {
         if is_well_formed(length) {
             return Err(PostError::WellFormed);
         }
+        self.posts = self.posts.wrapping_add(1);
         self.may_post()?;
         store_frame_word(table, &mut self.seat, LENGTH, length);
         store_frame_word(table, &mut self.seat, HEADER, header);

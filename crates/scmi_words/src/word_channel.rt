@@ -121,6 +121,7 @@ impl Channel for WordChannel {
             closed: false,
             told: false,
             free: FREE,
+            posts: 0,
             collects: 0,
         };
         let callee = WordCallee {

@@ -40,5 +40,5 @@ returns-then-is_free-clause-collects c = let t = c.look-status.ensures in let p 
     let left : false ≡ is_left p.phase = ap is_left (sym c.in-Waiting.is) in
     record {
       was_outstanding = record { unread = p.remembers.counted ∙ ap (λ (z : Phase). length h0.state.read + unread z) c.in-Waiting.is; stays = sym left };
-      read = λ i. record { posted = ps i; read = rs i; closed = p.closed; told = p.told; left = left i; collects = one_more p.collects };
+      read = λ i. record { posted = ps i; read = rs i; closed = p.closed; told = p.told; left = left i; posts = p.posts; collects = one_more p.collects };
     }
