@@ -22,6 +22,8 @@ import struct
 from collections import namedtuple
 from pathlib import Path
 
+__version__ = "0.9.0-dev"
+
 DONE, NOTHING, MEMORY, NO_AGENT, NOT_FREE, NO_PLATFORM, IN_USE, NO_HISTORY, NO_FRAME = range(9)
 RULE, LINE = 16, 256
 STATE, RATE, ENABLED = 1, 2, 3

@@ -74,7 +74,7 @@ The output is an SVG. docs/CHART.md has the signs.
 
 Example: scmi chart examples/two_agents.in > run.svg
 ",
-    version: "Tolbjir scmi, unreleased: SCMI 2.0 (DEN0056B), proved in Rattle where the build says so\n",
+    version: "Tolbjir scmi 0.9.0-dev: SCMI 2.0 (DEN0056B), proved in Rattle where the build says so\n",
 };
 
 /// The text that a request asks for; empty where it asks for a task.

@@ -23,7 +23,7 @@ module _ {A : Type 0} where
   unfoldable pub lawful : Board → A → Result (Board × A) RunError
   lawful board script = elim (first_fault board) [ None ↦ Ok (board, script) | Some rule ↦ Err (PlanFault (number rule)) ]
 
-  -- a board with its scripts, as they are read from lines on a board of so many agents; else the first line that is none of them. A board of 2 ^ 32 agents, which no input has, breaks rule 1 before its scripts are read
+  -- a board with its scripts, as the lines say for its number of agents; else the first line that is part of no script. A board of 2 ^ 32 agents, which no input has, breaks rule 1 before its scripts are read
   unfoldable pub with_scripts : (ℕ → List Line → Result A ℕ) → Board → List Line → Result (Board × A) RunError
   with_scripts scripts board lines =
       if nat_le (2 ^ 32) (length board.agents) then Err (PlanFault 1) else elim (scripts (length board.agents) lines) [

@@ -5,7 +5,7 @@ use Rattle.scmi_board.specs.Number.{number_of}
 use Rattle.scmi_board.specs.Rows.{after_each}
 use Rattle.scmi_codec.specs.declared.payload.TheConstants.{PAYLOAD_WORDS}
 
--- the number of an agent of a board that has so many
+-- the number of an agent, from 1 to `agents`, which is how many the board has
 unfoldable pub first_agent : ℕ → ItemsView → Option (ℕ × ItemsView)
 first_agent agents view = do
   agent ← first_number 32 view

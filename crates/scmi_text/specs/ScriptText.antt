@@ -25,6 +25,7 @@ pub record AgentScript : Type 0 where
 abbrev pub script_of : Script → AgentScript
 script_of script = record { agent = script.agent; orders = script.lines.items }
 
+-- scripts as the program has them
 abbrev pub scripts_of : List Script → List AgentScript
 scripts_of scripts = map script_of scripts
 
@@ -47,7 +48,7 @@ order_at form.Close view = do
   end ← no_item view
   Some order.Close
 
--- the agent whose script a line begins, of a board that has so many
+-- the agent whose script a line begins, from 1 to `agents`
 unfoldable pub agent_at : ℕ → ItemsView → Option ℕ
 agent_at agents view = do
   agent ← first_agent agents view
@@ -77,7 +78,7 @@ with_form agents scripts (script.Order form) view = order_at form view >>= λ or
 abbrev pub script_forms : List (WordRow (List ℕ) ScriptForm)
 script_forms = map (λ row. record { word = row.word.now; form = row.form }) SCRIPT_FORMS
 
--- the scripts with a line; none where the line is none of scripts on a board of so many agents
+-- the scripts with a line; none where no script on a board with this number of agents has such a line
 unfoldable pub with_line : ℕ → List AgentScript → List ℕ → Option (List AgentScript)
 with_line agents scripts text = do
   word ← first_item (items_left text)

@@ -75,7 +75,7 @@ head_of kinds agents (step.Of form) view = do
 abbrev pub step_forms : List (WordRow (List ℕ) StepForm)
 step_forms = map (λ row. record { word = row.word.now; form = row.form }) STEP_FORMS
 
--- a line of these kinds of steps but for its payload words, on a board of so many agents
+-- a line of a step of these kinds, up to its payload words; its agent is from 1 to `agents`
 unfoldable pub first_head : StepKinds → ℕ → ItemsView → Option (Head × ItemsView)
 first_head kinds agents view = do
   word ← first_item view
@@ -111,9 +111,10 @@ with_step kinds agents steps text = do
 abbrev pub steps_left : StepKinds → ℕ → LinesView → Result (List Step) ℕ
 steps_left kinds agents lines = after_lines (with_step kinds agents) [] (lines_left lines)
 
--- the same of lines, none of them beside hardware, and of lines that may be beside hardware
+-- the same of all lines of a text, none of which may be beside hardware
 abbrev pub steps_of_lines : ℕ → List Line → Result (List Step) ℕ
 steps_of_lines agents lines = after_lines (with_step WithoutHardware agents) [] lines
 
+-- the same of all lines of a text, which may be beside hardware
 abbrev pub hardware_steps_of_lines : ℕ → List Line → Result (List Step) ℕ
 hardware_steps_of_lines agents lines = after_lines (with_step All agents) [] lines
