@@ -1,7 +1,7 @@
 -- What the answer of the first close says, after each call.
 use Rattle.std.proofs.Common.{◌≡◌, ℕ, length, arith, Bool, true, false, not, ◌||◌, Option, Some, None, Ok, refl, sym, ap, ◌∙◌, rules}
 use Rattle.std.specs.Option.{option_or}
-use Rattle.scmi_link.specs.View.{CallerView, CalleeView, IsOutstanding, callee_knows_close}
+use Rattle.scmi_link.specs.View.{CallerView, CalleeView, IsOutstanding, callee_knows_close, one_more}
 use Rattle.scmi_link.specs.Calls.{with_word, IsRefused, RefusesPost, ClosesCaller}
 use Rattle.scmi_link.specs.declared.post_error.PostError.{PostError}
 use Rattle.scmi_link.specs.declared.post_error.PostError.TheVariants as post
@@ -51,7 +51,7 @@ is_told (Some Withdrawn) v w o c t is = absurd (not_both is.0 o)
 -- a post is refused
 pub is_refused : (closing : Option Closing) (v w : CallerView) → IsRefused v w → IsClosedAs closing v → IsClosedAs closing w
 is_refused closing v w r is = rw r.told (go closing is) where
-  go : (closing : Option Closing) → IsClosedAs closing v → IsClosedAs closing (with_word v)
+  go : (closing : Option Closing) → IsClosedAs closing v → IsClosedAs closing (record (with_word v) { posts = one_more v.posts })
   go None is = (is.0, λ h. is.1 (neither v.told (not v.closed) h))
   go (Some Idle) is = (is.0, (λ out. is.1 (record { unread = out.unread; stays = out.stays })), λ h. is.2 (neither v.told (not v.closed) h))
   go (Some Withdrawn) is = is
