@@ -1,12 +1,13 @@
 -- What is written of an input.
-use Rattle.std.specs.Prelude.{ℕ, ◌+◌, ◌==◌, ◌&&◌, ◌||◌, nat_lt, not, Bool, true, false, if◌then◌else◌, List, [], ◌∷◌, ◌++◌, length, slice_index, codes, decimal, Option, Some, None, IfSome}
+use Rattle.std.specs.Prelude.{ℕ, ◌+◌, ◌==◌, ◌&&◌, ◌||◌, nat_lt, not, Bool, false, if◌then◌else◌, List, [], ◌∷◌, ◌++◌, length, slice_index, codes, decimal, Option, Some, None, IfSome}
 use Rattle.std.specs.List.{slice_split}
 use Rattle.std.specs.Io.KnownBytes.{Appends}
 use Rattle.scmi_codec.specs.declared.area.TheConstants.{AREA_BYTES}
+use Rattle.scmi_codec.specs.declared.channel_area.TheConstants.{LEAST_AREA_BYTES}
 use Rattle.scmi_input.specs.Lines.{is_line_feed}
-use Rattle.scmi_describe.specs.Description.{described_area}
+use Rattle.scmi_describe.specs.Description.{described_channel}
 use Rattle.scmi_describe.specs.Text.{description_text}
-use Rattle.scmi_decode.specs.Dump.{line_bytes}
+use Rattle.scmi_decode.specs.MessageLine.{alone_bytes}
 use Rattle.scmi_decode.specs.OpenDump.{DumpView, no_dump, is_area, is_open, goes_on, added, begun, beside, closed, filled, repeated, is_star, end_at}
 use Rattle.scmi_decode.specs.Row.{RowView, row_of}
 
@@ -14,13 +15,14 @@ use Rattle.scmi_decode.specs.Row.{RowView, row_of}
 abbrev pub is_described : List ℕ → Bool
 is_described line = nat_lt 0 (length line) && not (slice_index line 0 == 35)
 
--- bytes that are too few or too many for an area
+-- bytes that are too few or too many for an area, or no whole words
 unfoldable pub other_size_text : ℕ → List ℕ
-other_size_text count = codes "no area: " ++ decimal count ++ codes " bytes, not " ++ decimal AREA_BYTES ++ codes "\n"
+other_size_text count =
+    codes "no area: " ++ decimal count ++ codes " bytes; an area has a multiple of 4, " ++ decimal LEAST_AREA_BYTES ++ codes " to " ++ decimal AREA_BYTES ++ codes "\n"
 
 -- what bytes are
 abbrev pub bytes_text : List ℕ → List ℕ
-bytes_text bytes = if is_area bytes then description_text (described_area bytes) else other_size_text (length bytes)
+bytes_text bytes = if is_area bytes then description_text (described_channel bytes) else other_size_text (length bytes)
 
 -- what a line is, if it has bytes
 abbrev pub found_text : Option (List ℕ) → List ℕ
@@ -33,7 +35,7 @@ numbered_text number found = decimal number ++ codes " " ++ found_text found
 
 -- what is written of a line that is a dump of its own
 abbrev pub line_text : ℕ → List ℕ → List ℕ
-line_text number line = if is_described line then numbered_text number (line_bytes line) else []
+line_text number line = if is_described line then numbered_text number (alone_bytes line) else []
 
 -- whether bytes are there, and as many as an area has
 abbrev pub are_area : Option (List ℕ) → Bool
@@ -42,7 +44,7 @@ are_area (Some bytes) = is_area bytes
 
 -- whether a line that is a dump of its own is an area
 abbrev pub line_is_area : List ℕ → Bool
-line_is_area line = if is_described line then are_area (line_bytes line) else false
+line_is_area line = if is_described line then are_area (alone_bytes line) else false
 
 -- what is written of a dump once it has ended
 abbrev pub dump_text : DumpView → List ℕ

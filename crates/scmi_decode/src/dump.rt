@@ -18,7 +18,7 @@ pub fn line_bytes(alloc: Global, line: &[u8]) -> Result<Option<Vec<u8>>, AllocEr
 }
 
 /// The bytes of items, one after the other.
-fn items_bytes(alloc: Global, items: &[&[u8]]) -> Result<Option<Vec<u8>>, AllocError>
+pub(crate) fn items_bytes(alloc: Global, items: &[&[u8]]) -> Result<Option<Vec<u8>>, AllocError>
     ensures { IfOk result (λ found. option_map (λ bytes. bytes.items) found ≡
         items_bytes (map (λ item. item.now) items.now)) }
 {
@@ -65,7 +65,7 @@ fn number_bytes(alloc: Global, digits: &[u8]) -> Result<Option<Vec<u8>>, AllocEr
 }
 
 /// The bytes of digits, two for each.
-fn bytes_of(alloc: Global, digits: &[u8]) -> Result<Option<Vec<u8>>, AllocError>
+pub(crate) fn bytes_of(alloc: Global, digits: &[u8]) -> Result<Option<Vec<u8>>, AllocError>
     ensures { IfOk result (λ found. option_map (λ bytes. bytes.items) found ≡ bytes_of digits.now) }
 {
     match hex::decode(alloc, digits) {
