@@ -2,6 +2,8 @@
 use Rattle.std.specs.Prelude.{ℕ, ◌+◌, ◌==◌, ◌&&◌, ◌||◌, nat_lt, not, Bool, false, if◌then◌else◌, List, [], ◌∷◌, ◌++◌, length, slice_index, codes, decimal, Option, Some, None, IfSome}
 use Rattle.std.specs.List.{slice_split}
 use Rattle.std.specs.Io.KnownBytes.{Appends}
+use Rattle.byteorder.specs.Endian.{big_from}
+use Rattle.scmi_codec.specs.Area.{is_well_formed, length_at}
 use Rattle.scmi_codec.specs.declared.area.TheConstants.{AREA_BYTES}
 use Rattle.scmi_codec.specs.declared.channel_area.TheConstants.{LEAST_AREA_BYTES}
 use Rattle.scmi_input.specs.Lines.{is_line_feed}
@@ -20,9 +22,29 @@ unfoldable pub other_size_text : ℕ → List ℕ
 other_size_text count =
     codes "no area: " ++ decimal count ++ codes " bytes; an area has a multiple of 4, " ++ decimal LEAST_AREA_BYTES ++ codes " to " ++ decimal AREA_BYTES ++ codes "\n"
 
+-- the length of an area's frame as a word of the other byte order
+abbrev pub swapped_length : List ℕ → ℕ
+swapped_length area = big_from 0x14 4 area
+
+-- whether the length of an area's frame is that of no frame, but with its bytes the other way round that of one
+abbrev pub looks_swapped : List ℕ → Bool
+looks_swapped area = not (is_well_formed (length_at area)) && is_well_formed (swapped_length area)
+
+-- the hint, with the length of the other byte order
+unfoldable pub swapped_text : ℕ → List ℕ
+swapped_text len = codes "    hint        length " ++ decimal len ++ codes " in the other byte order: are words printed in that?\n"
+
+-- a hint that an area's words were printed in the other byte order, where it looks so
+unfoldable pub hint_text : List ℕ → List ℕ
+hint_text area = if looks_swapped area then swapped_text (swapped_length area) else []
+
+-- what an area is, and the hint
+abbrev pub area_text : List ℕ → List ℕ
+area_text area = description_text (described_channel area) ++ hint_text area
+
 -- what bytes are
 abbrev pub bytes_text : List ℕ → List ℕ
-bytes_text bytes = if is_area bytes then description_text (described_channel bytes) else other_size_text (length bytes)
+bytes_text bytes = if is_area bytes then area_text bytes else other_size_text (length bytes)
 
 -- what a line is, if it has bytes
 abbrev pub found_text : Option (List ℕ) → List ℕ

@@ -13,6 +13,7 @@ mod decode_error;
 mod dump;
 mod event;
 mod form;
+mod hint;
 mod line;
 mod lines;
 mod message_area;

@@ -5,11 +5,12 @@ ghost use Rattle.std.specs.Io.KnownBytes.{Appends};
 ghost use Rattle.scmi_decode.specs.Decoded.{are_area, bytes_text, dump_text, found_text, line_is_area, line_text, numbered_text, other_size_text};
 
 use crate::decode_error::DecodeError;
+use crate::hint::write_hinted;
 use crate::lines::is_described;
 use crate::message_line::alone_bytes;
 use crate::open_dump::{OpenDump, is_area};
 use scmi_codec::{AREA_BYTES, LEAST_AREA_BYTES};
-use scmi_describe::{describe_channel, write_description};
+use scmi_describe::describe_channel;
 use std::alloc::Global;
 use std::io;
 use std::io::Write;
@@ -134,7 +135,7 @@ fn write_bytes<W: Write>(writer: &mut W, bytes: &[u8]) -> io::Result<()>
         (bytes_text bytes.now)) }
 {
     match describe_channel(bytes) {
-        Ok(description) => write_description(writer, &description),
+        Ok(description) => write_hinted(writer, &description, bytes),
         Err(_) => write_other_size(writer, bytes.len()),
     }
 }
