@@ -4,6 +4,7 @@ ghost use Rattle.std.specs.Option.{option_map};
 ghost use Rattle.scmi_decode.specs.Dump.{Adds, bytes_of, digits_of, is_number, number_bytes, has_mark, item_bytes, items_bytes, line_bytes};
 
 use crate::lines::items_of;
+use crate::row::ROW_BYTES;
 use hex::FromHexError;
 use std::alloc::{AllocError, Global};
 
@@ -25,7 +26,7 @@ pub(crate) fn items_bytes(alloc: Global, items: &[&[u8]]) -> Result<Option<Vec<u
     ensures { IfOk result (λ found. option_map (λ bytes. bytes.items) found ≡
         items_bytes (map (λ item. item.now) items.now)) }
 {
-    let mut all = Vec::new(alloc);
+    let mut all = Vec::with_capacity(alloc, ROW_BYTES)?;
     'items: for item in items {
         if !add_item(alloc, &mut all, *item)? {
             return Ok(None);
