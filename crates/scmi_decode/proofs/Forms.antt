@@ -1,5 +1,5 @@
 -- Rows as programs print them, which the prover reads by the definitions: each has the same sixteen bytes.
-use Rattle.std.proofs.Common.{◌≡◌, ℕ, List, [], ◌∷◌, Option, None, Some, codes, refl}
+use Rattle.std.proofs.Common.{◌≡◌, ℕ, List, [], ◌∷◌, None, Some, codes, refl}
 use Rattle.hex.specs.Hex.{decode_pairs}
 use Rattle.scmi_decode.specs.Row.{RowView, row_of, parts_of, parts_row, marked_parts, address_of}
 use Rattle.scmi_decode.specs.declared.form.Form.{Form}

@@ -1,7 +1,8 @@
 -- The bytes of items, one item after another.
-use Rattle.std.proofs.Common.{◌≡◌, ℕ, ◌+◌, ◌<◌, List, [], ◌∷◌, ◌++◌, length, get_or, take, drop, map, Option, None, Some, sym, ◌∙◌, ap, refl}
+use Rattle.std.proofs.Common.{arith, ◌≡◌, ℕ, ◌+◌, ◌<◌, Bool, true, false, List, [], ◌∷◌, ◌++◌, length, get_or, take, drop, map, Option, None, Some, sym, ◌∙◌, ap, refl}
 use Rattle.std.proofs.lemmas.List as list
-use Rattle.scmi_decode.specs.Dump.{item_bytes, items_bytes, both_bytes}
+use Rattle.std.proofs.lemmas.Bool.Decides.{nat_tests}
+use Rattle.scmi_decode.specs.Dump.{Adds, item_bytes, items_bytes, both_bytes}
 
 joined_nothing : (o : Option (List ℕ)) → both_bytes o (Some []) ≡ both_bytes (Some []) o
 joined_nothing None = refl
@@ -34,3 +35,19 @@ stop f xs i d more bad =
     let cut = ap (λ ys. take i xs ++ ys) (list.drop_more xs i d more) in
     let parts : map f xs ≡ map f (take i xs) ++ (f (get_or xs i d) ∷ map f (drop (i + 1) xs)) = ap (map f) (sym (list.take-append-drop i xs) ∙ cut) ∙ list.map-append f (take i xs) (get_or xs i d ∷ drop (i + 1) xs) in
     ap items_bytes parts ∙ items_bad (map f (take i xs)) (f (get_or xs i d)) (map f (drop (i + 1) xs)) bad
+
+-- nothing was added only of an item that has no bytes
+pub adds_none : (o : Option (List ℕ)) (added : Bool) (old new : List ℕ) → Adds o added old new → added ≡ false → o ≡ None
+adds_none None added old new adds none = refl
+adds_none (Some bytes) added old new adds none = absurd (true-not-false (sym adds.0 ∙ none))
+  where
+    true-not-false : true ≡ false → ⊥
+    true-not-false e = grind (arith, nat_tests)
+
+-- what was added are the bytes of the item
+pub adds_some : (o : Option (List ℕ)) (added : Bool) (old new : List ℕ) → Adds o added old new → added ≡ true → (bytes : List ℕ) × (o ≡ Some bytes) × (new ≡ old ++ bytes)
+adds_some None added old new adds some = absurd (false-not-true (sym adds ∙ some))
+  where
+    false-not-true : false ≡ true → ⊥
+    false-not-true e = grind (arith, nat_tests)
+adds_some (Some bytes) added old new adds some = (bytes, refl, adds.1)

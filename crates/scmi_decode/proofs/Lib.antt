@@ -1,4 +1,5 @@
 mod Forms
 mod Items
+mod Messages
 mod OneDump
 mod UnderWay

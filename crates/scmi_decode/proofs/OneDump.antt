@@ -1,5 +1,5 @@
 -- The text of an input that is one dump is that of its bytes, in whatever form they stand.
-use Rattle.std.proofs.Common.{◌≡◌, ℕ, ◌+◌, ◌<◌, Bool, true, false, List, [], ◌∷◌, ◌++◌, length, Option, None, Some, IfSome, ◌∙◌, sym, ap, refl, subst, arith, append_assoc, append-nil}
+use Rattle.std.proofs.Common.{◌≡◌, ℕ, ◌+◌, true, false, List, [], ◌∷◌, ◌++◌, length, Option, None, Some, ◌∙◌, sym, ap, refl, subst, arith, append_assoc, append-nil}
 use Rattle.std.specs.Prelude.{◌==◌, not}
 use Rattle.std.specs.List.{slice_split}
 use Rattle.std.specs.Io.KnownBytes.{Appends}

@@ -1,6 +1,5 @@
 -- What was written while an input is read line by line.
-use Rattle.std.proofs.Common.{◌≡◌, ℕ, ◌+◌, ◌<◌, ◌≤◌, Bool, not, true, false, List, [], ◌∷◌, ◌++◌, length, Option, None, Some, IfSome, ◌∙◌, sym, ap, refl, subst, arith, length-drop}
-use Rattle.std.specs.Prelude.{nat_lt}
+use Rattle.std.proofs.Common.{◌≡◌, ℕ, ◌+◌, ◌<◌, ◌≤◌, Bool, not, true, false, List, [], ◌∷◌, length, Option, None, Some, IfSome, ◌∙◌, sym, ap, subst, arith, length-drop}
 use Rattle.std.specs.List.{slice_split, position_or_len}
 use Rattle.std.specs.Io.KnownBytes.{Appends}
 use Rattle.std.proofs.KnownBytes.{Appends-trans}

@@ -1,12 +1,15 @@
 -- What is written of an input.
-use Rattle.std.specs.Prelude.{ℕ, ◌+◌, ◌==◌, ◌&&◌, ◌||◌, nat_lt, not, Bool, true, false, if◌then◌else◌, List, [], ◌∷◌, ◌++◌, length, slice_index, codes, decimal, Option, Some, None, IfSome}
+use Rattle.std.specs.Prelude.{ℕ, ◌+◌, ◌==◌, ◌&&◌, ◌||◌, nat_lt, not, Bool, false, if◌then◌else◌, List, [], ◌∷◌, ◌++◌, length, slice_index, codes, decimal, Option, Some, None, IfSome}
 use Rattle.std.specs.List.{slice_split}
 use Rattle.std.specs.Io.KnownBytes.{Appends}
+use Rattle.byteorder.specs.Endian.{big_from}
+use Rattle.scmi_codec.specs.Area.{is_well_formed, length_at}
 use Rattle.scmi_codec.specs.declared.area.TheConstants.{AREA_BYTES}
+use Rattle.scmi_codec.specs.declared.channel_area.TheConstants.{LEAST_AREA_BYTES}
 use Rattle.scmi_input.specs.Lines.{is_line_feed}
-use Rattle.scmi_describe.specs.Description.{described_area}
+use Rattle.scmi_describe.specs.Description.{described_channel}
 use Rattle.scmi_describe.specs.Text.{description_text}
-use Rattle.scmi_decode.specs.Dump.{line_bytes}
+use Rattle.scmi_decode.specs.MessageLine.{alone_bytes}
 use Rattle.scmi_decode.specs.OpenDump.{DumpView, no_dump, is_area, is_open, goes_on, added, begun, beside, closed, filled, repeated, is_star, end_at}
 use Rattle.scmi_decode.specs.Row.{RowView, row_of}
 
@@ -14,13 +17,34 @@ use Rattle.scmi_decode.specs.Row.{RowView, row_of}
 abbrev pub is_described : List ℕ → Bool
 is_described line = nat_lt 0 (length line) && not (slice_index line 0 == 35)
 
--- bytes that are too few or too many for an area
+-- bytes that are too few or too many for an area, or no whole words
 unfoldable pub other_size_text : ℕ → List ℕ
-other_size_text count = codes "no area: " ++ decimal count ++ codes " bytes, not " ++ decimal AREA_BYTES ++ codes "\n"
+other_size_text count =
+    codes "no area: " ++ decimal count ++ codes " bytes; an area has a multiple of 4, " ++ decimal LEAST_AREA_BYTES ++ codes " to " ++ decimal AREA_BYTES ++ codes "\n"
+
+-- the length of an area's frame as a word of the other byte order
+abbrev pub swapped_length : List ℕ → ℕ
+swapped_length area = big_from 0x14 4 area
+
+-- whether the length of an area's frame is that of no frame, but with its bytes the other way round that of one
+abbrev pub looks_swapped : List ℕ → Bool
+looks_swapped area = not (is_well_formed (length_at area)) && is_well_formed (swapped_length area)
+
+-- the hint, with the length of the other byte order
+unfoldable pub swapped_text : ℕ → List ℕ
+swapped_text len = codes "    hint        length " ++ decimal len ++ codes " in the other byte order: are words printed in that?\n"
+
+-- a hint that an area's words were printed in the other byte order, where it looks so
+unfoldable pub hint_text : List ℕ → List ℕ
+hint_text area = if looks_swapped area then swapped_text (swapped_length area) else []
+
+-- what an area is, and the hint
+abbrev pub area_text : List ℕ → List ℕ
+area_text area = description_text (described_channel area) ++ hint_text area
 
 -- what bytes are
 abbrev pub bytes_text : List ℕ → List ℕ
-bytes_text bytes = if is_area bytes then description_text (described_area bytes) else other_size_text (length bytes)
+bytes_text bytes = if is_area bytes then area_text bytes else other_size_text (length bytes)
 
 -- what a line is, if it has bytes
 abbrev pub found_text : Option (List ℕ) → List ℕ
@@ -33,7 +57,7 @@ numbered_text number found = decimal number ++ codes " " ++ found_text found
 
 -- what is written of a line that is a dump of its own
 abbrev pub line_text : ℕ → List ℕ → List ℕ
-line_text number line = if is_described line then numbered_text number (line_bytes line) else []
+line_text number line = if is_described line then numbered_text number (alone_bytes line) else []
 
 -- whether bytes are there, and as many as an area has
 abbrev pub are_area : Option (List ℕ) → Bool
@@ -42,7 +66,7 @@ are_area (Some bytes) = is_area bytes
 
 -- whether a line that is a dump of its own is an area
 abbrev pub line_is_area : List ℕ → Bool
-line_is_area line = if is_described line then are_area (line_bytes line) else false
+line_is_area line = if is_described line then are_area (alone_bytes line) else false
 
 -- what is written of a dump once it has ended
 abbrev pub dump_text : DumpView → List ℕ

@@ -1,5 +1,5 @@
 -- The bytes of a line of a dump.
-use Rattle.std.specs.Prelude.{ℕ, ◌==◌, ◌&&◌, ◌||◌, nat_lt, Bool, if◌then◌else◌, List, [], ◌∷◌, ◌++◌, length, drop, reverse, slice_index, Option, Some, None}
+use Rattle.std.specs.Prelude.{◌≡◌, ℕ, ◌==◌, ◌&&◌, ◌||◌, nat_lt, Bool, true, false, if◌then◌else◌, List, [], ◌∷◌, ◌++◌, length, drop, reverse, slice_index, Option, Some, None}
 use Rattle.std.specs.List.{slice_split}
 use Rattle.std.specs.Option.{option_map}
 use Rattle.std.specs.Result.{result_ok}
@@ -24,6 +24,19 @@ number_bytes digits = option_map reverse (bytes_of digits)
 -- the bytes of an item: a number behind its mark, or a word of eight digits, is its bytes from the lowest on; any other item is bytes in their order
 abbrev pub item_bytes : List ℕ → Option (List ℕ)
 item_bytes item = if has_mark item then number_bytes (drop 2 item) else if length item == 8 then number_bytes item else bytes_of item
+
+-- what a vector is once the bytes of an item were added, where it has some, and whether it has
+abbrev pub Adds : Option (List ℕ) → (added : Bool) → (old new : List ℕ) → Type 0
+Adds None added old new = added ≡ false
+Adds (Some bytes) added old new = (added ≡ true) × (new ≡ old ++ bytes)
+
+-- whether an item is a number, of which the lowest byte comes first
+abbrev pub is_number : List ℕ → Bool
+is_number item = has_mark item || (length item == 8)
+
+-- the digits of an item, behind its mark
+abbrev pub digits_of : List ℕ → List ℕ
+digits_of item = if has_mark item then drop 2 item else item
 
 -- one after the other, where both are there
 abbrev pub both_bytes : Option (List ℕ) → Option (List ℕ) → Option (List ℕ)

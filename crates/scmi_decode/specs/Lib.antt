@@ -1,6 +1,9 @@
 pub mod Dump
 pub mod Row
 pub mod OpenDump
+pub mod MessageArea
+pub mod Event
+pub mod MessageLine
 pub mod Decoded
 pub mod OneDump
 pub mod DecodeError

@@ -1,5 +1,6 @@
 -- A dump over several lines, as far as it was read.
-use Rattle.std.specs.Prelude.{ℕ, zero, suc, ◌+◌, ◌-◌, ◌*◌, ◌/◌, ◌%◌, ◌^◌, ◌==◌, ◌&&◌, ◌||◌, nat_lt, nat_le, not, Bool, true, false, if◌then◌else◌, List, [], ◌∷◌, ◌++◌, length, drop, slice_index, Option, Some, None}
+use Rattle.std.specs.Prelude.{ℕ, zero, suc, ◌+◌, ◌-◌, ◌/◌, ◌%◌, ◌^◌, ◌==◌, ◌&&◌, ◌||◌, nat_le, not, Bool, true, false, if◌then◌else◌, List, [], ◌++◌, length, drop, slice_index, Option, Some, None}
+use Rattle.scmi_codec.specs.ChannelArea.{is_channel_size}
 use Rattle.scmi_codec.specs.declared.area.TheConstants.{AREA_BYTES}
 use Rattle.scmi_decode.specs.Row.{RowView, address_of, first_item, after_item, after_gap}
 use Rattle.scmi_decode.specs.declared.form.Form.{Form}
@@ -19,9 +20,9 @@ pub record DumpView : Type 0 where
 abbrev pub no_dump : DumpView
 no_dump = record { first = 0; form = Plain; next = 0; width = 0; repeats = false; bytes = []; found = false }
 
--- whether bytes are as many as an area has
+-- whether bytes are as many as the area of a channel may have
 abbrev pub is_area : List ℕ → Bool
-is_area bytes = length bytes == AREA_BYTES
+is_area bytes = is_channel_size (length bytes)
 
 -- whether a dump is open
 abbrev pub is_open : DumpView → Bool

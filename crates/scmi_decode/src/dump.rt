@@ -1,11 +1,15 @@
 //! The bytes of a line of a dump.
-ghost use Rattle.std.specs.Prelude.{◌≡◌, ◌≢◌, IfOk, map, reverse, length};
+ghost use Rattle.std.specs.Prelude.{◌≡◌, ◌≢◌, ◌/◌, [], IfOk, map, reverse, length};
 ghost use Rattle.std.specs.Option.{option_map};
-ghost use Rattle.scmi_decode.specs.Dump.{bytes_of, number_bytes, has_mark, item_bytes, items_bytes, line_bytes};
+ghost use Rattle.scmi_decode.specs.Dump.{Adds, bytes_of, digits_of, is_number, number_bytes, has_mark, item_bytes, items_bytes, line_bytes};
 
 use crate::lines::items_of;
+use crate::row::ROW_BYTES;
 use hex::FromHexError;
 use std::alloc::{AllocError, Global};
+
+/// An item of at most so many digits takes no memory of its own (own).
+const SHORT_DIGITS: usize = 64;
 
 /// The bytes that stand in a line, `None` where an item of it is of another form. An item is bytes of
 /// two hexadecimal digits each; or a number, its lowest byte first: eight digits, or `0x` and digits
@@ -18,18 +22,70 @@ pub fn line_bytes(alloc: Global, line: &[u8]) -> Result<Option<Vec<u8>>, AllocEr
 }
 
 /// The bytes of items, one after the other.
-fn items_bytes(alloc: Global, items: &[&[u8]]) -> Result<Option<Vec<u8>>, AllocError>
+pub(crate) fn items_bytes(alloc: Global, items: &[&[u8]]) -> Result<Option<Vec<u8>>, AllocError>
     ensures { IfOk result (λ found. option_map (λ bytes. bytes.items) found ≡
         items_bytes (map (λ item. item.now) items.now)) }
 {
-    let mut all = Vec::new(alloc);
+    let mut all = Vec::with_capacity(alloc, ROW_BYTES)?;
     'items: for item in items {
-        let Some(bytes) = item_bytes(alloc, *item)? else {
+        if !add_item(alloc, &mut all, *item)? {
             return Ok(None);
-        };
-        all.extend_from_slice(&bytes)?;
+        }
     }
     Ok(Some(all))
+}
+
+/// Adds the bytes of an item, and gives whether it has some.
+fn add_item(alloc: Global, all: &mut Vec<u8>, item: &[u8]) -> Result<bool, AllocError>
+    ensures { IfOk result (λ added. Adds (item_bytes item.now) added all.old.items all.new.items) }
+{
+    if item.len() > SHORT_DIGITS {
+        return add_long(alloc, all, item);
+    }
+    let mut buffer = [0; SHORT_DIGITS];
+    let digits = digits_of(item);
+    let short = &mut buffer[..digits.len() / 2];
+    if !decode_digits(digits, short) {
+        return Ok(false);
+    }
+    if is_number(item) {
+        short.reverse();
+    }
+    all.extend_from_slice(short)?;
+    Ok(true)
+}
+
+/// Adds the bytes of an item of any length.
+fn add_long(alloc: Global, all: &mut Vec<u8>, item: &[u8]) -> Result<bool, AllocError>
+    ensures { IfOk result (λ added. Adds (item_bytes item.now) added all.old.items all.new.items) }
+{
+    let Some(bytes) = item_bytes(alloc, item)? else {
+        return Ok(false);
+    };
+    all.extend_from_slice(&bytes)?;
+    Ok(true)
+}
+
+/// Decodes digits, two for each byte, into as many bytes, and gives whether they are digits.
+fn decode_digits(digits: &[u8], bytes: &mut [u8]) -> bool
+    requires room { length bytes.old ≡ length digits.now / 2 }
+    ensures { Adds (bytes_of digits.now) result [] bytes.new }
+{
+    hex::decode_to_slice(digits, bytes).is_ok()
+}
+
+/// Whether an item is a number, of which the lowest byte comes first: it has its mark, or eight digits.
+fn is_number(item: &[u8]) -> bool
+    ensures { result ≡ is_number item.now }
+{
+    has_mark(item) || item.len() == 8
+}
+
+/// The digits of an item, behind its mark.
+fn digits_of(item: &[u8]) -> &[u8]
+    ensures { result.now ≡ digits_of item.now }
+{
+    if has_mark(item) { &item[2..] } else { item }
 }
 
 /// The bytes of an item.
@@ -65,7 +121,7 @@ fn number_bytes(alloc: Global, digits: &[u8]) -> Result<Option<Vec<u8>>, AllocEr
 }
 
 /// The bytes of digits, two for each.
-fn bytes_of(alloc: Global, digits: &[u8]) -> Result<Option<Vec<u8>>, AllocError>
+pub(crate) fn bytes_of(alloc: Global, digits: &[u8]) -> Result<Option<Vec<u8>>, AllocError>
     ensures { IfOk result (λ found. option_map (λ bytes. bytes.items) found ≡ bytes_of digits.now) }
 {
     match hex::decode(alloc, digits) {

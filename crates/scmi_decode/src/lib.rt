@@ -4,15 +4,20 @@
 //! contract of `run_decode`: where the status is 0, what was written is the text of each dump of the
 //! input, in order and behind the number of its first line, and that text is what `scmi_describe` writes
 //! of the dump's area, or says that it is none. `decode` adds that the text of a dump is that of its
-//! bytes, in whatever form they stand (`forms`).
+//! bytes, in whatever form they stand (`forms`). A line that tells a message, of Linux's ftrace or of a
+//! run of a script, has the bytes of that message's area.
 #![tactic(auto)]
 
 mod decode;
 mod decode_error;
 mod dump;
+mod event;
 mod form;
+mod hint;
 mod line;
 mod lines;
+mod message_area;
+mod message_line;
 mod number;
 mod open_dump;
 mod parts;
@@ -22,5 +27,6 @@ mod step;
 
 pub use decode::{run_counted, run_decode};
 pub use decode_error::DecodeError;
+pub use event::EventKind;
 pub use form::Form;
 pub use row::{ROW_BYTES, ROW_LINE_BYTES};

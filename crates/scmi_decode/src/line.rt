@@ -5,11 +5,12 @@ ghost use Rattle.std.specs.Io.KnownBytes.{Appends};
 ghost use Rattle.scmi_decode.specs.Decoded.{are_area, bytes_text, dump_text, found_text, line_is_area, line_text, numbered_text, other_size_text};
 
 use crate::decode_error::DecodeError;
-use crate::dump::line_bytes;
+use crate::hint::write_hinted;
 use crate::lines::is_described;
+use crate::message_line::alone_bytes;
 use crate::open_dump::{OpenDump, is_area};
-use scmi_codec::AREA_BYTES;
-use scmi_describe::write_area;
+use scmi_codec::{AREA_BYTES, LEAST_AREA_BYTES};
+use scmi_describe::describe_channel;
 use std::alloc::Global;
 use std::io;
 use std::io::Write;
@@ -31,7 +32,7 @@ pub fn write_line<W: Write>(
     if !is_described(line) {
         return Ok(false);
     }
-    let found = line_bytes(alloc, line)?;
+    let found = alone_bytes(alloc, line)?;
     write_found_line(writer, number, &found)
 }
 
@@ -133,19 +134,20 @@ fn write_bytes<W: Write>(writer: &mut W, bytes: &[u8]) -> io::Result<()>
     ensures { OnOk result (Appends (W.contents writer.old) (W.contents writer.new)
         (bytes_text bytes.now)) }
 {
-    if bytes.len() != AREA_BYTES {
-        return write_other_size(writer, bytes.len());
+    match describe_channel(bytes) {
+        Ok(description) => write_hinted(writer, &description, bytes),
+        Err(_) => write_other_size(writer, bytes.len()),
     }
-    let mut area = [0; AREA_BYTES];
-    area.copy_from_slice(bytes);
-    write_area(writer, &area)
 }
 
-/// Writes that bytes are too few or too many.
+/// Writes that bytes are too few or too many, or no whole words.
 #[tactic(auto, unfolding(crate::specs::Decoded::other_size_text))]
 fn write_other_size<W: Write>(writer: &mut W, count: usize) -> io::Result<()>
     ensures { OnOk result (Appends (W.contents writer.old) (W.contents writer.new)
         (other_size_text count)) }
 {
-    writeln!(writer, "no area: {count} bytes, not {AREA_BYTES}")
+    writeln!(
+        writer,
+        "no area: {count} bytes; an area has a multiple of 4, {LEAST_AREA_BYTES} to {AREA_BYTES}"
+    )
 }

@@ -5,7 +5,7 @@ ghost use Rattle.scmi_decode.specs.OpenDump.{no_dump, is_open, is_area, same_for
 use crate::form::Form;
 use crate::row::{Row, address_of};
 use crate::scan::{after_gap, after_item, first_item};
-use scmi_codec::AREA_BYTES;
+use scmi_codec::{AREA_BYTES, is_channel_size};
 use std::alloc::{AllocError, Global};
 use std::marker::Model;
 
@@ -239,11 +239,11 @@ fn end_of(row: &Row) -> u64
     row.address().wrapping_add(row.bytes().len() as u64)
 }
 
-/// Whether bytes are as many as an area has.
+/// Whether bytes are as many as the area of a channel may have.
 pub(crate) fn is_area(bytes: &[u8]) -> bool
     ensures { result ≡ is_area bytes.now }
 {
-    bytes.len() == AREA_BYTES
+    is_channel_size(bytes.len())
 }
 
 /// Whether two forms are the same.
@@ -265,7 +265,7 @@ fn has_one_item(line: &[u8]) -> bool
 }
 
 /// So many copies of bytes.
-fn copies(alloc: Global, count: u64, row: &[u8]) -> Result<Vec<u8>, AllocError>
+pub(crate) fn copies(alloc: Global, count: u64, row: &[u8]) -> Result<Vec<u8>, AllocError>
     ensures { IfOk result (λ all. all.items ≡ copies count row.now) }
 {
     let mut all = Vec::new(alloc);

@@ -1,6 +1,7 @@
 -- What an area is, by the codec's reading of it.
 use Rattle.std.specs.Prelude.{ℕ, ◌/◌, ◌%◌, ◌==◌, ◌&&◌, Bool, true, false, if◌then◌else◌, List, Option, Some, None}
 use Rattle.scmi_codec.specs.Area.{frame_waiting, frame_of, status_at}
+use Rattle.scmi_codec.specs.ChannelArea.{channel_frame, channel_waiting}
 use Rattle.scmi_codec.specs.Command.{command_of}
 use Rattle.scmi_codec.specs.declared.message.Message.{Message}
 use Rattle.scmi_codec.specs.declared.status.Status.{Status}
@@ -49,6 +50,15 @@ described_found area None = described_left (status_at area / 2 % 2 == 1) (frame_
 -- what an area is
 abbrev pub described_area : List ℕ → Description
 described_area area = described_found area (frame_waiting area)
+
+-- what the area of a channel is by what a callee finds there, and else by what was left
+abbrev pub described_channel_found : List ℕ → Option Frame → Description
+described_channel_found area (Some f) = described_posted f
+described_channel_found area None = described_left (status_at area / 2 % 2 == 1) (channel_frame area)
+
+-- what the area of a channel is, whose room its size says
+abbrev pub described_channel : List ℕ → Description
+described_channel area = described_channel_found area (channel_waiting area)
 
 -- what an area is once a frame in it was answered
 abbrev pub described_answer : Frame → Answer → Description

@@ -1,5 +1,5 @@
 -- What an area is, in words.
-use Rattle.std.specs.Prelude.{ℕ, ◌+◌, ◌*◌, ◌==◌, ◌&&◌, nat_lt, Bool, true, false, if◌then◌else◌, List, [], ◌∷◌, ◌++◌, length, codes, decimal, Result, Ok, Err}
+use Rattle.std.specs.Prelude.{ℕ, ◌+◌, ◌*◌, ◌%◌, ◌==◌, ◌&&◌, nat_lt, Bool, true, false, if◌then◌else◌, List, [], ◌∷◌, ◌++◌, length, codes, decimal, Result, Ok, Err}
 use Rattle.scmi_codec.specs.Header.{HeaderFields, header_word}
 use Rattle.scmi_codec.specs.Listing.{wanted_words}
 use Rattle.scmi_codec.specs.declared.payload.TheConstants.{PAYLOAD_WORDS}
@@ -127,7 +127,7 @@ notification_text free m = notification_line free m ++ fields_text (notification
 unfoldable pub why_text : ℕ → List ℕ
 why_text len =
     if nat_lt len 4 then codes "no word for the header" else if nat_lt (4 + 4 * PAYLOAD_WORDS) len then codes "more than " ++ decimal (4 + 4 * PAYLOAD_WORDS)
-    else codes "not a multiple of 4"
+    else if len % 4 == 0 then codes "more than its area has room for" else codes "not a multiple of 4"
 
 -- a length in bytes
 unfoldable pub length_start : ℕ → List ℕ

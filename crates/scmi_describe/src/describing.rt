@@ -1,5 +1,5 @@
 //! What an area is, from its bytes.
-ghost use Rattle.std.specs.Prelude.{◌≡◌, ◌≢◌, ◌/◌, ◌%◌, ◌==◌, length};
+ghost use Rattle.std.specs.Prelude.{◌≡◌, ◌≢◌, ◌/◌, ◌%◌, ◌==◌, ◌≤◌, length};
 ghost use Rattle.scmi_codec.specs.Area.{frame_of, status_at, StandsForAnswer};
 ghost use Rattle.scmi_codec.specs.declared.frame.Frame.{Frame as FrameOf};
 ghost use Rattle.scmi_codec.specs.declared.frame.Answer.{Answer as AnswerOf};
@@ -28,7 +28,8 @@ pub fn describe(area: &[u8; AREA_BYTES]) -> Description
 }
 
 /// Whether the error bit of an area is set.
-fn has_error(area: &[u8; AREA_BYTES]) -> bool
+pub(crate) fn has_error(area: &[u8]) -> bool
+    requires room { 8 ≤ length area.now }
     ensures { result ≡ (status_at area.now / 2 % 2 == 1) }
 {
     LittleEndian::read_u32(&area[STATUS_AT..]) / 2 % 2 == 1
@@ -51,7 +52,7 @@ pub(crate) fn standing_frame(area: &[u8; AREA_BYTES]) -> Frame
 }
 
 /// What a frame is in a busy channel.
-fn describe_posted(frame: Frame) -> Description
+pub(crate) fn describe_posted(frame: Frame) -> Description
     ensures { result ≡ described_posted frame }
 {
     match frame {
@@ -71,7 +72,7 @@ fn describe_posted(frame: Frame) -> Description
 }
 
 /// What a frame is in a free channel, with or without the error bit.
-fn describe_left(is_error: bool, frame: Frame) -> Description
+pub(crate) fn describe_left(is_error: bool, frame: Frame) -> Description
     ensures { result ≡ described_left is_error frame }
 {
     if is_error {

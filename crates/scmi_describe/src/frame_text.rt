@@ -113,5 +113,8 @@ fn write_why<W: Write>(writer: &mut W, length: u32) -> io::Result<()>
     if length > most as u32 {
         return write!(writer, "more than {most}");
     }
+    if length % 4 == 0 {
+        return write!(writer, "more than its area has room for");
+    }
     write!(writer, "not a multiple of 4")
 }

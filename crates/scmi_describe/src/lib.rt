@@ -2,7 +2,8 @@
 //!
 //! The main type is `Description`, what an area is; `describe` makes it of the bytes, and
 //! `write_description` writes it. The main theorems are the contracts of `describe` (a description is
-//! the codec's frame and command, and an area that stands for an answer is described as that answer),
+//! the codec's frame and command, and an area that stands for an answer is described as that answer;
+//! `describe_channel` is the same for an area of any size that a channel has),
 //! of `write_description` (the text, to its last byte) and of `are_described_alike` (the text loses
 //! nothing of the frame and of the channel's state).
 #![tactic(auto)]
@@ -11,6 +12,7 @@ mod alike;
 mod answering;
 mod area;
 mod attributes;
+mod channel;
 mod command_text;
 mod commands;
 mod describing;
@@ -31,6 +33,7 @@ mod words;
 pub use alike::are_described_alike;
 pub use answering::{describe_answered, describe_written};
 pub use area::write_area;
+pub use channel::describe_channel;
 pub use commands::command_fields;
 pub use describing::describe;
 pub use description::Description;

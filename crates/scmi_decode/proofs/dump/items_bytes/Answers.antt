@@ -1,12 +1,15 @@
-use Rattle.std.proofs.Common.{sym, ◌∙◌, ap, ◌++◌, Some}
-use Rattle.std.specs.Option.{option_map}
+use Rattle.std.proofs.Common.{◌≡◌, ◌∙◌, ap, sym, Some, false, true, arith, rules, tests}
+use Rattle.std.proofs.lemmas.Bool.Decides.{nat_tests}
 use Rattle.scmi_decode.proofs.Items as items
 use Rattle.scmi_decode.proofs.dump.items_bytes.Goals as goal
 
-pub returns-in_default : goal.returns-in_default
-returns-in_default c = sym (items.stop (λ item. item.now) _ _ _ c.items-test.true (sym c.in_ok-bytes.ensures ∙ ap (option_map _) c.in_default.is))
+pub returns-then-not-branch : goal.returns-then-not-branch
+returns-then-not-branch c =
+    let none : c.in_ok-add_item.field-0 ≡ false = first_of (search (rules, tests), grind (arith, nat_tests), cc) in
+    sym (items.stop (λ item. item.now) _ _ _ c.items-test.true (items.adds_none _ _ _ _ c.in_ok-add_item.ensures none))
 
 pub items-preserved : goal.items-preserved
 items-preserved c =
-    let all = c.in_ok-extend_from_slice.ensures.items ∙ ap (λ bytes. c.items.all.items ++ bytes) c.deref.ensures.value in
-    items.turn (λ item. item.now) _ _ _ _ _ c.items-test.true c.items.invariant (sym c.in_ok-bytes.ensures ∙ ap (option_map _) c.in-Some.is) ∙ ap Some (sym all)
+    let some : c.in_ok-add_item.field-0 ≡ true = first_of (search (rules, tests), grind (arith, nat_tests), cc) in
+    let (bytes, here, all) = items.adds_some _ _ _ _ c.in_ok-add_item.ensures some in
+    items.turn (λ item. item.now) _ _ _ _ _ c.items-test.true c.items.invariant here ∙ ap Some (sym all)

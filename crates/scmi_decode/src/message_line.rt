@@ -1,0 +1,83 @@
+//! Lines that tell a message: of Linux's event `scmi_msg_dump`, or of a script.
+ghost use Rattle.std.specs.Prelude.{◌≡◌, IfOk, map};
+ghost use Rattle.std.specs.Option.{option_map};
+ghost use Rattle.scmi_decode.specs.MessageLine.{alone_bytes, behind_event, behind_got, got_or_own, is_agent, is_got};
+
+use crate::dump::items_bytes;
+use crate::event::{digits_number, event_area, is_word};
+use crate::lines::items_of;
+use crate::message_area::message_area;
+use std::alloc::{AllocError, Global};
+
+/// The bytes that a line stands for alone: the area of the message that it tells, or else its own. The
+/// only error is want of memory.
+pub(crate) fn alone_bytes(alloc: Global, line: &[u8]) -> Result<Option<Vec<u8>>, AllocError>
+    ensures { IfOk result (λ found. option_map (λ bytes. bytes.items) found ≡ alone_bytes line.now) }
+{
+    let items = items_of(alloc, line)?;
+    match behind_event(items.as_slice()) {
+        Some(behind) => event_area(alloc, behind),
+        None => got_or_own(alloc, items.as_slice()),
+    }
+}
+
+/// What stands behind the name of the event, if it is among the items.
+fn behind_event<'a, 'b>(items: &'b [&'a [u8]]) -> Option<&'b [&'a [u8]]>
+    ensures { option_map (λ behind. map (λ item. item.now) behind.now) result
+        ≡ behind_event (map (λ item. item.now) items.now) }
+{
+    let [item, items @ ..] = items else {
+        return None;
+    };
+    if is_word(b"scmi_msg_dump:", item) {
+        Some(items)
+    } else {
+        behind_event(items)
+    }
+}
+
+/// The area of the message that a line says that an agent has got, or else the bytes of its items.
+fn got_or_own(alloc: Global, items: &[&[u8]]) -> Result<Option<Vec<u8>>, AllocError>
+    ensures { IfOk result (λ found. option_map (λ bytes. bytes.items) found ≡
+        got_or_own (behind_got (map (λ item. item.now) items.now)) (map (λ item. item.now) items.now)) }
+{
+    let Some(behind) = behind_got(items) else {
+        return items_bytes(alloc, items);
+    };
+    match items_bytes(alloc, behind)? {
+        Some(message) => message_area(alloc, 1, message.as_slice()),
+        None => Ok(None),
+    }
+}
+
+/// What stands behind an agent and the word that it has got a message.
+fn behind_got<'a, 'b>(items: &'b [&'a [u8]]) -> Option<&'b [&'a [u8]]>
+    ensures { option_map (λ behind. map (λ item. item.now) behind.now) result
+        ≡ behind_got (map (λ item. item.now) items.now) }
+{
+    let [agent, items @ ..] = items else {
+        return None;
+    };
+    let [got, items @ ..] = items else {
+        return None;
+    };
+    if is_agent(agent) && is_got(got) {
+        Some(items)
+    } else {
+        None
+    }
+}
+
+/// Whether an item is the number of an agent.
+fn is_agent(item: &[u8]) -> bool
+    ensures { result ≡ is_agent item.now }
+{
+    digits_number(10, 1 << 32, item).is_some()
+}
+
+/// Whether an item says that an agent has got the message behind it.
+fn is_got(item: &[u8]) -> bool
+    ensures { result ≡ is_got item.now }
+{
+    is_word(b"reply", item) || is_word(b"got", item) || is_word(b"p2a", item)
+}
