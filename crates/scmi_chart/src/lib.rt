@@ -5,15 +5,24 @@
 //! those of its line, in order, each of the agent that the line names, and no others.
 #![tactic(auto)]
 
+mod advance_marks;
+mod answer_marks;
 mod asked;
 mod board_names;
+mod close_marks;
+mod command_marks;
+mod delivery_marks;
 mod detail;
+mod exchange_marks;
+mod execution_marks;
 mod label;
 mod level;
 mod levels;
+mod lifelines;
 mod marks;
 mod parties;
 mod recorder;
+mod remark_marks;
 mod reply_label;
 mod sign;
 mod subject;

@@ -1,0 +1,52 @@
+//! Answers that agents read.
+ghost use Rattle.std.specs.Prelude.{◌≡◌, [], ◌∷◌, ◌++◌, OnOk};
+ghost use Rattle.scmi_chart.specs.Signs.{is_success, answered, collected_signs};
+
+use crate::detail::answer_detail;
+use crate::recorder::Recorder;
+use crate::reply_label::answer_label;
+use crate::sign::{answered_slot, outcome_of};
+use scmi_codec::Answer;
+use scmi_link::Collected;
+use scmi_svg::{Mark, Message, Side};
+use std::alloc::AllocError;
+
+impl<'a> Recorder<'a> {
+    /// The agent collected.
+    pub(crate) fn record_collect(
+        &mut self,
+        agent: u8,
+        slot: u16,
+        collected: &Collected,
+    ) -> Result<(), AllocError>
+        ensures { OnOk result (self.new ≡ self.old ++ collected_signs agent collected.now) }
+    {
+        match collected {
+            Collected::Nothing => self.remark(agent, slot, Side::Agent, "nothing yet"),
+            Collected::Closed => self.remark(agent, slot, Side::Agent, "told: closed"),
+            Collected::Got(answer) => self.record_answer(agent, slot, answer),
+        }
+    }
+
+    /// The agent read the answer to its command.
+    pub(crate) fn record_answer(
+        &mut self,
+        agent: u8,
+        slot: u16,
+        answer: &Answer,
+    ) -> Result<(), AllocError>
+        ensures { OnOk result (self.new ≡ self.old ++ answered agent (is_success answer.now) ∷ []) }
+    {
+        let command = self.parties.settle(agent);
+        let outcome = outcome_of(answer, command);
+        let label = answer_label(self.alloc, self.board, answer, outcome)?;
+        let message = Message {
+            agent,
+            slot: answered_slot(command, slot),
+            taken: slot,
+            label,
+            detail: answer_detail(self.alloc, answer)?,
+        };
+        self.marks.add(Mark::Reply { message, outcome })
+    }
+}

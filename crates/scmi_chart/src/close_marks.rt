@@ -1,0 +1,65 @@
+//! Closes of channels, from either side.
+ghost use Rattle.std.specs.Prelude.{◌≡◌, ◌++◌, OnOk};
+ghost use Rattle.scmi_chart.specs.Signs.{closed_signs, shut_signs};
+
+use crate::board_names::agent_name;
+use crate::recorder::Recorder;
+use scmi_ends::ShutError;
+use scmi_link::{CloseError, Closing};
+use scmi_svg::{Mark, Side};
+use std::alloc::AllocError;
+
+impl<'a> Recorder<'a> {
+    /// The agent's end was to be closed.
+    pub(crate) fn record_close(
+        &mut self,
+        agent: u8,
+        slot: u16,
+        closing: &Result<Closing, CloseError>,
+    ) -> Result<(), AllocError>
+        ensures { OnOk result (self.new ≡ self.old ++ closed_signs agent closing.now) }
+    {
+        let text = match closing {
+            Err(CloseError::InService) => {
+                return self.remark(agent, slot, Side::Agent, "close refused: in service");
+            }
+            Err(CloseError::ReplyWaiting) => {
+                return self.remark(agent, slot, Side::Agent, "close refused: reply waiting");
+            }
+            Ok(Closing::Idle) => "closes",
+            Ok(Closing::Withdrawn) => "closes: command withdrawn",
+        };
+        self.parties.close(agent, slot);
+        self.marks.add(Mark::Closed {
+            agent,
+            slot,
+            by: Side::Agent,
+            text: Vec::from_slice(self.alloc, text.as_bytes())?,
+        })
+    }
+
+    /// The platform's ends of an agent's channels were to be closed.
+    pub(crate) fn record_shut(
+        &mut self,
+        agent: u8,
+        slot: u16,
+        closing: &Result<(), ShutError>,
+    ) -> Result<(), AllocError>
+        ensures { OnOk result (self.new ≡ self.old ++ shut_signs agent closing.now) }
+    {
+        match closing {
+            Err(_) => self.remark(agent, slot, Side::Platform, "close refused"),
+            Ok(()) => {
+                let mut text = Vec::from_slice(self.alloc, b"closes the channels of ")?;
+                let name = agent_name(self.alloc, self.board, u32::from(agent))?;
+                text.extend_from_slice(&name)?;
+                self.marks.add(Mark::Closed {
+                    agent,
+                    slot,
+                    by: Side::Platform,
+                    text,
+                })
+            }
+        }
+    }
+}

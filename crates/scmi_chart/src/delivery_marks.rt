@@ -1,0 +1,65 @@
+//! Messages that the platform sends of its own accord, from its outboxes to the agents.
+ghost use Rattle.std.specs.Prelude.{◌≡◌, ◌++◌, OnOk};
+ghost use Rattle.scmi_chart.specs.Signs.{flushed_signs, taken_signs};
+
+use crate::detail::message_detail;
+use crate::recorder::Recorder;
+use crate::reply_label::posted_label;
+use crate::sign::posted_mark;
+use scmi_codec::Frame;
+use scmi_ends::Flushed;
+use scmi_svg::{Mark, Message, Side};
+use std::alloc::AllocError;
+
+impl<'a> Recorder<'a> {
+    /// The platform was to post the first message of an agent's outbox.
+    pub(crate) fn record_flush(
+        &mut self,
+        agent: u8,
+        slot: u16,
+        flushed: Flushed,
+    ) -> Result<(), AllocError>
+        ensures { OnOk result (self.new ≡ self.old ++ flushed_signs agent flushed) }
+    {
+        match flushed {
+            Flushed::Nothing => self.remark(agent, slot, Side::Platform, "outbox empty"),
+            Flushed::Waiting => self.remark(agent, slot, Side::Platform, "channel still busy"),
+            Flushed::Closed => self.remark(agent, slot, Side::Platform, "channel closed"),
+            Flushed::Posted => {
+                self.parties.send(agent, slot);
+                self.marks.add(Mark::Posted { slot })
+            }
+        }
+    }
+
+    /// The agent was to take a message.
+    pub(crate) fn record_take(
+        &mut self,
+        agent: u8,
+        slot: u16,
+        frame: &Option<Frame>,
+    ) -> Result<(), AllocError>
+        ensures { OnOk result (self.new ≡ self.old ++ taken_signs agent frame.now) }
+    {
+        match frame {
+            None => self.remark(agent, slot, Side::Agent, "no message"),
+            Some(Frame::Good(message)) => {
+                let label = posted_label(self.alloc, self.board, message)?;
+                let mark = posted_mark(
+                    Message {
+                        agent,
+                        slot: self.parties.take(agent).unwrap_or(slot),
+                        taken: slot,
+                        label,
+                        detail: message_detail(self.alloc, message)?,
+                    },
+                    &message.header,
+                );
+                self.marks.add(mark)
+            }
+            Some(Frame::Malformed { .. }) => {
+                self.remark(agent, slot, Side::Agent, "a malformed message")
+            }
+        }
+    }
+}

@@ -1,0 +1,40 @@
+//! Commands that the platform executed.
+ghost use Rattle.std.specs.Prelude.{◌≡◌, [], ◌∷◌, ◌++◌, OnOk};
+ghost use Rattle.scmi_chart.specs.Signs.{executed, served_signs};
+
+use crate::recorder::Recorder;
+use scmi_ends::Served;
+use scmi_svg::{Mark, Side};
+use std::alloc::AllocError;
+
+impl<'a> Recorder<'a> {
+    /// The platform served an agent.
+    pub(crate) fn record_serve(
+        &mut self,
+        agent: u8,
+        slot: u16,
+        served: Served,
+    ) -> Result<(), AllocError>
+        ensures { OnOk result (self.new ≡ self.old ++ served_signs agent served) }
+    {
+        match served {
+            Served::Nothing => self.remark(agent, slot, Side::Platform, "nothing to serve"),
+            Served::Done => self.record_execution(agent, slot, slot),
+        }
+    }
+
+    /// The platform took the agent's command in this slot, and answered it until another.
+    pub(crate) fn record_execution(
+        &mut self,
+        agent: u8,
+        slot: u16,
+        until: u16,
+    ) -> Result<(), AllocError>
+        ensures { OnOk result (self.new ≡ self.old ++ executed ∷ []) }
+    {
+        if let Some(place) = self.parties.answer(agent, until) {
+            self.marks.take(place, slot);
+        }
+        self.marks.add(Mark::Execution { slot, until })
+    }
+}

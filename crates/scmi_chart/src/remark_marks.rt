@@ -1,0 +1,28 @@
+//! Words beside lifelines, of what came to nothing.
+ghost use Rattle.std.specs.Prelude.{◌≡◌, [], ◌∷◌, ◌++◌, OnOk};
+ghost use Rattle.scmi_chart.specs.Signs.{remarked};
+
+use crate::recorder::Recorder;
+use scmi_svg::{Mark, Side};
+use std::alloc::AllocError;
+
+impl<'a> Recorder<'a> {
+    /// Words beside a lifeline.
+    pub(crate) fn remark(
+        &mut self,
+        agent: u8,
+        slot: u16,
+        beside: Side,
+        text: &str,
+    ) -> Result<(), AllocError>
+        ensures { OnOk result (self.new ≡ self.old ++ remarked agent ∷ []) }
+    {
+        let text = Vec::from_slice(self.alloc, text.as_bytes())?;
+        self.marks.add(Mark::Remark {
+            agent,
+            slot,
+            beside,
+            text,
+        })
+    }
+}
