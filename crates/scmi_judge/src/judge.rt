@@ -46,8 +46,8 @@ impl Judge {
     /// command is executed, and a message that was due is taken, whatever the record shows. For a
     /// message, pending sets complete until one waits for its agent, and no more; where none comes,
     /// all have completed. `Memory` is the only refusal, of an answer only where there is no room;
-    /// then no event was added but completions that the entry shows, so the same entry can be judged
-    /// again.
+    /// then no event was added but completions that the entry shows, and the same entry can be
+    /// judged again.
     pub fn judge(&mut self, entry: &Entry) -> Result<Verdict, CoreError>
         ensures verdict { IfOk result (λ verdict.
             verdict ≡ verdict_of self.old.board self.old.history entry.now) }
