@@ -1,7 +1,7 @@
 -- Pending sets complete until a message waits for an agent.
 use Rattle.std.proofs.Common.{◌≡◌, ◌≢◌, ℕ, ◌<◌, List, [], ◌∷◌, ◌++◌, length, drop, slice_get, Option, Some, None, refl, sym, ap, ◌∙◌, arith}
 use Rattle.std.proofs.lemmas.List.{append_assoc, append-nil}
-use Rattle.std.proofs.Common.{Bor, Bool, true, false}
+use Rattle.std.proofs.Common.{Bor, true, false}
 use Rattle.std.specs.Option.{is_none, option_copied}
 use Rattle.scmi_plan.specs.Board.{Board}
 use Rattle.scmi_codec.specs.declared.message.Message.{Message}

@@ -1,6 +1,5 @@
 -- Four records of a platform of board B, judged by the definitions. What is due is worked out by hand, from docs/PROTOCOL.md.
 use Rattle.std.proofs.Common.{◌≡◌, ℕ, List, [], ◌∷◌, refl}
-use Rattle.scmi_codec.specs.Header.{HeaderFields}
 use Rattle.scmi_codec.specs.declared.message.Message.{Message}
 use Rattle.scmi_codec.specs.declared.frame.Frame.TheVariants.{Good}
 use Rattle.scmi_codec.specs.declared.frame.Answer.TheVariants.{Reply}

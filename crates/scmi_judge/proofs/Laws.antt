@@ -1,9 +1,8 @@
 -- A record whose entries are all what the definitions say is one of a legal history, with each agent's frames, answers and messages.
-use Rattle.std.proofs.Common.{◌≡◌, ◌≢◌, ◌⊎◌, inl, inr, ◌==◌, ℕ, ◌<◌, ◌≤◌, Bool, true, false, List, [], ◌∷◌, ◌++◌, length, drop, slice_get, Option, Some, None, refl, sym, ap, ◌∙◌, subst, arith, if◌then◌else◌}
+use Rattle.std.proofs.Common.{◌≡◌, ◌≢◌, ◌⊎◌, inl, inr, ◌==◌, ℕ, ◌<◌, true, false, List, [], ◌∷◌, ◌++◌, length, drop, slice_get, Option, Some, None, refl, sym, ap, ◌∙◌, subst, arith, if◌then◌else◌}
 use Rattle.std.specs.List.{filter_map, cons_option}
 use Rattle.std.proofs.lemmas.List.{append_assoc, append-nil}
 use Rattle.std.proofs.lemmas.List.Elements.{filter_map-append}
-use Rattle.std.proofs.lemmas.Bool.{eq-eqb, ne_eqb}
 use Rattle.std.proofs.lemmas.Bool.Decides.{eqb_tells}
 use Rattle.scmi_plan.specs.Agent.{IsAgent}
 use Rattle.scmi_plan.specs.Board.{Board}
@@ -15,11 +14,11 @@ use Rattle.scmi_core.specs.declared.event.Event.TheVariants.{Command, Advance, S
 use Rattle.scmi_core.specs.declared.pending_set.PendingSet.{PendingSet}
 use Rattle.scmi_core.specs.Agents.{answers_to, frames_of}
 use Rattle.scmi_core.specs.History.{answer_to, deeds, delivered_messages, outbox}
-use Rattle.scmi_core.specs.Legal.{CanFollow, IsLegal}
+use Rattle.scmi_core.specs.Legal.{IsLegal}
 use Rattle.scmi_core.specs.Pending.{pending_sets}
 use Rattle.scmi_core.proofs.Deeds.{IsLegal-push}
 use Rattle.scmi_core.proofs.Legal.{Grown, empty, grow, grown}
-use Rattle.scmi_core.proofs.Laws.{IsQuiet, advance, sent_to, answers_empty, answers_other, answers_own, answers_quiet, delivered_empty, delivered_kept, delivered_other, delivered_sent, empty_is_legal, frames_empty, frames_other, frames_own, frames_quiet}
+use Rattle.scmi_core.proofs.Laws.{advance, sent_to, answers_empty, answers_other, answers_own, answers_quiet, delivered_empty, delivered_kept, delivered_other, delivered_sent, empty_is_legal, frames_empty, frames_other, frames_own, frames_quiet}
 use Rattle.scmi_judge.specs.Law.{IsHistoryOf, answer_shown, frame_shown, message_shown}
 use Rattle.scmi_judge.specs.Record.{IsRecordOf, IsShown, completions_of, completions_shown, events_of, history_from, history_of, shown_to, taking, where_nothing_waits}
 use Rattle.scmi_judge.specs.declared.entry.Entry.{Entry}

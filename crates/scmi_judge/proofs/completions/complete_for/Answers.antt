@@ -1,7 +1,5 @@
-use Rattle.std.proofs.Common.{◌≡◌, ◌∷◌, [], ◌++◌, true, false, rules, arith, sym, ap, ◌∙◌, slice_get, None, Some, refl}
+use Rattle.std.proofs.Common.{◌≡◌, true, false, rules, sym, ◌∙◌, slice_get, None}
 use Rattle.scmi_core.specs.History.{IsIdle, outbox}
-use Rattle.scmi_core.specs.declared.event.Event.TheVariants.{Advance}
-use Rattle.scmi_judge.specs.Record.{completions_shown, shown_to}
 use Rattle.scmi_judge.proofs.Completing.{fewer-pending, none-idle, none-is, none-waiting, one-more, shown-none, some-is}
 use Rattle.scmi_judge.proofs.completions.complete_for.Goals as goal
 

@@ -1,4 +1,4 @@
-use Rattle.std.proofs.Common.{◌≡◌, ℕ, length}
+use Rattle.std.proofs.Common.{◌≡◌, length}
 use Rattle.scmi_plan.specs.Agent.{IsAgent}
 use Rattle.scmi_core.specs.History.{deeds}
 use Rattle.scmi_core.specs.Legal.{IsLegal}

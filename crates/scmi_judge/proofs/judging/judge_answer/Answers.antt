@@ -1,4 +1,4 @@
-use Rattle.std.proofs.Common.{◌≡◌, ◌∷◌, [], true, false, rules, sym, ap, ◌∙◌, append-nil, ◌++◌}
+use Rattle.std.proofs.Common.{◌≡◌, true, false, rules, sym, ap, ◌∙◌, append-nil, ◌++◌}
 use Rattle.scmi_judge.specs.Record.{is_agent}
 use Rattle.scmi_judge.specs.Verdict.{verdict_on_answer}
 use Rattle.scmi_judge.proofs.Verdicts.{answered-events, answered-verdict, stranger-events, stranger-verdict}
