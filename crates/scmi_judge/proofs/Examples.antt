@@ -1,0 +1,70 @@
+-- Four records of a platform of board B, judged by the definitions. What is due is worked out by hand, from docs/PROTOCOL.md.
+use Rattle.std.proofs.Common.{◌≡◌, ℕ, List, [], ◌∷◌, refl}
+use Rattle.scmi_codec.specs.declared.message.Message.{Message}
+use Rattle.scmi_codec.specs.declared.frame.Frame.TheVariants.{Good}
+use Rattle.scmi_codec.specs.declared.frame.Answer.TheVariants.{Reply}
+use Rattle.scmi_base.specs.BaseReply.{base_reply}
+use Rattle.scmi_power.specs.PowerReply.{power_reply}
+use Rattle.scmi_clock.specs.ClockReply.{clock_reply}
+use Rattle.scmi_core.specs.Deed.{fold_with_prefix}
+use Rattle.scmi_core.specs.Reply.{reply_words}
+use Rattle.scmi_core.specs.History.{deeds, outbox}
+use Rattle.scmi_core.specs.BoardB.{board_b}
+use Rattle.scmi_judge.specs.Record.{completions_shown, events_of}
+use Rattle.scmi_judge.specs.Verdict.{verdict_of, verdicts_of}
+use Rattle.scmi_judge.specs.declared.entry.Entry.{Entry}
+use Rattle.scmi_judge.specs.declared.entry.Entry.TheVariants.{Answered, Delivered}
+use Rattle.scmi_judge.specs.declared.verdict.Verdict.TheVariants as verdict
+
+-- a message: type, token, protocol and id, and its payload words
+abbrev message_of : ℕ → ℕ → ℕ → ℕ → List ℕ → Message
+message_of kind token protocol id words =
+    record { header = record { reserved = 0; token = token; protocol = protocol; kind = kind; id = id }; payload = record { items = words } }
+
+-- agent a's command and the reply to it: token, protocol and id, and the payload words of both
+abbrev exchange : ℕ → ℕ → ℕ → ℕ → List ℕ → List ℕ → Entry
+exchange a token protocol id words reply = Answered a (Good (message_of 0 token protocol id words)) (Reply (message_of 0 token protocol id reply))
+
+-- agent a takes a delayed response: token, protocol and id of its command, and its payload words
+abbrev delayed : ℕ → ℕ → ℕ → ℕ → List ℕ → Entry
+delayed a token protocol id words = Delivered a (message_of 2 token protocol id words)
+
+-- a version, a state, a set of it and the state again, by two agents
+plain_exchange : List Entry
+plain_exchange =
+    exchange 1 0 0x10 0x0 [] (0 ∷ 0x20000 ∷ []) ∷ exchange 1 1 0x11 0x5 (0 ∷ []) (0 ∷ 0x40000000 ∷ [])
+    ∷ exchange 1 2 0x11 0x4 (0 ∷ 0 ∷ 0 ∷ []) (0 ∷ []) ∷ exchange 2 0 0x11 0x5 (0 ∷ []) (0 ∷ 0 ∷ []) ∷ []
+
+plain_exchange-judged : verdicts_of board_b plain_exchange ≡ verdict.Same ∷ verdict.Same ∷ verdict.Same ∷ verdict.Same ∷ []
+unfolding plain_exchange verdict_of events_of completions_shown deeds outbox reply_words base_reply power_reply clock_reply fold_with_prefix
+plain_exchange-judged = refl
+
+-- a set that is answered by BUSY while nothing is pending, and a get after it: the set was to succeed, and the get is judged after it
+wrong_status : List Entry
+wrong_status =
+    exchange 1 0 0x11 0x4 (0 ∷ 0 ∷ 0 ∷ []) (0xfffffffa ∷ []) ∷ exchange 1 1 0x11 0x5 (0 ∷ []) (0 ∷ 0 ∷ []) ∷ []
+
+wrong_status-judged : verdicts_of board_b wrong_status
+    ≡ verdict.Answer (Reply (message_of 0 0 0x11 0x4 (0 ∷ []))) ∷ verdict.Same ∷ []
+unfolding wrong_status verdict_of events_of completions_shown deeds outbox reply_words base_reply power_reply clock_reply fold_with_prefix
+wrong_status-judged = refl
+
+-- an asynchronous set, the state before it is complete, its delayed response, and the state after it
+delayed_response : List Entry
+delayed_response =
+    exchange 1 1 0x11 0x4 (1 ∷ 0 ∷ 0 ∷ []) (0 ∷ []) ∷ exchange 1 2 0x11 0x5 (0 ∷ []) (0 ∷ 0x40000000 ∷ [])
+    ∷ delayed 1 1 0x11 0x4 (0 ∷ 0 ∷ 0 ∷ []) ∷ exchange 1 3 0x11 0x5 (0 ∷ []) (0 ∷ 0 ∷ []) ∷ []
+
+delayed_response-judged : verdicts_of board_b delayed_response ≡ verdict.Same ∷ verdict.Same ∷ verdict.Same ∷ verdict.Same ∷ []
+unfolding delayed_response verdict_of events_of completions_shown deeds outbox reply_words base_reply power_reply clock_reply fold_with_prefix
+delayed_response-judged = refl
+
+-- a delayed response to a set that was refused, since the domain has no asynchronous sets, and one more to a number that is no agent's
+no_set_accepted : List Entry
+no_set_accepted =
+    exchange 1 1 0x11 0x4 (1 ∷ 1 ∷ 0 ∷ []) (0xffffffff ∷ []) ∷ delayed 1 1 0x11 0x4 (0 ∷ 1 ∷ 0 ∷ [])
+    ∷ delayed 3 1 0x11 0x4 (0 ∷ 1 ∷ 0 ∷ []) ∷ []
+
+no_set_accepted-judged : verdicts_of board_b no_set_accepted ≡ verdict.Same ∷ verdict.NoMessage ∷ verdict.NoAgent ∷ []
+unfolding no_set_accepted verdict_of events_of completions_shown deeds outbox reply_words base_reply power_reply clock_reply fold_with_prefix
+no_set_accepted-judged = refl

@@ -1,0 +1,6 @@
+pub mod Alike
+pub mod Completing
+pub mod Examples
+pub mod Laws
+pub mod Records
+pub mod Verdicts

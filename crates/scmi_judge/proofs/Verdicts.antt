@@ -1,0 +1,155 @@
+-- What is said of an entry, by whether the board has its agent; and it is Same exactly where the entry is what the definitions say.
+use Rattle.std.proofs.Common.{◌≡◌, ◌↔◌, ◌⊎◌, inl, inr, ℕ, ◌<◌, ◌≤◌, nat_le, true, false, List, [], ◌∷◌, ◌++◌, length, slice_get, Some, None, refl, sym, ap, ◌∙◌, arith, if◌then◌else◌}
+use Rattle.std.proofs.lemmas.Bool.{cases_Bool}
+use Rattle.std.proofs.lemmas.List.{append_assoc, append-nil}
+use Rattle.std.specs.Prelude.{Result, Ok, Err, IfOk}
+use Rattle.std.specs.Bool.{Decides}
+use Rattle.scmi_core.specs.declared.core_error.CoreError.{CoreError}
+use Rattle.std.proofs.lemmas.Bool.Decides.{Decides-and, leb_tells}
+use Rattle.scmi_plan.specs.Agent.{IsAgent}
+use Rattle.scmi_plan.specs.Board.{Board}
+use Rattle.scmi_codec.specs.declared.message.Message.{Message}
+use Rattle.scmi_codec.specs.declared.frame.Frame.{Frame}
+use Rattle.scmi_codec.specs.declared.frame.Answer.{Answer}
+use Rattle.scmi_core.specs.declared.event.Event.{Event}
+use Rattle.scmi_core.specs.declared.event.Event.TheVariants.{Command, Sent}
+use Rattle.scmi_core.specs.History.{answer_to, outbox}
+use Rattle.scmi_judge.specs.Record.{IsShown, completions_shown, events_of, is_agent, shown_to, taking}
+use Rattle.scmi_judge.specs.Same.{is_same_answer, is_same_message}
+use Rattle.scmi_judge.specs.Verdict.{verdict_of, verdict_on_answer, verdict_on_message}
+use Rattle.scmi_judge.specs.declared.entry.Entry.{Entry}
+use Rattle.scmi_judge.specs.declared.entry.Entry.TheVariants.{Answered, Delivered}
+use Rattle.scmi_judge.specs.declared.verdict.Verdict.{Verdict}
+use Rattle.scmi_judge.specs.declared.verdict.Verdict.TheVariants as verdict
+use Rattle.scmi_judge.proofs.Alike.{same_answer_decides, same_message_decides}
+use Rattle.scmi_judge.proofs.Completing.{nothing-first}
+
+leb_decides : (m n : ℕ) → Decides (nat_le m n) (m ≤ n)
+leb_decides m n = by (leb_tells m n) where
+  by : ((nat_le m n ≡ true) × (m ≤ n)) ⊎ ((nat_le m n ≡ false) × (n < m)) → Decides (nat_le m n) (m ≤ n)
+  by (inl holds) = (λ s. holds.1, λ s. holds.0)
+  by (inr fails) = (λ s. absurd (let off = fails.0 in cc), λ s. absurd (let less = fails.1 in omega arith))
+
+pub agent_decides : (board : Board) (a : ℕ) → Decides (is_agent board a) (IsAgent (length board.agents) a)
+agent_decides board a = Decides-and (nat_le 1 a) (nat_le a (length board.agents)) (leb_decides 1 a) (leb_decides a (length board.agents))
+
+-- an answer to a number that is away agent's
+pub stranger-verdict : (board : Board) (h : List Event) (a : ℕ) (f : Frame) (x : Answer) → is_agent board a ≡ false → verdict_of board h (Answered a f x) ≡ verdict.NoAgent
+unfolding verdict_of
+stranger-verdict board h a f x away = ap (λ is. if is then verdict_on_answer (answer_to board a f h) x else verdict.NoAgent) away
+
+pub stranger-events : (board : Board) (h : List Event) (a : ℕ) (f : Frame) (x : Answer) → is_agent board a ≡ false → events_of board h (Answered a f x) ≡ []
+unfolding events_of
+stranger-events board h a f x away = ap (λ is. if is then Command a f ∷ [] else []) away
+
+-- an answer to an agent
+pub answered-verdict : (board : Board) (h : List Event) (a : ℕ) (f : Frame) (x : Answer) → is_agent board a ≡ true
+    → verdict_of board h (Answered a f x) ≡ verdict_on_answer (answer_to board a f h) x
+unfolding verdict_of
+answered-verdict board h a f x here = ap (λ is. if is then verdict_on_answer (answer_to board a f h) x else verdict.NoAgent) here
+
+pub answered-events : (board : Board) (h : List Event) (a : ℕ) (f : Frame) (x : Answer) → is_agent board a ≡ true → events_of board h (Answered a f x) ≡ Command a f ∷ []
+unfolding events_of
+answered-events board h a f x here = ap (λ is. if is then Command a f ∷ [] else []) here
+
+-- a message to a number that is away agent's
+pub stranger-message : (board : Board) (h : List Event) (a : ℕ) (m : Message) → is_agent board a ≡ false → verdict_of board h (Delivered a m) ≡ verdict.NoAgent
+unfolding verdict_of
+stranger-message board h a m away = ap (λ is. if is then verdict_on_message (outbox board a (shown_to board a h)) m else verdict.NoAgent) away
+
+pub stranger-taking : (board : Board) (h : List Event) (a : ℕ) (m : Message) → is_agent board a ≡ false → events_of board h (Delivered a m) ≡ []
+unfolding events_of
+stranger-taking board h a m away = ap (λ is. if is then completions_shown board a h ++ taking a (outbox board a (shown_to board a h)) else []) away
+
+-- a message to an agent
+pub message-verdict : (board : Board) (h : List Event) (a : ℕ) (m : Message) → is_agent board a ≡ true
+    → verdict_of board h (Delivered a m) ≡ verdict_on_message (outbox board a (shown_to board a h)) m
+unfolding verdict_of
+message-verdict board h a m here = ap (λ is. if is then verdict_on_message (outbox board a (shown_to board a h)) m else verdict.NoAgent) here
+
+pub message-events : (board : Board) (h : List Event) (a : ℕ) (m : Message) → is_agent board a ≡ true
+    → h ++ events_of board h (Delivered a m) ≡ shown_to board a h ++ taking a (outbox board a (shown_to board a h))
+unfolding events_of
+message-events board h a m here =
+    ap (λ is. h ++ (if is then completions_shown board a h ++ taking a (outbox board a (shown_to board a h)) else [])) here
+    ∙ sym (append_assoc h (completions_shown board a h) (taking a (outbox board a (shown_to board a h))))
+
+-- from two histories that show the same to an agent a message is judged alike, and leaves the same
+pub message-again : (board : Board) (h k : List Event) (a : ℕ) (m : Message) → is_agent board a ≡ true → shown_to board a k ≡ shown_to board a h
+    → (verdict_of board k (Delivered a m) ≡ verdict_of board h (Delivered a m)) × (k ++ events_of board k (Delivered a m) ≡ h ++ events_of board h (Delivered a m))
+message-again board h k a m here same = (
+  message-verdict board k a m here ∙ ap (λ s. verdict_on_message (outbox board a s) m) same ∙ sym (message-verdict board h a m here),
+  message-events board k a m here ∙ ap (λ s. s ++ taking a (outbox board a s)) same ∙ sym (message-events board h a m here),
+)
+
+-- where no message waits, none was to come
+pub none-came : (board : Board) (h k : List Event) (a : ℕ) (m : Message) → is_agent board a ≡ true → k ≡ shown_to board a h → slice_get (outbox board a k) 0 ≡ None
+    → (verdict.NoMessage ≡ verdict_of board h (Delivered a m)) × (k ≡ h ++ events_of board h (Delivered a m))
+none-came board h k a m here shown none =
+    let nothing : outbox board a (shown_to board a h) ≡ [] = sym (ap (outbox board a) shown) ∙ nothing-first (outbox board a k) none in (
+      sym (message-verdict board h a m here ∙ ap (λ ms. verdict_on_message ms m) nothing),
+      shown ∙ sym (append-nil (shown_to board a h)) ∙ ap (λ ms. shown_to board a h ++ taking a ms) (sym nothing) ∙ sym (message-events board h a m here),
+    )
+
+first-of : (a : ℕ) (ms : List Message) (due m : Message) → slice_get ms 0 ≡ Some due
+    → (verdict_on_message (due ∷ []) m ≡ verdict_on_message ms m) × (Sent a ∷ [] ≡ taking a ms)
+first-of a [] due m first = absurd (cc)
+first-of a (n ∷ ms) due m first = let same : due ≡ n = cc in (ap (λ d. verdict_on_message (d ∷ []) m) same, refl)
+
+-- where a message waits, it was to come
+pub one-came : (board : Board) (h k : List Event) (a : ℕ) (m due : Message) → is_agent board a ≡ true → k ≡ shown_to board a h → slice_get (outbox board a k) 0 ≡ Some due
+    → (verdict_on_message (due ∷ []) m ≡ verdict_of board h (Delivered a m)) × (k ++ Sent a ∷ [] ≡ h ++ events_of board h (Delivered a m))
+one-came board h k a m due here shown first =
+    let waits = sym (ap (λ s. slice_get (outbox board a s) 0) shown) ∙ first in
+    let both = first-of a (outbox board a (shown_to board a h)) due m waits in (
+      both.0 ∙ sym (message-verdict board h a m here),
+      ap (λ s. s ++ Sent a ∷ []) shown ∙ ap (λ es. shown_to board a h ++ es) both.1 ∙ sym (message-events board h a m here),
+    )
+
+answer_on : (due x : Answer) → (verdict_on_answer due x ≡ verdict.Same) ↔ (x ≡ due)
+answer_on due x = by (cases_Bool (is_same_answer due x)) where
+  by : (is_same_answer due x ≡ true) ⊎ (is_same_answer due x ≡ false) → (verdict_on_answer due x ≡ verdict.Same) ↔ (x ≡ due)
+  by (inl here) = (λ s. sym ((same_answer_decides due x).0 here), λ s. ap (λ b. if b then verdict.Same else verdict.Answer due) here)
+  by (inr away) = (
+    λ s. absurd (let other : verdict.Answer due ≡ verdict.Same = sym (ap (λ b. if b then verdict.Same else verdict.Answer due) away) ∙ s in cc),
+    λ s. absurd (let here = (same_answer_decides due x).1 (sym s) in cc),
+  )
+
+message_on : (ms : List Message) (m : Message) → (verdict_on_message ms m ≡ verdict.Same) ↔ (slice_get ms 0 ≡ Some m)
+message_on [] m = (λ s. absurd (cc), λ s. absurd (cc))
+message_on (due ∷ later) m = by (cases_Bool (is_same_message due m)) where
+  by : (is_same_message due m ≡ true) ⊎ (is_same_message due m ≡ false) → (verdict_on_message (due ∷ later) m ≡ verdict.Same) ↔ (slice_get (due ∷ later) 0 ≡ Some m)
+  by (inl here) = (λ s. ap Some ((same_message_decides due m).0 here), λ s. ap (λ b. if b then verdict.Same else verdict.Message due) here)
+  by (inr away) = (
+    λ s. absurd (let other : verdict.Message due ≡ verdict.Same = sym (ap (λ b. if b then verdict.Same else verdict.Message due) away) ∙ s in cc),
+    λ s. absurd (let one : due ≡ m = cc in let here = (same_message_decides due m).1 one in cc),
+  )
+
+-- an entry is said to be the same exactly where it is what the definitions say
+pub same_says : (board : Board) (h : List Event) (entry : Entry) → (verdict_of board h entry ≡ verdict.Same) ↔ IsShown board h entry
+same_says board h (Answered a f x) = by (cases_Bool (is_agent board a)) where
+  by : (is_agent board a ≡ true) ⊎ (is_agent board a ≡ false) → (verdict_of board h (Answered a f x) ≡ verdict.Same) ↔ IsShown board h (Answered a f x)
+  by (inl here) =
+      let is = answered-verdict board h a f x here in
+      (λ s. ((agent_decides board a).0 here, (answer_on (answer_to board a f h) x).0 (sym is ∙ s)), λ s. is ∙ (answer_on (answer_to board a f h) x).1 s.1)
+  by (inr away) = (
+    λ s. absurd (let other : verdict.NoAgent ≡ verdict.Same = sym (stranger-verdict board h a f x away) ∙ s in cc),
+    λ s. absurd (let here = (agent_decides board a).1 s.0 in cc),
+  )
+same_says board h (Delivered a m) = by (cases_Bool (is_agent board a)) where
+  by : (is_agent board a ≡ true) ⊎ (is_agent board a ≡ false) → (verdict_of board h (Delivered a m) ≡ verdict.Same) ↔ IsShown board h (Delivered a m)
+  by (inl here) =
+      let is = message-verdict board h a m here in (
+        λ s. ((agent_decides board a).0 here, (message_on (outbox board a (shown_to board a h)) m).0 (sym is ∙ s)),
+        λ s. is ∙ (message_on (outbox board a (shown_to board a h)) m).1 s.1,
+      )
+  by (inr away) = (
+    λ s. absurd (let other : verdict.NoAgent ≡ verdict.Same = sym (stranger-message board h a m away) ∙ s in cc),
+    λ s. absurd (let here = (agent_decides board a).1 s.0 in cc),
+  )
+
+-- and so is what a call answers
+pub same_in : (board : Board) (h : List Event) (entry : Entry) (r : Result Verdict CoreError) → IfOk r (λ v. v ≡ verdict_of board h entry)
+    → IfOk r (λ v. (v ≡ verdict.Same) ↔ IsShown board h entry)
+same_in board h entry (Ok v) is = (λ s. (same_says board h entry).0 (sym is ∙ s), λ s. is ∙ (same_says board h entry).1 s)
+same_in board h entry (Err e) is = is

@@ -1,0 +1,4 @@
+pub mod Law
+pub mod Record
+pub mod Same
+pub mod Verdict

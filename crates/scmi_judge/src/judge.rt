@@ -1,0 +1,79 @@
+//! The judge of a platform by a record of its channels.
+ghost use Rattle.std.specs.Prelude.{◌≡◌, ◌<◌, ◌++◌, [], ◌↔◌, IsOk, IfOk, OnOk, OnErr, IfErr};
+ghost use Rattle.scmi_core.specs.Legal.{IsLegal};
+ghost use Rattle.scmi_judge.specs.Record.{IsAnswer, IsShown, events_of};
+ghost use Rattle.scmi_judge.specs.Verdict.{verdict_of};
+ghost use Rattle.scmi_judge.specs.declared.verdict.Verdict.TheVariants.{Same};
+
+use crate::entry::Entry;
+use crate::judging::{judge_answer, judge_message};
+use crate::verdict::Verdict;
+use scmi_core::{Core, CoreError};
+use scmi_plan::Plan;
+use std::alloc::Global;
+use std::marker::Model;
+
+/// A judge of a platform of a board. Contracts see the board, the history that the entries so far
+/// stand for, and for how many more events there is memory.
+#[derive(Drop, Debug)]
+pub struct Judge {
+    core: Core,
+}
+
+impl Model for Judge {
+    ghost use Rattle.scmi_core.specs.Platform.{Platform};
+    ghost use Rattle.scmi_core.specs.Legal.{IsLegal};
+
+    ghost Value = { Platform };
+
+    ghost view = { λ j. j.core };
+
+    ghost invariant = { λ j. IsLegal j.core.board j.core.history };
+}
+
+impl Judge {
+    /// A judge of a platform of a board, before the first entry. It takes no memory.
+    pub fn new(alloc: Global, plan: Plan) -> Judge
+        ensures board { result.board ≡ plan }
+        ensures history { result.history ≡ [] }
+    {
+        let core = Core::new(alloc, plan);
+        let _trace = core.trace();
+        Judge { core }
+    }
+
+    /// Judges the next entry, and goes on from what it stands for, also after a difference: a
+    /// command is executed, and a message that was due is taken, whatever the record shows. For a
+    /// message, pending sets complete until one waits for its agent, and no more; where none comes,
+    /// all have completed. `Memory` is the only refusal, of an answer only where there is no room;
+    /// then no event was added but completions that the entry shows, and the same entry can be
+    /// judged again.
+    pub fn judge(&mut self, entry: &Entry) -> Result<Verdict, CoreError>
+        ensures verdict { IfOk result (λ verdict.
+            verdict ≡ verdict_of self.old.board self.old.history entry.now) }
+        ensures same { IfOk result (λ verdict.
+            (verdict ≡ Same) ↔ IsShown self.old.board self.old.history entry.now) }
+        ensures event { OnOk result (self.new.history
+            ≡ self.old.history ++ events_of self.old.board self.old.history entry.now) }
+        ensures board { self.new.board ≡ self.old.board }
+        ensures legal { IsLegal self.new.board self.new.history }
+        ensures errors { IfErr result (λ e. e ≡ CoreError.Memory) }
+        ensures memory { 0 < self.old.room → IsAnswer entry.now → IsOk result }
+        ensures again { OnErr result
+            (verdict_of self.new.board self.new.history entry.now
+            ≡ verdict_of self.old.board self.old.history entry.now) }
+        ensures left { OnErr result
+            (self.new.history ++ events_of self.new.board self.new.history entry.now
+            ≡ self.old.history ++ events_of self.old.board self.old.history entry.now) }
+    {
+        let _ = &self.core;
+        match entry {
+            Entry::Answered {
+                agent,
+                frame,
+                answer,
+            } => judge_answer(&mut self.core, *agent, frame, answer),
+            Entry::Delivered { agent, message } => judge_message(&mut self.core, *agent, message),
+        }
+    }
+}

@@ -1,0 +1,22 @@
+//! A judge of another platform of SCMI: a record of what went over the channels of a platform is
+//! judged against the definitions of `scmi_core`.
+//!
+//! The main type is `Judge`, which is given one entry after the other. The main theorem is the
+//! contract of `Judge::judge`: an entry is said to be the same exactly where it is what the
+//! definitions say after the history that the entries before it stand for (specs/Record.antt).
+#![tactic(auto)]
+
+mod completions;
+mod entry;
+mod judge;
+mod judging;
+mod legal_record;
+mod record;
+mod same;
+mod verdict;
+
+pub use entry::Entry;
+pub use judge::Judge;
+pub use legal_record::every_record;
+pub use record::judge_record;
+pub use verdict::Verdict;

@@ -1,0 +1,45 @@
+//! What is said of an entry.
+ghost use Rattle.std.specs.Prelude.{◌≡◌, ◌∷◌, []};
+ghost use Rattle.scmi_judge.specs.Verdict.{verdict_on_answer, verdict_on_message};
+
+use crate::same::{is_same_answer, is_same_message};
+use scmi_codec::{Answer, Message};
+
+/// What the definitions say of an entry of a record, after what the entries before it stand for.
+#[derive(Clone, PartialEq, Eq, Debug, Drop)]
+pub enum Verdict {
+    /// The entry is what the definitions say.
+    Same,
+    /// The board lacks the agent.
+    NoAgent,
+    /// The answer that the command was to get; the record shows another.
+    Answer(Answer),
+    /// The message that the agent was to get next; the record shows another.
+    Message(Message),
+    /// No message was to come: nothing waits for the agent, also once no set is pending.
+    NoMessage,
+}
+
+impl Verdict {
+    /// What is said of an answer, where this one was due.
+    pub(crate) fn on_answer(due: Answer, answer: &Answer) -> Verdict
+        ensures { result ≡ verdict_on_answer due answer.now }
+    {
+        if is_same_answer(&due, answer) {
+            Verdict::Same
+        } else {
+            Verdict::Answer(due)
+        }
+    }
+
+    /// What is said of a message, where this one was due.
+    pub(crate) fn on_message(due: &Message, message: &Message) -> Verdict
+        ensures { result ≡ verdict_on_message (due.now ∷ []) message.now }
+    {
+        if is_same_message(due, message) {
+            Verdict::Same
+        } else {
+            Verdict::Message(due.copy())
+        }
+    }
+}
