@@ -2,3 +2,4 @@ pub mod HandleValues
 pub mod LooseValues
 mod Answering
 mod Codes
+mod ChannelLines
