@@ -3,3 +3,4 @@ pub mod LooseValues
 mod Answering
 mod Codes
 mod ChannelLines
+mod AreaIn
