@@ -15,13 +15,13 @@ use Rattle.scmi_codec.specs.declared.message.Message.{Message}
 use Rattle.scmi_codec.specs.declared.frame.Frame.{Frame}
 use Rattle.scmi_codec.specs.declared.frame.Frame.TheVariants.{Good, Malformed}
 use Rattle.scmi_codec.specs.declared.frame.Answer.TheVariants.{Reply, ChannelError}
-use Rattle.scmi_plan.specs.Board.{Board, IsChannel, channel_of}
+use Rattle.scmi_plan.specs.Board.{Board, channel_of}
 use Rattle.scmi_plan.specs.Plan.{IsLawful}
 use Rattle.scmi_core.specs.Channels.{IsAnswerWithin, IsWithin}
 use Rattle.scmi_core.specs.History.{answer_to, answer_with, deeds, made_for, outbox}
 use Rattle.scmi_core.specs.Legal.{IsLegal}
 use Rattle.scmi_core.specs.Outbox.{message_with, failed_words, messages_made, sent_count, situation_after}
-use Rattle.scmi_core.specs.Reply.{answer_in, failed_answer, fits_channel, reply_in, reply_words}
+use Rattle.scmi_core.specs.Reply.{answer_in, failed_answer, fits_channel, reply_words}
 use Rattle.scmi_core.specs.Situation.{Situation}
 use Rattle.scmi_core.specs.declared.answered.Answered.{Answered}
 use Rattle.scmi_core.specs.declared.answered.Answered.TheVariants as answered

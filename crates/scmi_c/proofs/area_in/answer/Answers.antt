@@ -1,4 +1,4 @@
-use Rattle.std.proofs.Common.{rules, ◌∙◌, sym}
+use Rattle.std.proofs.Common.{rules}
 use Rattle.scmi_codec.specs.ChannelArea.{channel_waiting}
 use Rattle.scmi_c.specs.Standing.{board_of}
 use Rattle.scmi_c.proofs.Answering.{some-and}
