@@ -3,7 +3,8 @@
  *
  * An area is the shared memory of a channel as the standard lays it out: SCMI_AREA_BYTES bytes, words
  * little-endian, at the places listed below. A free area has status word 1; one of zeros holds a malformed frame
- * of length 0.
+ * of length 0. Where the board's text gives an agent's channels another size, 28 + 4k bytes with k from 8 to 64
+ * payload words, the calls whose names end in _in take an area of that size, and the number of its bytes.
  *
  * Every call gives a number from the list below; after any but SCMI_DONE nothing has changed, neither the
  * platform, nor an area, nor what else it was given. No call waits, keeps a pointer that it was given, or reads or
@@ -33,7 +34,7 @@
 extern "C" {
 #endif
 
-/* The version of this header and of the library that came with it. */
+/* The version of this header and of the library that came with it (scmi_version). */
 #define SCMI_VERSION "0.9.0-dev"
 
 #define SCMI_AREA_BYTES 284
@@ -82,6 +83,8 @@ enum {
     SCMI_IN_USE = 6,      /* the handle holds a platform already */
     SCMI_NO_HISTORY = 7,  /* the platform keeps no history */
     SCMI_NO_FRAME = 8,    /* the channel is free: its area holds no frame */
+    SCMI_WRONG_SIZE = 10, /* the area has not the size of the agent's channel */
+    SCMI_NO_RESOURCE = 11, /* the board has no domain or clock of this number */
     SCMI_RULE = 16,       /* + N, from 1 to 5: the first rule that the board breaks */
     SCMI_LINE = 256       /* + L: line L of the board's text, from 1, has another form */
 };
@@ -106,8 +109,15 @@ typedef struct scmi_effect {
     uint32_t high; /* the rate's upper word; of a state or a bit 0 */
 } scmi_effect;
 
+/* An agent's channels, as the board's text says them. */
+typedef struct scmi_channel_numbers {
+    uint32_t bytes;   /* of each of its areas, 28 + 4k with k payload words */
+    uint32_t one_way; /* 1: the platform can't send to the agent; 0: it can */
+} scmi_channel_numbers;
+
 /*
- * Makes a platform of a board's text (docs/SCRIPTS.md, "Boards"), which is `length` bytes. It keeps no history
+ * Makes a platform of a board's text (docs/SCRIPTS.md, "Boards"), which is `length` bytes; lines `channel` may say
+ * what channels its agents have, and where none does they are whole, SCMI_AREA_BYTES, both ways. It keeps no history
  * and takes no memory from then on. SCMI_DONE, SCMI_IN_USE, SCMI_MEMORY, SCMI_RULE + N or SCMI_LINE + L; L is
  * the last line where `end` is missing, and 0 where there is no line. The rules: 1 counts, 2 names, 3 rates,
  * 4 devices, 5 the trusted agent.
@@ -141,6 +151,19 @@ uint32_t scmi_ask(scmi_platform *platform, uint32_t agent, const uint8_t area[SC
 uint32_t scmi_fail(scmi_platform *platform, uint32_t agent, uint8_t area[SCMI_AREA_BYTES]);
 
 /*
+ * The same in an area that has the size of the agent's channel, as scmi_channel gives it: `bytes` bytes. A frame
+ * that is longer than the channel is malformed, and no reply is longer. SCMI_NO_PLATFORM, SCMI_NO_AGENT and
+ * SCMI_WRONG_SIZE (`bytes` is another size) come before all else, in this order; the other numbers as above. Where
+ * the channel is whole they do what the calls above do.
+ */
+uint32_t scmi_answer_in(scmi_platform *platform, uint32_t agent, uint8_t *area, size_t bytes);
+uint32_t scmi_ask_in(scmi_platform *platform, uint32_t agent, const uint8_t *area, size_t bytes, scmi_effect *effect);
+uint32_t scmi_fail_in(scmi_platform *platform, uint32_t agent, uint8_t *area, size_t bytes);
+
+/* Gives what an agent's channels are. SCMI_DONE, SCMI_NO_PLATFORM or SCMI_NO_AGENT. */
+uint32_t scmi_channel(scmi_platform *platform, uint32_t agent, scmi_channel_numbers *channel);
+
+/*
  * Completes the first pending set. SCMI_DONE, SCMI_NO_PLATFORM, SCMI_NOTHING (none is pending), or SCMI_MEMORY
  * of a platform that keeps its history.
  */
@@ -167,11 +190,32 @@ uint32_t scmi_fail_advance(scmi_platform *platform);
  */
 uint32_t scmi_next(scmi_platform *platform, uint32_t agent, uint8_t area[SCMI_AREA_BYTES]);
 
+/* The same into an area that has the size of the agent's channel, with scmi_answer_in's order of refusals. */
+uint32_t scmi_next_in(scmi_platform *platform, uint32_t agent, uint8_t *area, size_t bytes);
+
 /*
  * Takes the first message off an agent's outbox, as posted. SCMI_DONE, SCMI_NO_PLATFORM, SCMI_NO_AGENT,
  * SCMI_NOTHING (the outbox is empty), or SCMI_MEMORY of a platform that keeps its history.
  */
 uint32_t scmi_sent(scmi_platform *platform, uint32_t agent);
+
+/*
+ * Where the platform stands; it stays as it was. At the start they give what the hardware is to be brought to. A
+ * domain's state is 0 ON or 0x40000000 OFF; a clock's rate is in Hz, by its lower and upper word; `enabled` is 1
+ * or 0. SCMI_DONE, SCMI_NO_PLATFORM, or SCMI_NO_RESOURCE (the board has no such domain or clock).
+ */
+uint32_t scmi_domain_state(scmi_platform *platform, uint32_t domain, uint32_t *state);
+uint32_t scmi_clock_rate(scmi_platform *platform, uint32_t clock, uint32_t *low, uint32_t *high);
+uint32_t scmi_clock_enabled(scmi_platform *platform, uint32_t clock, uint32_t *enabled);
+
+/*
+ * Gives the pending set at a place, 0 that of the first, in the order in which they complete: its agent, and what
+ * it is to change. SCMI_DONE, SCMI_NO_PLATFORM or SCMI_NOTHING (no more are pending).
+ */
+uint32_t scmi_pending(scmi_platform *platform, uint32_t place, uint32_t *agent, scmi_effect *effect);
+
+/* Gives how many messages wait in an agent's outbox. SCMI_DONE, SCMI_NO_PLATFORM or SCMI_NO_AGENT. */
+uint32_t scmi_outbox_length(scmi_platform *platform, uint32_t agent, uint64_t *messages);
 
 /* Gives the number of events of the history. SCMI_DONE, SCMI_NO_PLATFORM or SCMI_NO_HISTORY. */
 uint32_t scmi_history_length(scmi_platform *platform, uint64_t *events);
@@ -194,17 +238,41 @@ SCMI_HOLDS(offsetof(scmi_area, length) == SCMI_AREA_LENGTH, "the place of the le
 SCMI_HOLDS(offsetof(scmi_area, header) == SCMI_AREA_HEADER, "the place of the header");
 SCMI_HOLDS(offsetof(scmi_area, payload) == SCMI_AREA_PAYLOAD, "the place of the payload");
 SCMI_HOLDS(sizeof(scmi_platform) == sizeof(void *), "the size of a handle");
+SCMI_HOLDS(sizeof(scmi_channel_numbers) == 8, "the size of a channel's numbers");
 #undef SCMI_HOLDS
 #endif
 
 /* The library's numbers: each is the macro or constant of its name above (scmi_header_fits). */
 typedef struct scmi_library {
     uint32_t area_bytes, payload_words;
-    uint32_t done, nothing, memory, no_agent, not_free, no_platform, in_use, no_history, no_frame, rule, line;
+    uint32_t done, nothing, memory, no_agent, not_free, no_platform, in_use, no_history, no_frame;
+    uint32_t wrong_size, no_resource, rule, line;
     uint32_t effect_state, effect_rate, effect_enabled;
 } scmi_library;
 
 void scmi_numbers(scmi_library *library);
+
+/* The library's version, major, minor and patch: 0x00MMmmpp. */
+uint32_t scmi_version(void);
+
+/* This header's version as scmi_version gives the library's: the numbers of SCMI_VERSION. */
+static inline uint32_t scmi_header_version(void)
+{
+    const char *digit = SCMI_VERSION;
+    uint32_t version = 0;
+    int part;
+
+    for (part = 0; part < 3; part++) {
+        uint32_t number = 0;
+
+        while (*digit >= '0' && *digit <= '9')
+            number = 10 * number + (uint32_t)(*digit++ - '0');
+        version = version << 8 | number;
+        if (*digit == '.')
+            digit++;
+    }
+    return version;
+}
 
 /* Whether this header is the library's. */
 static inline int scmi_header_fits(void)
@@ -215,8 +283,9 @@ static inline int scmi_header_fits(void)
     return of.area_bytes == SCMI_AREA_BYTES && of.payload_words == SCMI_PAYLOAD_WORDS && of.done == SCMI_DONE &&
            of.nothing == SCMI_NOTHING && of.memory == SCMI_MEMORY && of.no_agent == SCMI_NO_AGENT &&
            of.not_free == SCMI_NOT_FREE && of.no_platform == SCMI_NO_PLATFORM && of.in_use == SCMI_IN_USE &&
-           of.no_history == SCMI_NO_HISTORY && of.no_frame == SCMI_NO_FRAME && of.rule == SCMI_RULE &&
-           of.line == SCMI_LINE && of.effect_state == SCMI_EFFECT_STATE && of.effect_rate == SCMI_EFFECT_RATE &&
+           of.no_history == SCMI_NO_HISTORY && of.no_frame == SCMI_NO_FRAME &&
+           of.wrong_size == SCMI_WRONG_SIZE && of.no_resource == SCMI_NO_RESOURCE && of.rule == SCMI_RULE &&
+           of.line == SCMI_LINE && scmi_version() == scmi_header_version() && of.effect_state == SCMI_EFFECT_STATE && of.effect_rate == SCMI_EFFECT_RATE &&
            of.effect_enabled == SCMI_EFFECT_ENABLED;
 }
 

@@ -10,7 +10,9 @@
         ..
 
 The calls of scmi.h have their names here: answer, ask, fail, advance, ask_advance, fail_advance, next, sent,
-history_length. An area is a bytearray of AREA_BYTES bytes, changed in place. A call gives True where C gives
+channel, domain_state, clock_rate, clock_enabled, pending, outbox_length, history_length, version. An area is a
+bytearray of the size of its agent's channel, AREA_BYTES bytes where the board says nothing else, changed in place:
+answer, ask, fail and next are the calls of C that are told its bytes. A call gives True where C gives
 SCMI_DONE and False where it gives SCMI_NOTHING or SCMI_NO_FRAME (those that give a value give it, or None); any
 other number is raised as Refused, and then nothing has changed. One thread at a time calls a platform.
 
@@ -25,6 +27,7 @@ from pathlib import Path
 __version__ = "0.9.0-dev"
 
 DONE, NOTHING, MEMORY, NO_AGENT, NOT_FREE, NO_PLATFORM, IN_USE, NO_HISTORY, NO_FRAME = range(9)
+WRONG_SIZE, NO_RESOURCE = 10, 11
 RULE, LINE = 16, 256
 STATE, RATE, ENABLED = 1, 2, 3
 AREA_BYTES, PAYLOAD_WORDS = 284, 64
@@ -38,6 +41,8 @@ STATUSES = ("SUCCESS NOT_SUPPORTED INVALID_PARAMETERS DENIED NOT_FOUND OUT_OF_RA
 Effect = namedtuple("Effect", "kind id value")
 Reply = namedtuple("Reply", "status words")
 Message = namedtuple("Message", "header words")
+Channel = namedtuple("Channel", "bytes one_way")
+Pending = namedtuple("Pending", "agent effect")
 
 
 class Refused(Exception):
@@ -45,7 +50,8 @@ class Refused(Exception):
 
     NAMES = ("done", "nothing to do", "memory was refused", "the board has no such agent",
              "the area holds a message", "there is no platform", "there is a platform already",
-             "the platform keeps no history", "the area holds no frame")
+             "the platform keeps no history", "the area holds no frame", "number 9",
+             "the area has not the size of the channel", "the board has no such domain or clock")
 
     def __init__(self, number):
         self.number = number
@@ -70,11 +76,15 @@ class _Effect(ctypes.Structure):
     _fields_ = [(name, ctypes.c_uint32) for name in ("kind", "id", "low", "high")]
 
 
+class _Channel(ctypes.Structure):
+    _fields_ = [(name, ctypes.c_uint32) for name in ("bytes", "one_way")]
+
+
 class _Numbers(ctypes.Structure):
     WANTED = dict(
         area_bytes=AREA_BYTES, payload_words=PAYLOAD_WORDS, done=DONE, nothing=NOTHING, memory=MEMORY,
         no_agent=NO_AGENT, not_free=NOT_FREE, no_platform=NO_PLATFORM, in_use=IN_USE, no_history=NO_HISTORY,
-        no_frame=NO_FRAME, rule=RULE, line=LINE, effect_state=STATE, effect_rate=RATE, effect_enabled=ENABLED)
+        no_frame=NO_FRAME, wrong_size=WRONG_SIZE, no_resource=NO_RESOURCE, rule=RULE, line=LINE, effect_state=STATE, effect_rate=RATE, effect_enabled=ENABLED)
     _fields_ = [(name, ctypes.c_uint32) for name in WANTED]
 
 
@@ -90,18 +100,22 @@ def _library_file():
 def load(file=None):
     """The library as a file, or where it is by itself; its numbers have to be those of this module."""
     library = ctypes.CDLL(file or _library_file())
-    handle, number, area = ctypes.POINTER(_Handle), ctypes.c_uint32, ctypes.c_void_p
-    effect = ctypes.POINTER(_Effect)
+    handle, number, area = ctypes.POINTER(_Handle), ctypes.c_uint32, (ctypes.c_void_p, ctypes.c_size_t)
+    effect, word, count = ctypes.POINTER(_Effect), ctypes.POINTER(number), ctypes.POINTER(ctypes.c_uint64)
     for name, *arguments in (
             ("scmi_platform_new", ctypes.c_char_p, ctypes.c_size_t),
             ("scmi_platform_new_recorded", ctypes.c_char_p, ctypes.c_size_t),
-            ("scmi_answer", number, area), ("scmi_ask", number, area, effect), ("scmi_fail", number, area),
+            ("scmi_answer_in", number, *area), ("scmi_ask_in", number, *area, effect), ("scmi_fail_in", number, *area),
             ("scmi_advance",), ("scmi_ask_advance", effect), ("scmi_fail_advance",),
-            ("scmi_next", number, area), ("scmi_sent", number),
-            ("scmi_history_length", ctypes.POINTER(ctypes.c_uint64)), ("scmi_platform_free",)):
+            ("scmi_next_in", number, *area), ("scmi_sent", number),
+            ("scmi_channel", number, ctypes.POINTER(_Channel)), ("scmi_domain_state", number, word),
+            ("scmi_clock_rate", number, word, word), ("scmi_clock_enabled", number, word),
+            ("scmi_pending", number, word, effect), ("scmi_outbox_length", number, count),
+            ("scmi_history_length", count), ("scmi_platform_free",)):
         call = getattr(library, name)
         call.argtypes, call.restype = [handle, *arguments], number
     library.scmi_platform_free.restype = None
+    library.scmi_version.argtypes, library.scmi_version.restype = [], number
     library.scmi_numbers.argtypes, library.scmi_numbers.restype = [ctypes.POINTER(_Numbers)], None
     numbers = _Numbers()
     library.scmi_numbers(numbers)
@@ -116,16 +130,16 @@ def header_of(protocol, message, token=0, kind=0):
     return message | kind << 8 | protocol << 10 | token % 1024 << 18
 
 
-def command(header, *words):
+def command(header, *words, size=AREA_BYTES):
     """An area with a command as an agent posts it."""
-    area = bytearray(AREA_BYTES)
+    area = bytearray(size)
     struct.pack_into(f"<2I{len(words)}I", area, AREA_LENGTH, 4 + 4 * len(words), header, *words)
     return area
 
 
-def free_area():
+def free_area(size=AREA_BYTES):
     """An area whose channel is free."""
-    area = bytearray(AREA_BYTES)
+    area = bytearray(size)
     struct.pack_into("<I", area, AREA_STATUS, FREE)
     return area
 
@@ -155,23 +169,27 @@ class Platform:
         raise Refused(number)
 
     def _over(self, call, agent, area, *more):
-        if len(area) != AREA_BYTES:
-            raise ValueError(f"an area has {AREA_BYTES} bytes")
-        return self._give(call(self._handle, agent, (ctypes.c_uint8 * AREA_BYTES).from_buffer(area), *more))
+        held = (ctypes.c_uint8 * len(area)).from_buffer(area)
+        return self._give(call(self._handle, agent, held, len(area), *more))
+
+    def _read(self, call, *of, into=ctypes.c_uint32):
+        value = into()
+        self._give(call(self._handle, *of, value))
+        return value.value
 
     @staticmethod
     def _effect(done, effect):
         return Effect(effect.kind, effect.id, effect.low | effect.high << 32) if done else None
 
     def answer(self, agent, area):
-        return self._over(self._library.scmi_answer, agent, area)
+        return self._over(self._library.scmi_answer_in, agent, area)
 
     def ask(self, agent, area):
         effect = _Effect()
-        return self._effect(self._over(self._library.scmi_ask, agent, area, effect), effect)
+        return self._effect(self._over(self._library.scmi_ask_in, agent, area, effect), effect)
 
     def fail(self, agent, area):
-        return self._over(self._library.scmi_fail, agent, area)
+        return self._over(self._library.scmi_fail_in, agent, area)
 
     def advance(self):
         return self._give(self._library.scmi_advance(self._handle))
@@ -184,15 +202,45 @@ class Platform:
         return self._give(self._library.scmi_fail_advance(self._handle))
 
     def next(self, agent, area):
-        return self._over(self._library.scmi_next, agent, area)
+        return self._over(self._library.scmi_next_in, agent, area)
 
     def sent(self, agent):
         return self._give(self._library.scmi_sent(self._handle, agent))
 
+    def channel(self, agent):
+        """The size of an agent's areas in bytes, and whether the platform can't send to it."""
+        channel = _Channel()
+        self._give(self._library.scmi_channel(self._handle, agent, channel))
+        return Channel(channel.bytes, bool(channel.one_way))
+
+    def domain_state(self, domain):
+        return self._read(self._library.scmi_domain_state, domain)
+
+    def clock_rate(self, clock):
+        low, high = ctypes.c_uint32(), ctypes.c_uint32()
+        self._give(self._library.scmi_clock_rate(self._handle, clock, low, high))
+        return low.value | high.value << 32
+
+    def clock_enabled(self, clock):
+        return bool(self._read(self._library.scmi_clock_enabled, clock))
+
+    def pending(self):
+        """The pending sets, the first first: of which agent, and what each is to change."""
+        sets, agent, effect = [], ctypes.c_uint32(), _Effect()
+        while self._give(self._library.scmi_pending(self._handle, len(sets), agent, effect)):
+            sets.append(Pending(agent.value, self._effect(True, effect)))
+        return sets
+
+    def outbox_length(self, agent):
+        return self._read(self._library.scmi_outbox_length, agent, into=ctypes.c_uint64)
+
     def history_length(self):
-        events = ctypes.c_uint64()
-        self._give(self._library.scmi_history_length(self._handle, events))
-        return events.value
+        return self._read(self._library.scmi_history_length, into=ctypes.c_uint64)
+
+    def version(self):
+        """The library's version, as (major, minor, patch)."""
+        number = self._library.scmi_version()
+        return number >> 16, number >> 8 & 0xFF, number & 0xFF
 
     def call(self, agent, protocol, message, *words, drive=None):
         """A command of an agent, at its next token, executed and answered: its status by name, and the words behind.
@@ -200,7 +248,7 @@ class Platform:
         With `drive` the platform stands beside hardware: drive(effect) makes the change, and says whether it did.
         """
         token = self._tokens.get(agent, 0)
-        area = command(header_of(protocol, message, token), *words)
+        area = command(header_of(protocol, message, token), *words, size=self.channel(agent).bytes)
         effect = drive and self.ask(agent, area)
         if effect and not drive(effect):
             self.fail(agent, area)
@@ -221,11 +269,12 @@ class Platform:
 
     def messages(self, agent):
         """Takes each message of an agent's outbox, the first first."""
-        area = free_area()
+        size = self.channel(agent).bytes
+        area = free_area(size)
         while self.next(agent, area):
             self.sent(agent)
             yield Message(word(area, AREA_HEADER), words_of(area))
-            area = free_area()
+            area = free_area(size)
 
     def close(self):
         self._library.scmi_platform_free(self._handle)

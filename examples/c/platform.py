@@ -27,7 +27,7 @@ def show(what, reply):
 def refused(what, *arguments):
     try:
         print(what(*arguments))
-    except (scmi.Refused, ValueError) as fault:
+    except scmi.Refused as fault:
         print("refused:", fault)
 
 
@@ -52,3 +52,16 @@ refused(scmi.Platform, "board x\n")
 refused(scmi.Platform, "board V S 1 3\nagent a\nend\n")
 with scmi.Platform(BOARD) as platform:
     refused(platform.history_length)
+with scmi.Platform(BOARD.replace("end", "channel 1 156\nchannel 2 60 one-way\nend")) as platform:
+    print("version", *platform.version())
+    print("channels", *platform.channel(1), *platform.channel(2))
+    show("no pending sets", platform.call(2, CLOCK, 0x1))
+    print("start", platform.domain_state(0), platform.clock_rate(0), platform.clock_enabled(0), platform.pending())
+    show("on, later", platform.call(1, POWER, 0x4, 1, 0, scmi.ON))
+    for agent, effect in platform.pending():
+        print("pending", agent, *effect)
+    print("waiting", platform.outbox_length(1), platform.advance(), platform.outbox_length(1), platform.domain_state(0))
+    for header, words in platform.messages(1):
+        print("to 1", f"0x{header:08x}", *(f"0x{word:08x}" for word in words))
+    refused(platform.answer, 1, bytearray(scmi.AREA_BYTES))
+    refused(platform.domain_state, 1)

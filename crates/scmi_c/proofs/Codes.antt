@@ -4,7 +4,7 @@ use Rattle.scmi_codec.specs.declared.frame.Frame.{Frame}
 use Rattle.scmi_core.specs.declared.event.Event.{Event}
 use Rattle.scmi_c.specs.declared.held.Held.{Held}
 use Rattle.scmi_c.specs.declared.refusal.Refusal.{Refusal}
-use Rattle.scmi_c.specs.declared.refusal.Refusal.TheVariants.{Nothing, Memory, NoAgent, NotFree, NoFrame}
+use Rattle.scmi_c.specs.declared.refusal.Refusal.TheVariants.{Nothing, Memory, NoAgent, NotFree, NoFrame, WrongSize}
 use Rattle.scmi_c.specs.Calls.{ChangesNothing}
 use Rattle.scmi_c.specs.Refusal.{code_of}
 use Rattle.scmi_c.specs.Standing.{board_of, StandsAt}
@@ -17,6 +17,7 @@ nothing-code (Err Memory) = search rules
 nothing-code (Err NoAgent) = search rules
 nothing-code (Err NotFree) = search rules
 nothing-code (Err NoFrame) = search rules
+nothing-code (Err WrongSize) = search rules
 
 -- what holds of a value, if there is one, is carried over
 pub if-some : {A : Type 0} (o : Option A) (P Q : A → Type 0) → ((x : A) → P x → Q x) → IfSome o P → IfSome o Q

@@ -2,3 +2,5 @@ pub mod HandleValues
 pub mod LooseValues
 mod Answering
 mod Codes
+mod ChannelLines
+mod AreaIn

@@ -1,7 +1,42 @@
--- The faults of a board's text, as numbers for C.
-use Rattle.std.specs.Prelude.{◌≡◌, ℕ, ◌+◌, ◌<◌, ◌≤◌, ◌⊎◌}
+-- The board of a text, and the faults of one, as numbers for C.
+use Rattle.std.specs.Prelude.{◌≡◌, ℕ, ◌+◌, ◌-◌, ◌^◌, ◌<◌, ◌≤◌, ◌⊎◌, min, List, length, Option, Some, None, Result, Ok, Err}
+use Rattle.std.specs.List.{fold}
+use Rattle.scmi_plan.specs.Agent.{IsAgent}
+use Rattle.scmi_plan.specs.Board.{Board, IsChannel, with_channel}
+use Rattle.scmi_plan.specs.PlanError.{first_fault, number}
+use Rattle.scmi_plan.specs.declared.plan_error.PlanError.{PlanError}
+use Rattle.scmi_board.specs.Channels.{Described, described_left}
+use Rattle.scmi_board.specs.Lines.{Line}
+use Rattle.scmi_board.specs.declared.channel_line.ChannelLine.{ChannelLine}
 use Rattle.scmi_c.specs.declared.code.TheConstants.{MEMORY, RULE, LINE}
 
 -- want of memory, a rule of boards (1 to 5), or a line
 abbrev pub IsFault : ℕ → Type 0
 IsFault n = (n ≡ MEMORY) ⊎ ((RULE < n) × (n ≤ RULE + 5)) ⊎ (LINE ≤ n)
+
+-- a line says a channel that an agent of the board may have
+pub record IsLineOf (board : Board) (line : ChannelLine) : Type 0 where
+  pub agent : IsAgent (length board.agents) line.agent
+  pub channel : IsChannel line.channel
+
+-- a board whose agents have the channels that these lines say
+abbrev pub with_channels : Board → List ChannelLine → Board
+with_channels board lines = fold (λ so_far line. with_channel so_far line.agent line.channel) board lines
+
+-- the number of a line of another form; the lines of a board are numbered from 2, and for C from 1
+abbrev pub line_fault : ℕ → ℕ
+line_fault line = min (LINE + (line - 1)) (2 ^ 32 - 1)
+
+-- a board that breaks no rule, or the number of the first that it breaks
+abbrev pub unless_fault : Option PlanError → Board → Result Board ℕ
+unless_fault None board = Ok board
+unless_fault (Some rule) board = Err (RULE + number rule)
+
+-- what lines have said, as a board with its channels
+abbrev pub board_said : Result (Described × List Line) ℕ → Result Board ℕ
+board_said (Err line) = Err (line_fault line)
+board_said (Ok said) = unless_fault (first_fault said.0.0) (with_channels said.0.0 said.0.1)
+
+-- the board of a text with the channels of its agents, or the number of its first fault
+abbrev pub board_of_text : List ℕ → Result Board ℕ
+board_of_text text = board_said (described_left (record { rest = text; number = 1 }))

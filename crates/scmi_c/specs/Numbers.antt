@@ -1,4 +1,5 @@
 -- The library's numbers, as `include/scmi.h` has them.
+use Rattle.std.specs.Prelude.{ℕ, ◌+◌, ◌*◌, ◌^◌}
 use Rattle.scmi_c.specs.declared.numbers.Numbers.{Numbers}
 
 -- the size of an area and of its payload, the codes, and the kinds of a change of hardware
@@ -16,9 +17,19 @@ numbers_of_library =
       in_use = 6;
       no_history = 7;
       no_frame = 8;
+      wrong_size = 10;
+      no_resource = 11;
       rule = 16;
       line = 256;
       effect_state = 1;
       effect_rate = 2;
       effect_enabled = 3;
     }
+
+-- a version as one number: major, minor and patch, a byte each
+abbrev pub version_number : ℕ → ℕ → ℕ → ℕ
+version_number major minor patch = major * 2 ^ 16 + minor * 2 ^ 8 + patch
+
+-- the library's, 0.9.0
+abbrev pub version_of_library : ℕ
+version_of_library = version_number 0 9 0

@@ -3,7 +3,7 @@ use Rattle.std.specs.Prelude.{ℕ, Result, Ok, Err}
 use Rattle.scmi_core.specs.declared.core_error.CoreError.{CoreError}
 use Rattle.scmi_core.specs.declared.core_error.CoreError.TheVariants as core
 use Rattle.scmi_c.specs.declared.refusal.Refusal.{Refusal}
-use Rattle.scmi_c.specs.declared.refusal.Refusal.TheVariants.{Nothing, Memory, NoAgent, NotFree, NoFrame}
+use Rattle.scmi_c.specs.declared.refusal.Refusal.TheVariants.{Nothing, Memory, NoAgent, NotFree, NoFrame, WrongSize}
 
 -- a refusal of the controller
 abbrev pub refusal_of : CoreError → Refusal
@@ -19,3 +19,4 @@ code_of (Err Memory) = 2
 code_of (Err NoAgent) = 3
 code_of (Err NotFree) = 4
 code_of (Err NoFrame) = 8
+code_of (Err WrongSize) = 10

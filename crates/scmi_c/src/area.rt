@@ -25,7 +25,8 @@ pub fn answer(desk: &mut Desk, agent: u32, area: &mut [u8; AREA_BYTES]) -> Resul
     ensures no_agent { (result ≡ Err Refusal.NoAgent) ↔
         ((frame_waiting area.old ≢ None) × LacksAgent agent desk.old) }
     ensures memory { result ≡ Err Refusal.Memory → HasNoRoom desk.old }
-    ensures never { (result ≢ Err Refusal.NotFree) × (result ≢ Err Refusal.NoFrame) }
+    ensures never { (result ≢ Err Refusal.NotFree) × (result ≢ Err Refusal.NoFrame)
+        × (result ≢ Err Refusal.WrongSize) }
     ensures err { OnErr result (desk.new ≡ desk.old) }
     ensures kept { OnErr result (area.new ≡ area.old) }
 {
@@ -51,7 +52,8 @@ pub fn post_next(held: &Held, agent: u32, area: &mut [u8; AREA_BYTES]) -> Result
     ensures not_free { (h : List Event) → StandsAt held.now h →
         (result ≡ Err Refusal.NotFree) ↔
         (HasNext (board_of held.now) agent h × (frame_waiting area.old ≢ None)) }
-    ensures never { (result ≢ Err Refusal.Memory) × (result ≢ Err Refusal.NoFrame) }
+    ensures never { (result ≢ Err Refusal.Memory) × (result ≢ Err Refusal.NoFrame)
+        × (result ≢ Err Refusal.WrongSize) }
     ensures kept { OnErr result (area.new ≡ area.old) }
 {
     let Some(message) = held.first(agent)? else {

@@ -1,27 +1,58 @@
-//! A platform of a board's text.
-ghost use Rattle.std.specs.Prelude.{◌≡◌, IfOk, IfErr};
+//! A platform's plan, of a board's text.
+ghost use Rattle.std.specs.Prelude.{◌≡◌, ◌≢◌, ℕ, ◌+◌, List, Result, IfOk, IfErr, Ok, Err};
+ghost use Rattle.std.specs.List.{All};
 ghost use Rattle.scmi_plan.specs.Plan.{IsLawful};
-ghost use Rattle.scmi_c.specs.Board.{IsFault};
+ghost use Rattle.scmi_plan.specs.PlanError.{number};
+ghost use Rattle.scmi_plan.specs.declared.plan_error.PlanError.TheVariants as plan_error;
+ghost use Rattle.scmi_board.specs.BoardText.{FailsBoard};
+ghost use Rattle.scmi_board.specs.Channels.{Described};
+ghost use Rattle.scmi_board.specs.Lines.{Line};
+ghost use Rattle.scmi_c.specs.Board.{IsFault, IsLineOf, board_of_text, board_said, with_channels};
+ghost use Rattle.scmi_c.specs.declared.code.TheConstants.{MEMORY, RULE};
 
 use crate::code::{LINE, MEMORY, RULE};
-use scmi_board::{Lines, TextError, read_board};
+use scmi_board::{ChannelLine, Lines, TextError, read_board_with_channels};
 use scmi_plan::{Plan, PlanError};
 use std::alloc::Global;
 
-/// The plan of a board's text, or the number of its fault for C: `LINE` and the number of the first
-/// line of another form, from 1 (the last line where `end` is missing, 0 where there is none); `RULE`
-/// and the number of the first rule that the board breaks; `MEMORY` where memory is refused.
+/// The plan of a board's text, which may say what channels its agents have, or the number of its fault
+/// for C: `LINE` and the number of the first line of another form, from 1 (the last line where `end` is
+/// missing, 0 where there is none); `RULE` and the number of the first rule that the board breaks;
+/// `MEMORY` where memory is refused.
 pub fn read_plan(alloc: Global, text: &[u8]) -> Result<Plan, u32>
+    ensures board { IfOk result (λ plan. board_of_text text.now ≡ Ok plan) }
+    ensures fault { IfErr result (λ n. n ≢ MEMORY → board_of_text text.now ≡ Err n) }
     ensures lawful { IfOk result IsLawful }
-    ensures fault { IfErr result IsFault }
+    ensures faults { IfErr result IsFault }
 {
-    let raw = read_board(alloc, &mut Lines::new(text)).map_err(line_code)?;
-    Plan::check(alloc, &raw).map_err(rule_code)
+    let said = match read_board_with_channels(alloc, &mut Lines::new(text)) {
+        Ok(said) => said,
+        Err(error) => return Err(line_code(error)),
+    };
+    let mut plan = match Plan::check(alloc, &said.board) {
+        Ok(plan) => plan,
+        Err(error) => return Err(rule_code(error)),
+    };
+    set_channels(&mut plan, &said.channels);
+    let _agents = plan.agents();
+    Ok(plan)
+}
+
+/// Gives the agents of a plan the channels that lines say.
+fn set_channels(plan: &mut Plan, lines: &[ChannelLine])
+    requires lines { All (IsLineOf plan.old) lines.now }
+    ensures channels { plan.new ≡ with_channels plan.old lines.now }
+{
+    'lines: for line in lines {
+        let _ = plan.set_channel(line.agent, line.channel);
+    }
 }
 
 /// The number of a text's fault.
 fn line_code(error: TextError) -> u32
-    ensures { IsFault result }
+    ensures line { (there : Result (Described × List Line) ℕ) → FailsBoard error there →
+        result ≢ MEMORY → board_said there ≡ Err result }
+    ensures faults { IsFault result }
 {
     match error {
         // A text for C has no line before the board.
@@ -34,7 +65,9 @@ fn line_code(error: TextError) -> u32
 
 /// The number of a board's fault.
 fn rule_code(error: PlanError) -> u32
-    ensures { IsFault result }
+    ensures rule { error ≢ plan_error.Memory → result ≡ RULE + number error }
+    ensures memory { error ≡ plan_error.Memory → result ≡ MEMORY }
+    ensures faults { IsFault result }
 {
     match error {
         PlanError::Memory => MEMORY,

@@ -31,6 +31,12 @@ pub const NO_HISTORY: u32 = 7;
 /// The area holds no frame.
 pub const NO_FRAME: u32 = 8;
 
+/// The area has not the size of the agent's channel.
+pub const WRONG_SIZE: u32 = 10;
+
+/// The board lacks the domain or clock.
+pub const NO_RESOURCE: u32 = 11;
+
 /// What a rule's number is added to.
 pub const RULE: u32 = 16;
 
@@ -48,5 +54,6 @@ pub fn code(given: Result<(), Refusal>) -> u32
         Err(Refusal::NoAgent) => NO_AGENT,
         Err(Refusal::NotFree) => NOT_FREE,
         Err(Refusal::NoFrame) => NO_FRAME,
+        Err(Refusal::WrongSize) => WRONG_SIZE,
     }
 }

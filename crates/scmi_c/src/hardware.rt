@@ -117,7 +117,8 @@ fn ask(desk: &mut Desk, agent: u32, area: &[u8; AREA_BYTES]) -> Result<Effect, R
     ensures no_frame { (result ≡ Err Refusal.NoFrame) ↔ (frame_waiting area.now ≡ None) }
     ensures no_agent { (result ≡ Err Refusal.NoAgent) ↔
         ((frame_waiting area.now ≢ None) × LacksAgent agent desk.old) }
-    ensures never { (result ≢ Err Refusal.NotFree) × (result ≢ Err Refusal.Memory) }
+    ensures never { (result ≢ Err Refusal.NotFree) × (result ≢ Err Refusal.Memory)
+        × (result ≢ Err Refusal.WrongSize) }
     ensures same { desk.new ≡ desk.old }
 {
     let Ok(true) = read_area_into(area, &mut desk.frame) else {
@@ -144,7 +145,7 @@ fn fail(desk: &mut Desk, agent: u32, area: &mut [u8; AREA_BYTES]) -> Result<(), 
     ensures no_agent { (result ≡ Err Refusal.NoAgent) ↔
         ((frame_waiting area.old ≢ None) × LacksAgent agent desk.old) }
     ensures memory { result ≡ Err Refusal.Memory → HasNoRoom desk.old }
-    ensures never { result ≢ Err Refusal.NotFree }
+    ensures never { (result ≢ Err Refusal.NotFree) × (result ≢ Err Refusal.WrongSize) }
     ensures err { OnErr result (desk.new ≡ desk.old) }
     ensures kept { OnErr result (area.new ≡ area.old) }
 {

@@ -7,8 +7,11 @@
 #![tactic(auto)]
 
 mod answer;
+mod answer_in;
 mod area;
+mod area_in;
 mod board;
+mod channel;
 mod code;
 mod desk;
 mod effect;
@@ -22,3 +25,6 @@ mod numbers;
 mod open;
 mod refusal;
 mod send;
+mod standing;
+mod values;
+mod waiting;

@@ -1,13 +1,16 @@
 //! The library's numbers, for `include/scmi.h` to be held against.
 ghost use Rattle.std.specs.Prelude.{◌≡◌};
-ghost use Rattle.scmi_c.specs.Numbers.{numbers_of_library};
+ghost use Rattle.scmi_c.specs.Numbers.{numbers_of_library, version_of_library};
 
 use crate::code::{
-    DONE, IN_USE, LINE, MEMORY, NO_AGENT, NO_FRAME, NO_HISTORY, NO_PLATFORM, NOT_FREE, NOTHING,
-    RULE,
+    DONE, IN_USE, LINE, MEMORY, NO_AGENT, NO_FRAME, NO_HISTORY, NO_PLATFORM, NO_RESOURCE, NOT_FREE,
+    NOTHING, RULE, WRONG_SIZE,
 };
 use crate::effect::{ENABLED, RATE, STATE};
 use scmi_codec::{AREA_BYTES, PAYLOAD_WORDS};
+
+/// The version of the library: major, minor and patch, a byte each.
+const VERSION: u32 = 0x0000_0900;
 
 /// The numbers that C is given or has to know.
 #[repr(C)]
@@ -24,6 +27,8 @@ pub struct Numbers {
     pub in_use: u32,
     pub no_history: u32,
     pub no_frame: u32,
+    pub wrong_size: u32,
+    pub no_resource: u32,
     pub rule: u32,
     pub line: u32,
     pub effect_state: u32,
@@ -48,10 +53,20 @@ pub extern "C" fn scmi_numbers(numbers: &mut Numbers)
         in_use: IN_USE,
         no_history: NO_HISTORY,
         no_frame: NO_FRAME,
+        wrong_size: WRONG_SIZE,
+        no_resource: NO_RESOURCE,
         rule: RULE,
         line: LINE,
         effect_state: STATE,
         effect_rate: RATE,
         effect_enabled: ENABLED,
     };
+}
+
+/// The version of the library, major, minor and patch as 0x00MMmmpp.
+#[unsafe(no_mangle)]
+pub extern "C" fn scmi_version() -> u32
+    ensures { result ≡ version_of_library }
+{
+    VERSION
 }

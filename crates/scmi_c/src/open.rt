@@ -1,7 +1,7 @@
 //! Platforms are made and freed.
-ghost use Rattle.std.specs.Prelude.{◌≡◌, ◌≢◌, ◌↔◌, ◌⊎◌, [], Some, None, IsSomeAnd};
+ghost use Rattle.std.specs.Prelude.{◌≡◌, ◌≢◌, ◌↔◌, ◌⊎◌, [], Some, None, Ok, Err, IsSomeAnd};
 ghost use Rattle.scmi_plan.specs.Plan.{IsLawful};
-ghost use Rattle.scmi_c.specs.Board.{IsFault};
+ghost use Rattle.scmi_c.specs.Board.{IsFault, board_of_text};
 ghost use Rattle.scmi_c.specs.Standing.{board_of, StandsAt, IsRecorded};
 ghost use Rattle.scmi_c.specs.declared.code.TheConstants.{DONE, IN_USE, MEMORY};
 
@@ -20,7 +20,10 @@ use std::alloc::Global;
 pub extern "C" fn scmi_platform_new(alloc: Global, platform: &mut Handle, board: &[u8]) -> u32
     ensures done { result ≡ DONE →
         IsSomeAnd platform.new.value (λ p.
-        StandsAt p [] × IsLawful (board_of p) × (¬ (IsRecorded p))) }
+        (board_of_text board.now ≡ Ok (board_of p)) × StandsAt p [] × IsLawful (board_of p)
+        × (¬ (IsRecorded p))) }
+    ensures fault { (result ≡ DONE) ⊎ (result ≡ IN_USE) ⊎ (result ≡ MEMORY)
+        ⊎ (board_of_text board.now ≡ Err result) }
     ensures in_use { (result ≡ IN_USE) ↔ (platform.old.value ≢ None) }
     ensures faults { (result ≡ DONE) ⊎ (result ≡ IN_USE) ⊎ IsFault result }
     ensures kept { result ≢ DONE → platform.new.value ≡ platform.old.value }
@@ -43,7 +46,11 @@ pub extern "C" fn scmi_platform_new_recorded(
     board: &[u8],
 ) -> u32
     ensures done { result ≡ DONE →
-        IsSomeAnd platform.new.value (λ p. StandsAt p [] × IsLawful (board_of p) × IsRecorded p) }
+        IsSomeAnd platform.new.value (λ p.
+        (board_of_text board.now ≡ Ok (board_of p)) × StandsAt p [] × IsLawful (board_of p)
+        × IsRecorded p) }
+    ensures fault { (result ≡ DONE) ⊎ (result ≡ IN_USE) ⊎ (result ≡ MEMORY)
+        ⊎ (board_of_text board.now ≡ Err result) }
     ensures in_use { (result ≡ IN_USE) ↔ (platform.old.value ≢ None) }
     ensures faults { (result ≡ DONE) ⊎ (result ≡ IN_USE) ⊎ IsFault result }
     ensures kept { result ≢ DONE → platform.new.value ≡ platform.old.value }

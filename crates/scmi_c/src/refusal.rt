@@ -23,6 +23,9 @@ pub enum Refusal {
     /// The channel is free, and so its area holds no frame.
     #[error("the area holds no frame")]
     NoFrame = 5,
+    /// The area has not the size of the agent's channel.
+    #[error("the area has not the size of the channel")]
+    WrongSize = 6,
 }
 
 impl From<CoreError> for Refusal {

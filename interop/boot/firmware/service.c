@@ -30,31 +30,31 @@ static uintptr_t shared_of(uint32_t agent)
 /* Where the message ends that stands in an area. */
 static unsigned int end_of(const uint8_t *area)
 {
-    uint32_t length = area_word(area, AREA_LENGTH);
+    uint32_t length = area_word(area, SCMI_AREA_LENGTH);
 
-    return length > SCMI_AREA_BYTES - AREA_HEADER ? AREA_PAYLOAD : AREA_HEADER + length;
+    return length > SCMI_AREA_BYTES - SCMI_AREA_HEADER ? SCMI_AREA_PAYLOAD : SCMI_AREA_HEADER + length;
 }
 
 /* The other side may write meanwhile: each word is read once. */
 static void copy_in(uint8_t *area, uintptr_t shared)
 {
-    for (unsigned int at = 0; at < AREA_HEADER; at += 4)
+    for (unsigned int at = 0; at < SCMI_AREA_HEADER; at += 4)
         area_set_word(area, at, mmio_read_32(shared + at));
-    for (unsigned int at = AREA_HEADER; at < end_of(area); at += 4)
+    for (unsigned int at = SCMI_AREA_HEADER; at < end_of(area); at += 4)
         area_set_word(area, at, mmio_read_32(shared + at));
 }
 
 static void copy_out(uintptr_t shared, const uint8_t *area)
 {
-    for (unsigned int at = AREA_STATUS + 4; at < end_of(area); at += 4)
+    for (unsigned int at = SCMI_AREA_STATUS + 4; at < end_of(area); at += 4)
         mmio_write_32(shared + at, area_word(area, at));
     dmbish();
-    mmio_write_32(shared + AREA_STATUS, area_word(area, AREA_STATUS));
+    mmio_write_32(shared + SCMI_AREA_STATUS, area_word(area, SCMI_AREA_STATUS));
 }
 
 static void say(const uint8_t *area)
 {
-    for (unsigned int at = AREA_PAYLOAD; at < end_of(area); at += 4)
+    for (unsigned int at = SCMI_AREA_PAYLOAD; at < end_of(area); at += 4)
         printf(" 0x%08x", area_word(area, at));
 }
 
@@ -64,17 +64,17 @@ static void serve(uint32_t agent)
     uintptr_t shared = shared_of(agent);
     uint32_t header;
 
-    if (mmio_read_32(shared + AREA_STATUS) & STATUS_FREE)
+    if (mmio_read_32(shared + SCMI_AREA_STATUS) & STATUS_FREE)
         return;
     dmbish();
     copy_in(area, shared);
     memcpy(command, area, sizeof(command));
     if (!controller_serve(agent, area))
         return;
-    header = area_word(command, AREA_HEADER);
+    header = area_word(command, SCMI_AREA_HEADER);
     printf("SCMI: core %u, token %u: agent %u: 0x%05x", plat_my_core_pos(), header >> TOKEN, agent, header & KIND);
     say(command);
-    printf("  ->  %u:", area_word(area, AREA_STATUS));
+    printf("  ->  %u:", area_word(area, SCMI_AREA_STATUS));
     say(area);
     printf("\n");
     copy_out(shared, area);
@@ -91,7 +91,7 @@ static int32_t setup(void)
         return -1;
     for (uint32_t agent = LINUX; agent < FIRMWARE; agent++)
         for (unsigned int at = 0; at < SCMI_AREA_BYTES; at += 4)
-            mmio_write_32(shared_of(agent) + at, at == AREA_STATUS ? STATUS_FREE : 0);
+            mmio_write_32(shared_of(agent) + at, at == SCMI_AREA_STATUS ? STATUS_FREE : 0);
     return 0;
 }
 

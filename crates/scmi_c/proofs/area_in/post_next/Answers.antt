@@ -1,0 +1,24 @@
+use Rattle.std.proofs.Common.{rules, ◌≡◌, None, length}
+use Rattle.scmi_codec.specs.ChannelArea.{channel_waiting}
+use Rattle.scmi_plan.specs.Board.{channel_of}
+use Rattle.scmi_c.specs.Standing.{board_of}
+use Rattle.scmi_c.proofs.AreaIn.{first-within, free-is, not-refused}
+use Rattle.scmi_c.proofs.area_in.post_next.Goals as goal
+
+pub returns-in-Ok-clause-ok : goal.returns-in-Ok-clause-ok
+returns-in-Ok-clause-ok c = record { message = c.in-Some.message.now; first = λ h at. search rules; free = free-is (channel_waiting c.args.area.now) c.is_channel_free.result c.in-Ok-true.field-0 (c.is_channel_free.ensures.ok c.in_ok-check_size.ensures.size) c.in-Ok-true.is (search rules); area = search rules }
+
+pub returns-in-Ok-clause-not_free : goal.returns-in-Ok-clause-not_free
+returns-in-Ok-clause-not_free c = λ size h at.
+    let free : channel_waiting c.args.area.now ≡ None = free-is (channel_waiting c.args.area.now) c.is_channel_free.result c.in-Ok-true.field-0 (c.is_channel_free.ensures.ok c.in_ok-check_size.ensures.size) c.in-Ok-true.is (search rules) in
+    ((λ e. absurd (cc)), (λ both. absurd (both.1 free)))
+
+pub returns-in-Err-clause-not_free : goal.returns-in-Err-clause-not_free
+returns-in-Err-clause-not_free c = λ size h at.
+    let board = board_of c.args.held.now in
+    let message = c.in-Some.message.now in
+    absurd
+    (not-refused c.write_channel_message.result c.in-Err.field-0 (length message.payload.items) (channel_of board c.args.agent).words c.args.area.now
+    c.in_ok-check_size.ensures.size c.in_ok-check_size.ensures.words
+    (first-within board c.args.agent h message c.in_ok-check_size.ensures.lawful (c.in_ok-check_size.ensures.legal h at) (search rules))
+    c.write_channel_message.ensures.size c.in-Err.is)

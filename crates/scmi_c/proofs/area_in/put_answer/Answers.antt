@@ -1,0 +1,7 @@
+use Rattle.std.proofs.Common.{length, ◌∙◌}
+use Rattle.scmi_c.proofs.AreaIn.{room-is, was-written}
+use Rattle.scmi_c.proofs.area_in.put_answer.Goals as goal
+
+pub returns-in-Reply-clause-reply : goal.returns-in-Reply-clause-reply
+returns-in-Reply-clause-reply c = λ is few.
+    was-written _ _ (c.write_channel_response.ensures.size ∙ room-is (length c.args.payload.now.items) c.args.area.now c.requires.size few) c.write_channel_response.ensures.written

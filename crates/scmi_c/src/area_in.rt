@@ -1,0 +1,151 @@
+//! Areas of the size of their agent's channel, which a platform answers and fills.
+ghost use Rattle.std.specs.Prelude.{◌≡◌, ◌≢◌, ◌↔◌, ◌≤◌, Some, None, IsSomeAnd, IfSome, IfOk, OnOk, OnErr, Err, List, length, true};
+ghost use Rattle.scmi_codec.specs.Area.{area_after_answer, header_at, message_of};
+ghost use Rattle.scmi_codec.specs.ChannelArea.{capacity, channel_waiting, is_channel_size};
+ghost use Rattle.scmi_codec.specs.declared.frame.Answer.TheVariants as frame_answer;
+ghost use Rattle.scmi_core.specs.Effect.{effect_after};
+ghost use Rattle.scmi_core.specs.declared.answered.Answered.TheVariants as answered_by;
+ghost use Rattle.scmi_core.specs.declared.event.Event.{Event};
+ghost use Rattle.scmi_core.specs.declared.event.Event.TheVariants.{Command as Called};
+ghost use Rattle.scmi_c.specs.Calls.{ChangesNothing, HasAnswered, HasFailed, HasNext, LacksNext};
+ghost use Rattle.scmi_c.specs.Channel.{HasAnotherSize, HasPostedIn, HasSize, IsFreeOf};
+ghost use Rattle.scmi_c.specs.Standing.{HasNoRoom, LacksAgent, StandsAt, board_of};
+
+use crate::desk::Desk;
+use crate::held::Held;
+use crate::refusal::Refusal;
+use scmi_codec::{
+    Answer, Payload, is_channel_free, read_channel_area_into, write_channel_answer,
+    write_channel_message, write_channel_response,
+};
+use scmi_core::{Answered, Effect};
+
+/// As `area::answer`, in an area of the size of its agent's channel. `NoAgent`, and then `WrongSize`,
+/// come before all else.
+pub fn answer(desk: &mut Desk, agent: u32, area: &mut [u8]) -> Result<(), Refusal>
+    ensures ok { OnOk result
+        (IsSomeAnd
+        (channel_waiting area.old)
+        (λ frame. HasAnswered desk.old desk.new agent frame area.old area.new)) }
+    ensures no_agent { (result ≡ Err Refusal.NoAgent) ↔ LacksAgent agent desk.old }
+    ensures wrong_size { (result ≡ Err Refusal.WrongSize)
+        ↔ HasAnotherSize agent (length area.old) desk.old }
+    ensures free { (result ≡ Err Refusal.Nothing) ↔ IsFreeOf agent area.old desk.old }
+    ensures memory { result ≡ Err Refusal.Memory → HasNoRoom desk.old }
+    ensures never { (result ≢ Err Refusal.NotFree) × (result ≢ Err Refusal.NoFrame) }
+    ensures err { OnErr result (desk.new ≡ desk.old) }
+    ensures kept { OnErr result (area.new ≡ area.old) }
+{
+    desk.held.check_size(agent, area.len())?;
+    let Ok(true) = read_channel_area_into(area, &mut desk.frame) else {
+        return Err(Refusal::Nothing);
+    };
+    let answered = desk.held.command(agent, &desk.frame, &mut desk.reply)?;
+    put_answer(area, answered, &desk.reply.payload);
+    Ok(())
+}
+
+/// Writes what a frame was answered with over it: the reply's header is the frame's, which stands in
+/// the area.
+fn put_answer(area: &mut [u8], answered: Answered, payload: &Payload)
+    requires size { is_channel_size (length area.old) ≡ true }
+    ensures reply { answered ≡ answered_by.Reply → length payload.now.items ≤ capacity area.old →
+        area.new ≡ area_after_answer
+        (frame_answer.Reply (message_of (header_at area.old) payload.now.items)) area.old }
+    ensures error { answered ≡ answered_by.ChannelError →
+        area.new ≡ area_after_answer frame_answer.ChannelError area.old }
+{
+    let _ = match answered {
+        Answered::Reply => write_channel_response(area, payload),
+        Answered::ChannelError => write_channel_answer(area, &Answer::ChannelError),
+    };
+}
+
+/// As `hardware::ask`, of a frame in an area of the size of its agent's channel. `NoAgent`, and then
+/// `WrongSize`, come before all else.
+pub fn ask(desk: &mut Desk, agent: u32, area: &[u8]) -> Result<Effect, Refusal>
+    ensures ok { IfOk result (λ effect.
+        IsSomeAnd (channel_waiting area.now) (λ frame.
+        (h : List Event) → StandsAt desk.old h →
+        effect_after (board_of desk.old) h (Called agent frame) ≡ Some effect)) }
+    ensures no_agent { (result ≡ Err Refusal.NoAgent) ↔ LacksAgent agent desk.old }
+    ensures wrong_size { (result ≡ Err Refusal.WrongSize)
+        ↔ HasAnotherSize agent (length area.now) desk.old }
+    ensures no_frame { (result ≡ Err Refusal.NoFrame) ↔ IsFreeOf agent area.now desk.old }
+    ensures nothing { HasSize agent (length area.now) desk.old →
+        IfSome (channel_waiting area.now) (λ frame.
+        (h : List Event) → StandsAt desk.old h →
+        (result ≡ Err Refusal.Nothing) ↔ ChangesNothing (board_of desk.old) agent frame h) }
+    ensures never { (result ≢ Err Refusal.NotFree) × (result ≢ Err Refusal.Memory) }
+    ensures same { desk.new ≡ desk.old }
+{
+    desk.held.check_size(agent, area.len())?;
+    let Ok(true) = read_channel_area_into(area, &mut desk.frame) else {
+        return Err(Refusal::NoFrame);
+    };
+    match desk.held.effect_of(agent, &desk.frame)? {
+        Some(effect) => Ok(effect),
+        None => Err(Refusal::Nothing),
+    }
+}
+
+/// As `hardware::fail`, of a frame in an area of the size of its agent's channel. `NoAgent`, and then
+/// `WrongSize`, come before all else.
+pub fn fail(desk: &mut Desk, agent: u32, area: &mut [u8]) -> Result<(), Refusal>
+    ensures ok { OnOk result
+        (IsSomeAnd
+        (channel_waiting area.old)
+        (λ frame. HasFailed desk.old desk.new agent frame area.old area.new)) }
+    ensures no_agent { (result ≡ Err Refusal.NoAgent) ↔ LacksAgent agent desk.old }
+    ensures wrong_size { (result ≡ Err Refusal.WrongSize)
+        ↔ HasAnotherSize agent (length area.old) desk.old }
+    ensures no_frame { (result ≡ Err Refusal.NoFrame) ↔ IsFreeOf agent area.old desk.old }
+    ensures nothing { HasSize agent (length area.old) desk.old →
+        IfSome (channel_waiting area.old) (λ frame.
+        (h : List Event) → StandsAt desk.old h →
+        (result ≡ Err Refusal.Nothing) ↔ ChangesNothing (board_of desk.old) agent frame h) }
+    ensures memory { result ≡ Err Refusal.Memory → HasNoRoom desk.old }
+    ensures never { result ≢ Err Refusal.NotFree }
+    ensures err { OnErr result (desk.new ≡ desk.old) }
+    ensures kept { OnErr result (area.new ≡ area.old) }
+{
+    desk.held.check_size(agent, area.len())?;
+    let Ok(true) = read_channel_area_into(area, &mut desk.frame) else {
+        return Err(Refusal::NoFrame);
+    };
+    desk.held
+        .command_failed(agent, &desk.frame, &mut desk.reply)?;
+    put_answer(area, Answered::Reply, &desk.reply.payload);
+    Ok(())
+}
+
+/// As `area::post_next`, in an area of the size of its agent's channel. `NoAgent`, and then
+/// `WrongSize`, come before all else.
+pub fn post_next(held: &Held, agent: u32, area: &mut [u8]) -> Result<(), Refusal>
+    ensures ok { OnOk result (HasPostedIn held.now agent area.old area.new) }
+    ensures no_agent { (result ≡ Err Refusal.NoAgent) ↔ LacksAgent agent held.now }
+    ensures wrong_size { (result ≡ Err Refusal.WrongSize)
+        ↔ HasAnotherSize agent (length area.old) held.now }
+    ensures nothing { HasSize agent (length area.old) held.now →
+        (h : List Event) → StandsAt held.now h →
+        (result ≡ Err Refusal.Nothing) ↔ LacksNext (board_of held.now) agent h }
+    ensures not_free { HasSize agent (length area.old) held.now →
+        (h : List Event) → StandsAt held.now h →
+        (result ≡ Err Refusal.NotFree) ↔
+        (HasNext (board_of held.now) agent h × (channel_waiting area.old ≢ None)) }
+    ensures never { (result ≢ Err Refusal.Memory) × (result ≢ Err Refusal.NoFrame) }
+    ensures kept { OnErr result (area.new ≡ area.old) }
+{
+    held.check_size(agent, area.len())?;
+    let Some(message) = held.first(agent)? else {
+        return Err(Refusal::Nothing);
+    };
+    let Ok(true) = is_channel_free(area) else {
+        return Err(Refusal::NotFree);
+    };
+    // A message of an outbox fits its agent's channel, so it is always written.
+    match write_channel_message(area, message) {
+        Ok(()) => Ok(()),
+        Err(_) => Err(Refusal::NotFree),
+    }
+}
