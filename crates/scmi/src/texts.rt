@@ -58,8 +58,8 @@ Tells what areas of shared memory are: busy or free, the message by its name, st
 
 Usage: scmi decode [FILE]
 
-The input has the dump of an area in each line, 284 bytes in hexadecimal digits.
-docs/DECODE.md has the forms.
+The input has dumps of areas, of 60 to 284 bytes, in any of the forms of docs/DECODE.md, and
+lines of ftrace and of a session that show a message.
 
 Example: scmi decode areas.hex
 ",
