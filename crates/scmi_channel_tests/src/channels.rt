@@ -190,22 +190,24 @@ fn a_message_longer_than_its_channel_is_malformed(rt: HostRuntime) -> Result<(),
 #[test]
 fn channels_of_no_agent_or_no_size_are_refused(rt: HostRuntime) -> Result<(), Fail> {
     let mut plan = reference_plan(rt.alloc())?;
+    // Agent, words, the answer, and the words of the agent's channels then.
     let rows = [
-        (0, 32, Err(ChannelError::NoAgent)),
-        (3, 32, Err(ChannelError::NoAgent)),
-        (1, 7, Err(ChannelError::Words)),
-        (1, 65, Err(ChannelError::Words)),
-        (2, 8, Ok(())),
-        (1, 64, Ok(())),
+        (0, 32, Err(ChannelError::NoAgent), 0),
+        (3, 32, Err(ChannelError::NoAgent), 0),
+        (1, 7, Err(ChannelError::Words), 64),
+        (1, 65, Err(ChannelError::Words), 64),
+        (2, 8, Ok(()), 8),
+        (1, 64, Ok(()), 64),
     ];
-    for (agent, words, wanted) in rows {
+    for (agent, words, wanted, left) in rows {
         let channel = AgentChannel {
             words,
             one_way: true,
         };
         assert_eq!(rt; plan.set_channel(agent, channel), wanted);
+        if agent >= 1 && agent <= plan.agents() {
+            assert_eq!(rt; plan.channel(agent).words, left);
+        }
     }
-    assert_eq!(rt; plan.channel(1).words, 64);
-    assert_eq!(rt; plan.channel(2).words, 8);
     Ok(())
 }
