@@ -71,9 +71,10 @@ impl Refused {
     /// The fault, whose line is one of the file.
     pub fn fault(&self) -> RunError {
         match self.why {
-            Why::Fault(RunError::Board(line)) => RunError::Board(line.saturating_sub(1)),
+            Why::Fault(RunError::Board(line)) | Why::Behind(line) => {
+                RunError::Board(line.saturating_sub(1).max(1))
+            }
             Why::Fault(fault) => fault,
-            Why::Behind(line) => RunError::Board(line.saturating_sub(1)),
         }
     }
 
@@ -118,8 +119,12 @@ fn fill<B: Read>(alloc: Global, text: &mut Vec<u8>, file: &mut B) -> Result<(), 
     let file = read_rest(alloc, &mut CountedReader::new(file))?;
     let is_kept = text.extend_from_slice(MODE_LINE).is_ok()
         && text.extend_from_slice(&file).is_ok()
-        && (file.last() == Some(&b'\n') || text.push(b'\n').is_ok());
-    if is_kept { Ok(()) } else { Err(InputError::Memory) }
+        && (file.is_empty() || file.last() == Some(&b'\n') || text.push(b'\n').is_ok());
+    if is_kept {
+        Ok(())
+    } else {
+        Err(InputError::Memory)
+    }
 }
 
 /// The board of a text, which keeps every rule, and behind which nothing stands.

@@ -7,7 +7,6 @@ use scmi_explain::{Expected, Fault, explain};
 use scmi_live::{Listener, unknown_in};
 use std::alloc::Global;
 use std::io::Eprint;
-use std::str::from_utf8;
 
 /// Says on standard error what a session says beside its answers.
 #[derive(Drop)]

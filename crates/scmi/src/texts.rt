@@ -91,7 +91,7 @@ After the line 'words on' replies are described, in lines that begin with #, unt
 A line that is no step is explained on standard error, and the session goes on. So is a
 notification that is dropped. docs/SCRIPTS.md has more.
 
-Example: echo 'do ap POWER_STATE_SET cpu on' | scmi session examples/phone.board
+Example: echo 'do ap POWER_STATE_SET cpu on' | scmi session sessions/live/phone.board
 ",
     version: "Tolbjir scmi, unreleased: SCMI 2.0 (DEN0056B), proved in Rattle where the build says so\n",
 };

@@ -25,7 +25,10 @@ impl fmt::Display for UnknownText<'_, '_> {
             }
             Unknown::Message(item) => {
                 write!(f, "\"{}\" is no message, protocol or number", shown(item))?;
-                match from_utf8(item).ok().and_then(|text| near_message(self.alloc, text)) {
+                match from_utf8(item)
+                    .ok()
+                    .and_then(|text| near_message(self.alloc, text))
+                {
                     Some(name) => write!(f, "; did you mean {name}?"),
                     None => Ok(()),
                 }
@@ -36,7 +39,12 @@ impl fmt::Display for UnknownText<'_, '_> {
                 shown(item)
             ),
             Unknown::Part(number, item, part) => {
-                write!(f, "item {number}, \"{}\", is no {}", shown(item), text_of(part))?;
+                write!(
+                    f,
+                    "item {number}, \"{}\", is no {}",
+                    shown(item),
+                    text_of(part)
+                )?;
                 write_known(f, self.board, part)
             }
             Unknown::Count(name, parts) => write_parts(f, name, parts),
@@ -115,11 +123,7 @@ fn write_names<W: fmt::Write>(
     Ok(())
 }
 
-fn write_name<W: fmt::Write>(
-    f: &mut fmt::Formatter<W>,
-    number: usize,
-    name: &str,
-) -> fmt::Result {
+fn write_name<W: fmt::Write>(f: &mut fmt::Formatter<W>, number: usize, name: &str) -> fmt::Result {
     write!(f, " {number} {name}")
 }
 

@@ -63,7 +63,7 @@ answers_text more lines = []
 
 module _ (full : Bool) (Shows : CallerView → Result Closing CloseError → Type 0) where
   -- a step is made, and what came of it is written
-  pub record DoesStep (step : Step) (before after : LiveView) (old new : Option (List ℕ)) : Type 0 where
+  pub record MakesStep (step : Step) (before after : LiveView) (old new : Option (List ℕ)) : Type 0 where
     pub line : StepLine
     pub made : Steps full Shows step line before.session after.session
     pub same : after ≡ record before { session = after.session }
@@ -74,7 +74,7 @@ module _ (full : Bool) (Shows : CallerView → Result Closing CloseError → Typ
   AnswersAs Nothing before after old new = (after ≡ before) × (new ≡ old)
   AnswersAs Unknown before after old new = (after ≡ before) × (new ≡ old)
   AnswersAs (Describe on) before after old new = (after ≡ record before { described = on }) × (new ≡ old)
-  AnswersAs (Does step) before after old new = DoesStep step before after old new
+  AnswersAs (Does step) before after old new = MakesStep step before after old new
 
   abbrev pub Answers : List ℕ → LiveView → LiveView → Option (List ℕ) → Option (List ℕ) → Type 0
   Answers text before after old new = AnswersAs (line_meant before.board before.agents text) before after old new

@@ -4,6 +4,7 @@ use Rattle.std.specs.Str.{bytes_eq}
 use Rattle.scmi_board.specs.Items.{◌>>=◌, items_of}
 use Rattle.scmi_board.specs.Lines.{is_significant, lines_left}
 use Rattle.scmi_plan.specs.Board.{Board}
+use Rattle.scmi_text.specs.Step.{IsStepOf}
 use Rattle.scmi_text.specs.StepText.{steps_of_lines}
 use Rattle.scmi_text.specs.declared.step.Step.{Step}
 use Rattle.scmi_live.specs.NamedStep.{named_step}
@@ -52,6 +53,11 @@ step_or_unknown None = Unknown
 abbrev pub describe_or : Option Bool → Meant → Meant
 describe_or (Some on) other = Describe on
 describe_or None other = other
+
+-- the agent that a line names is one of so many
+abbrev pub IsMeantOf : ℕ → Meant → Type 0
+IsMeantOf agents (Does step) = IsStepOf agents step
+IsMeantOf agents other = Unit {0}
 
 -- what a line means on a board of so many agents
 abbrev pub line_meant : Board → ℕ → List ℕ → Meant

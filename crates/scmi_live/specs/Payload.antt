@@ -11,7 +11,6 @@ use Rattle.scmi_codec.specs.declared.messages.Part.{Part}
 use Rattle.scmi_codec.specs.declared.messages.Part.TheVariants as part
 use Rattle.scmi_codec.specs.declared.payload.TheConstants.{PAYLOAD_WORDS}
 use Rattle.scmi_plan.specs.Board.{Board}
-use Rattle.scmi_text.specs.Fields.{with_word}
 use Rattle.scmi_live.specs.Names.{number_from, or_named}
 use Rattle.scmi_live.specs.Messages.{id_in, protocol_named}
 use Rattle.scmi_live.specs.declared.word.TheConstants.{ON, OFF, OFF_STATE}
@@ -49,15 +48,16 @@ is_flags part.PowerFlags = true
 is_flags part.RateFlags = true
 is_flags part = false
 
--- the words that the first item stands for, and the items behind it
-abbrev pub words_of_first : Board → ℕ → Part → List (List ℕ) → Option (List ℕ × List (List ℕ))
-words_of_first board protocol part [] = None
-words_of_first board protocol part (item ∷ items) = option_map (λ words. (words, items)) (words_of_item board protocol part item)
+-- the first of the items that are left, and the others
+abbrev pub first_left : List (List ℕ) → Option (List ℕ × List (List ℕ))
+first_left [] = None
+first_left (item ∷ items) = Some (item, items)
 
 -- the words of a part with so many parts behind it, and the items that are left: flags that have no item are 0
 abbrev pub first_words : Board → ℕ → Part → ℕ → List (List ℕ) → Option (List ℕ × List (List ℕ))
 first_words board protocol part behind items =
-    if is_flags part && (length items == behind) then Some (0 ∷ [], items) else words_of_first board protocol part items
+    if is_flags part && (length items == behind) then Some (0 ∷ [], items)
+    else first_left items >>= λ found. option_map (λ words. (words, found.1)) (words_of_item board protocol part found.0)
 
 -- words behind others, where a payload has room for them
 abbrev pub joined : List ℕ → List ℕ → Option (List ℕ)
@@ -70,9 +70,13 @@ words_behind board protocol words [] (item ∷ items) = None
 words_behind board protocol words (part ∷ parts) items =
     first_words board protocol part (length parts) items >>= λ found. joined words found.0 >>= λ more. words_behind board protocol more parts found.1
 
+-- a number behind others, where a payload has room for it
+abbrev pub with_number : List ℕ → List ℕ → Option (List ℕ)
+with_number words item = number_of 32 item >>= λ word. joined words (word ∷ [])
+
 -- items that are numbers
 abbrev pub numbers : List (List ℕ) → Option (List ℕ)
-numbers items = after_each with_word [] items
+numbers items = after_each with_number [] items
 
 -- the payload that items stand for: part by part where the message is known, else numbers
 abbrev pub payload_by : Board → ℕ → Option Said → List (List ℕ) → Option (List ℕ)

@@ -1,6 +1,6 @@
 -- Replies in words, as remarks behind their lines.
-use Rattle.std.specs.Prelude.{ℕ, ◌==◌, Bool, true, false, if◌then◌else◌, List, [], ◌∷◌, ◌++◌, Option, Some, None, codes}
-use Rattle.std.specs.Option.{option_map, option_map_or}
+use Rattle.std.specs.Prelude.{ℕ, ◌==◌, Bool, true, false, List, [], ◌∷◌, ◌++◌, Option, Some, None}
+use Rattle.std.specs.Option.{option_map_or}
 use Rattle.scmi_codec.specs.declared.frame.Frame.{Frame}
 use Rattle.scmi_codec.specs.declared.frame.Frame.TheVariants.{Good, Malformed}
 use Rattle.scmi_codec.specs.declared.frame.Answer.TheVariants.{Reply}
@@ -28,10 +28,15 @@ described_line (line.Collected agent collected) = described_collected collected
 described_line (line.P2a agent frame) = described_taken frame
 described_line line = None
 
+-- a byte, behind a mark where a line begins with it
+abbrev pub marked_byte : Bool → ℕ → List ℕ
+marked_byte true byte = 35 ∷ 32 ∷ byte ∷ []
+marked_byte false byte = byte ∷ []
+
 -- lines, each behind a mark: whether one begins here
 abbrev pub marked : Bool → List ℕ → List ℕ
 marked begins [] = []
-marked begins (byte ∷ bytes) = (if begins then codes "# " else []) ++ byte ∷ marked (byte == 10) bytes
+marked begins (byte ∷ bytes) = marked_byte begins byte ++ marked (byte == 10) bytes
 
 -- what a line gives in words
 abbrev pub remark_text : StepLine → List ℕ

@@ -1,20 +1,24 @@
 //! Notifications that are dropped.
 
 use crate::listener::Listener;
-use scmi_codec::{Answer, BaseCommand, Command, Frame, PowerCommand, is_success};
-use scmi_core::{Core, CoreError, Event};
+use scmi_codec::{Answer, BaseCommand, Command, Frame, Header, Message, PowerCommand, is_success};
+use scmi_core::{Core, CoreError};
+use scmi_ends::{Flushed, Served};
+use scmi_link::Collected;
 use scmi_plan::{AGENTS, DOMAINS, Plan};
+use scmi_text::{AgentStep, Call, Step, StepLine};
 use std::alloc::Global;
 
 /// The notifications that were dropped, since the outbox of their agent had no room. They are seen by a
-/// second platform, to which each event of the first happens as well, so that its replies say who asked
-/// to be told of a domain.
+/// second platform, which does what the first one does, so that its replies say who asked to be told of
+/// a domain.
 #[derive(Drop)]
 pub(crate) struct Drops {
     second: Core,
-    // Who asked to be told of which domain; that of agent a at index a - 1.
+    // What each agent posted last and was not served yet; that of agent a at index a - 1.
+    posted: [Message; AGENTS],
+    // Who asked to be told of which domain.
     told: [[bool; DOMAINS]; AGENTS],
-    seen: usize,
     count: usize,
 }
 
@@ -30,8 +34,17 @@ impl Drops {
     pub(crate) fn new(alloc: Global, plan: Plan) -> Drops {
         Drops {
             second: Core::new(alloc, plan),
+            posted: [
+                Message::default(),
+                Message::default(),
+                Message::default(),
+                Message::default(),
+                Message::default(),
+                Message::default(),
+                Message::default(),
+                Message::default(),
+            ],
             told: [[false; DOMAINS]; AGENTS],
-            seen: 0,
             count: 0,
         }
     }
@@ -41,45 +54,76 @@ impl Drops {
         self.count
     }
 
-    /// Sees what happened to the platform since it was seen last, and tells of each that was dropped.
+    /// Sees what a step of the first platform gave, and tells of each that was dropped by it.
     pub(crate) fn see<L: Listener>(
         &mut self,
-        first: &Core,
+        step: &Step,
+        line: &StepLine,
         listener: &mut L,
     ) -> Result<(), CoreError> {
-        while self.seen < first.trace().len() {
-            if let Some(event) = first.trace().get(self.seen) {
-                self.follow(&event, listener)?;
+        match line {
+            StepLine::Token { agent, .. } | StepLine::Posted { agent } => {
+                self.post(*agent, step);
+                Ok(())
             }
-            self.seen += 1;
+            StepLine::Served {
+                agent,
+                served: Served::Done,
+            } => self.serve(*agent, listener),
+            StepLine::Collected {
+                agent,
+                collected: Collected::Got(_),
+            } => match step {
+                Step::Do { call, .. } => {
+                    self.put(*agent, message_of(call));
+                    self.serve(*agent, listener)
+                }
+                _ => Ok(()),
+            },
+            StepLine::Advanced { more: true } => self.advance(listener),
+            StepLine::Flushed {
+                agent,
+                flushed: Flushed::Posted,
+            } => self.second.sent(*agent),
+            _ => Ok(()),
         }
-        Ok(())
     }
 
-    /// Makes one event happen to the second platform.
-    fn follow<L: Listener>(&mut self, event: &Event, listener: &mut L) -> Result<(), CoreError> {
-        match event {
-            Event::Command(agent, frame) => self.command(*agent, frame, listener),
-            Event::Advance => self.advance(listener),
-            Event::Sent(agent) => self.second.sent(*agent),
-            // No line of a session is beside hardware that refuses.
-            Event::CommandFailed(..) | Event::AdvanceFailed => Ok(()),
+    /// Keeps what an agent posted. A malformed frame changes nothing, as no message of protocol 0 does.
+    fn post(&mut self, agent: u32, step: &Step) {
+        let message = match step {
+            Step::Agent {
+                step: AgentStep::Call(call),
+                ..
+            } => message_of(call),
+            Step::Agent {
+                step: AgentStep::Raw(message),
+                ..
+            } => message.copy(),
+            _ => Message::default(),
+        };
+        self.put(agent, message);
+    }
+
+    fn put(&mut self, agent: u32, message: Message) {
+        if let Some(place) = self.posted.get_mut((agent as usize).wrapping_sub(1)) {
+            *place = message;
         }
     }
 
-    fn command<L: Listener>(
-        &mut self,
-        agent: u32,
-        frame: &Frame,
-        listener: &mut L,
-    ) -> Result<(), CoreError> {
+    /// Serves an agent on the second platform.
+    fn serve<L: Listener>(&mut self, agent: u32, listener: &mut L) -> Result<(), CoreError> {
+        let Some(message) = self.posted.get((agent as usize).wrapping_sub(1)) else {
+            return Ok(());
+        };
+        let command = Command::read(message).ok();
+        let frame = Frame::Good(message.copy());
         let before = self.standing();
-        let answer = self.second.command(agent, frame)?;
+        let answer = self.second.command(agent, &frame)?;
         self.tell(&before, None, listener);
-        if let (Frame::Good(message), Answer::Reply(reply)) = (frame, &answer) {
-            if is_success(&reply.payload) {
-                self.note(agent, Command::read(message).ok());
-            }
+        match answer {
+            Answer::Reply(reply) if is_success(&reply.payload) => self.note(agent, command),
+            _ => {}
         }
         Ok(())
     }
@@ -126,7 +170,9 @@ impl Drops {
             }
             for index in 0..AGENTS {
                 let agent = index as u32 + 1;
-                let others = before.waiting[index].saturating_add((response == Some(agent)) as usize);
+                let others = before.waiting[index].saturating_add(
+                    (response == Some(agent)) as usize,
+                );
                 if self.told[index][domain] && after.waiting[index] <= others {
                     self.count = self.count.saturating_add(1);
                     listener.dropped(agent, domain as u32);
@@ -147,5 +193,19 @@ impl Drops {
             standing.waiting[index] = self.second.waiting(index as u32 + 1).unwrap_or(0);
         }
         standing
+    }
+}
+
+/// The message of a command. Its token changes nothing but the tokens of what answers it.
+fn message_of(call: &Call) -> Message {
+    Message {
+        header: Header {
+            reserved: 0,
+            token: 0,
+            protocol: call.protocol,
+            kind: 0,
+            id: call.message,
+        },
+        payload: scmi_codec::payload_of(call.payload.as_slice()),
     }
 }

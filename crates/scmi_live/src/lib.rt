@@ -8,6 +8,7 @@
 mod drops;
 mod form;
 mod items;
+mod left_items;
 mod listener;
 mod live;
 mod live_error;

@@ -1,5 +1,6 @@
 //! A session whose lines are answered one by one.
-ghost use Rattle.std.specs.Prelude.{◌≡◌, ◌⊎◌, IfErr, OnOk};
+ghost use Rattle.std.specs.Prelude.{◌≡◌, IfErr, OnOk};
+ghost use Rattle.scmi_text.specs.StepLine.{step_text};
 ghost use Rattle.std.specs.Io.KnownBytes.{Appends};
 ghost use Rattle.scmi_live.specs.Live.{answer_text};
 
@@ -46,11 +47,14 @@ impl<'a, C: Channel> Model for Live<'a, C> {
 }
 
 impl<'a, C: Channel> Live<'a, C> {
-    ghost use Rattle.std.specs.Prelude.{◌≡◌, ◌×◌, length, IfOk, OnOk, false};
+    ghost use Rattle.std.specs.Prelude.{◌≡◌, length, IfOk, OnOk, false};
     ghost use Rattle.scmi_plan.specs.RawPlan.{asked_board};
     ghost use Rattle.scmi_ends.specs.Shut.{ShowsClose};
     ghost use Rattle.scmi_session.specs.Run.{IsGathered, IsNewSession};
-    ghost use Rattle.scmi_live.specs.Live.{Answers, IsEnd};
+    ghost use Rattle.scmi_text.specs.Step.{IsStepOf};
+    ghost use Rattle.scmi_text.specs.declared.step_line.StepLine.TheVariants.{Trace};
+    ghost use Rattle.std.specs.Io.KnownBytes.{Appends};
+    ghost use Rattle.scmi_live.specs.Live.{Answers, MakesStep, answer_text};
 
     /// A session over new channels, of a board of which this is the plan; it is kept twice.
     pub(crate) fn open(
@@ -110,10 +114,15 @@ impl<'a, C: Channel> Live<'a, C> {
         step: &Step,
         writer: &mut W,
         listener: &mut L,
-    ) -> Result<(), LiveError> {
+    ) -> Result<(), LiveError>
+        requires { IsStepOf self.old.agents step.now }
+        ensures makes { OnOk result
+            (MakesStep C.FULL (ShowsClose C.caller_view C.close_shows) step.now self.old self.new
+            (W.contents writer.old) (W.contents writer.new)) }
+    {
         let line = self.session.step(step)?;
-        write_answer(self.alloc, writer, line, self.is_described)?;
-        match self.drops.see(self.session.core(), listener) {
+        write_answer(self.alloc, writer, &line, self.is_described)?;
+        match self.drops.see(step, &line, listener) {
             Ok(()) => Ok(()),
             Err(_) => Err(LiveError::Memory),
         }
@@ -121,9 +130,12 @@ impl<'a, C: Channel> Live<'a, C> {
 
     /// Ends the session: gathers all ends, and writes the length of the history.
     pub(crate) fn end<W: Write>(self, writer: &mut W) -> Result<(), LiveError>
+        ensures gathered { IsGathered self.session }
+        ensures text { OnOk result (Appends (W.contents writer.old) (W.contents writer.new)
+            (answer_text false (Trace (length self.session.platform.history)))) }
     {
         let events = self.session.retire().len();
-        write_answer(self.alloc, writer, StepLine::Trace { events }, false)
+        write_answer(self.alloc, writer, &StepLine::Trace { events }, false)
     }
 }
 
@@ -131,13 +143,13 @@ impl<'a, C: Channel> Live<'a, C> {
 fn write_answer<W: Write>(
     alloc: Global,
     writer: &mut W,
-    line: StepLine,
+    line: &StepLine,
     is_described: bool,
 ) -> Result<(), LiveError>
     ensures text { OnOk result (Appends (W.contents writer.old) (W.contents writer.new)
-        (answer_text is_described line)) }
+        (answer_text is_described line.now)) }
 {
-    write_line(writer, &line)?;
+    write_line(writer, line)?;
     if is_described {
         write_remark(alloc, writer, line)?;
     }

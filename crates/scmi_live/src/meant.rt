@@ -1,8 +1,8 @@
 //! What a line of a session means.
-ghost use Rattle.std.specs.Prelude.{◌≡◌, map, IfOk, IfSome, IfErr};
+ghost use Rattle.std.specs.Prelude.{◌≡◌, IfOk, IfSome};
 ghost use Rattle.scmi_plan.specs.RawPlan.{asked_board};
 ghost use Rattle.scmi_text.specs.Step.{IsStepOf};
-ghost use Rattle.scmi_live.specs.Meant.{described_by, line_meant, only_step, step_by_names, step_by_numbers, step_meant};
+ghost use Rattle.scmi_live.specs.Meant.{IsMeantOf, described_by, line_meant, only_step, step_by_names, step_by_numbers, step_meant};
 
 use crate::items::items_of;
 use crate::named_step::named_step;
@@ -36,6 +36,7 @@ pub(crate) fn line_meant(
     agents: u32,
     text: &[u8],
 ) -> Result<Meant, AllocError>
+    ensures agent { IfOk result (IsMeantOf agents) }
     ensures meant { IfOk result (λ meant. meant ≡
         line_meant (asked_board board.now) agents text.now) }
 {

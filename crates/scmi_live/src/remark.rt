@@ -4,7 +4,7 @@ ghost use Rattle.std.specs.Option.{option_map_or};
 ghost use Rattle.std.specs.Io.KnownBytes.{Appends};
 ghost use Rattle.scmi_describe.specs.Description.{described_free, described_p2a, described_response};
 ghost use Rattle.scmi_describe.specs.Text.{description_text};
-ghost use Rattle.scmi_live.specs.Remark.{described_line, marked, remark_text};
+ghost use Rattle.scmi_live.specs.Remark.{described_line, marked, marked_byte, remark_text};
 
 use crate::live_error::LiveError;
 use scmi_codec::{Answer, Command, Frame, Message, Status};
@@ -20,10 +20,10 @@ use std::io::Write;
 pub(crate) fn write_remark<W: Write>(
     alloc: Global,
     writer: &mut W,
-    line: StepLine,
+    line: &StepLine,
 ) -> Result<(), LiveError>
     ensures { OnOk result (Appends (W.contents writer.old) (W.contents writer.new)
-        (remark_text line)) }
+        (remark_text line.now)) }
 {
     let Some(description) = described_line(line) else {
         return Ok(());
@@ -39,16 +39,16 @@ pub(crate) fn write_remark<W: Write>(
 }
 
 /// What the message of a line is: a reply that was collected, or what an agent took from P2A.
-fn described_line(line: StepLine) -> Option<Description>
-    ensures { result ≡ described_line line }
+fn described_line(line: &StepLine) -> Option<Description>
+    ensures { result ≡ described_line line.now }
 {
     match line {
         StepLine::Collected { collected, .. } => match collected {
-            Collected::Got(Answer::Reply(message)) => Some(described_message(message)),
+            Collected::Got(Answer::Reply(message)) => Some(described_message(message.copy())),
             _ => None,
         },
         StepLine::P2a { frame, .. } => match frame {
-            Some(Frame::Good(message)) => Some(described_message(message)),
+            Some(Frame::Good(message)) => Some(described_message(message.copy())),
             _ => None,
         },
         _ => None,
@@ -97,11 +97,19 @@ fn write_marked<W: Write>(writer: &mut W, text: &[u8]) -> io::Result<()>
 {
     let mut begins = true;
     'bytes: for byte in text {
-        if begins {
-            writer.write_all(b"# ")?;
-        }
-        writer.write_all(&[*byte])?;
+        write_byte(writer, begins, *byte)?;
         begins = *byte == b'\n';
     }
     Ok(())
+}
+
+/// Writes a byte, behind a mark where a line begins with it.
+fn write_byte<W: Write>(writer: &mut W, begins: bool, byte: u8) -> io::Result<()>
+    ensures { OnOk result (Appends (W.contents writer.old) (W.contents writer.new)
+        (marked_byte begins byte)) }
+{
+    if begins {
+        return writer.write_all(&[b'#', b' ', byte]);
+    }
+    writer.write_all(&[byte])
 }

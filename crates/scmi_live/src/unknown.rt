@@ -68,11 +68,7 @@ fn unknown_command<'a>(board: &RawPlan, items: &[&'a [u8]]) -> Option<Unknown<'a
 }
 
 /// The same where the first item is to be the name of a message.
-fn unknown_name<'a>(
-    board: &RawPlan,
-    name: &'a [u8],
-    items: &[&'a [u8]],
-) -> Option<Unknown<'a>> {
+fn unknown_name<'a>(board: &RawPlan, name: &'a [u8], items: &[&'a [u8]]) -> Option<Unknown<'a>> {
     if let Some((protocol, id)) = message_named(name) {
         return unknown_payload(board, protocol, id, 4, items);
     }
@@ -96,6 +92,10 @@ fn unknown_payload<'a>(
 ) -> Option<Unknown<'a>> {
     let row = listed_row(protocol, id)?;
     let mut parts = row.asks;
+    let flags = parts.iter().filter(|part| is_flags(**part)).count();
+    if items.len() > parts.len() || items.len() + flags < parts.len() {
+        return Some(Unknown::Count(row.name, row.asks));
+    }
     while let [part, behind @ ..] = parts {
         parts = behind;
         if is_flags(*part) && items.len() == behind.len() {

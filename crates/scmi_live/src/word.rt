@@ -39,7 +39,8 @@ pub(crate) fn words_of_item(
     }
 }
 
-fn one_word(word: u32) -> PartWords
+/// One word.
+pub(crate) fn one_word(word: u32) -> PartWords
     ensures { result.items ≡ word ∷ [] }
 {
     let mut words = PartWords::new();

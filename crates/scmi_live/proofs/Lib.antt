@@ -1,0 +1,4 @@
+mod ItemLists
+mod Marked
+mod MeantExamples
+mod NameLists
