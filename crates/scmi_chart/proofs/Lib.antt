@@ -1,1 +1,3 @@
-pub mod Same
+mod Heads
+mod Numbers
+mod Turned

@@ -1,2 +1,4 @@
+pub mod Service
+pub mod Shown
 pub mod Signs
 pub mod Standing

@@ -29,12 +29,12 @@ use Rattle.scmi_svg.specs.declared.mark.Outcome.TheVariants as outcome
 use Rattle.scmi_svg.specs.declared.mark.Side.{Side}
 use Rattle.scmi_svg.specs.declared.mark.Side.TheVariants as side
 
--- what a mark says: an agent posted a command, with its token where it has one; a post was refused; the platform executed a command; an agent read the answer to its command, and whether it was a success; an agent took a delayed response or a notification; the platform posted a message; it was to complete a pending set, and whether there was one; it ended one whose change the hardware refused; the hardware refused what an agent's command was to change; channels were closed; or a step of an agent's came to nothing
+-- what a mark says: whether a command that an agent posted was executed, with its token where it has one; a post was refused; the platform executed a command; how the answer to its command that an agent read turned out; an agent took a delayed response or a notification; the platform posted a message; it was to complete a pending set, and whether there was one; it ended one whose change the hardware refused; the hardware refused what an agent's command was to change; channels were closed; or a step of an agent's came to nothing
 pub data Sign : Type 0 where
-  sent : ℕ → Option ℕ → Sign
+  sent : Bool → ℕ → Option ℕ → Sign
   unsent : ℕ → Sign
   executed : Sign
-  answered : ℕ → Bool → Sign
+  answered : ℕ → Outcome → Sign
   delayed : ℕ → ℕ → Sign
   notified : ℕ → Sign
   posted : Sign
@@ -44,19 +44,13 @@ pub data Sign : Type 0 where
   closed : ℕ → Side → Sign
   remarked : ℕ → Sign
 
--- whether an outcome is a success
-abbrev pub succeeds : Outcome → Bool
-succeeds outcome.Success = true
-succeeds outcome.Pending = true
-succeeds outcome.Refusal = false
-
 -- what a mark says
 abbrev pub sign_of : Mark → Sign
-sign_of (mark.Command m token) = sent m.agent token
-sign_of (mark.Withdrawn m token) = sent m.agent token
+sign_of (mark.Command m token) = sent true m.agent token
+sign_of (mark.Withdrawn m token) = sent false m.agent token
 sign_of (mark.Refused m) = unsent m.agent
 sign_of (mark.Execution slot until) = executed
-sign_of (mark.Reply m outcome) = answered m.agent (succeeds outcome)
+sign_of (mark.Reply m outcome) = answered m.agent outcome
 sign_of (mark.Delayed m token) = delayed m.agent token
 sign_of (mark.Notification m) = notified m.agent
 sign_of (mark.Posted slot) = posted
@@ -85,6 +79,10 @@ abbrev pub is_success : Answer → Bool
 is_success (Reply m) = begins_with_success m.payload.items
 is_success _ = false
 
+-- how an answer turned out: a refusal, or a success, of a set that takes effect later or of another command
+abbrev pub outcome_of : Answer → Bool → Outcome
+outcome_of answer later = if is_success answer then (if later then outcome.Pending else outcome.Success) else outcome.Refusal
+
 -- whether words are the payload of a reply with the status HARDWARE_ERROR
 abbrev pub begins_with_hardware_error : List ℕ → Bool
 begins_with_hardware_error [] = false
@@ -95,16 +93,16 @@ abbrev pub is_hardware_error : Collected → Bool
 is_hardware_error (collected.Got (Reply m)) = begins_with_hardware_error m.payload.items
 is_hardware_error _ = false
 
--- what stands of an agent that collected
-abbrev pub collected_signs : ℕ → Collected → List Sign
-collected_signs a collected.Nothing = remarked a ∷ []
-collected_signs a collected.Closed = remarked a ∷ []
-collected_signs a (collected.Got answer) = answered a (is_success answer) ∷ []
+-- what stands of an agent that collected, whose last command was to take effect later or at once
+abbrev pub collected_signs : ℕ → Bool → Collected → List Sign
+collected_signs a later collected.Nothing = remarked a ∷ []
+collected_signs a later collected.Closed = remarked a ∷ []
+collected_signs a later (collected.Got answer) = answered a (outcome_of answer later) ∷ []
 
--- what stands of an agent's command before it is collected in the same step
-abbrev pub exchange_signs : ℕ → Collected → List Sign
-exchange_signs a (collected.Got answer) = sent a (reply_token (collected.Got answer)) ∷ executed ∷ []
-exchange_signs a c = sent a (reply_token c) ∷ []
+-- what stands of an agent's command before it is collected in the same step: it was executed if it was answered
+abbrev pub exchange_signs : Bool → ℕ → Collected → List Sign
+exchange_signs x a (collected.Got answer) = sent x a (reply_token (collected.Got answer)) ∷ executed ∷ []
+exchange_signs x a c = sent x a (reply_token c) ∷ []
 
 -- what stands of hardware that refused, before an agent collected in the same step
 abbrev pub fault_signs : ℕ → Collected → List Sign
@@ -144,24 +142,19 @@ abbrev pub shut_signs : {T : Type 0} → ℕ → Result T ShutError → List Sig
 shut_signs a (Ok u) = closed a side.Platform ∷ []
 shut_signs a (Err refusal) = remarked a ∷ []
 
--- what stands of a step that came to this line: each command that was posted, each that was refused, each execution, answer and message, each message that was posted, each advance, each refusal of the hardware and each close, by its agent, once; and what came to nothing
-abbrev pub signs_of : Step → StepLine → List Sign
-signs_of s (line.Token a token) = sent (lane a) (Some token) ∷ []
-signs_of s (line.Posted a) = sent (lane a) (raw_token s) ∷ []
-signs_of s (line.NotPosted a refusal) = unsent (lane a) ∷ []
-signs_of s (line.Served a served) = served_signs (lane a) served
-signs_of (step.Do b call) (line.Collected a c) = exchange_signs (lane a) c ++ collected_signs (lane a) c
-signs_of (step.Fail b call) (line.Collected a c) = exchange_signs (lane a) c ++ fault_signs (lane a) c ++ collected_signs (lane a) c
-signs_of s (line.Collected a c) = collected_signs (lane a) c
-signs_of s (line.Advanced more) = advanced more ∷ []
-signs_of s (line.AdvanceFailed more) = failed_signs more
-signs_of s (line.Flushed a flushed) = flushed_signs (lane a) flushed
-signs_of s (line.P2a a frame) = taken_signs (lane a) frame
-signs_of s (line.Closed a closing) = closed_signs (lane a) closing
-signs_of s (line.Shut a closing) = shut_signs (lane a) closing
-signs_of s (line.Trace events) = []
-
--- what stands of a run of these steps, which came to these lines, one for each
-abbrev pub run_signs : List Step → List StepLine → List Sign
-run_signs (s ∷ steps) (l ∷ lines) = signs_of s l ++ run_signs steps lines
-run_signs _ _ = []
+-- what stands of a step that came to this line: each command that was posted, and whether it is executed, in this step or later; each post that was refused, each execution, answer and message, each message that was posted, each advance, each refusal of the hardware and each close, by its agent, once; and what came to nothing. A set of the agent's last command may be one that takes effect later
+abbrev pub signs_of : Bool → Bool → Step → StepLine → List Sign
+signs_of x later s (line.Token a token) = sent x (lane a) (Some token) ∷ []
+signs_of x later s (line.Posted a) = sent x (lane a) (raw_token s) ∷ []
+signs_of x later s (line.NotPosted a refusal) = unsent (lane a) ∷ []
+signs_of x later s (line.Served a served) = served_signs (lane a) served
+signs_of x later (step.Do b call) (line.Collected a c) = exchange_signs x (lane a) c ++ collected_signs (lane a) later c
+signs_of x later (step.Fail b call) (line.Collected a c) = exchange_signs x (lane a) c ++ fault_signs (lane a) c ++ collected_signs (lane a) later c
+signs_of x later s (line.Collected a c) = collected_signs (lane a) later c
+signs_of x later s (line.Advanced more) = advanced more ∷ []
+signs_of x later s (line.AdvanceFailed more) = failed_signs more
+signs_of x later s (line.Flushed a flushed) = flushed_signs (lane a) flushed
+signs_of x later s (line.P2a a frame) = taken_signs (lane a) frame
+signs_of x later s (line.Closed a closing) = closed_signs (lane a) closing
+signs_of x later s (line.Shut a closing) = shut_signs (lane a) closing
+signs_of x later s (line.Trace events) = []

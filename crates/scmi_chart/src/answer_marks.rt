@@ -1,11 +1,12 @@
 //! Answers that agents read.
-ghost use Rattle.std.specs.Prelude.{◌≡◌, [], ◌∷◌, ◌++◌, OnOk};
-ghost use Rattle.scmi_chart.specs.Signs.{is_success, answered, collected_signs};
+ghost use Rattle.std.specs.Prelude.{◌≡◌, [], ◌∷◌, OnOk, get_or, false};
+ghost use Rattle.scmi_chart.specs.Signs.{answered, collected_signs, outcome_of};
+ghost use Rattle.scmi_chart.specs.Shown.{adds};
 
 use crate::detail::answer_detail;
 use crate::recorder::Recorder;
 use crate::reply_label::answer_label;
-use crate::sign::{answered_slot, outcome_of};
+use crate::sign::outcome_of;
 use scmi_codec::Answer;
 use scmi_link::Collected;
 use scmi_svg::{Mark, Message, Side};
@@ -19,7 +20,7 @@ impl<'a> Recorder<'a> {
         slot: u16,
         collected: &Collected,
     ) -> Result<(), AllocError>
-        ensures { OnOk result (self.new ≡ self.old ++ collected_signs agent collected.now) }
+        ensures { OnOk result (self.new ≡ adds (collected_signs agent (get_or self.old.laters agent false) collected.now) self.old) }
     {
         match collected {
             Collected::Nothing => self.remark(agent, slot, Side::Agent, "nothing yet"),
@@ -35,14 +36,13 @@ impl<'a> Recorder<'a> {
         slot: u16,
         answer: &Answer,
     ) -> Result<(), AllocError>
-        ensures { OnOk result (self.new ≡ self.old ++ answered agent (is_success answer.now) ∷ []) }
+        ensures { OnOk result (self.new ≡ adds (answered agent (outcome_of answer.now (get_or self.old.laters agent false)) ∷ []) self.old) }
     {
-        let command = self.parties.settle(agent);
-        let outcome = outcome_of(answer, command);
+        let outcome = outcome_of(answer, self.parties.is_later(agent));
         let label = answer_label(self.alloc, self.board, answer, outcome)?;
         let message = Message {
             agent,
-            slot: answered_slot(command, slot),
+            slot: self.parties.settle(agent).unwrap_or(slot),
             taken: slot,
             label,
             detail: answer_detail(self.alloc, answer)?,

@@ -1,7 +1,13 @@
 //! What the agents' posts ask for, in words.
+ghost use Rattle.std.specs.Prelude.{◌≡◌};
+ghost use Rattle.scmi_codec.specs.Command.{protocol_header};
+ghost use Rattle.scmi_chart.specs.Service.{message_of, message_of_call, is_asynchronous, sets_later};
+
 use crate::label::{add_field, name_label, name_of};
 use crate::words::{numbered_word, payload_words};
-use scmi_codec::{BASE_PROTOCOL, ClockCommand, Command, Header, Message, Payload, PowerCommand};
+use scmi_codec::{
+    BASE_PROTOCOL, ClockCommand, Command, Header, Message, PowerCommand, Status, payload_of,
+};
 use scmi_describe::command_fields;
 use scmi_plan::RawPlan;
 use scmi_svg::Label;
@@ -27,19 +33,30 @@ pub(crate) fn asked_label(
 }
 
 /// Whether a step posts an asynchronous set.
-pub(crate) fn sets_later(step: &Step) -> bool {
-    let Some(message) = message_of(step) else {
-        return false;
-    };
-    match Command::read(&message) {
+pub(crate) fn sets_later(step: &Step) -> bool
+    ensures { result ≡ sets_later step.now }
+{
+    match message_of(step) {
+        Some(message) => is_asynchronous(&Command::read(&message)),
+        None => false,
+    }
+}
+
+/// Whether a command is an asynchronous set.
+fn is_asynchronous(command: &Result<Command, Status>) -> bool
+    ensures { result ≡ is_asynchronous command.now }
+{
+    match command {
         Ok(Command::Power(PowerCommand::Set { flags, .. }))
-        | Ok(Command::Clock(ClockCommand::SetRate { flags, .. })) => flags % 2 == 1,
+        | Ok(Command::Clock(ClockCommand::SetRate { flags, .. })) => *flags % 2 == 1,
         _ => false,
     }
 }
 
 /// The message that a step posts, its token aside.
-pub(crate) fn message_of(step: &Step) -> Option<Message> {
+pub(crate) fn message_of(step: &Step) -> Option<Message>
+    ensures { result ≡ message_of step.now }
+{
     match step {
         Step::Do { call, .. }
         | Step::Fail { call, .. }
@@ -56,12 +73,25 @@ pub(crate) fn message_of(step: &Step) -> Option<Message> {
 }
 
 /// The message of a call, with token 0.
-fn call_message(call: &Call) -> Message {
-    let mut payload = Payload::new();
-    let _ = payload.try_extend_from_slice(call.payload.as_slice());
+fn call_message(call: &Call) -> Message
+    ensures { result ≡ message_of_call call.now }
+{
     Message {
-        header: Header::unpack(u32::from(call.protocol) << 10 | u32::from(call.message)),
-        payload,
+        header: call_header(call.protocol, call.message),
+        payload: payload_of(call.payload.as_slice()),
+    }
+}
+
+/// The header of a command, with token 0.
+fn call_header(protocol: u8, id: u8) -> Header
+    ensures { result ≡ protocol_header protocol 0 id }
+{
+    Header {
+        reserved: 0,
+        token: 0,
+        protocol,
+        kind: 0,
+        id,
     }
 }
 

@@ -1,6 +1,7 @@
 //! Messages that the platform sends of its own accord, from its outboxes to the agents.
-ghost use Rattle.std.specs.Prelude.{◌≡◌, ◌++◌, OnOk};
+ghost use Rattle.std.specs.Prelude.{◌≡◌, OnOk};
 ghost use Rattle.scmi_chart.specs.Signs.{flushed_signs, taken_signs};
+ghost use Rattle.scmi_chart.specs.Shown.{adds};
 
 use crate::detail::message_detail;
 use crate::recorder::Recorder;
@@ -19,7 +20,7 @@ impl<'a> Recorder<'a> {
         slot: u16,
         flushed: Flushed,
     ) -> Result<(), AllocError>
-        ensures { OnOk result (self.new ≡ self.old ++ flushed_signs agent flushed) }
+        ensures { OnOk result (self.new ≡ adds (flushed_signs agent flushed) self.old) }
     {
         match flushed {
             Flushed::Nothing => self.remark(agent, slot, Side::Platform, "outbox empty"),
@@ -39,7 +40,7 @@ impl<'a> Recorder<'a> {
         slot: u16,
         frame: &Option<Frame>,
     ) -> Result<(), AllocError>
-        ensures { OnOk result (self.new ≡ self.old ++ taken_signs agent frame.now) }
+        ensures { OnOk result (self.new ≡ adds (taken_signs agent frame.now) self.old) }
     {
         match frame {
             None => self.remark(agent, slot, Side::Agent, "no message"),

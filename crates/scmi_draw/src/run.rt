@@ -1,5 +1,5 @@
 //! A run, and its chart.
-ghost use Rattle.std.specs.Prelude.{◌≡◌, length, IfOk, IfErr};
+ghost use Rattle.std.specs.Prelude.{◌≡◌, length, map, string_bytes, IfOk, IfErr};
 ghost use Rattle.std.specs.List.{All};
 ghost use Rattle.scmi_ends.specs.Shut.{ShowsClose};
 ghost use Rattle.scmi_text.specs.Step.{IsStepOf};
@@ -81,7 +81,8 @@ fn step_through<C: Channel>(
     steps: &StepList,
     lines: &mut Lines<'_>,
 ) -> Result<Chart, DrawError>
-    requires { All (IsStepOf (length plan.agents)) steps.now }
+    requires agents { All (IsStepOf (length plan.agents)) steps.now }
+    requires names { map string_bytes board.now.agents.items ≡ plan.agents }
     ensures { IfOk result (ShowsRun C.FULL (ShowsClose C.caller_view C.close_shows) plan
         steps.now) }
 {
