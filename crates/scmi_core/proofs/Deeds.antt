@@ -1,5 +1,5 @@
 -- What one more deed adds to subscriptions, pending sets and outboxes, and when a history stays legal.
-use Rattle.std.proofs.Common.{◌≡◌, ℕ, zero, suc, ◌+◌, ◌≤◌, true, false, List, [], ◌∷◌, ◌++◌, length, take, drop, slice_get, Option, Some, None, unwrap_or, refl, sym, ap, ◌∙◌, subst, arith, if◌then◌else◌}
+use Rattle.std.proofs.Common.{◌≡◌, ℕ, zero, suc, ◌+◌, ◌≤◌, true, false, List, [], ◌∷◌, ◌++◌, length, take, drop, map, slice_get, Option, Some, None, Bool, unwrap_or, refl, sym, ap, ◌∙◌, subst, arith, if◌then◌else◌}
 use Rattle.std.specs.List.{filter_map, cons_option}
 use Rattle.std.proofs.lemmas.List.{append_assoc, append-nil, drop-append-le, drop-drop, take-append-le, same_from_push}
 use Rattle.std.proofs.lemmas.List.Elements.{filter_map-append}
@@ -7,15 +7,16 @@ use Rattle.std.proofs.lemmas.Grind.{fold-append}
 use Rattle.scmi_codec.specs.declared.message.Message.{Message}
 use Rattle.scmi_plan.specs.Board.{Board}
 use Rattle.scmi_core.specs.declared.event.Event.{Event}
-use Rattle.scmi_core.specs.declared.event.Event.TheVariants.{Advance, AdvanceFailed}
+use Rattle.scmi_core.specs.declared.pending_set.PendingSet.{PendingSet}
+use Rattle.scmi_core.specs.declared.event.Event.TheVariants.{Command, Advance, Sent, CommandFailed, AdvanceFailed, Restarted}
 use Rattle.std.specs.Option.{option_to_list, option_and_then, option_map_or}
-use Rattle.scmi_core.specs.Deed.{Deed, Success, fold_with_prefix, latest, successes, success_at}
+use Rattle.scmi_core.specs.Deed.{Deed, Success, fold_with_prefix, latest, restarted_by, successes, success_at}
 use Rattle.scmi_core.specs.Value.{Thing, changes, change_by, completed_set, failed_set, value, value_at_start, value_in}
 use Rattle.scmi_base.specs.declared.scope.Scope.{Scope}
 use Rattle.scmi_core.specs.Permissions.{has_permission, permission_in}
-use Rattle.scmi_core.specs.Subscriptions.{subscription, is_subscriber}
-use Rattle.scmi_core.specs.Pending.{acceptance, accepted_sets, advances, is_advance, pending_sets}
-use Rattle.scmi_core.specs.Outbox.{failed_response_for, messages_made, made_by, made_in, outbox_after, sent_count, is_sent_by, situation_with}
+use Rattle.scmi_core.specs.Subscriptions.{subscription_at, is_subscriber}
+use Rattle.scmi_core.specs.Pending.{acceptance, accepted_sets, advances, is_advance, pending_sets, sets_left, unwanted}
+use Rattle.scmi_core.specs.Outbox.{failed_response_for, is_restart_of, messages_left, messages_made, made_by, made_in, outbox_after, sent_count, is_sent_by, situation_with}
 use Rattle.scmi_core.specs.Legal.{IsLegal, CanFollow}
 
 pub fold_with_prefix-push : {X S : Type 0} (step : List X → S → X → S) (before : List X) (s : S) (xs : List X) (x : X) → fold_with_prefix step before s (xs ++ x ∷ []) ≡ step (before ++ xs) (fold_with_prefix step before s xs) x
@@ -69,19 +70,72 @@ value-push board t h deed =
     ap (λ cs. latest (value_at_start board t) (filter_map (value_in t) cs)) (changes-push board h deed)
     ∙ latest-filter_map (value_in t) (value_at_start board t) (changes board h) (change_by board h deed)
 
-pub is_subscriber-push : (a d : ℕ) (h : List Deed) (deed : Deed) → is_subscriber a d (h ++ deed ∷ []) ≡ unwrap_or (option_and_then (subscription a d) (added_success deed)) (is_subscriber a d h)
-is_subscriber-push a d h deed =
-    ap (λ ss. latest false (filter_map (subscription a d) ss)) (successes-push h deed)
-    ∙ latest-filter_map (subscription a d) false (successes h) (added_success deed)
+pub is_subscriber-push : (a d : ℕ) (h : List Deed) (deed : Deed) → is_subscriber a d (h ++ deed ∷ []) ≡ unwrap_or (subscription_at a d deed) (is_subscriber a d h)
+is_subscriber-push a d h deed = latest-filter_map (subscription_at a d) false h (Some deed)
 
-pub accepted_sets-push : (board : Board) (h : List Deed) (deed : Deed) → accepted_sets board (h ++ deed ∷ []) ≡ accepted_sets board h ++ option_to_list (option_and_then (acceptance board) (added_success deed))
+pub accepted_sets-push : (board : Board) (h : List Deed) (deed : Deed) → accepted_sets board (h ++ deed ∷ []) 
+    ≡ sets_left (advances h) (restarted_by deed.event) (accepted_sets board h) ++ option_to_list (option_and_then (acceptance board) (added_success deed))
 accepted_sets-push board h deed =
-    ap (filter_map (acceptance board)) (successes-push h deed)
-    ∙ filter_map-append (acceptance board) (successes h) (option_to_list (added_success deed))
-    ∙ ap (λ ys. accepted_sets board h ++ ys) (filter_map-to_list (acceptance board) (added_success deed))
+    fold_with_prefix-push
+    (λ before so_far x. sets_left (advances before) (restarted_by x.event) so_far ++ option_to_list (option_and_then (acceptance board) (added_success x)))
+    [] [] h deed
 
-pub messages_made-push : (board : Board) (a : ℕ) (h : List Deed) (deed : Deed) → messages_made board a (h ++ deed ∷ []) ≡ messages_made board a h ++ made_by board a h (messages_made board a h) deed
-messages_made-push board a h deed = fold_with_prefix-push (λ before so_far x. so_far ++ made_by board a before so_far x) [] [] h deed
+map_length : {X Y : Type 0} (f : X → Y) (xs : List X) → length (map f xs) ≡ length xs
+map_length f [] = refl
+map_length f (x ∷ xs) = ap suc (map_length f xs)
+
+-- a restart leaves as many sets
+pub sets_left-length : (ended : ℕ) (restarted : Option ℕ) (sets : List PendingSet) → length (sets_left ended restarted sets) ≡ length sets
+sets_left-length ended None sets = refl
+sets_left-length zero (Some a) sets = map_length (unwanted a) sets
+sets_left-length (suc n) (Some a) [] = refl
+sets_left-length (suc n) (Some a) (p ∷ ps) = ap suc (sets_left-length n (Some a) ps)
+
+-- those that ended as they were
+pub sets_left-ended : (ended : ℕ) (restarted : Option ℕ) (sets more : List PendingSet) → ended ≤ length sets → take ended (sets_left ended restarted sets ++ more) ≡ take ended sets
+sets_left-ended zero restarted sets more enough = refl
+sets_left-ended (suc n) None [] more enough = elim enough [ ]
+sets_left-ended (suc n) (Some a) [] more enough = elim enough [ ]
+sets_left-ended (suc n) None (p ∷ ps) more enough = ap (λ zs. p ∷ zs) (sets_left-ended n None ps more (omega arith))
+sets_left-ended (suc n) (Some a) (p ∷ ps) more enough = ap (λ zs. p ∷ zs) (sets_left-ended n (Some a) ps more (omega arith))
+
+-- the sets that are pending after a restart, if there is one
+abbrev pub pending_left : Option ℕ → List PendingSet → List PendingSet
+pending_left None pending = pending
+pending_left (Some a) pending = map (unwanted a) pending
+
+sets_left-pending : (ended : ℕ) (restarted : Option ℕ) (sets : List PendingSet) → drop ended (sets_left ended restarted sets) ≡ pending_left restarted (drop ended sets)
+sets_left-pending ended None sets = refl
+sets_left-pending zero (Some a) sets = refl
+sets_left-pending (suc n) (Some a) [] = refl
+sets_left-pending (suc n) (Some a) (p ∷ ps) = sets_left-pending n (Some a) ps
+
+pub messages_made-push : (board : Board) (a : ℕ) (h : List Deed) (deed : Deed) → messages_made board a (h ++ deed ∷ []) 
+    ≡ messages_left (sent_count a h) (is_restart_of a deed.event) (messages_made board a h) ++ made_by board a h (messages_made board a h) deed
+messages_made-push board a h deed =
+    fold_with_prefix-push (λ before so_far x. messages_left (sent_count a before) (is_restart_of a x.event) so_far ++ made_by board a before so_far x) [] [] h deed
+
+-- a restart leaves what was posted
+pub messages_left-posted : (posted : ℕ) (restarted : Bool) (ms more : List Message) → posted ≤ length ms → take posted (messages_left posted restarted ms ++ more) ≡ take posted ms
+messages_left-posted zero restarted ms more enough = refl
+messages_left-posted (suc n) true [] more enough = elim enough [ ]
+messages_left-posted (suc n) false [] more enough = elim enough [ ]
+messages_left-posted (suc n) true (m ∷ ms) more enough = ap (λ zs. m ∷ zs) (messages_left-posted n true ms more (omega arith))
+messages_left-posted (suc n) false (m ∷ ms) more enough = ap (λ zs. m ∷ zs) (messages_left-posted n false ms more (omega arith))
+
+pub messages_left-enough : (posted : ℕ) (restarted : Bool) (ms : List Message) → posted ≤ length ms → posted ≤ length (messages_left posted restarted ms)
+messages_left-enough zero restarted ms enough = omega arith
+messages_left-enough (suc n) true [] enough = elim enough [ ]
+messages_left-enough (suc n) false [] enough = elim enough [ ]
+messages_left-enough (suc n) true (m ∷ ms) enough = let less = messages_left-enough n true ms (omega arith) in omega arith
+messages_left-enough (suc n) false (m ∷ ms) enough = enough
+
+-- and nothing else
+pub messages_left-waiting : (posted : ℕ) (restarted : Bool) (ms : List Message) → drop posted (messages_left posted restarted ms) ≡ (if restarted then [] else drop posted ms)
+messages_left-waiting posted false ms = refl
+messages_left-waiting zero true ms = refl
+messages_left-waiting (suc n) true [] = refl
+messages_left-waiting (suc n) true (m ∷ ms) = messages_left-waiting n true ms
 
 -- a deed that ends no set as failed
 pub made_by-unfailed : (board : Board) (a : ℕ) (h : List Deed) (so_far : List Message) (deed : Deed) → failed_set board h deed.event ≡ None
@@ -92,15 +146,19 @@ made_by-unfailed board a h so_far deed none =
 pub advances-push : (h : List Deed) (deed : Deed) → advances (h ++ deed ∷ []) ≡ advances h + (if is_advance deed.event then 1 else 0)
 advances-push h deed = fold-append (λ n e. n + (if is_advance e.event then 1 else 0)) 0 h (deed ∷ [])
 
--- an event that is no Advance leaves the pending sets, and may add one
+-- an event that is no Advance leaves the pending sets, though a restart makes some unwanted, and may add one
 pub pending_sets-push : (board : Board) (h : List Deed) (deed : Deed) → is_advance deed.event ≡ false → advances h ≤ length (accepted_sets board h)
-    → pending_sets board (h ++ deed ∷ []) ≡ pending_sets board h ++ option_to_list (option_and_then (acceptance board) (added_success deed))
+    → pending_sets board (h ++ deed ∷ []) ≡ pending_left (restarted_by deed.event) (pending_sets board h) ++ option_to_list (option_and_then (acceptance board) (added_success deed))
 pending_sets-push board h deed other enough =
     let zero_more : advances h + 0 ≡ advances h = omega arith in
     let same : advances (h ++ deed ∷ []) ≡ advances h = advances-push h deed ∙ ap (λ b. advances h + (if b then 1 else 0)) other ∙ zero_more in
+    let left = sets_left (advances h) (restarted_by deed.event) (accepted_sets board h) in
+    let size = sets_left-length (advances h) (restarted_by deed.event) (accepted_sets board h) in
+    let more = option_to_list (option_and_then (acceptance board) (added_success deed)) in
     ap (λ n. drop n (accepted_sets board (h ++ deed ∷ []))) same
     ∙ ap (drop (advances h)) (accepted_sets-push board h deed)
-    ∙ drop-append-le (advances h) (accepted_sets board h) (option_to_list (option_and_then (acceptance board) (added_success deed))) enough
+    ∙ drop-append-le (advances h) left more (omega arith)
+    ∙ ap (λ sets. sets ++ more) (sets_left-pending (advances h) (restarted_by deed.event) (accepted_sets board h))
 
 abbrev advance : Deed
 advance = record { event = Advance; reply = [] }
@@ -125,15 +183,18 @@ pending_sets-failed board h =
 pub sent_count-push : (a : ℕ) (h : List Deed) (deed : Deed) → sent_count a (h ++ deed ∷ []) ≡ sent_count a h + (if is_sent_by a deed.event then 1 else 0)
 sent_count-push a h deed = fold-append (λ n e. n + (if is_sent_by a e.event then 1 else 0)) 0 h (deed ∷ [])
 
--- an event that is no Sent of a adds to a's outbox what it makes
+-- an event that is no Sent of a adds to a's outbox what it makes, which a restart of a has emptied
 pub outbox-push : (board : Board) (a : ℕ) (h : List Deed) (deed : Deed) → is_sent_by a deed.event ≡ false → sent_count a h ≤ length (messages_made board a h)
-    → outbox_after board a (h ++ deed ∷ []) ≡ outbox_after board a h ++ made_by board a h (messages_made board a h) deed
+    → outbox_after board a (h ++ deed ∷ []) ≡ (if is_restart_of a deed.event then [] else outbox_after board a h) ++ made_by board a h (messages_made board a h) deed
 outbox-push board a h deed other enough =
     let zero_more : sent_count a h + 0 ≡ sent_count a h = omega arith in
     let same : sent_count a (h ++ deed ∷ []) ≡ sent_count a h = sent_count-push a h deed ∙ ap (λ b. sent_count a h + (if b then 1 else 0)) other ∙ zero_more in
+    let made = messages_made board a h in
+    let left = messages_left (sent_count a h) (is_restart_of a deed.event) made in
     ap (λ n. drop n (messages_made board a (h ++ deed ∷ []))) same
     ∙ ap (drop (sent_count a h)) (messages_made-push board a h deed)
-    ∙ drop-append-le (sent_count a h) (messages_made board a h) (made_by board a h (messages_made board a h) deed) enough
+    ∙ drop-append-le (sent_count a h) left (made_by board a h made deed) (messages_left-enough (sent_count a h) (is_restart_of a deed.event) made enough)
+    ∙ ap (λ ms. ms ++ made_by board a h made deed) (messages_left-waiting (sent_count a h) (is_restart_of a deed.event) made)
 
 -- and leaves what was posted to a
 pub posted-kept : (board : Board) (a : ℕ) (h : List Deed) (deed : Deed) → is_sent_by a deed.event ≡ false → sent_count a h ≤ length (messages_made board a h)
@@ -143,7 +204,7 @@ posted-kept board a h deed other enough =
     let same : sent_count a (h ++ deed ∷ []) ≡ sent_count a h = sent_count-push a h deed ∙ ap (λ b. sent_count a h + (if b then 1 else 0)) other ∙ zero_more in
     ap (λ n. take n (messages_made board a (h ++ deed ∷ []))) same
     ∙ ap (take (sent_count a h)) (messages_made-push board a h deed)
-    ∙ take-append-le (sent_count a h) (messages_made board a h) (made_by board a h (messages_made board a h) deed) enough
+    ∙ messages_left-posted (sent_count a h) (is_restart_of a deed.event) (messages_made board a h) (made_by board a h (messages_made board a h) deed) enough
 
 take_first : {X : Type 0} (n : ℕ) (xs ys : List X) (x : X) → slice_get (drop n xs) 0 ≡ Some x → take (n + 1) (xs ++ ys) ≡ take n xs ++ x ∷ []
 take_first zero [] ys x first = absurd (cc)
@@ -151,12 +212,22 @@ take_first zero (z ∷ zs) ys x first = ap (λ o. unwrap_or o x ∷ []) first
 take_first (suc n) [] ys x first = absurd (cc)
 take_first (suc n) (z ∷ zs) ys x first = let on : suc n + 1 ≡ suc (n + 1) = omega arith in rw on (ap (λ ws. z ∷ ws) (take_first n zs ys x first))
 
+-- a Sent is no restart
+sent_only : (a : ℕ) (e : Event) → is_sent_by a e ≡ true → is_restart_of a e ≡ false
+sent_only a (Sent b) own = refl
+sent_only a (Command b frame) own = absurd (cc)
+sent_only a (CommandFailed b frame) own = absurd (cc)
+sent_only a Advance own = absurd (cc)
+sent_only a AdvanceFailed own = absurd (cc)
+sent_only a (Restarted b) own = absurd (cc)
+
 -- a Sent of a posts the first message of a's outbox
 pub posted-front : (board : Board) (a : ℕ) (h : List Deed) (deed : Deed) (m : Message) → is_sent_by a deed.event ≡ true → slice_get (outbox_after board a h) 0 ≡ Some m
     → take (sent_count a (h ++ deed ∷ [])) (messages_made board a (h ++ deed ∷ [])) ≡ take (sent_count a h) (messages_made board a h) ++ m ∷ []
 posted-front board a h deed m own first =
     ap (λ n. take n (messages_made board a (h ++ deed ∷ []))) (sent_count-push a h deed ∙ ap (λ b. sent_count a h + (if b then 1 else 0)) own)
-    ∙ ap (take (sent_count a h + 1)) (messages_made-push board a h deed)
+    ∙ ap (take (sent_count a h + 1)) (messages_made-push board a h deed
+    ∙ ap (λ b. messages_left (sent_count a h) b (messages_made board a h) ++ made_by board a h (messages_made board a h) deed) (sent_only a deed.event own))
     ∙ take_first (sent_count a h) (messages_made board a h) (made_by board a h (messages_made board a h) deed) m first
 
 -- a list is empty or has a last item

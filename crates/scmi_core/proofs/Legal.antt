@@ -1,19 +1,19 @@
 -- In a legal history no more is completed than was accepted.
-use Rattle.std.proofs.Common.{◌≡◌, ◌⊎◌, inl, inr, ◌==◌, ℕ, ◌<◌, ◌≤◌, true, false, List, [], ◌∷◌, ◌++◌, length, refl, sym, ap, ◌∙◌, subst, arith}
+use Rattle.std.proofs.Common.{◌≡◌, ◌⊎◌, inl, inr, ◌==◌, ℕ, ◌<◌, ◌≤◌, true, false, List, [], ◌∷◌, ◌++◌, length, Some, refl, sym, ap, ◌∙◌, subst, arith}
 use Rattle.std.proofs.lemmas.List.{append_assoc, length-append, length-drop}
 use Rattle.std.proofs.lemmas.Grind.{fold-append}
 use Rattle.std.proofs.lemmas.Bool.{cases_Bool, eqb-true}
 use Rattle.scmi_plan.specs.Board.{Board}
 use Rattle.scmi_codec.specs.declared.frame.Frame.TheVariants.{Good, Malformed}
 use Rattle.scmi_core.specs.declared.event.Event.{Event}
-use Rattle.scmi_core.specs.declared.event.Event.TheVariants.{Command, Advance, Sent, CommandFailed, AdvanceFailed}
+use Rattle.scmi_core.specs.declared.event.Event.TheVariants.{Command, Advance, Sent, CommandFailed, AdvanceFailed, Restarted}
 use Rattle.std.specs.Option.{option_to_list, option_and_then}
 use Rattle.scmi_core.specs.Deed.{Deed}
-use Rattle.scmi_core.specs.Pending.{accepted_sets, advances, is_advance, pending_sets, acceptance}
-use Rattle.scmi_core.specs.Outbox.{sent_count, messages_made, made_by, outbox_after, is_sent_by}
+use Rattle.scmi_core.specs.Pending.{accepted_sets, advances, is_advance, pending_sets, acceptance, sets_left}
+use Rattle.scmi_core.specs.Outbox.{sent_count, messages_left, messages_made, made_by, outbox_after, is_sent_by}
 use Rattle.scmi_core.specs.History.{deeds, deed_after, outbox}
 use Rattle.scmi_core.specs.Legal.{IsLegal, CanFollow}
-use Rattle.scmi_core.proofs.Deeds.{added_success, accepted_sets-push, advances-push, sent_count-push, messages_made-push}
+use Rattle.scmi_core.proofs.Deeds.{added_success, accepted_sets-push, advances-push, sent_count-push, messages_left-enough, messages_made-push, sets_left-length}
 
 -- a list grown at its end
 pub data Grown {X : Type 0} : List X → Type 0 where
@@ -41,6 +41,7 @@ deed-event board h (Sent a) = refl
 deed-event board h (CommandFailed a (Good m)) = refl
 deed-event board h (CommandFailed a (Malformed len header)) = refl
 deed-event board h AdvanceFailed = refl
+deed-event board h (Restarted a) = refl
 
 -- no event is in the empty history
 pub IsLegal-nil : (board : Board) → IsLegal board []
@@ -68,6 +69,9 @@ one_more board h (Command a (Malformed len header)) enough waits =
     rw (advances-push, accepted_sets-push) (omega (arith, length-append (accepted_sets board h) []))
 one_more board h (Sent a) enough waits =
     rw (advances-push, accepted_sets-push) (omega (arith, length-append (accepted_sets board h) []))
+one_more board h (Restarted a) enough waits =
+    let left = sets_left (advances h) (Some a) (accepted_sets board h) in
+    rw (advances-push, accepted_sets-push) (omega (arith, length-append left [], sets_left-length (advances h) (Some a) (accepted_sets board h)))
 one_more board h Advance enough waits =
     rw (advances-push, accepted_sets-push) (omega (arith, length-append (accepted_sets board h) [], waits refl, length-drop (advances h) (accepted_sets board h)))
 one_more board h (CommandFailed a (Good m)) enough waits =
@@ -83,6 +87,7 @@ waits_at board h AdvanceFailed follows is = follows
 waits_at board h (Command a frame) follows is = absurd (cc)
 waits_at board h (CommandFailed a frame) follows is = absurd (cc)
 waits_at board h (Sent a) follows is = absurd (cc)
+waits_at board h (Restarted a) follows is = absurd (cc)
 
 enough_of : (board : Board) {h : List Event} → Grown h → IsLegal board h → advances (deeds board h) ≤ length (accepted_sets board (deeds board h))
 unfolding deeds
@@ -109,6 +114,10 @@ sent_more board a h (CommandFailed b (Malformed len header)) enough waits =
     rw (sent_count-push, messages_made-push) (omega (arith, length-append (messages_made board a h) (made_by board a h (messages_made board a h) (deed_after board h (CommandFailed b (Malformed len header))))))
 sent_more board a h AdvanceFailed enough waits =
     rw (sent_count-push, messages_made-push) (omega (arith, length-append (messages_made board a h) (made_by board a h (messages_made board a h) (deed_after board h AdvanceFailed))))
+sent_more board a h (Restarted b) enough waits =
+    let left = messages_left (sent_count a h) (a == b) (messages_made board a h) in
+    rw (sent_count-push, messages_made-push)
+    (omega (arith, length-append left (made_by board a h (messages_made board a h) (deed_after board h (Restarted b))), messages_left-enough (sent_count a h) (a == b) (messages_made board a h) enough))
 sent_more board a h (Sent b) enough waits = by_case (cases_Bool (a == b)) where
   by_case : ((a == b) ≡ true) ⊎ ((a == b) ≡ false) → sent_count a (h ++ deed_after board h (Sent b) ∷ []) ≤ length (messages_made board a (h ++ deed_after board h (Sent b) ∷ []))
   by_case (inl same) = rw (sent_count-push, messages_made-push, same) (omega (arith, length-append (messages_made board a h) (made_by board a h (messages_made board a h) (deed_after board h (Sent b))), waits same, length-drop (sent_count a h) (messages_made board a h)))
@@ -121,6 +130,7 @@ front_at board a h (Command b frame) follows is = absurd (cc)
 front_at board a h Advance follows is = absurd (cc)
 front_at board a h (CommandFailed b frame) follows is = absurd (cc)
 front_at board a h AdvanceFailed follows is = absurd (cc)
+front_at board a h (Restarted b) follows is = absurd (cc)
 
 sent_of : (board : Board) (a : ℕ) {h : List Event} → Grown h → IsLegal board h → sent_count a (deeds board h) ≤ length (messages_made board a (deeds board h))
 unfolding deeds

@@ -28,16 +28,16 @@ use Rattle.scmi_clock.specs.ClockReply.{clock_attributes_reply, clock_reply}
 use Rattle.scmi_clock.specs.ClockTable as clock_table
 use Rattle.scmi_core.specs.declared.tables.Tables.{Tables}
 use Rattle.scmi_core.specs.declared.pending_set.PendingSet.{PendingSet}
-use Rattle.scmi_core.specs.declared.event.Event.TheVariants.{Sent}
+use Rattle.scmi_core.specs.declared.event.Event.TheVariants.{Restarted, Sent}
 use Rattle.scmi_core.specs.Deed.{Deed}
 use Rattle.scmi_core.specs.Value.{Change, Thing, State, Rate, Enabled, bit_value}
 use Rattle.scmi_core.specs.Pending.{has_set_of, pending_sets, sets_by}
 use Rattle.scmi_core.specs.Situation.{Situation, has_room, power_view, clock_view}
-use Rattle.scmi_core.specs.Outbox.{messages_made, made_in, notice_in, response_for, situation_after, state_changed}
+use Rattle.scmi_core.specs.Outbox.{messages_left, messages_made, made_in, notice_in, outbox_after, response_for, sent_count, situation_after, state_changed}
 use Rattle.scmi_core.specs.Reply.{answer_in, fits_channel, reply_words, words_given}
 use Rattle.scmi_core.specs.Step.{set_clock, set_domain}
 use Rattle.scmi_core.specs.Tables.{IsThing, situation_in}
-use Rattle.scmi_core.proofs.Deeds.{messages_made-push}
+use Rattle.scmi_core.proofs.Deeds.{messages_made-push, outbox-push}
 
 -- two situations say the same of all that is on the board
 pub record SameSituation (board : Board) (s u : Situation) : Type 0 where
@@ -62,6 +62,25 @@ messages_made-sent board a h b =
     messages_made-push board a h deed
     ∙ ap (λ ys. messages_made board a h ++ ys) (nothing-made a (situation_after board a h) (pending_sets board (h ++ deed ∷ [])))
     ∙ append-nil (messages_made board a h)
+
+-- and a restart, which drops what was not posted of its own agent's
+pub messages_made-restarted : (board : Board) (a : ℕ) (h : List Deed) (b : ℕ)
+    → messages_made board a (h ++ record { event = Restarted b; reply = [] } ∷ []) ≡ messages_left (sent_count a h) (a == b) (messages_made board a h)
+messages_made-restarted board a h b =
+    let deed : Deed = record { event = Restarted b; reply = [] } in
+    let left = messages_left (sent_count a h) (a == b) (messages_made board a h) in
+    messages_made-push board a h deed
+    ∙ ap (λ ys. left ++ ys) (nothing-made a (situation_after board a h) (pending_sets board (h ++ deed ∷ [])))
+    ∙ append-nil left
+
+pub outbox-restarted : (board : Board) (a : ℕ) (h : List Deed) (b : ℕ) → sent_count a h ≤ length (messages_made board a h)
+    → outbox_after board a (h ++ record { event = Restarted b; reply = [] } ∷ []) ≡ (if a == b then [] else outbox_after board a h)
+outbox-restarted board a h b enough =
+    let deed : Deed = record { event = Restarted b; reply = [] } in
+    let left = if a == b then [] else outbox_after board a h in
+    outbox-push board a h deed refl enough
+    ∙ ap (λ ys. left ++ ys) (nothing-made a (situation_after board a h) (pending_sets board (h ++ deed ∷ [])))
+    ∙ append-nil left
 
 module _ (board : Board) (a : ℕ) (s u : Situation) (same : SameSituation board s u) where
   room-same : has_room a s ≡ has_room a u

@@ -1,5 +1,5 @@
 -- What every legal history keeps.
-use Rattle.std.specs.Prelude.{◌≡◌, ℕ, ◌+◌, ◌≤◌, ◌==◌, ◌&&◌, Bool, true, false, if◌then◌else◌, List, length, take, map, Option, None, option_map}
+use Rattle.std.specs.Prelude.{◌≡◌, ℕ, ◌+◌, ◌≤◌, ◌==◌, ◌&&◌, Bool, true, false, if◌then◌else◌, List, [], ◌++◌, length, take, map, Option, None, option_map}
 use Rattle.std.specs.List.{filter}
 use Rattle.std.specs.Option.{option_to_list}
 use Rattle.scmi_codec.specs.declared.message.Message.{Message}
@@ -7,10 +7,10 @@ use Rattle.scmi_plan.specs.Board.{Board}
 use Rattle.scmi_core.specs.declared.pending_set.PendingSet.{PendingSet}
 use Rattle.scmi_core.specs.declared.event.Event.{Event}
 use Rattle.scmi_core.specs.declared.event.Event.TheVariants.{Advance, AdvanceFailed}
-use Rattle.scmi_core.specs.Deed.{Deed, flat_map_with_prefix}
+use Rattle.scmi_core.specs.Deed.{Deed, flat_map_with_prefix, fold_with_prefix}
 use Rattle.scmi_core.specs.Value.{completed_set, failed_set}
 use Rattle.scmi_core.specs.Pending.{accepted_sets, advances, pending_sets, pending_of}
-use Rattle.scmi_core.specs.Outbox.{failed_response_to, outbox_after, messages_made, response_to}
+use Rattle.scmi_core.specs.Outbox.{failed_response_to, is_restart_of, outbox_after, messages_made, response_to, sent_count}
 use Rattle.scmi_clock.specs.declared.discovery.TheConstants.{PENDING_SETS}
 use Rattle.scmi_core.specs.declared.outboxes.TheConstants.{OUTBOX_ROOM}
 
@@ -37,13 +37,25 @@ endings board h = flat_map_with_prefix (λ before deed. option_to_list (ending_b
 abbrev pub response_at : Ending → Message
 response_at e = if e.failed then failed_response_to e.set.header else response_to e.set.header e.set.setting
 
+-- the delayed responses among some messages
+abbrev pub delayed_responses : List Message → List Message
+delayed_responses messages = filter (λ m. m.header.kind == 2) messages
+
+-- the delayed responses for agent a, in order: one for each set of it that ended and wanted one; but a restart of the agent leaves those that were posted
+abbrev pub responses_for : Board → ℕ → List Deed → List Message
+responses_for board a h =
+    fold_with_prefix
+    (λ before so_far deed.
+    (if is_restart_of a deed.event then delayed_responses (take (sent_count a before) (messages_made board a before)) else so_far)
+    ++ map response_at (filter (λ e. e.set.agent == a && e.set.wanted) (option_to_list (ending_by board before deed.event))))
+    [] [] h
+
 -- at most 8 sets are pending, and an agent's outbox and its pending sets are at most 16 together (own)
 pub record HasBounds (board : Board) (h : List Deed) : Type 0 where
   pub pending : length (pending_sets board h) ≤ PENDING_SETS
   pub loads : (a : ℕ) → length (outbox_after board a h) + length (pending_of board a h) ≤ OUTBOX_ROOM
 
--- no delayed response is lost: the accepted sets end in order, and those responses made for an agent are one for each set of it that ended and wanted one
+-- no delayed response is lost: the accepted sets end in order, and those responses made for an agent are one for each set of it that ended and wanted one, but for those that a restart of it dropped
 pub record HasResponses (board : Board) (h : List Deed) : Type 0 where
   pub each : map (λ e. e.set) (endings board h) ≡ ended_sets board h
-  pub delayed : (a : ℕ) → filter (λ m. m.header.kind == 2) (messages_made board a h)
-      ≡ map response_at (filter (λ e. e.set.agent == a && e.set.wanted) (endings board h))
+  pub delayed : (a : ℕ) → delayed_responses (messages_made board a h) ≡ responses_for board a h

@@ -8,7 +8,7 @@ use Rattle.scmi_codec.specs.declared.status.Status.{Status}
 use Rattle.scmi_codec.specs.declared.frame.Frame.TheVariants.{Good}
 use Rattle.scmi_codec.specs.declared.command.Command as codec
 use Rattle.scmi_core.specs.declared.event.Event.{Event}
-use Rattle.scmi_core.specs.declared.event.Event.TheVariants.{Command}
+use Rattle.scmi_core.specs.declared.event.Event.TheVariants.{Command, Restarted}
 
 -- an event, and the payload words of its reply; none where the event is no well-formed command that fits its channel,
 -- done or failed
@@ -49,6 +49,11 @@ success_of a header r reply = if begins_with_success reply then success_with a h
 abbrev pub success_at : Event → List ℕ → Option Success
 success_at (Command a (Good m)) reply = success_of a m.header (command_of m) reply
 success_at _ reply = None
+
+-- the agent that an event restarts, without the platform
+abbrev pub restarted_by : Event → Option ℕ
+restarted_by (Restarted a) = Some a
+restarted_by _ = None
 
 -- the successful commands, in order
 abbrev pub successes : List Deed → List Success

@@ -48,7 +48,7 @@ answer_of_event board h (Command a frame) = Some (answer_to board a frame h)
 answer_of_event board h (CommandFailed a frame) = Some (failed_answer frame)
 answer_of_event board h _ = None
 
--- all messages made for agent a in a history, in order
+-- all messages made for agent a in a history, in order, without those that a restart of it dropped
 unfoldable pub made_for : Board → ℕ → List Event → List Message
 made_for board a h = messages_made board a (deeds board h)
 

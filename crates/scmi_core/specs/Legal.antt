@@ -3,19 +3,20 @@ use Rattle.std.specs.Prelude.{◌≡◌, ◌≢◌, List, ◌∷◌, ◌++◌, l
 use Rattle.scmi_plan.specs.Agent.{IsAgent}
 use Rattle.scmi_plan.specs.Board.{Board}
 use Rattle.scmi_core.specs.declared.event.Event.{Event}
-use Rattle.scmi_core.specs.declared.event.Event.TheVariants.{Command, Advance, Sent, CommandFailed, AdvanceFailed}
+use Rattle.scmi_core.specs.declared.event.Event.TheVariants.{Command, Advance, Sent, CommandFailed, AdvanceFailed, Restarted}
 use Rattle.scmi_core.specs.Effect.{effect_after}
 use Rattle.scmi_core.specs.History.{deeds, outbox}
 use Rattle.scmi_core.specs.Pending.{pending_sets}
 
 -- an event may come after a history: a command of an agent, an advance where a set is pending, a posting where the outbox has a message;
--- and a command or an advance may fail where it would change the hardware
+-- a command or an advance may fail where it would change the hardware; and an agent may restart
 abbrev pub CanFollow : Board → List Event → Event → Type 0
 CanFollow board before (Command a frame) = IsAgent (length board.agents) a
 CanFollow board before Advance = 0 < length (pending_sets board (deeds board before))
 CanFollow board before (Sent a) = (1 ≤ a) × (a ≤ length board.agents) × (0 < length (outbox board a before))
 CanFollow board before (CommandFailed a frame) = IsAgent (length board.agents) a × (effect_after board before (Command a frame) ≢ None)
 CanFollow board before AdvanceFailed = 0 < length (pending_sets board (deeds board before))
+CanFollow board before (Restarted a) = IsAgent (length board.agents) a
 
 -- each event may come after those before it
 pub record IsLegal (board : Board) (h : List Event) : Type 0 where

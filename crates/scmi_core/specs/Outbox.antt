@@ -1,5 +1,5 @@
 -- The messages that the platform makes for an agent, and those that are not yet posted.
-use Rattle.std.specs.Prelude.{ℕ, ◌+◌, ◌==◌, ◌&&◌, Bool, false, not, nat_lt, if◌then◌else◌, List, [], ◌∷◌, ◌++◌, length, drop, count_by, Option}
+use Rattle.std.specs.Prelude.{ℕ, ◌+◌, ◌==◌, ◌&&◌, Bool, false, not, nat_lt, if◌then◌else◌, List, [], ◌∷◌, ◌++◌, length, take, drop, count_by, Option}
 use Rattle.std.specs.Option.{option_map_or}
 use Rattle.scmi_codec.specs.Header.{HeaderFields}
 use Rattle.scmi_codec.specs.Status.{status_word}
@@ -12,7 +12,7 @@ use Rattle.scmi_core.specs.declared.pending_set.Setting.{Setting}
 use Rattle.scmi_core.specs.declared.event.Event.{Event}
 use Rattle.scmi_core.specs.declared.event.Event.TheVariants.{Sent}
 use Rattle.scmi_core.specs.Value.{Change, State, Thing, change_by, completed_set, failed_set, value}
-use Rattle.scmi_core.specs.Deed.{Deed, fold_with_prefix}
+use Rattle.scmi_core.specs.Deed.{Deed, fold_with_prefix, restarted_by}
 use Rattle.scmi_core.specs.Pending.{pending_sets, sets_by}
 use Rattle.scmi_core.specs.Permissions.{has_permission}
 use Rattle.scmi_core.specs.Situation.{Situation}
@@ -109,9 +109,20 @@ made_by board a before so_far deed =
     ++ made_in a (situation_with board a so_far before)
     (pending_sets board (before ++ deed ∷ [])) (completed_set board before deed.event) (change_by board before deed)
 
--- all messages made for agent a, in order
+-- whether an event is a restart of agent a
+abbrev pub is_restart_of : ℕ → Event → Bool
+is_restart_of a event = option_map_or (λ b. a == b) (restarted_by event) false
+
+-- what is left of the messages made for an agent, the first of which were posted: a restart of the agent drops the others (own)
+abbrev pub messages_left : ℕ → Bool → List Message → List Message
+messages_left posted restarted so_far = if restarted then take posted so_far else so_far
+
+-- all messages made for agent a, in order, without those that a restart of it dropped
 abbrev pub messages_made : Board → ℕ → List Deed → List Message
-messages_made board a h = fold_with_prefix (λ before so_far deed. so_far ++ made_by board a before so_far deed) [] [] h
+messages_made board a h =
+    fold_with_prefix
+    (λ before so_far deed. messages_left (sent_count a before) (is_restart_of a deed.event) so_far ++ made_by board a before so_far deed)
+    [] [] h
 
 -- the messages made for agent a and not yet posted
 abbrev pub outbox_after : Board → ℕ → List Deed → List Message

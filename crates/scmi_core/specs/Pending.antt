@@ -1,6 +1,7 @@
 -- Sets that are accepted for later, and those of them that are pending (own).
-use Rattle.std.specs.Prelude.{ℕ, ◌+◌, ◌==◌, ◌&&◌, nat_lt, Bool, true, false, List, length, drop, filter, count_by, Option, None, option_map}
-use Rattle.std.specs.List.{filter_map, list_any}
+use Rattle.std.specs.Prelude.{ℕ, ◌+◌, ◌==◌, ◌&&◌, nat_lt, Bool, true, false, not, List, [], ◌++◌, length, take, drop, map, filter, count_by, Option, None, Some, option_map}
+use Rattle.std.specs.List.{list_any}
+use Rattle.std.specs.Option.{option_and_then, option_to_list}
 use Rattle.scmi_codec.specs.Header.{HeaderFields}
 use Rattle.scmi_codec.specs.declared.command.Command.TheVariants.{Base, Power, Clock}
 use Rattle.scmi_codec.specs.declared.command.Command as codec
@@ -15,7 +16,7 @@ use Rattle.scmi_core.specs.declared.pending_set.PendingSet.{PendingSet}
 use Rattle.scmi_core.specs.declared.pending_set.Setting.{Setting}
 use Rattle.scmi_core.specs.declared.event.Event.{Event}
 use Rattle.scmi_core.specs.declared.event.Event.TheVariants.{Advance, AdvanceFailed}
-use Rattle.scmi_core.specs.Deed.{Deed, Success, successes}
+use Rattle.scmi_core.specs.Deed.{Deed, Success, fold_with_prefix, restarted_by, success_at}
 use Rattle.scmi_core.specs.declared.pending_set.Setting.TheVariants as setting
 
 -- a domain's set that is accepted for later: domain and state; it always wants a delayed response (own)
@@ -34,10 +35,6 @@ acceptance board s = accepted_by s.command where
   accepted_by (Clock c) = option_map (rate_set s.caller s.header) (rate_later board c)
   accepted_by (Base c) = None
 
--- the sets that were accepted for later, in order of acceptance
-abbrev pub accepted_sets : Board → List Deed → List PendingSet
-accepted_sets board h = filter_map (acceptance board) (successes h)
-
 -- whether an event ends a set: it completes it, or the hardware refused its change
 abbrev pub is_advance : Event → Bool
 is_advance Advance = true
@@ -47,6 +44,22 @@ is_advance _ = false
 -- how many sets have ended
 abbrev pub advances : List Deed → ℕ
 advances h = count_by (λ deed. is_advance deed.event) h
+
+-- a set to which agent a wants no delayed response, if it is its own
+abbrev pub unwanted : ℕ → PendingSet → PendingSet
+unwanted a p = record p { wanted = p.wanted && not (p.agent == a) }
+
+-- what is left of the accepted sets, the first of which have ended: an agent that restarts wants no delayed response to those that are pending (own)
+abbrev pub sets_left : ℕ → Option ℕ → List PendingSet → List PendingSet
+sets_left ended None sets = sets
+sets_left ended (Some a) sets = take ended sets ++ map (unwanted a) (drop ended sets)
+
+-- the sets that were accepted for later, in order of acceptance
+abbrev pub accepted_sets : Board → List Deed → List PendingSet
+accepted_sets board h =
+    fold_with_prefix
+    (λ before so_far deed. sets_left (advances before) (restarted_by deed.event) so_far ++ option_to_list (option_and_then (acceptance board) (success_at deed.event deed.reply)))
+    [] [] h
 
 -- sets end in order of acceptance, one per advance; the others are pending (own)
 abbrev pub pending_sets : Board → List Deed → List PendingSet

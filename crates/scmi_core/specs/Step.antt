@@ -1,5 +1,5 @@
 -- What an event leaves of the tables.
-use Rattle.std.specs.Prelude.{◌≡◌, ℕ, ◌==◌, ◌&&◌, nat_lt, if◌then◌else◌, List, [], ◌∷◌, ◌++◌, length, drop, slice_get, Option, Some, None, unwrap_or, Result, ◌<◌, ◌≤◌, IfSome}
+use Rattle.std.specs.Prelude.{◌≡◌, ℕ, ◌==◌, ◌&&◌, nat_lt, if◌then◌else◌, List, [], ◌∷◌, ◌++◌, length, drop, slice_get, Option, Some, None, unwrap_or, Result, ◌<◌, ◌≤◌, IfSome, ◌≢◌, map}
 use Rattle.std.specs.Option.{option_map_or, option_and_then, option_to_list}
 use Rattle.std.specs.List.{All}
 use Rattle.scmi_codec.specs.Header.{HeaderFields}
@@ -21,14 +21,14 @@ use Rattle.scmi_power.specs.PowerTable.{is_subscribed}
 use Rattle.scmi_core.specs.declared.pending_set.PendingSet.{PendingSet}
 use Rattle.scmi_core.specs.declared.tables.Tables.{Tables}
 use Rattle.scmi_core.specs.Value.{Thing, change_of, value_in}
-use Rattle.scmi_core.specs.Outboxes.{Gets}
-use Rattle.scmi_core.specs.Tables.{IsOfBoard, IsThing, load_at, situation_in, value_at}
+use Rattle.scmi_core.specs.Outboxes.{Gets, HasSameOutbox}
+use Rattle.scmi_core.specs.Tables.{IsOfBoard, IsThing, load_at, outbox_at, situation_in, value_at}
 use Rattle.scmi_core.specs.Deed.{Success, success_of}
-use Rattle.scmi_core.specs.Pending.{acceptance}
+use Rattle.scmi_core.specs.Pending.{acceptance, unwanted}
 use Rattle.scmi_core.specs.Permissions.{permission_in}
 use Rattle.scmi_core.specs.Outbox.{failed_response_for, made_in, state_changed}
 use Rattle.scmi_core.specs.Reply.{words_given}
-use Rattle.scmi_core.specs.Subscriptions.{subscription}
+use Rattle.scmi_core.specs.Subscriptions.{subscription, subscription_after_reset}
 use Rattle.scmi_core.specs.declared.outboxes.TheConstants.{OUTBOX_ROOM}
 
 -- the pending sets that stay after an event that may complete the first
@@ -80,6 +80,16 @@ pub record HasFailed (t new : Tables) : Type 0 where
   pub clocks : new.clocks ≡ t.clocks
   pub pending : new.pending ≡ drop 1 t.pending
   pub outboxes : (a : ℕ) → 1 ≤ a → Gets t.outboxes new.outboxes a (option_map_or (failed_response_for a) (slice_get t.pending 0) [])
+
+-- an agent restarted: its requests for notifications have ended, its outbox is empty, it wants no delayed response to its pending sets, and nothing else changed
+pub record HasRestarted (a : ℕ) (t new : Tables) : Type 0 where
+  pub base : new.base ≡ t.base
+  pub states : new.power.states ≡ t.power.states
+  pub subscriptions : (b d : ℕ) → 1 ≤ b → b ≤ AGENTS → d < DOMAINS → is_subscribed new.power b d ≡ unwrap_or (subscription_after_reset b (Some a)) (is_subscribed t.power b d)
+  pub clocks : new.clocks ≡ t.clocks
+  pub pending : new.pending ≡ map (unwanted a) t.pending
+  pub emptied : outbox_at new a ≡ []
+  pub others : (b : ℕ) → 1 ≤ b → b ≢ a → HasSameOutbox t.outboxes new.outboxes b
 
 -- the domain that a command sets
 abbrev pub set_domain : PowerCommand → Option ℕ

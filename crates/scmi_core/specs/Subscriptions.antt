@@ -1,11 +1,12 @@
 -- Who asked to be told of which domain.
 use Rattle.std.specs.Prelude.{ℕ, ◌==◌, Bool, false, if◌then◌else◌, List, Option, Some, None}
 use Rattle.std.specs.List.{filter_map}
+use Rattle.std.specs.Option.{option_and_then, option_or}
 use Rattle.scmi_codec.specs.declared.command.Command.TheVariants.{Base, Power, Clock}
 use Rattle.scmi_codec.specs.declared.command.Command as codec
 use Rattle.scmi_base.specs.Permission.{reset_by}
 use Rattle.scmi_power.specs.PowerTable.{notification}
-use Rattle.scmi_core.specs.Deed.{Deed, Success, latest, successes}
+use Rattle.scmi_core.specs.Deed.{Deed, Success, latest, restarted_by, success_at}
 
 -- a reset ends the notification requests of its agent (own)
 abbrev pub subscription_after_reset : ℕ → Option ℕ → Option Bool
@@ -20,6 +21,11 @@ subscription a d s = said_by s.command where
   said_by (Base c) = subscription_after_reset a (reset_by c)
   said_by (Clock c) = None
 
--- an agent is told of a domain if its latest request, or reset, says so (DEN0056B, power domain management protocol)
+-- what a deed says of it: a restart of the agent ends its requests, as a reset does (own)
+abbrev pub subscription_at : ℕ → ℕ → Deed → Option Bool
+subscription_at a d deed =
+    option_or (subscription_after_reset a (restarted_by deed.event)) (option_and_then (subscription a d) (success_at deed.event deed.reply))
+
+-- an agent is told of a domain if its latest request, reset or restart says so (DEN0056B, power domain management protocol)
 abbrev pub is_subscriber : ℕ → ℕ → List Deed → Bool
-is_subscriber a d h = latest false (filter_map (subscription a d) (successes h))
+is_subscriber a d h = latest false (filter_map (subscription_at a d) h)

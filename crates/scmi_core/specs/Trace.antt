@@ -4,7 +4,7 @@ use Rattle.scmi_codec.specs.Header.{header_of}
 use Rattle.scmi_codec.specs.declared.frame.Frame.TheVariants as frame
 use Rattle.scmi_codec.specs.declared.payload.TheConstants.{PAYLOAD_WORDS}
 use Rattle.scmi_core.specs.declared.event.Event.{Event}
-use Rattle.scmi_core.specs.declared.event.Event.TheVariants.{Command, Advance, Sent, CommandFailed, AdvanceFailed}
+use Rattle.scmi_core.specs.declared.event.Event.TheVariants.{Command, Advance, Sent, CommandFailed, AdvanceFailed, Restarted}
 use Rattle.scmi_core.specs.declared.mark.Mark.{Mark}
 use Rattle.scmi_core.specs.declared.mark.Mark.TheVariants as mark
 use Rattle.scmi_core.specs.Mark.{mark_of}
@@ -27,6 +27,7 @@ event_of (mark.Message a) size header payload = Command a (frame.Good (message_w
 event_of (mark.Malformed a) size header payload = Command a (frame.Malformed size header)
 event_of (mark.Sent a) size header payload = Sent a
 event_of (mark.Failed a) size header payload = CommandFailed a (frame.Good (message_with (header_of header) payload))
+event_of (mark.Restarted a) size header payload = Restarted a
 event_of mark.Advance size header payload = Advance
 event_of mark.AdvanceFailed size header payload = AdvanceFailed
 

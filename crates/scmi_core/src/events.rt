@@ -96,6 +96,7 @@ fn event_of(mark: Mark, size: u32, header: u32, payload: &[u32]) -> Event
             },
         ),
         Mark::Sent(agent) => Event::Sent(agent),
+        Mark::Restarted(agent) => Event::Restarted(agent),
         Mark::Advance => Event::Advance,
         Mark::AdvanceFailed => Event::AdvanceFailed,
     }

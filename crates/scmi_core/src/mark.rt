@@ -3,7 +3,7 @@ ghost use Rattle.std.specs.Prelude.{◌≡◌, ◌≤◌};
 ghost use Rattle.scmi_plan.specs.declared.limits.TheConstants.{AGENTS};
 ghost use Rattle.scmi_core.specs.Mark.{HasAgent, mark_of};
 
-/// What an event is, and whose. As a word it is the event's number, 0 to 5 in this order, and eight
+/// What an event is, and whose. As a word it is the event's number, 0 to 6 in this order, and eight
 /// times its agent.
 #[derive(Clone, Copy, PartialEq, Eq, Debug)]
 pub enum Mark {
@@ -14,6 +14,7 @@ pub enum Mark {
     Malformed(u32),
     /// The command of a frame that is a message, which failed.
     Failed(u32),
+    Restarted(u32),
     /// The command of a frame that is a message.
     Message(u32),
 }
@@ -30,7 +31,8 @@ impl Mark {
             Mark::Sent(agent) => 2 + 8 * agent,
             Mark::Malformed(agent) => 3 + 8 * agent,
             Mark::Failed(agent) => 4 + 8 * agent,
-            Mark::Message(agent) => 5 + 8 * agent,
+            Mark::Restarted(agent) => 5 + 8 * agent,
+            Mark::Message(agent) => 6 + 8 * agent,
         }
     }
 
@@ -45,6 +47,7 @@ impl Mark {
             2 => Mark::Sent(agent),
             3 => Mark::Malformed(agent),
             4 => Mark::Failed(agent),
+            5 => Mark::Restarted(agent),
             _ => Mark::Message(agent),
         }
     }

@@ -4,7 +4,7 @@ ghost use Rattle.scmi_codec.specs.declared.payload.TheConstants.{PAYLOAD_WORDS};
 ghost use Rattle.scmi_plan.specs.declared.limits.TheConstants.{AGENTS};
 ghost use Rattle.scmi_core.specs.Mark.{HasAgent};
 ghost use Rattle.scmi_core.specs.Trace.{event_of, payload_count};
-ghost use Rattle.scmi_core.specs.declared.event.Event.TheVariants.{Command, Advance, Sent, CommandFailed, AdvanceFailed};
+ghost use Rattle.scmi_core.specs.declared.event.Event.TheVariants.{Command, Advance, Sent, CommandFailed, AdvanceFailed, Restarted};
 ghost use Rattle.scmi_codec.specs.declared.frame.Frame.TheVariants.{Good};
 
 use crate::event::Event;
@@ -157,6 +157,16 @@ impl Trace {
         ensures room { self.old.room ≤ self.new.room + 1 }
     {
         self.push(Mark::Sent(agent), 0, 0, &[]);
+    }
+
+    /// Adds the restart of an agent in the room that there is.
+    pub(crate) fn push_restarted(&mut self, agent: u32)
+        requires room { 0 < self.old.room }
+        requires agent { agent ≤ AGENTS }
+        ensures events { self.new.events ≡ self.old.events ++ Restarted agent ∷ [] }
+        ensures room { self.old.room ≤ self.new.room + 1 }
+    {
+        self.push(Mark::Restarted(agent), 0, 0, &[]);
     }
 
     /// Adds the words of an event in the room that there is.
