@@ -1,7 +1,7 @@
 -- In every legal history at most 8 sets are pending, and an outbox and its agent's pending sets are at most 16 together.
-use Rattle.std.proofs.Common.{◌≡◌, ◌≢◌, ◌⊎◌, inl, inr, ℕ, suc, ◌+◌, ◌<◌, ◌≤◌, ◌==◌, ◌&&◌, ◌||◌, nat_lt, Bool, true, false, not, List, [], ◌∷◌, ◌++◌, length, drop, slice_get, Option, Some, None, Result, Ok, Err, option_map, refl, sym, ap, ◌∙◌, subst, arith, if◌then◌else◌}
+use Rattle.std.proofs.Common.{◌≡◌, ◌≢◌, ◌⊎◌, inl, inr, ℕ, suc, ◌+◌, ◌<◌, ◌≤◌, ◌==◌, ◌&&◌, ◌||◌, nat_lt, Bool, true, false, not, List, [], ◌∷◌, ◌++◌, length, drop, map, slice_get, Option, Some, None, Result, Ok, Err, option_map, refl, sym, ap, ◌∙◌, subst, arith, if◌then◌else◌}
 use Rattle.std.specs.Option.{option_map_or}
-use Rattle.std.proofs.lemmas.List.{append-nil, length-append, length-drop}
+use Rattle.std.proofs.lemmas.List.{append-nil, length-append, length-drop, length-map}
 use Rattle.std.proofs.lemmas.List.Elements.{filter-append}
 use Rattle.std.proofs.lemmas.Bool.{leb-true}
 use Rattle.std.proofs.lemmas.Bool.Decides.{eqb_tells}
@@ -26,12 +26,12 @@ use Rattle.scmi_clock.specs.ClockReply.{ClockView, clock_reply}
 use Rattle.scmi_clock.specs.ClockTable.{rate_later}
 use Rattle.scmi_core.specs.declared.pending_set.PendingSet.{PendingSet}
 use Rattle.scmi_core.specs.declared.event.Event.{Event}
-use Rattle.scmi_core.specs.declared.event.Event.TheVariants.{Command, Advance, Sent, CommandFailed, AdvanceFailed}
+use Rattle.scmi_core.specs.declared.event.Event.TheVariants.{Command, Advance, Sent, CommandFailed, AdvanceFailed, Restarted}
 use Rattle.scmi_core.specs.declared.tables.Tables.{Tables}
 use Rattle.std.specs.Option.{option_to_list, option_and_then}
-use Rattle.scmi_core.specs.Deed.{Deed, success_of, success_with, fold_with_prefix}
+use Rattle.scmi_core.specs.Deed.{Deed, success_of, success_with, fold_with_prefix, restarted_by}
 use Rattle.scmi_core.specs.Value.{Change, Thing, State, Rate, Enabled, completed_set, failed_set, change_by}
-use Rattle.scmi_core.specs.Pending.{acceptance, accepted_sets, advances, pending_sets, pending_of, sets_by, is_advance}
+use Rattle.scmi_core.specs.Pending.{acceptance, accepted_sets, advances, pending_sets, pending_of, sets_by, is_advance, unwanted}
 use Rattle.scmi_core.specs.Outbox.{failed_response_for, failed_response_to, messages_made, made_by, outbox_after, sent_count, is_sent_by, response_for, response_to, notice_in, situation_after}
 use Rattle.scmi_core.specs.History.{deeds, deed_after, outbox}
 use Rattle.scmi_core.specs.Legal.{IsLegal}
@@ -40,9 +40,9 @@ use Rattle.scmi_core.specs.Situation.{Situation, has_room, power_view, clock_vie
 use Rattle.scmi_core.specs.Tables.{load_at}
 use Rattle.scmi_core.specs.Bounds.{HasBounds}
 use Rattle.scmi_core.specs.Agreement.{Agrees}
-use Rattle.scmi_core.proofs.Deeds.{added_success, made_by-unfailed, pending_sets-push, pending_sets-advance, pending_sets-failed, outbox-push, sent_count-push}
+use Rattle.scmi_core.proofs.Deeds.{added_success, made_by-unfailed, pending_left, pending_sets-push, pending_sets-advance, pending_sets-failed, outbox-push, sent_count-push}
 use Rattle.scmi_core.proofs.Legal.{Grown, empty, grow, grown, deeds-push, IsLegal-front, advances_le-accepted, sent_le-made}
-use Rattle.scmi_core.proofs.Situations.{messages_made-sent, nothing-made}
+use Rattle.scmi_core.proofs.Situations.{messages_made-sent, nothing-made, outbox-restarted}
 
 -- a set that is accepted for later met room
 room_of : (c1 c2 c3 c4 busy later room : Bool)
@@ -181,10 +181,11 @@ fits board h b header r had None e = fits-none board h had
 fits board h b header r had (Some p) e = let two = accept-room board b h header r p e in fits-some board h b p had two.0 two.1
 
 -- a deed that completes and posts nothing
-settled : (board : Board) (h : List Deed) (deed : Deed) → is_advance deed.event ≡ false → ((a : ℕ) → is_sent_by a deed.event ≡ false) → completed_set board h deed.event ≡ None → failed_set board h deed.event ≡ None
+settled : (board : Board) (h : List Deed) (deed : Deed) → is_advance deed.event ≡ false → ((a : ℕ) → is_sent_by a deed.event ≡ false) → completed_set board h deed.event ≡ None → failed_set board h deed.event ≡ None → restarted_by deed.event ≡ None
     → advances h ≤ length (accepted_sets board h) → ((a : ℕ) → sent_count a h ≤ length (messages_made board a h)) → Fits board h (option_and_then (acceptance board) (added_success deed)) → HasBounds board (h ++ deed ∷ [])
-settled board h deed stays unsent none unfailed enough enough_sent fit =
-    let pend = pending_sets-push board h deed stays enough in
+settled board h deed stays unsent none unfailed unrestarted enough enough_sent fit =
+    let pend = pending_sets-push board h deed stays enough
+    ∙ ap (λ restarted. pending_left restarted (pending_sets board h) ++ option_to_list (option_and_then (acceptance board) (added_success deed))) unrestarted in
     record {
       pending = rw pend fit.few;
       loads = λ a.
@@ -192,7 +193,9 @@ settled board h deed stays unsent none unfailed enough enough_sent fit =
           let base : length (outbox_after board a h) + length (option_map_or (response_for a) (completed_set board h deed.event) []) + length (pending_of board a (h ++ deed ∷ [])) ≤ 16
           = rw (none, pend, zero_more) (fit.loads a) in
           let all = messages_made-within board a h deed unfailed base in
-          rw (outbox-push board a h deed (unsent a) (enough_sent a), length-append (outbox_after board a h) (made_by board a h (messages_made board a h) deed)) all;
+          let more = outbox-push board a h deed (unsent a) (enough_sent a)
+          ∙ ap (λ restarted. (if option_map_or (λ b. a == b) restarted false then [] else outbox_after board a h) ++ made_by board a h (messages_made board a h) deed) unrestarted in
+          rw (more, length-append (outbox_after board a h) (made_by board a h (messages_made board a h) deed)) all;
     }
 
 -- a completed set leaves room for its delayed response
@@ -256,20 +259,43 @@ bounds-sent board h b enough had =
           rw (pend, messages_made-sent board a h b) (omega arith);
     }
 
+-- a restart leaves each set to its agent
+unwanted-by : (a b : ℕ) (sets : List PendingSet) → length (sets_by a (map (unwanted b) sets)) ≡ length (sets_by a sets)
+unwanted-by a b [] = refl
+unwanted-by a b (p ∷ ps) = by (p.agent == a) (unwanted-by a b ps) where
+  by : (own : Bool) → length (sets_by a (map (unwanted b) ps)) ≡ length (sets_by a ps)
+      → length (if own then unwanted b p ∷ sets_by a (map (unwanted b) ps) else sets_by a (map (unwanted b) ps)) ≡ length (if own then p ∷ sets_by a ps else sets_by a ps)
+  by true rest = ap suc rest
+  by false rest = rest
+
+bounds-restarted : (board : Board) (h : List Deed) (b : ℕ) → advances h ≤ length (accepted_sets board h) → ((a : ℕ) → sent_count a h ≤ length (messages_made board a h)) → HasBounds board h
+    → HasBounds board (h ++ record { event = Restarted b; reply = [] } ∷ [])
+bounds-restarted board h b enough enough_sent had =
+    let deed : Deed = record { event = Restarted b; reply = [] } in
+    let pend = pending_sets-push board h deed refl enough ∙ append-nil (map (unwanted b) (pending_sets board h)) in
+    record {
+      pending = rw (pend, length-map (pending_sets board h) (unwanted b)) had.pending;
+      loads = λ a. rw (pend, unwanted-by a b (pending_sets board h), outbox-restarted board a h b (enough_sent a)) (by a (a == b));
+    } where
+      by : (a : ℕ) (own : Bool) → length (if own then [] else outbox_after board a h) + length (pending_of board a h) ≤ 16
+      by a true = let old = had.loads a in omega arith
+      by a false = had.loads a
+
 bounds-more : (board : Board) (h : List Deed) (e : Event) → advances h ≤ length (accepted_sets board h) → ((a : ℕ) → sent_count a h ≤ length (messages_made board a h)) → HasBounds board h → HasBounds board (h ++ deed_after board h e ∷ [])
 bounds-more board h (Command b (Good m)) enough enough_sent had =
-    settled board h (deed_after board h (Command b (Good m))) refl (λ a. refl) refl refl enough enough_sent (by (fits_channel board b m)) where
+    settled board h (deed_after board h (Command b (Good m))) refl (λ a. refl) refl refl refl enough enough_sent (by (fits_channel board b m)) where
       by : (short : Bool)
           → Fits board h (option_and_then (acceptance board) (success_of b m.header (command_of m) (if short then reply_words board b (situation_after board b h) (command_of m) else [])))
       by true = fits board h b m.header (command_of m) had _ refl
       by false = fits-none board h had
 bounds-more board h (Command b (Malformed len header)) enough enough_sent had =
-    settled board h (deed_after board h (Command b (Malformed len header))) refl (λ a. refl) refl refl enough enough_sent (fits-none board h had)
+    settled board h (deed_after board h (Command b (Malformed len header))) refl (λ a. refl) refl refl refl enough enough_sent (fits-none board h had)
 bounds-more board h (CommandFailed b (Good m)) enough enough_sent had =
-    settled board h (deed_after board h (CommandFailed b (Good m))) refl (λ a. refl) refl refl enough enough_sent (fits-none board h had)
+    settled board h (deed_after board h (CommandFailed b (Good m))) refl (λ a. refl) refl refl refl enough enough_sent (fits-none board h had)
 bounds-more board h (CommandFailed b (Malformed len header)) enough enough_sent had =
-    settled board h (deed_after board h (CommandFailed b (Malformed len header))) refl (λ a. refl) refl refl enough enough_sent (fits-none board h had)
+    settled board h (deed_after board h (CommandFailed b (Malformed len header))) refl (λ a. refl) refl refl refl enough enough_sent (fits-none board h had)
 bounds-more board h AdvanceFailed enough enough_sent had = bounds-failed board h enough_sent had
+bounds-more board h (Restarted b) enough enough_sent had = bounds-restarted board h b enough enough_sent had
 bounds-more board h Advance enough enough_sent had = bounds-advance board h enough_sent had
 bounds-more board h (Sent b) enough enough_sent had = bounds-sent board h b enough had
 

@@ -1,9 +1,9 @@
 -- Each change of a legal history came of a command of its causer, who might make it there.
-use Rattle.std.proofs.Common.{◌≡◌, ℕ, Bool, true, false, not, List, [], ◌∷◌, ◌++◌, length, slice_get, Option, Some, None, Result, Ok, Err, option_map, unwrap_or, refl, sym, ap, ◌∙◌, subst, if◌then◌else◌}
+use Rattle.std.proofs.Common.{◌≡◌, ℕ, Bool, true, false, not, List, [], ◌∷◌, ◌++◌, length, map, slice_get, Option, Some, None, Result, Ok, Err, option_map, unwrap_or, refl, sym, ap, ◌∙◌, subst, if◌then◌else◌}
 use Rattle.std.specs.List.{All}
 use Rattle.std.specs.Option.{option_and_then, option_or, option_to_list}
 use Rattle.std.proofs.lemmas.List.{append_assoc, append-nil}
-use Rattle.std.proofs.lemmas.List.Elements.{All-append, All-cons, All-drop, All-head, All-nil, All-same, All-weaker}
+use Rattle.std.proofs.lemmas.List.Elements.{All-append, All-cons, All-drop, All-head, All-map, All-nil, All-same, All-weaker}
 use Rattle.scmi_codec.specs.Command.{command_of}
 use Rattle.scmi_codec.specs.Header.{HeaderFields}
 use Rattle.scmi_codec.specs.Payload.{begins_with_success}
@@ -26,14 +26,14 @@ use Rattle.scmi_clock.specs.ClockReply.{clock_reply}
 use Rattle.scmi_clock.specs.ClockTable.{set_rate}
 use Rattle.scmi_clock.specs.SetFlags.{is_asynchronous, is_response_wanted}
 use Rattle.scmi_core.specs.declared.event.Event.{Event}
-use Rattle.scmi_core.specs.declared.event.Event.TheVariants.{Command, Advance, Sent, CommandFailed, AdvanceFailed}
+use Rattle.scmi_core.specs.declared.event.Event.TheVariants.{Command, Advance, Sent, CommandFailed, AdvanceFailed, Restarted}
 use Rattle.scmi_core.specs.declared.pending_set.PendingSet.{PendingSet}
 use Rattle.scmi_core.specs.Deed.{Success, fold_with_prefix, success_at, success_of, success_with}
 use Rattle.scmi_core.specs.History.{deed_after, deeds}
 use Rattle.scmi_core.specs.Laws.{HasCause, HasIntegrity, change_asked, may_after, resource_of}
 use Rattle.scmi_core.specs.Legal.{CanFollow, IsLegal}
 use Rattle.scmi_core.specs.Outbox.{situation_after}
-use Rattle.scmi_core.specs.Pending.{acceptance, pending_sets, rate_set, state_set}
+use Rattle.scmi_core.specs.Pending.{acceptance, pending_sets, rate_set, state_set, unwanted}
 use Rattle.scmi_core.specs.Reply.{fits_channel, reply_words}
 use Rattle.scmi_core.specs.Situation.{Situation, clock_view, power_view}
 use Rattle.scmi_core.specs.Value.{Change, Enabled, Rate, State, bit_value, change_now, changes, completion}
@@ -261,6 +261,12 @@ module _ (board : Board) (h : List Event) (legal : IsLegal board h) (had : HasCa
   causes (CommandFailed a (Good m)) follows = causes-idle (CommandFailed a (Good m)) refl refl
   causes (CommandFailed a (Malformed len header)) follows = causes-idle (CommandFailed a (Malformed len header)) refl refl
   causes (Sent a) follows = causes-idle (Sent a) refl refl
+  causes (Restarted a) follows =
+      let pending = pending_sets board (deeds board h) in
+      causes-more board h (Restarted a) legal had (λ change is. absurd (cc))
+      (λ all.
+      All-same (λ p. HasCause board (h ++ Restarted a ∷ []) (completion p)) (map (unwanted a) pending ++ []) (map (unwanted a) pending) (append-nil (map (unwanted a) pending))
+      (All-map (λ p. HasCause board (h ++ Restarted a ∷ []) (completion p)) (unwanted a) pending all))
   causes Advance follows =
       causes-more board h Advance legal had
       (λ change is. cause-kept board h Advance change (completed-cause board h (pending_sets board (deeds board h)) change had.pending is))

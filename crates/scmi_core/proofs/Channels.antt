@@ -1,9 +1,9 @@
 -- What an agent gets in a legal history has room in its channels, and an agent that the platform can't send to gets no message.
-use Rattle.std.proofs.Common.{◌≡◌, ◌⊎◌, inl, inr, ℕ, zero, suc, ◌+◌, ◌≤◌, ◌==◌, ◌&&◌, nat_lt, Bool, true, false, not, List, [], ◌∷◌, ◌++◌, length, drop, slice_get, Option, Some, None, Result, Ok, Err, option_map, unwrap_or, refl, sym, ap, ◌∙◌, subst, arith, if◌then◌else◌}
+use Rattle.std.proofs.Common.{◌≡◌, ◌⊎◌, inl, inr, ℕ, zero, suc, ◌+◌, ◌≤◌, ◌==◌, ◌&&◌, nat_lt, Bool, true, false, not, List, [], ◌∷◌, ◌++◌, length, drop, map, slice_get, Option, Some, None, Result, Ok, Err, option_map, unwrap_or, refl, sym, ap, ◌∙◌, subst, arith, if◌then◌else◌}
 use Rattle.std.specs.List.{All}
-use Rattle.std.specs.Option.{option_and_then, option_map_or, option_to_list}
+use Rattle.std.specs.Option.{option_and_then, option_map_or, option_or, option_to_list}
 use Rattle.std.proofs.lemmas.List.{append-nil}
-use Rattle.std.proofs.lemmas.List.Elements.{All-append, All-cons, All-drop, All-head, All-nil}
+use Rattle.std.proofs.lemmas.List.Elements.{All-append, All-cons, All-drop, All-head, All-map, All-nil, All-take}
 use Rattle.std.proofs.lemmas.Bool.{cases_Bool, eqb-true}
 use Rattle.scmi_codec.specs.Command.{command_of}
 use Rattle.scmi_codec.specs.Header.{HeaderFields}
@@ -29,7 +29,7 @@ use Rattle.scmi_power.specs.PowerTable.{notification, set_later}
 use Rattle.scmi_clock.specs.ClockReply.{clock_reply}
 use Rattle.scmi_clock.specs.ClockTable.{rate_later}
 use Rattle.scmi_core.specs.declared.event.Event.{Event}
-use Rattle.scmi_core.specs.declared.event.Event.TheVariants.{Command, Advance, Sent, CommandFailed, AdvanceFailed}
+use Rattle.scmi_core.specs.declared.event.Event.TheVariants.{Command, Advance, Sent, CommandFailed, AdvanceFailed, Restarted}
 use Rattle.scmi_core.specs.declared.pending_set.PendingSet.{PendingSet}
 use Rattle.scmi_core.specs.declared.pending_set.Setting.{Setting}
 use Rattle.scmi_core.specs.declared.pending_set.Setting.TheVariants as setting
@@ -38,11 +38,11 @@ use Rattle.scmi_core.specs.Channels.{IsAnswerWithin, IsOneWay, IsWithin, KeepsCh
 use Rattle.scmi_core.specs.Deed.{Deed, fold_with_prefix, success_of, success_with}
 use Rattle.scmi_core.specs.History.{answer_to, deed_after, deeds, made_for, outbox}
 use Rattle.scmi_core.specs.Legal.{IsLegal}
-use Rattle.scmi_core.specs.Outbox.{failed_response_for, failed_response_to, failed_words, made_in, message_with, messages_made, notice_in, response_for, response_to, sent_count, situation_after, state_changed}
-use Rattle.scmi_core.specs.Pending.{acceptance, sets_by}
+use Rattle.scmi_core.specs.Outbox.{failed_response_for, failed_response_to, failed_words, is_restart_of, made_in, message_with, messages_left, messages_made, notice_in, response_for, response_to, sent_count, situation_after, state_changed}
+use Rattle.scmi_core.specs.Pending.{acceptance, sets_by, unwanted}
 use Rattle.scmi_core.specs.Reply.{fits_channel, reply_words}
 use Rattle.scmi_core.specs.Situation.{Situation, clock_view, power_view}
-use Rattle.scmi_core.specs.Subscriptions.{subscription, subscription_after_reset}
+use Rattle.scmi_core.specs.Subscriptions.{subscription, subscription_after_reset, subscription_at}
 use Rattle.scmi_core.specs.Value.{Change, Enabled, Rate, State, Thing}
 use Rattle.scmi_core.proofs.Deeds.{added_success}
 use Rattle.scmi_core.proofs.Following.{change_in, completed_in, failed_in, made_next, messages-next, next, pending_next, situation-next}
@@ -81,6 +81,7 @@ one-answer board a h (CommandFailed c (Malformed len header)) law = by (a == c) 
 one-answer board a h Advance law = All-nil (IsAnswerWithin board a)
 one-answer board a h AdvanceFailed law = All-nil (IsAnswerWithin board a)
 one-answer board a h (Sent c) law = All-nil (IsAnswerWithin board a)
+one-answer board a h (Restarted c) law = All-nil (IsAnswerWithin board a)
 
 answers_of : (board : Board) (a : ℕ) {h : List Event} → IsLawful board → Grown h → All (IsAnswerWithin board a) (answers_to board a h)
 unfolding answers_to fold_with_prefix
@@ -134,6 +135,10 @@ module _ (board : Board) (b : ℕ) (eight : 8 ≤ (channel_of board b).words) wh
       (All-append Fits responses (if nat_lt load 16 then option_map_or (notice_in s) change [] else []) (responses-short done)
       (all-if (nat_lt load 16) (option_map_or (notice_in s) change []) (notices-short s change)))
 
+  left-short : (posted : ℕ) (restarted : Bool) (ms : List Message) → All Fits ms → All Fits (messages_left posted restarted ms)
+  left-short posted true ms all = All-take Fits posted ms all
+  left-short posted false ms all = all
+
   made_of : {h : List Event} → Grown h → IsLegal board h → All Fits (messages_made board b (deeds board h))
   unfolding deeds fold_with_prefix
   made_of empty legal = All-nil Fits
@@ -142,7 +147,8 @@ module _ (board : Board) (b : ℕ) (eight : 8 ≤ (channel_of board b).words) wh
       let ds = deeds board xs in
       let deed = deed_after board ds e in
       subst (All Fits) (sym (ap (messages_made board b) (deeds-push board xs e) ∙ messages-next board b ds e (advances_le-accepted board xs front)))
-      (All-append Fits (messages_made board b ds) (made_next board b (situation_after board b ds) deed) (made_of g front) (made-short (situation_after board b ds) deed))
+      (All-append Fits (messages_left (sent_count b ds) (is_restart_of b deed.event) (messages_made board b ds)) (made_next board b (situation_after board b ds) deed)
+      (left-short (sent_count b ds) (is_restart_of b deed.event) (messages_made board b ds) (made_of g front)) (made-short (situation_after board b ds) deed))
 
 -- AN AGENT THAT THE PLATFORM CAN'T SEND TO
 
@@ -267,6 +273,7 @@ module _ (board : Board) (b : ℕ) (s : Situation) (quiet : IsUnsent b s) where
   no-response (Command a frame) = refl
   no-response (CommandFailed a frame) = refl
   no-response (Sent a) = refl
+  no-response (Restarted a) = refl
 
   no-failure : (e : Event) → option_map_or (failed_response_for b) (failed_in s.pending e) [] ≡ []
   no-failure AdvanceFailed = failed-silent s.pending quiet.pending
@@ -274,6 +281,7 @@ module _ (board : Board) (b : ℕ) (s : Situation) (quiet : IsUnsent b s) where
   no-failure (Command a frame) = refl
   no-failure (CommandFailed a frame) = refl
   no-failure (Sent a) = refl
+  no-failure (Restarted a) = refl
 
   untold : (x : Bool) (m : Message) → (if x && false then m ∷ [] else []) ≡ []
   untold true m = refl
@@ -348,7 +356,7 @@ module _ (board : Board) (b : ℕ) (one_way : IsOneWay board b) where
       by (inr another) = another
 
   module _ (h : List Deed) (s : Situation) (quiet : IsUnsent b s) where
-    unsubscribed : (e : Event) (d : ℕ) → unwrap_or (option_and_then (subscription b d) (added_success (deed_after board h e))) (s.subscribed d) ≡ false
+    unsubscribed : (e : Event) (d : ℕ) → unwrap_or (subscription_at b d (deed_after board h e)) (s.subscribed d) ≡ false
     unsubscribed (Command a (Good m)) d = by (fits_channel board a m) where
       by : (short : Bool)
           → unwrap_or (option_and_then (subscription b d) (success_of a m.header (command_of m) (if short then reply_words board a (situation_after board a h) (command_of m) else []))) (s.subscribed d) ≡ false
@@ -360,6 +368,10 @@ module _ (board : Board) (b : ℕ) (one_way : IsOneWay board b) where
     unsubscribed Advance d = quiet.subscribed d
     unsubscribed AdvanceFailed d = quiet.subscribed d
     unsubscribed (Sent a) d = quiet.subscribed d
+    unsubscribed (Restarted a) d = by (a == b) where
+      by : (own : Bool) → unwrap_or (option_or (if own then Some false else None) None) (s.subscribed d) ≡ false
+      by true = refl
+      by false = quiet.subscribed d
 
     abbrev Others : List PendingSet → Type 0
     Others ps = All (λ p. (p.agent == b) ≡ false) ps
@@ -377,8 +389,16 @@ module _ (board : Board) (b : ℕ) (one_way : IsOneWay board b) where
     not-pending (CommandFailed a (Good m)) = none-more
     not-pending (CommandFailed a (Malformed len header)) = none-more
     not-pending (Sent a) = none-more
+    not-pending (Restarted a) =
+        subst (All (λ p. (p.agent == b) ≡ false)) (sym (append-nil (map (unwanted a) s.pending)))
+        (All-map (λ p. (p.agent == b) ≡ false) (unwanted a) s.pending quiet.pending)
     not-pending Advance = All-drop (λ p. (p.agent == b) ≡ false) 1 s.pending quiet.pending
     not-pending AdvanceFailed = All-drop (λ p. (p.agent == b) ≡ false) 1 s.pending quiet.pending
+
+  left-nil : (posted : ℕ) (restarted : Bool) → messages_left posted restarted [] ≡ []
+  left-nil zero true = refl
+  left-nil (suc n) true = refl
+  left-nil posted false = refl
 
   record IsSilent (h : List Event) : Type 0 where
     pub quiet : IsUnsent b (situation_after board b (deeds board h))
@@ -404,7 +424,8 @@ module _ (board : Board) (b : ℕ) (one_way : IsOneWay board b) where
         made =
             ap (messages_made board b) (deeds-push board xs e)
             ∙ messages-next board b ds e enough
-            ∙ ap (λ ms. ms ++ made_next board b s deed) had.made
+            ∙ ap (λ ms. messages_left (sent_count b ds) (is_restart_of b deed.event) ms ++ made_next board b s deed) had.made
+            ∙ ap (λ ms. ms ++ made_next board b s deed) (left-nil (sent_count b ds) (is_restart_of b deed.event))
             ∙ nothing-made board b s had.quiet deed;
       }
 

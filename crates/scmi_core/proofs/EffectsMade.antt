@@ -16,7 +16,7 @@ use Rattle.scmi_clock.specs.ClockTable.{rate_now, enabled_now}
 use Rattle.scmi_core.specs.declared.effect.Effect.{Effect}
 use Rattle.scmi_core.specs.declared.event.Event.{Event}
 use Rattle.scmi_core.specs.declared.effect.Effect.TheVariants as effect
-use Rattle.scmi_core.specs.Deed.{success_of}
+use Rattle.scmi_core.specs.Deed.{restarted_by, success_of}
 use Rattle.scmi_core.specs.Driven.{HappensOn, HappensThere, HasMade, IsDriven, and_made}
 use Rattle.scmi_core.specs.Standing.{Standing}
 use Rattle.scmi_core.specs.Effect.{clock_effect, effect_after, effect_of, effects, state_effect}
@@ -25,7 +25,7 @@ use Rattle.scmi_core.specs.Value.{Change, bit_value, change_by, change_of, chang
 use Rattle.scmi_core.specs.Legal.{IsLegal}
 use Rattle.scmi_core.specs.Pending.{acceptance, is_advance, pending_sets}
 use Rattle.scmi_core.specs.declared.pending_set.PendingSet.{PendingSet}
-use Rattle.scmi_core.proofs.Deeds.{added_success, changes-push, pending_sets-push}
+use Rattle.scmi_core.proofs.Deeds.{added_success, changes-push, pending_left, pending_sets-push}
 use Rattle.scmi_core.proofs.Legal.{advances_le-accepted, deed-event, deeds-push}
 use Rattle.scmi_core.proofs.Steps.{change-power, state_change}
 use Rattle.scmi_core.proofs.ClockSteps.{change-clock, either}
@@ -104,10 +104,12 @@ pub failed-none : (board : Board) (h : List Event) (a : ℕ) (frame : Frame) →
 failed-none board h a (Good m) = refl
 failed-none board h a (Malformed len header) = refl
 
--- the first of a list that is not empty stays the first
-first-append : (xs ys : List PendingSet) → 0 < length xs → slice_get (xs ++ ys) 0 ≡ slice_get xs 0
-first-append [] ys some = elim some [ ]
-first-append (x ∷ xs) ys some = refl
+-- the first of some sets stays the first, and a restart leaves what it is to change
+first-kept : (restarted : Option ℕ) (xs ys : List PendingSet) → 0 < length xs → option_map completion (slice_get (pending_left restarted xs ++ ys) 0) ≡ option_map completion (slice_get xs 0)
+first-kept None [] ys some = elim some [ ]
+first-kept None (x ∷ xs) ys some = refl
+first-kept (Some a) [] ys some = elim some [ ]
+first-kept (Some a) (x ∷ xs) ys some = refl
 
 -- while a set is pending, no other event changes what the next completion is to change
 pub advance-kept : (board : Board) (h : List Event) (e : Event) → IsLegal board h → is_advance e ≡ false → 0 < length (pending_sets board (deeds board h))
@@ -118,4 +120,4 @@ advance-kept board h e legal other some =
     ap (λ ds'. option_map effect_of (option_or (option_map completion (slice_get (pending_sets board ds') 0)) None)) (deeds-push board h e)
     ∙ ap (λ p. option_map effect_of (option_or (option_map completion (slice_get p 0)) None))
     (pending_sets-push board ds deed (ap is_advance (deed-event board ds e) ∙ other) (advances_le-accepted board h legal))
-    ∙ ap (λ o. option_map effect_of (option_or (option_map completion o) None)) (first-append (pending_sets board ds) (option_to_list (option_and_then (acceptance board) (added_success deed))) some)
+    ∙ ap (λ o. option_map effect_of (option_or o None)) (first-kept (restarted_by deed.event) (pending_sets board ds) (option_to_list (option_and_then (acceptance board) (added_success deed))) some)

@@ -6,18 +6,18 @@ use Rattle.scmi_codec.specs.declared.frame.Frame.TheVariants.{Good, Malformed}
 use Rattle.scmi_codec.specs.declared.message.Message.{Message}
 use Rattle.scmi_plan.specs.Board.{Board}
 use Rattle.scmi_core.specs.declared.event.Event.{Event}
-use Rattle.scmi_core.specs.declared.event.Event.TheVariants.{Command, Advance, Sent, CommandFailed, AdvanceFailed}
+use Rattle.scmi_core.specs.declared.event.Event.TheVariants.{Command, Advance, Sent, CommandFailed, AdvanceFailed, Restarted}
 use Rattle.scmi_core.specs.declared.pending_set.PendingSet.{PendingSet}
-use Rattle.scmi_core.specs.Deed.{Deed}
+use Rattle.scmi_core.specs.Deed.{Deed, restarted_by}
 use Rattle.scmi_core.specs.History.{deed_after}
-use Rattle.scmi_core.specs.Outbox.{failed_response_for, is_sent_by, made_by, made_in, messages_made, outbox_after, sent_count, situation_after}
+use Rattle.scmi_core.specs.Outbox.{failed_response_for, is_restart_of, is_sent_by, made_by, made_in, messages_left, messages_made, outbox_after, sent_count, situation_after}
 use Rattle.scmi_core.specs.Pending.{acceptance, accepted_sets, advances, is_advance, pending_sets}
 use Rattle.scmi_core.specs.Permissions.{permission_in}
 use Rattle.scmi_core.specs.Reply.{words_given}
 use Rattle.scmi_core.specs.Situation.{Situation}
-use Rattle.scmi_core.specs.Subscriptions.{subscription}
+use Rattle.scmi_core.specs.Subscriptions.{subscription_at}
 use Rattle.scmi_core.specs.Value.{Change, change_by, change_of, completed_set, failed_set, value_in}
-use Rattle.scmi_core.proofs.Deeds.{added_success, has_permission-push, is_subscriber-push, messages_made-push, outbox-push, pending_sets-advance, pending_sets-failed, pending_sets-push, sent_count-push, value-push}
+use Rattle.scmi_core.proofs.Deeds.{added_success, has_permission-push, is_subscriber-push, messages_made-push, outbox-push, pending_left, pending_sets-advance, pending_sets-failed, pending_sets-push, sent_count-push, value-push}
 use Rattle.scmi_core.proofs.Situations.{messages_made-sent, nothing-made}
 
 -- the set that an event completes, or ends as failed, by those that are pending
@@ -33,7 +33,7 @@ abbrev pub change_in : Board → List PendingSet → Deed → Option Change
 change_in board pending deed = change_of board (added_success deed) (completed_in pending deed.event)
 
 abbrev pub pending_next : Board → List PendingSet → Deed → List PendingSet
-pending_next board pending deed = if is_advance deed.event then drop 1 pending else pending ++ option_to_list (option_and_then (acceptance board) (added_success deed))
+pending_next board pending deed = if is_advance deed.event then drop 1 pending else pending_left (restarted_by deed.event) pending ++ option_to_list (option_and_then (acceptance board) (added_success deed))
 
 abbrev pub made_next : Board → ℕ → Situation → Deed → List Message
 made_next board b s deed =
@@ -46,9 +46,9 @@ next board b s deed =
     record {
       value = λ x. unwrap_or (option_and_then (value_in x) (change_in board s.pending deed)) (s.value x);
       allowed = λ d scope. unwrap_or (option_and_then (λ it. permission_in b d scope it.command) (added_success deed)) (s.allowed d scope);
-      subscribed = λ d. unwrap_or (option_and_then (subscription b d) (added_success deed)) (s.subscribed d);
+      subscribed = λ d. unwrap_or (subscription_at b d deed) (s.subscribed d);
       pending = pending_next board s.pending deed;
-      outbox = if is_sent_by b deed.event then drop 1 s.outbox else s.outbox ++ made_next board b s deed;
+      outbox = if is_sent_by b deed.event then drop 1 s.outbox else (if is_restart_of b deed.event then [] else s.outbox) ++ made_next board b s deed;
     }
 
 completed_is : (board : Board) (h : List Deed) (e : Event) → completed_set board h e ≡ completed_in (pending_sets board h) e
@@ -57,6 +57,7 @@ completed_is board h (Command a frame) = refl
 completed_is board h (Sent a) = refl
 completed_is board h (CommandFailed a frame) = refl
 completed_is board h AdvanceFailed = refl
+completed_is board h (Restarted a) = refl
 
 failed_is : (board : Board) (h : List Deed) (e : Event) → failed_set board h e ≡ failed_in (pending_sets board h) e
 failed_is board h Advance = refl
@@ -64,6 +65,7 @@ failed_is board h (Command a frame) = refl
 failed_is board h (Sent a) = refl
 failed_is board h (CommandFailed a frame) = refl
 failed_is board h AdvanceFailed = refl
+failed_is board h (Restarted a) = refl
 
 pub change-is : (board : Board) (h : List Deed) (deed : Deed) → change_by board h deed ≡ change_in board (pending_sets board h) deed
 change-is board h deed = ap (change_of board (added_success deed)) (completed_is board h deed.event)
@@ -75,6 +77,7 @@ pending-next board h (Command a (Malformed len header)) enough = pending_sets-pu
 pending-next board h (CommandFailed a (Good m)) enough = pending_sets-push board h (deed_after board h (CommandFailed a (Good m))) refl enough
 pending-next board h (CommandFailed a (Malformed len header)) enough = pending_sets-push board h (deed_after board h (CommandFailed a (Malformed len header))) refl enough
 pending-next board h (Sent a) enough = pending_sets-push board h (deed_after board h (Sent a)) refl enough
+pending-next board h (Restarted a) enough = pending_sets-push board h (deed_after board h (Restarted a)) refl enough
 pending-next board h Advance enough = pending_sets-advance board h
 pending-next board h AdvanceFailed enough = pending_sets-failed board h
 
@@ -92,12 +95,16 @@ module _ (board : Board) (b : ℕ) (h : List Deed) where
       ∙ ap (λ done. option_map_or (failed_response_for b) (failed_in stood.pending deed.event) [] ++ made_in b stood (pending_next board stood.pending deed) done (change_of board (added_success deed) done)) (completed_is board h deed.event)
 
   pub messages-next : (e : Event) → advances h ≤ length (accepted_sets board h)
-      → messages_made board b (h ++ deed_after board h e ∷ []) ≡ messages_made board b h ++ made_next board b stood (deed_after board h e)
-  messages-next e enough = messages_made-push board b h (deed_after board h e) ∙ ap (λ ms. messages_made board b h ++ ms) (made-next e enough)
+      → messages_made board b (h ++ deed_after board h e ∷ []) ≡ messages_left (sent_count b h) (is_restart_of b (deed_after board h e).event) (messages_made board b h) ++ made_next board b stood (deed_after board h e)
+  messages-next e enough =
+      messages_made-push board b h (deed_after board h e)
+      ∙ ap (λ ms. messages_left (sent_count b h) (is_restart_of b (deed_after board h e).event) (messages_made board b h) ++ ms) (made-next e enough)
 
   unsent : (e : Event) → is_sent_by b (deed_after board h e).event ≡ false → advances h ≤ length (accepted_sets board h) → sent_count b h ≤ length (messages_made board b h)
-      → outbox_after board b (h ++ deed_after board h e ∷ []) ≡ stood.outbox ++ made_next board b stood (deed_after board h e)
-  unsent e other enough enough_sent = outbox-push board b h (deed_after board h e) other enough_sent ∙ ap (λ ms. stood.outbox ++ ms) (made-next e enough)
+      → outbox_after board b (h ++ deed_after board h e ∷ []) ≡ (if is_restart_of b (deed_after board h e).event then [] else stood.outbox) ++ made_next board b stood (deed_after board h e)
+  unsent e other enough enough_sent =
+      outbox-push board b h (deed_after board h e) other enough_sent
+      ∙ ap (λ ms. (if is_restart_of b (deed_after board h e).event then [] else stood.outbox) ++ ms) (made-next e enough)
 
   posted : (c : ℕ) → outbox_after board b (h ++ deed_after board h (Sent c) ∷ []) ≡ drop (sent_count b h + (if b == c then 1 else 0)) (messages_made board b h)
   posted c =
@@ -113,6 +120,7 @@ module _ (board : Board) (b : ℕ) (h : List Deed) where
   outbox-next (CommandFailed a (Malformed len header)) enough enough_sent = unsent (CommandFailed a (Malformed len header)) refl enough enough_sent
   outbox-next Advance enough enough_sent = unsent Advance refl enough enough_sent
   outbox-next AdvanceFailed enough enough_sent = unsent AdvanceFailed refl enough enough_sent
+  outbox-next (Restarted c) enough enough_sent = unsent (Restarted c) refl enough enough_sent
   outbox-next (Sent c) enough enough_sent = posted c ∙ by (b == c) where
     none : made_in b stood (stood.pending ++ []) None None ≡ []
     none = nothing-made b stood (stood.pending ++ [])
@@ -145,3 +153,4 @@ deed-same board h k (CommandFailed a (Malformed len header)) same = refl
 deed-same board h k Advance same = refl
 deed-same board h k AdvanceFailed same = refl
 deed-same board h k (Sent a) same = refl
+deed-same board h k (Restarted a) same = refl

@@ -1,7 +1,7 @@
 -- A refused command moves nobody, and a history without the refused commands of one agent is the same to all others.
 use Rattle.std.proofs.Common.{◌≡◌, ◌≢◌, ◌⊎◌, inl, inr, ℕ, ◌+◌, ◌<◌, ◌==◌, ◌&&◌, Bool, true, false, not, List, [], ◌∷◌, ◌++◌, length, take, drop, Some, None, option_map, unwrap_or, refl, sym, ap, ◌∙◌, subst, arith, if◌then◌else◌}
 use Rattle.std.specs.List.{cons_option}
-use Rattle.std.specs.Option.{is_some, option_and_then, option_map_or, option_to_list}
+use Rattle.std.specs.Option.{is_some, option_and_then, option_map_or, option_or, option_to_list}
 use Rattle.std.proofs.lemmas.List.{append-nil}
 use Rattle.std.proofs.lemmas.List.Elements.{filter_map-append}
 use Rattle.std.proofs.lemmas.Bool.{cases_Bool, eqb-true}
@@ -11,22 +11,22 @@ use Rattle.scmi_codec.specs.declared.frame.Frame.{Frame}
 use Rattle.scmi_codec.specs.declared.frame.Frame.TheVariants.{Good, Malformed}
 use Rattle.scmi_plan.specs.Board.{Board}
 use Rattle.scmi_core.specs.declared.event.Event.{Event}
-use Rattle.scmi_core.specs.declared.event.Event.TheVariants.{Command, Advance, Sent, CommandFailed, AdvanceFailed}
+use Rattle.scmi_core.specs.declared.event.Event.TheVariants.{Command, Advance, Sent, CommandFailed, AdvanceFailed, Restarted}
 use Rattle.scmi_core.specs.declared.pending_set.PendingSet.{PendingSet}
 use Rattle.scmi_core.specs.Agents.{answer_for, answers_to, frame_from, frames_of}
-use Rattle.scmi_core.specs.Deed.{Deed, fold_with_prefix, success_with}
+use Rattle.scmi_core.specs.Deed.{Deed, fold_with_prefix, restarted_by, success_with}
 use Rattle.scmi_core.specs.Effect.{effect_of}
 use Rattle.scmi_core.specs.History.{deed_after, deeds, delivered_messages, made_for, outbox}
 use Rattle.scmi_core.specs.Laws.{AreAlikeBut, HasIsolation, is_refused, without_refused}
 use Rattle.scmi_core.specs.Legal.{CanFollow, IsLegal}
-use Rattle.scmi_core.specs.Outbox.{failed_response_for, is_sent_by, made_in, messages_made, sent_count, situation_after}
+use Rattle.scmi_core.specs.Outbox.{failed_response_for, is_restart_of, is_sent_by, made_in, messages_left, messages_made, sent_count, situation_after}
 use Rattle.scmi_core.specs.Pending.{acceptance, is_advance, pending_sets}
 use Rattle.scmi_core.specs.Permissions.{permission_in}
 use Rattle.scmi_core.specs.Reply.{answer_in}
 use Rattle.scmi_core.specs.Situation.{Situation}
-use Rattle.scmi_core.specs.Subscriptions.{subscription}
+use Rattle.scmi_core.specs.Subscriptions.{subscription, subscription_after_reset}
 use Rattle.scmi_core.specs.Value.{change_by, change_of, changes, value_in}
-use Rattle.scmi_core.proofs.Deeds.{IsLegal-push, added_success, changes-push, fold_with_prefix-push, sent_count-push}
+use Rattle.scmi_core.proofs.Deeds.{IsLegal-push, added_success, changes-push, fold_with_prefix-push, pending_left, sent_count-push}
 use Rattle.scmi_core.proofs.Following.{change-is, change_in, completed_in, deed-same, failed_in, made_next, messages-next, next, pending_next, situation-next}
 use Rattle.scmi_core.proofs.Laws.{answers_failed_other, answers_other, frames_failed_other, frames_other}
 use Rattle.scmi_core.proofs.Legal.{Grown, IsLegal-front, IsLegal-last, IsLegal-nil, advances_le-accepted, deeds-push, empty, grow, grown, sent_le-made}
@@ -34,13 +34,14 @@ use Rattle.scmi_core.proofs.Situations.{nothing-made}
 
 -- A COMMAND THAT WAS REFUSED
 
--- a deed that succeeds in nothing, ends no set and posts nothing
+-- a deed that succeeds in nothing, ends no set, posts nothing and restarts no agent
 record IsIdleDeed (deed : Deed) : Type 0 where
   pub no_success : added_success deed ≡ None
   pub stays : is_advance deed.event ≡ false
   pub unsent : (b : ℕ) → is_sent_by b deed.event ≡ false
   pub uncompleted : (pending : List PendingSet) → completed_in pending deed.event ≡ None
   pub unfailed : (pending : List PendingSet) → failed_in pending deed.event ≡ None
+  pub unrestarted : restarted_by deed.event ≡ None
 
 -- it changes nothing, and makes nothing for an agent
 module _ (board : Board) (b : ℕ) (s : Situation) (deed : Deed) (idle : IsIdleDeed deed) where
@@ -49,7 +50,8 @@ module _ (board : Board) (b : ℕ) (s : Situation) (deed : Deed) (idle : IsIdleD
 
   same-pending : pending_next board s.pending deed ≡ s.pending
   same-pending =
-      ap (λ ends. if ends then drop 1 s.pending else s.pending ++ option_to_list (option_and_then (acceptance board) (added_success deed))) idle.stays
+      ap (λ ends. if ends then drop 1 s.pending else pending_left (restarted_by deed.event) s.pending ++ option_to_list (option_and_then (acceptance board) (added_success deed))) idle.stays
+      ∙ ap (λ restarted. pending_left restarted s.pending ++ option_to_list (option_and_then (acceptance board) (added_success deed))) idle.unrestarted
       ∙ ap (λ success. s.pending ++ option_to_list (option_and_then (acceptance board) success)) idle.no_success
       ∙ append-nil s.pending
 
@@ -62,7 +64,8 @@ module _ (board : Board) (b : ℕ) (s : Situation) (deed : Deed) (idle : IsIdleD
 
   same-outbox : (next board b s deed).outbox ≡ s.outbox
   same-outbox =
-      ap (λ own. if own then drop 1 s.outbox else s.outbox ++ made_next board b s deed) (idle.unsent b)
+      ap (λ own. if own then drop 1 s.outbox else (if is_restart_of b deed.event then [] else s.outbox) ++ made_next board b s deed) (idle.unsent b)
+      ∙ ap (λ restarted. (if option_map_or (λ c. b == c) restarted false then [] else s.outbox) ++ made_next board b s deed) idle.unrestarted
       ∙ ap (λ ms. s.outbox ++ ms) nothing-next
       ∙ append-nil s.outbox
 
@@ -71,7 +74,9 @@ module _ (board : Board) (b : ℕ) (s : Situation) (deed : Deed) (idle : IsIdleD
       record {
         value = λ x. ap (λ change. unwrap_or (option_and_then (value_in x) change) (s.value x)) no-change i;
         allowed = λ d scope. ap (λ success. unwrap_or (option_and_then (λ it. permission_in b d scope it.command) success) (s.allowed d scope)) idle.no_success i;
-        subscribed = λ d. ap (λ success. unwrap_or (option_and_then (subscription b d) success) (s.subscribed d)) idle.no_success i;
+        subscribed = λ d.
+            (ap (λ restarted. unwrap_or (option_or (subscription_after_reset b restarted) (option_and_then (subscription b d) (added_success deed))) (s.subscribed d)) idle.unrestarted
+            ∙ ap (λ success. unwrap_or (option_and_then (subscription b d) success) (s.subscribed d)) idle.no_success) i;
         pending = same-pending i;
         outbox = same-outbox i;
       }
@@ -92,6 +97,7 @@ idle-unmoved board h e legal idle =
       made = λ b.
           ap (messages_made board b) (deeds-push board h e)
           ∙ messages-next board b ds e enough
+          ∙ ap (λ restarted. messages_left (sent_count b ds) (option_map_or (λ c. b == c) restarted false) (messages_made board b ds) ++ made_next board b (situation_after board b ds) deed) idle.unrestarted
           ∙ ap (λ ms. messages_made board b ds ++ ms) (nothing-next board b (situation_after board b ds) deed idle)
           ∙ append-nil (messages_made board b ds);
       sent = λ b.
@@ -131,12 +137,13 @@ command-idle board h c (Good m) fails = record {
   unsent = λ b. refl;
   uncompleted = λ pending. refl;
   unfailed = λ pending. refl;
+  unrestarted = refl;
 }
-command-idle board h c (Malformed len header) fails = record { no_success = refl; stays = refl; unsent = λ b. refl; uncompleted = λ pending. refl; unfailed = λ pending. refl }
+command-idle board h c (Malformed len header) fails = record { no_success = refl; stays = refl; unsent = λ b. refl; uncompleted = λ pending. refl; unfailed = λ pending. refl; unrestarted = refl }
 
 failed-idle : (board : Board) (h : List Event) (c : ℕ) (frame : Frame) → IsIdleDeed (deed_after board (deeds board h) (CommandFailed c frame))
-failed-idle board h c (Good m) = record { no_success = refl; stays = refl; unsent = λ b. refl; uncompleted = λ pending. refl; unfailed = λ pending. refl }
-failed-idle board h c (Malformed len header) = record { no_success = refl; stays = refl; unsent = λ b. refl; uncompleted = λ pending. refl; unfailed = λ pending. refl }
+failed-idle board h c (Good m) = record { no_success = refl; stays = refl; unsent = λ b. refl; uncompleted = λ pending. refl; unfailed = λ pending. refl; unrestarted = refl }
+failed-idle board h c (Malformed len header) = record { no_success = refl; stays = refl; unsent = λ b. refl; uncompleted = λ pending. refl; unfailed = λ pending. refl; unrestarted = refl }
 
 refusal : (board : Board) (a : ℕ) (h : List Event) (e : Event) → is_refused board a h e ≡ true → Refused board a h e
 refusal board a h (Command c frame) is =
@@ -158,6 +165,7 @@ refusal board a h (CommandFailed c frame) is =
 refusal board a h Advance is = absurd (cc)
 refusal board a h AdvanceFailed is = absurd (cc)
 refusal board a h (Sent c) is = absurd (cc)
+refusal board a h (Restarted c) is = absurd (cc)
 
 -- THE SAME EVENT AFTER TWO HISTORIES
 
@@ -188,11 +196,13 @@ module _ (board : Board) (h k : List Event) (same : (c : ℕ) → situation_afte
   one-answer b Advance = refl
   one-answer b AdvanceFailed = refl
   one-answer b (Sent c) = refl
+  one-answer b (Restarted c) = refl
 
   both-follow : (e : Event) → CanFollow board k e → CanFollow board h e
   unfolding outbox
   both-follow (Command c frame) follows = follows
   both-follow (CommandFailed c frame) follows = (follows.0, subst (λ change. option_map effect_of change ≢ None) (sym (one-change (Command c frame))) follows.1)
+  both-follow (Restarted c) follows = follows
   both-follow Advance follows = subst (λ pending. 0 < length pending) (sym one-pending) follows
   both-follow AdvanceFailed follows = subst (λ pending. 0 < length pending) (sym one-pending) follows
   both-follow (Sent c) follows = (follows.0, follows.1, subst (λ s. 0 < length s.outbox) (sym (same c)) follows.2)
@@ -218,9 +228,10 @@ unmoved-more board h k e legal legal' had =
       made = λ b.
           ap (messages_made board b) (deeds-push board h e)
           ∙ messages-next board b hs e enough
-          ∙ ap (λ ms. ms ++ made_next board b (situation_after board b hs) deed) (had.made b)
-          ∙ ap (λ s. messages_made board b ks ++ made_next board b s deed) (had.situations b)
-          ∙ ap (λ d. messages_made board b ks ++ made_next board b (situation_after board b ks) d) one
+          ∙ ap (λ n. messages_left n (is_restart_of b deed.event) (messages_made board b hs) ++ made_next board b (situation_after board b hs) deed) (had.sent b)
+          ∙ ap (λ ms. messages_left (sent_count b ks) (is_restart_of b deed.event) ms ++ made_next board b (situation_after board b hs) deed) (had.made b)
+          ∙ ap (λ s. messages_left (sent_count b ks) (is_restart_of b deed.event) (messages_made board b ks) ++ made_next board b s deed) (had.situations b)
+          ∙ ap (λ d. messages_left (sent_count b ks) (is_restart_of b d.event) (messages_made board b ks) ++ made_next board b (situation_after board b ks) d) one
           ∙ sym (ap (messages_made board b) (deeds-push board k e) ∙ messages-next board b ks e enough');
       sent = λ b.
           ap (sent_count b) (deeds-push board h e)

@@ -8,7 +8,7 @@ use Rattle.scmi_codec.specs.declared.message.Message.{Message}
 use Rattle.scmi_codec.specs.declared.frame.Frame.{Frame}
 use Rattle.scmi_plan.specs.Board.{Board}
 use Rattle.scmi_core.specs.declared.event.Event.{Event}
-use Rattle.scmi_core.specs.declared.event.Event.TheVariants.{Command, Advance, Sent, CommandFailed, AdvanceFailed}
+use Rattle.scmi_core.specs.declared.event.Event.TheVariants.{Command, Advance, Sent, CommandFailed, AdvanceFailed, Restarted}
 use Rattle.scmi_core.specs.Deed.{fold_with_prefix}
 use Rattle.scmi_core.specs.Outbox.{messages_made, sent_count, is_sent_by}
 use Rattle.scmi_core.specs.History.{answer_to, deeds, deed_after, made_for, delivered_messages, outbox}
@@ -81,6 +81,7 @@ pub data IsQuiet : Event → Type 0 where
   advance : IsQuiet Advance
   advance_failed : IsQuiet AdvanceFailed
   sent_to : (b : ℕ) → IsQuiet (Sent b)
+  restarted : (b : ℕ) → IsQuiet (Restarted b)
 
 -- an event that is no command adds no frame
 pub frames_quiet : (a : ℕ) (h : List Event) (e : Event) → IsQuiet e → frames_of a (h ++ e ∷ []) ≡ frames_of a h
@@ -88,6 +89,7 @@ unfolding frames_of
 frames_quiet a h e advance = filter_map-append (frame_from a) h (Advance ∷ []) ∙ append-nil (filter_map (frame_from a) h)
 frames_quiet a h e advance_failed = filter_map-append (frame_from a) h (AdvanceFailed ∷ []) ∙ append-nil (filter_map (frame_from a) h)
 frames_quiet a h e (sent_to b) = filter_map-append (frame_from a) h (Sent b ∷ []) ∙ append-nil (filter_map (frame_from a) h)
+frames_quiet a h e (restarted b) = filter_map-append (frame_from a) h (Restarted b ∷ []) ∙ append-nil (filter_map (frame_from a) h)
 
 -- and no answer
 pub answers_quiet : (board : Board) (a : ℕ) (h : List Event) (e : Event) → IsQuiet e → answers_to board a (h ++ e ∷ []) ≡ answers_to board a h
@@ -98,6 +100,8 @@ answers_quiet board a h e advance_failed =
     fold_with_prefix-push (λ before so_far event. so_far ++ answer_for board a before event) [] [] h AdvanceFailed ∙ append-nil (answers_to board a h)
 answers_quiet board a h e (sent_to b) =
     fold_with_prefix-push (λ before so_far event. so_far ++ answer_for board a before event) [] [] h (Sent b) ∙ append-nil (answers_to board a h)
+answers_quiet board a h e (restarted b) =
+    fold_with_prefix-push (λ before so_far event. so_far ++ answer_for board a before event) [] [] h (Restarted b) ∙ append-nil (answers_to board a h)
 
 -- an agent has as many answers as frames
 pub as_many : (board : Board) (a : ℕ) (h : List Event) → length (answers_to board a h) ≡ length (frames_of a h)

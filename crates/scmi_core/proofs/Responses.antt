@@ -1,24 +1,26 @@
 -- The delayed responses of a legal history.
-use Rattle.std.proofs.Common.{◌≡◌, ℕ, zero, suc, ◌+◌, ◌≤◌, ◌==◌, ◌&&◌, nat_lt, Bool, true, false, not, List, [], ◌∷◌, ◌++◌, length, take, drop, map, slice_get, option_map, Option, Some, None, refl, sym, ap, ◌∙◌, arith, if◌then◌else◌}
+use Rattle.std.proofs.Common.{◌≡◌, ◌⊎◌, inl, inr, ℕ, zero, suc, ◌+◌, ◌≤◌, ◌==◌, ◌&&◌, nat_lt, Bool, true, false, not, List, [], ◌∷◌, ◌++◌, length, take, drop, map, slice_get, option_map, Option, Some, None, refl, sym, ap, ◌∙◌, arith, if◌then◌else◌}
 use Rattle.std.specs.List.{filter}
 use Rattle.std.proofs.lemmas.List.{append-nil, map-append}
 use Rattle.std.proofs.lemmas.List.Elements.{filter-append}
+use Rattle.std.proofs.lemmas.Bool.{cases_Bool}
+use Rattle.std.proofs.lemmas.Grind.{fold-append}
 use Rattle.scmi_codec.specs.declared.message.Message.{Message}
 use Rattle.scmi_codec.specs.declared.frame.Frame.TheVariants.{Good, Malformed}
 use Rattle.scmi_plan.specs.Board.{Board}
 use Rattle.scmi_core.specs.declared.pending_set.PendingSet.{PendingSet}
 use Rattle.scmi_core.specs.declared.event.Event.{Event}
-use Rattle.scmi_core.specs.declared.event.Event.TheVariants.{Command, Advance, Sent, CommandFailed, AdvanceFailed}
+use Rattle.scmi_core.specs.declared.event.Event.TheVariants.{Command, Advance, Sent, CommandFailed, AdvanceFailed, Restarted}
 use Rattle.std.specs.Option.{option_map_or, option_to_list, option_and_then}
-use Rattle.scmi_core.specs.Deed.{Deed, fold_with_prefix}
+use Rattle.scmi_core.specs.Deed.{Deed, fold_with_prefix, restarted_by}
 use Rattle.scmi_core.specs.Value.{Change, Thing, State, Rate, Enabled, completed_set, failed_set, change_by}
-use Rattle.scmi_core.specs.Pending.{accepted_sets, acceptance, advances, is_advance, pending_sets, pending_of}
-use Rattle.scmi_core.specs.Outbox.{failed_response_for, failed_response_to, outbox_after, messages_made, made_by, response_to, response_for, notice_in, situation_after, state_changed}
+use Rattle.scmi_core.specs.Pending.{accepted_sets, acceptance, advances, is_advance, pending_sets, pending_of, sets_left}
+use Rattle.scmi_core.specs.Outbox.{failed_response_for, failed_response_to, is_restart_of, outbox_after, messages_left, messages_made, made_by, restart_count, sent_count, response_to, response_for, notice_in, situation_after, state_changed}
 use Rattle.scmi_core.specs.Situation.{Situation}
 use Rattle.scmi_core.specs.History.{deeds, deed_after}
 use Rattle.scmi_core.specs.Legal.{IsLegal}
-use Rattle.scmi_core.specs.Bounds.{Ending, HasResponses, ended_sets, ending_by, endings, response_at}
-use Rattle.scmi_core.proofs.Deeds.{added_success, accepted_sets-push, advances-push, fold_with_prefix-push, messages_made-push}
+use Rattle.scmi_core.specs.Bounds.{Ending, HasResponses, ended_sets, ending_by, endings, response_at, responses_for}
+use Rattle.scmi_core.proofs.Deeds.{added_success, accepted_sets-push, advances-push, fold_with_prefix-push, messages_made-push, sets_left-ended}
 use Rattle.scmi_core.proofs.Legal.{Grown, empty, grow, grown, deeds-push, deed-event, IsLegal-front, advances_le-accepted}
 
 delayed : List Message → List Message
@@ -26,11 +28,6 @@ delayed ms = filter (λ m. m.header.kind == 2) ms
 
 wanting : ℕ → List Ending → List Ending
 wanting a es = filter (λ e. e.set.agent == a && e.set.wanted) es
-
-take-within : (n : ℕ) (xs ys : List PendingSet) → n ≤ length xs → take n (xs ++ ys) ≡ take n xs
-take-within zero xs ys h = refl
-take-within (suc n) [] ys h = elim h [ ]
-take-within (suc n) (x ∷ xs) ys h = ap (λ zs. x ∷ zs) (take-within n xs ys (omega arith))
 
 take-one : (n : ℕ) (xs : List PendingSet) → take (suc n) xs ≡ take n xs ++ option_to_list (slice_get (drop n xs) 0)
 take-one zero [] = refl
@@ -98,6 +95,7 @@ module _ (board : Board) (a : ℕ) (h : List Deed) where
   made_delayed (Command b f) reply = quiet (Command b f) reply refl refl
   made_delayed (CommandFailed b f) reply = quiet (CommandFailed b f) reply refl refl
   made_delayed (Sent b) reply = quiet (Sent b) reply refl refl
+  made_delayed (Restarted b) reply = quiet (Restarted b) reply refl refl
   made_delayed Advance reply =
       let deed : Deed = record { event = Advance; reply = reply } in
       let responses = option_map_or (response_for a) (completed_set board h Advance) [] in
@@ -120,20 +118,22 @@ endings-push board h deed = fold_with_prefix-push (λ before so_far x. so_far ++
 
 ended_sets-push : (board : Board) (h : List Deed) (deed : Deed) (o : Option PendingSet) → advances h ≤ length (accepted_sets board h)
     → (is_advance deed.event ≡ false → o ≡ None)
-    → (is_advance deed.event ≡ true → (o ≡ slice_get (pending_sets board h) 0) × (option_and_then (acceptance board) (added_success deed) ≡ None))
+    → (is_advance deed.event ≡ true → (o ≡ slice_get (pending_sets board h) 0) × (option_and_then (acceptance board) (added_success deed) ≡ None) × (restarted_by deed.event ≡ None))
     → (b : Bool) → is_advance deed.event ≡ b
     → ended_sets board (h ++ deed ∷ []) ≡ ended_sets board h ++ option_to_list o
 ended_sets-push board h deed o enough stays goes false is =
     let zero_more : advances h + 0 ≡ advances h = omega arith in
     ap (λ n. take n (accepted_sets board (h ++ deed ∷ []))) (advances-push h deed ∙ ap (λ b. advances h + (if b then 1 else 0)) is ∙ zero_more)
     ∙ ap (take (advances h)) (accepted_sets-push board h deed)
-    ∙ take-within (advances h) (accepted_sets board h) (option_to_list (option_and_then (acceptance board) (added_success deed))) enough
+    ∙ sets_left-ended (advances h) (restarted_by deed.event) (accepted_sets board h) (option_to_list (option_and_then (acceptance board) (added_success deed))) enough
     ∙ sym (append-nil (ended_sets board h))
     ∙ ap (λ o. ended_sets board h ++ option_to_list o) (sym (stays is))
 ended_sets-push board h deed o enough stays goes true is =
     let one_more : advances h + 1 ≡ suc (advances h) = omega arith in
     ap (λ n. take n (accepted_sets board (h ++ deed ∷ []))) (advances-push h deed ∙ ap (λ b. advances h + (if b then 1 else 0)) is ∙ one_more)
-    ∙ ap (take (suc (advances h))) (accepted_sets-push board h deed ∙ ap (λ o. accepted_sets board h ++ option_to_list o) (goes is).1 ∙ append-nil (accepted_sets board h))
+    ∙ ap (take (suc (advances h))) (accepted_sets-push board h deed
+    ∙ ap (λ restarted. sets_left (advances h) restarted (accepted_sets board h) ++ option_to_list (option_and_then (acceptance board) (added_success deed))) (goes is).2
+    ∙ ap (λ o. accepted_sets board h ++ option_to_list o) (goes is).1 ∙ append-nil (accepted_sets board h))
     ∙ take-one (advances h) (accepted_sets board h)
     ∙ ap (λ o. ended_sets board h ++ option_to_list o) (sym (goes is).0)
 
@@ -159,12 +159,46 @@ ended_sets-more board h (Command b (Malformed len header)) enough = ended_sets-p
 ended_sets-more board h (CommandFailed b (Good m)) enough = ended_sets-push board h (deed_after board h (CommandFailed b (Good m))) None enough (λ is. refl) (λ is. absurd (cc)) false refl
 ended_sets-more board h (CommandFailed b (Malformed len header)) enough = ended_sets-push board h (deed_after board h (CommandFailed b (Malformed len header))) None enough (λ is. refl) (λ is. absurd (cc)) false refl
 ended_sets-more board h (Sent b) enough = ended_sets-push board h (deed_after board h (Sent b)) None enough (λ is. refl) (λ is. absurd (cc)) false refl
+ended_sets-more board h (Restarted b) enough = ended_sets-push board h (deed_after board h (Restarted b)) None enough (λ is. refl) (λ is. absurd (cc)) false refl
 ended_sets-more board h Advance enough =
     ended_sets-push board h (deed_after board h Advance) (ended (ending_by board h Advance)) enough (λ is. absurd (cc))
-    (λ is. (ended_map (λ p. record { set = p; failed = false }) (λ p. refl) (slice_get (pending_sets board h) 0), refl)) true refl
+    (λ is. (ended_map (λ p. record { set = p; failed = false }) (λ p. refl) (slice_get (pending_sets board h) 0), refl, refl)) true refl
 ended_sets-more board h AdvanceFailed enough =
     ended_sets-push board h (deed_after board h AdvanceFailed) (ended (ending_by board h AdvanceFailed)) enough (λ is. absurd (cc))
-    (λ is. (ended_map (λ p. record { set = p; failed = true }) (λ p. refl) (slice_get (pending_sets board h) 0), refl)) true refl
+    (λ is. (ended_map (λ p. record { set = p; failed = true }) (λ p. refl) (slice_get (pending_sets board h) 0), refl, refl)) true refl
+
+responses_for-push : (board : Board) (a : ℕ) (h : List Deed) (deed : Deed)
+    → responses_for board a (h ++ deed ∷ [])
+    ≡ (if is_restart_of a deed.event then delayed (take (sent_count a h) (messages_made board a h)) else responses_for board a h)
+    ++ map response_at (wanting a (option_to_list (ending_by board h deed.event)))
+unfolding delayed wanting
+responses_for-push board a h deed =
+    fold_with_prefix-push
+    (λ before so_far x.
+    (if is_restart_of a x.event then filter (λ m. m.header.kind == 2) (take (sent_count a before) (messages_made board a before)) else so_far)
+    ++ map response_at (filter (λ e. e.set.agent == a && e.set.wanted) (option_to_list (ending_by board before x.event))))
+    [] [] h deed
+
+restart_count-push : (a : ℕ) (h : List Deed) (deed : Deed) → restart_count a (h ++ deed ∷ []) ≡ restart_count a h + (if is_restart_of a deed.event then 1 else 0)
+restart_count-push a h deed = fold-append (λ n e. n + (if is_restart_of a e.event then 1 else 0)) 0 h (deed ∷ [])
+
+-- an agent that never restarted did not so before, nor now
+none-more : (a : ℕ) (h : List Deed) (deed : Deed) → restart_count a (h ++ deed ∷ []) ≡ 0 → (restart_count a h ≡ 0) × (is_restart_of a deed.event ≡ false)
+none-more a h deed none = by (cases_Bool (is_restart_of a deed.event)) where
+  by : ((is_restart_of a deed.event ≡ true) ⊎ (is_restart_of a deed.event ≡ false)) → (restart_count a h ≡ 0) × (is_restart_of a deed.event ≡ false)
+  by (inl is) = let more = restart_count-push a h deed ∙ ap (λ b. restart_count a h + (if b then 1 else 0)) is in absurd (omega arith)
+  by (inr is) = let more = restart_count-push a h deed ∙ ap (λ b. restart_count a h + (if b then 1 else 0)) is in (omega arith, is)
+
+-- the delayed responses among what is left of the messages, and those that an event makes
+delayed-more : (board : Board) (a : ℕ) (h : List Deed) (deed : Deed)
+    → delayed (messages_made board a (h ++ deed ∷ []))
+    ≡ delayed (messages_left (sent_count a h) (is_restart_of a deed.event) (messages_made board a h)) ++ map response_at (wanting a (option_to_list (ending_by board h deed.event)))
+unfolding delayed wanting
+delayed-more board a h deed =
+    let left = messages_left (sent_count a h) (is_restart_of a deed.event) (messages_made board a h) in
+    ap (filter (λ m. m.header.kind == 2)) (messages_made-push board a h deed)
+    ∙ filter-append (λ m. m.header.kind == 2) left (made_by board a h (messages_made board a h) deed)
+    ∙ ap (λ ys. filter (λ m. m.header.kind == 2) left ++ ys) (made_delayed board a h deed.event deed.reply)
 
 responses-push : (board : Board) (h : List Deed) (e : Event) → advances h ≤ length (accepted_sets board h) → HasResponses board h → HasResponses board (h ++ deed_after board h e ∷ [])
 unfolding delayed wanting
@@ -180,19 +214,28 @@ responses-push board h e enough had =
           ∙ ap (λ ps. ended_sets board h ++ ps) (sets_of (ending_by board h e))
           ∙ sym (ended_sets-more board h e enough);
       delayed = λ a.
-          ap (filter (λ m. m.header.kind == 2)) (messages_made-push board a h deed)
-          ∙ filter-append (λ m. m.header.kind == 2) (messages_made board a h) (made_by board a h (messages_made board a h) deed)
-          ∙ ap (λ ys. ys ++ filter (λ m. m.header.kind == 2) (made_by board a h (messages_made board a h) deed)) (had.delayed a)
-          ∙ ap (λ ys. map response_at (wanting a (endings board h)) ++ ys) (made_delayed board a h deed.event deed.reply)
+          delayed-more board a h deed
+          ∙ ap (λ ys. ys ++ map response_at (wanting a (option_to_list (ending_by board h deed.event)))) (left a (is_restart_of a deed.event))
+          ∙ sym (responses_for-push board a h deed);
+      undropped = λ a none.
+          let never = none-more a h deed none in
+          delayed-more board a h deed
+          ∙ ap (λ restarted. delayed (messages_left (sent_count a h) restarted (messages_made board a h)) ++ map response_at (wanting a (option_to_list (ending_by board h deed.event)))) never.1
+          ∙ ap (λ ys. ys ++ map response_at (wanting a (option_to_list (ending_by board h deed.event)))) (had.undropped a never.0)
           ∙ ap (λ event. map response_at (wanting a (endings board h)) ++ map response_at (wanting a (option_to_list (ending_by board h event)))) (deed-event board h e)
           ∙ sym (map-append response_at (wanting a (endings board h)) (wanting a (option_to_list (ending_by board h e))))
           ∙ ap (map response_at) (sym (filter-append (λ x. x.set.agent == a && x.set.wanted) (endings board h) (option_to_list (ending_by board h e))))
           ∙ ap (λ es. map response_at (wanting a es)) (sym more);
-    }
+    } where
+      left : (a : ℕ) (restarted : Bool)
+          → filter (λ m. m.header.kind == 2) (messages_left (sent_count a h) restarted (messages_made board a h))
+          ≡ (if restarted then filter (λ m. m.header.kind == 2) (take (sent_count a h) (messages_made board a h)) else responses_for board a h)
+      left a true = refl
+      left a false = had.delayed a
 
 responses-of : (board : Board) {h : List Event} → Grown h → IsLegal board h → HasResponses board (deeds board h)
 unfolding deeds fold_with_prefix
-responses-of board empty legal = record { each = refl; delayed = λ a. refl }
+responses-of board empty legal = record { each = refl; delayed = λ a. refl; undropped = λ a none. refl }
 responses-of board (grow {xs} g e) legal =
     let front = IsLegal-front board xs e legal in
     rw (deeds-push board xs e) (responses-push board (deeds board xs) e (advances_le-accepted board xs front) (responses-of board g front))

@@ -1,8 +1,8 @@
 -- Tables that agree with a history, and what one more event leaves of that.
-use Rattle.std.proofs.Common.{◌≡◌, ◌≢◌, ◌⊎◌, inl, inr, ℕ, ◌+◌, ◌<◌, ◌≤◌, ◌==◌, Bool, true, false, List, [], ◌∷◌, ◌++◌, length, drop, slice_get, None, Err, option_map, unwrap_or, refl, sym, ap, ◌∙◌, subst, arith, if◌then◌else◌}
+use Rattle.std.proofs.Common.{◌≡◌, ◌≢◌, ◌⊎◌, inl, inr, ℕ, ◌+◌, ◌<◌, ◌≤◌, ◌==◌, Bool, true, false, List, [], ◌∷◌, ◌++◌, length, drop, get_or, map, slice_get, Option, None, Some, Err, option_map, unwrap_or, refl, sym, ap, ◌∙◌, subst, arith, if◌then◌else◌}
 use Rattle.std.specs.List.{All}
 use Rattle.std.proofs.lemmas.List.{append-nil, drop-drop}
-use Rattle.std.proofs.lemmas.List.Elements.{All-nil, All-drop}
+use Rattle.std.proofs.lemmas.List.Elements.{All-map, All-weaker, All-nil, All-drop}
 use Rattle.std.proofs.lemmas.Bool.{eq-eqb}
 use Rattle.std.proofs.lemmas.Bool.Decides.{eqb_tells}
 use Rattle.scmi_codec.specs.Header.{HeaderFields}
@@ -21,25 +21,25 @@ use Rattle.scmi_power.specs.PowerTable.{state_at, is_subscribed}
 use Rattle.scmi_clock.specs.ClockTable.{rate_at, enabled_at}
 use Rattle.scmi_core.specs.declared.pending_set.PendingSet.{PendingSet}
 use Rattle.scmi_core.specs.declared.event.Event.{Event}
-use Rattle.scmi_core.specs.declared.event.Event.TheVariants.{Command, Advance, Sent, CommandFailed, AdvanceFailed}
+use Rattle.scmi_core.specs.declared.event.Event.TheVariants.{Command, Advance, Sent, CommandFailed, AdvanceFailed, Restarted}
 use Rattle.scmi_core.specs.declared.tables.Tables.{Tables}
-use Rattle.std.specs.Option.{option_to_list, option_and_then, option_map_or}
-use Rattle.scmi_core.specs.Deed.{Deed, success_with, fold_with_prefix, success_of}
+use Rattle.std.specs.Option.{option_to_list, option_and_then, option_map_or, option_or}
+use Rattle.scmi_core.specs.Deed.{Deed, restarted_by, success_with, fold_with_prefix, success_of}
 use Rattle.scmi_core.specs.Permissions.{permission_in, has_permission}
-use Rattle.scmi_core.specs.Subscriptions.{subscription, is_subscriber}
+use Rattle.scmi_core.specs.Subscriptions.{subscription, subscription_after_reset, is_subscriber}
 use Rattle.scmi_core.specs.Value.{value, change_by, completed_set, failed_set, Thing, State, Rate, Enabled, bit_value, value_in, value_at_start, change_of}
-use Rattle.scmi_core.specs.Pending.{acceptance, pending_sets}
+use Rattle.scmi_core.specs.Pending.{acceptance, pending_sets, unwanted}
 use Rattle.scmi_core.specs.Outbox.{failed_response_for, failed_words, message_with, messages_made, made_by, made_in, outbox_after, sent_count, is_sent_by, situation_after}
 use Rattle.scmi_core.specs.History.{answer_to, deeds, outbox}
 use Rattle.scmi_core.specs.Legal.{CanFollow}
 use Rattle.scmi_core.specs.Effect.{effect_after, effect_in, effect_of, effect_read}
 use Rattle.scmi_core.specs.Reply.{answer_in, fits_channel, reply_in, reply_words, words_given}
 use Rattle.scmi_core.specs.Tables.{outbox_at, situation_in, value_at, IsThing, IsOfBoard}
-use Rattle.scmi_core.specs.Step.{HasAnswered, HasFailed, rest_of, HasStepped}
+use Rattle.scmi_core.specs.Step.{HasAnswered, HasFailed, HasRestarted, rest_of, HasStepped}
 use Rattle.scmi_core.specs.Agreement.{Agrees}
 use Rattle.scmi_core.proofs.Deeds.{added_success, made_by-unfailed, has_permission-push, is_subscriber-push, value-push, pending_sets-push, pending_sets-advance, pending_sets-failed, outbox-push, IsLegal-push, sent_count-push}
 use Rattle.scmi_core.proofs.Legal.{IsLegal-nil, deeds-push, advances_le-accepted, sent_le-made}
-use Rattle.scmi_core.proofs.Situations.{SameSituation, answer-same, messages_made-same, messages_made-sent, nothing-made, given-same, reply-same}
+use Rattle.scmi_core.proofs.Situations.{SameSituation, answer-same, messages_made-same, messages_made-sent, nothing-made, outbox-restarted, given-same, reply-same}
 
 -- the tables say of each agent what the history says
 pub same-situation : (board : Board) (t : Tables) (h : List Event) (a : ℕ) → Agrees board t h → IsLawful board → 1 ≤ a → a ≤ length board.agents
@@ -61,7 +61,7 @@ same-situation board t h a agrees law lo hi =
 module _ (board : Board) (t new : Tables) (h : List Event) (deed : Deed) (agrees : Agrees board t h) (law : IsLawful board)
     (stepped : HasStepped board t (added_success deed) (completed_set board (deeds board h) deed.event) new)
     (pend : new.pending ≡ pending_sets board (deeds board h ++ deed ∷ []))
-    (unfailed : failed_set board (deeds board h) deed.event ≡ None) where
+    (unfailed : failed_set board (deeds board h) deed.event ≡ None) (unrestarted : restarted_by deed.event ≡ None) where
   messages_made-tied : (a : ℕ) → 1 ≤ a → a ≤ length board.agents
       → made_in a (situation_in a t) new.pending (completed_set board (deeds board h) deed.event) (change_of board (added_success deed) (completed_set board (deeds board h) deed.event))
       ≡ made_by board a (deeds board h) (messages_made board a (deeds board h)) deed
@@ -84,6 +84,7 @@ module _ (board : Board) (t new : Tables) (h : List Event) (deed : Deed) (agrees
     subscriptions = λ a d lo hi small.
         stepped.subscriptions a d lo hi small
         ∙ ap (unwrap_or (option_and_then (subscription a d) (added_success deed))) (agrees.subscriptions a d lo hi small)
+        ∙ ap (λ restarted. unwrap_or (option_or (subscription_after_reset a restarted) (option_and_then (subscription a d) (added_success deed))) (is_subscriber a d (deeds board h))) (sym unrestarted)
         ∙ sym (ap (is_subscriber a d) more ∙ is_subscriber-push a d (deeds board h) deed);
     values = λ x within.
         stepped.values x within
@@ -95,6 +96,7 @@ module _ (board : Board) (t new : Tables) (h : List Event) (deed : Deed) (agrees
         stepped.outboxes a lo hi
         ∙ ap (λ b. b ++ made_in a (situation_in a t) new.pending (completed_set board (deeds board h) deed.event) (change_of board (added_success deed) (completed_set board (deeds board h) deed.event))) (agrees.outboxes a lo hi)
         ∙ ap (λ b. outbox board a h ++ b) (messages_made-tied a lo hi)
+        ∙ ap (λ restarted. (if option_map_or (λ b. a == b) restarted false then [] else outbox board a h) ++ made_by board a (deeds board h) (messages_made board a (deeds board h)) deed) (sym unrestarted)
         ∙ sym (ap (outbox_after board a) more ∙ outbox-push board a (deeds board h) deed (unsent a) (sent_le-made board h agrees.legal a));
   }
 
@@ -108,7 +110,7 @@ Agrees-command board t new h a m reply agrees law lo hi is stepped =
     let stepped' : HasStepped board t (success_of a m.header (command_of m) (words_given board a (situation_after board a (deeds board h)) m)) None new = subst (λ r. HasStepped board t (success_of a m.header (command_of m) r) None new) words stepped in
     Agrees-deed board t new h deed agrees law stepped'
     (stepped'.pending ∙ ap (λ p. p ++ option_to_list (option_and_then (acceptance board) (added_success deed))) agrees.pending ∙ sym (pending_sets-push board (deeds board h) deed refl (advances_le-accepted board h agrees.legal)))
-    refl (Command a (Good m)) (deeds-push board h (Command a (Good m))) (lo, hi) (λ x. refl)
+    refl refl (Command a (Good m)) (deeds-push board h (Command a (Good m))) (lo, hi) (λ x. refl)
 
 -- an event that is neither a success nor a completion
 pub nothing-stepped : (board : Board) (t : Tables) → HasStepped board t None None t
@@ -158,7 +160,7 @@ Agrees-malformed board t h a len header agrees law lo hi =
     let deed : Deed = record { event = Command a (Malformed len header); reply = [] } in
     Agrees-deed board t t h deed agrees law (nothing-stepped board t)
     (sym (append-nil t.pending) ∙ ap (λ p. p ++ []) agrees.pending ∙ sym (pending_sets-push board (deeds board h) deed refl (advances_le-accepted board h agrees.legal)))
-    refl (Command a (Malformed len header)) (deeds-push board h (Command a (Malformed len header))) (lo, hi) (λ x. refl)
+    refl refl (Command a (Malformed len header)) (deeds-push board h (Command a (Malformed len header))) (lo, hi) (λ x. refl)
 
 -- a frame that was answered
 pub Agrees-answered : (board : Board) (t new : Tables) (h : List Event) (a : ℕ) (frame : Frame) → Agrees board t h → IsLawful board → 1 ≤ a → a ≤ length board.agents
@@ -187,7 +189,7 @@ Agrees-advance board t new h agrees law waiting stepped =
     let stepped' : HasStepped board t None (completed_set board (deeds board h) Advance) new = subst (λ p. HasStepped board t None (slice_get p 0) new) agrees.pending stepped in
     Agrees-deed board t new h deed agrees law stepped'
     (stepped.pending ∙ rest-drop t t.pending waiting ∙ ap (drop 1) agrees.pending ∙ sym (pending_sets-advance board (deeds board h)))
-    refl Advance (deeds-push board h Advance) follows (λ x. refl)
+    refl refl Advance (deeds-push board h Advance) follows (λ x. refl)
 
 -- the effect of a frame by the tables is that by the history
 pub effect-table : (board : Board) (t : Tables) (h : List Event) (a : ℕ) (frame : Frame) → Agrees board t h → IsLawful board → 1 ≤ a → a ≤ length board.agents
@@ -209,7 +211,7 @@ Agrees-command_failed board t h a m agrees law lo hi some =
     let deed : Deed = record { event = CommandFailed a (Good m); reply = failed_words } in
     Agrees-deed board t t h deed agrees law (nothing-stepped board t)
     (sym (append-nil t.pending) ∙ ap (λ p. p ++ []) agrees.pending ∙ sym (pending_sets-push board (deeds board h) deed refl (advances_le-accepted board h agrees.legal)))
-    refl (CommandFailed a (Good m)) (deeds-push board h (CommandFailed a (Good m))) ((lo, hi), some) (λ x. refl)
+    refl refl (CommandFailed a (Good m)) (deeds-push board h (CommandFailed a (Good m))) ((lo, hi), some) (λ x. refl)
 
 -- a completion that failed
 pub Agrees-advance_failed : (board : Board) (t new : Tables) (h : List Event) → Agrees board t h → IsLawful board → 0 < length t.pending → HasFailed t new
@@ -278,6 +280,51 @@ Agrees-sent board t new h a agrees law lo hi waiting bases powers clocks pends f
           others x lo' other.1 ∙ agrees.outboxes x lo' hi'
           ∙ sym (ap (outbox_after board x) (deeds-push board h (Sent a)) ∙ ap (drop (sent_count x (deeds board h ++ deed ∷ []))) (messages_made-sent board x (deeds board h) a)
           ∙ ap (λ n. drop n (messages_made board x (deeds board h))) (sent_count-push x (deeds board h) deed ∙ ap (λ b. sent_count x (deeds board h) + (if b then 1 else 0)) other.0 ∙ zero_more))
+
+or_none : {X : Type 0} (o : Option X) → option_or o None ≡ o
+or_none None = refl
+or_none (Some x) = refl
+
+known_unwanted : (board : Board) (a : ℕ) (sets : List PendingSet) → All (IsOfBoard board) sets → All (IsOfBoard board) (map (unwanted a) sets)
+known_unwanted board a sets known =
+    All-map (IsOfBoard board) (unwanted a) sets
+    (All-weaker (IsOfBoard board) (λ p. IsOfBoard board (unwanted a p)) (λ p one. record { first = one.first; last = one.last; thing = one.thing }) sets known)
+
+-- an agent that restarted
+pub Agrees-restarted : (board : Board) (t new : Tables) (h : List Event) (a : ℕ) → Agrees board t h → 1 ≤ a → a ≤ length board.agents → HasRestarted a t new
+    → Agrees board new (h ++ Restarted a ∷ [])
+unfolding outbox
+Agrees-restarted board t new h a agrees lo hi it =
+    let deed : Deed = record { event = Restarted a; reply = [] } in
+    let more = deeds-push board h (Restarted a) in
+    record {
+      legal = IsLegal-push board h (Restarted a) agrees.legal (lo, hi);
+      permissions = λ x d scope lo' hi' small. ap (λ b. is_allowed b x d scope) it.base ∙ agrees.permissions x d scope lo' hi' small ∙ sym (ap (has_permission x d scope) more ∙ has_permission-push x d scope (deeds board h) deed);
+      subscriptions = λ x d lo' hi' small.
+          it.subscriptions x d lo' hi' small
+          ∙ ap (unwrap_or (subscription_after_reset x (Some a))) (agrees.subscriptions x d lo' hi' small)
+          ∙ ap (λ said. unwrap_or said (is_subscriber x d (deeds board h))) (sym (or_none (subscription_after_reset x (Some a))))
+          ∙ sym (ap (is_subscriber x d) more ∙ is_subscriber-push x d (deeds board h) deed);
+      values = λ x within. same_value x ∙ agrees.values x within ∙ sym (ap (value board x) more ∙ value-push board x (deeds board h) deed);
+      pending = it.pending ∙ ap (map (unwanted a)) agrees.pending ∙ sym (append-nil (map (unwanted a) (pending_sets board (deeds board h))))
+          ∙ sym (ap (pending_sets board) more ∙ pending_sets-push board (deeds board h) deed refl (advances_le-accepted board h agrees.legal));
+      known = subst (All (IsOfBoard board)) (sym it.pending) (known_unwanted board a t.pending agrees.known);
+      outboxes = λ x lo' hi'. by_agent x lo' hi' (eqb_tells x a);
+    } where
+      same_value : (x : Thing) → value_at new x ≡ value_at t x
+      same_value (State d) = ap (λ states. get_or states d 0) it.states
+      same_value (Rate k) = ap (λ p. rate_at p k) it.clocks
+      same_value (Enabled k) = ap (λ p. bit_value (enabled_at p k)) it.clocks
+
+      by_agent : (x : ℕ) → 1 ≤ x → x ≤ length board.agents → (((x == a) ≡ true) × (x ≡ a)) ⊎ (((x == a) ≡ false) × (x ≢ a)) → outbox_at new x ≡ outbox board x (h ++ Restarted a ∷ [])
+      by_agent x lo' hi' (inl same) =
+          ap (outbox_at new) same.1 ∙ it.emptied
+          ∙ sym (ap (outbox_after board x) (deeds-push board h (Restarted a)) ∙ outbox-restarted board x (deeds board h) a (sent_le-made board h agrees.legal x)
+          ∙ ap (λ own. if own then [] else outbox board x h) same.0)
+      by_agent x lo' hi' (inr other) =
+          it.others x lo' other.1 ∙ agrees.outboxes x lo' hi'
+          ∙ sym (ap (outbox_after board x) (deeds-push board h (Restarted a)) ∙ outbox-restarted board x (deeds board h) a (sent_le-made board h agrees.legal x)
+          ∙ ap (λ own. if own then [] else outbox board x h) other.0)
 
 -- the tables of a new controller
 pub Agrees-new : (board : Board) (t : Tables) → ((a d : ℕ) (scope : Scope) → is_allowed t.base a d scope ≡ true) → ((a d : ℕ) → is_subscribed t.power a d ≡ false)

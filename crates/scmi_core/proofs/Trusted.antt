@@ -18,7 +18,7 @@ use Rattle.scmi_codec.specs.declared.status.Status.TheVariants.{NotFound, Invali
 use Rattle.scmi_plan.specs.Board.{Board}
 use Rattle.scmi_base.specs.BaseReply.{base_reply, no_agent, no_device, no_protocol}
 use Rattle.scmi_core.specs.declared.event.Event.{Event}
-use Rattle.scmi_core.specs.declared.event.Event.TheVariants.{Command, Advance, Sent, CommandFailed, AdvanceFailed}
+use Rattle.scmi_core.specs.declared.event.Event.TheVariants.{Command, Advance, Sent, CommandFailed, AdvanceFailed, Restarted}
 use Rattle.scmi_core.specs.Deed.{fold_with_prefix, success_of, success_with, successes}
 use Rattle.scmi_core.specs.History.{deed_after, deeds}
 use Rattle.scmi_core.specs.Laws.{HasTrustedPermissions, IsTrusted}
@@ -100,6 +100,7 @@ deed-trusted board h (CommandFailed a (Malformed len header)) = All-nil (IsTrust
 deed-trusted board h Advance = All-nil (IsTrusted board)
 deed-trusted board h AdvanceFailed = All-nil (IsTrusted board)
 deed-trusted board h (Sent a) = All-nil (IsTrusted board)
+deed-trusted board h (Restarted a) = All-nil (IsTrusted board)
 
 trusted_of : (board : Board) {h : List Event} → Grown h → HasTrustedPermissions board h
 unfolding deeds fold_with_prefix

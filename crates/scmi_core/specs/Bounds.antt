@@ -10,7 +10,7 @@ use Rattle.scmi_core.specs.declared.event.Event.TheVariants.{Advance, AdvanceFai
 use Rattle.scmi_core.specs.Deed.{Deed, flat_map_with_prefix, fold_with_prefix}
 use Rattle.scmi_core.specs.Value.{completed_set, failed_set}
 use Rattle.scmi_core.specs.Pending.{accepted_sets, advances, pending_sets, pending_of}
-use Rattle.scmi_core.specs.Outbox.{failed_response_to, is_restart_of, outbox_after, messages_made, response_to, sent_count}
+use Rattle.scmi_core.specs.Outbox.{failed_response_to, is_restart_of, outbox_after, messages_made, response_to, restart_count, sent_count}
 use Rattle.scmi_clock.specs.declared.discovery.TheConstants.{PENDING_SETS}
 use Rattle.scmi_core.specs.declared.outboxes.TheConstants.{OUTBOX_ROOM}
 
@@ -55,7 +55,9 @@ pub record HasBounds (board : Board) (h : List Deed) : Type 0 where
   pub pending : length (pending_sets board h) ≤ PENDING_SETS
   pub loads : (a : ℕ) → length (outbox_after board a h) + length (pending_of board a h) ≤ OUTBOX_ROOM
 
--- no delayed response is lost: the accepted sets end in order, and those responses made for an agent are one for each set of it that ended and wanted one, but for those that a restart of it dropped
+-- no delayed response is lost but those that a restart of their agent drops: the accepted sets end in order, and for an agent that never restarted one response is made for each set of it that ended and wanted one
 pub record HasResponses (board : Board) (h : List Deed) : Type 0 where
   pub each : map (λ e. e.set) (endings board h) ≡ ended_sets board h
   pub delayed : (a : ℕ) → delayed_responses (messages_made board a h) ≡ responses_for board a h
+  pub undropped : (a : ℕ) → restart_count a h ≡ 0 → delayed_responses (messages_made board a h)
+      ≡ map response_at (filter (λ e. e.set.agent == a && e.set.wanted) (endings board h))

@@ -113,6 +113,10 @@ made_by board a before so_far deed =
 abbrev pub is_restart_of : ℕ → Event → Bool
 is_restart_of a event = option_map_or (λ b. a == b) (restarted_by event) false
 
+-- how often agent a restarted
+abbrev pub restart_count : ℕ → List Deed → ℕ
+restart_count a h = count_by (λ deed. is_restart_of a deed.event) h
+
 -- what is left of the messages made for an agent, the first of which were posted: a restart of the agent drops the others (own)
 abbrev pub messages_left : ℕ → Bool → List Message → List Message
 messages_left posted restarted so_far = if restarted then take posted so_far else so_far
