@@ -82,6 +82,13 @@ impl MessageRing {
         }
     }
 
+    /// Takes all messages off.
+    pub fn clear(&mut self)
+        ensures { self.new ≡ [] }
+    {
+        self.count = 0;
+    }
+
     /// Writes a message of this header and these payload words behind the others.
     pub fn push(&mut self, header: Header, words: &[u32])
         requires room { length self.old < OUTBOX_ROOM }

@@ -98,6 +98,16 @@ impl Outboxes {
         self.each[agent as usize - 1].pop();
     }
 
+    /// Takes all messages off an agent's outbox.
+    pub fn clear(&mut self, agent: u32)
+        requires first { 1 ≤ agent }
+        requires last { agent ≤ AGENTS }
+        ensures emptied { outbox_in self.new agent ≡ [] }
+        ensures others { (a : ℕ) → 1 ≤ a → a ≢ agent → HasSameOutbox self.old self.new a }
+    {
+        self.each[agent as usize - 1].clear();
+    }
+
     /// Puts the delayed response to a set into its agent's outbox, if it is wanted.
     pub fn respond(&mut self, agent: u32, setting: Setting, header: Header, wanted: bool)
         requires first { 1 ≤ agent }

@@ -1,10 +1,10 @@
 //! The sets that are pending.
-ghost use Rattle.std.specs.Prelude.{◌≡◌, ◌≤◌, ◌<◌, ◌==◌, ◌||◌, ◌++◌, ◌∷◌, [], ◌↔◌, ℕ, Some, true, false, length, drop, slice_get};
+ghost use Rattle.std.specs.Prelude.{◌≡◌, ◌≤◌, ◌<◌, ◌==◌, ◌||◌, ◌++◌, ◌∷◌, [], ◌↔◌, ℕ, Some, true, false, length, drop, map, slice_get};
 ghost use Rattle.std.specs.Int.{bit_at};
 ghost use Rattle.scmi_clock.specs.declared.discovery.TheConstants.{PENDING_SETS};
 ghost use Rattle.scmi_plan.specs.declared.resource.Resource.TheVariants as resource;
 ghost use Rattle.scmi_plan.specs.declared.limits.TheConstants.{CLOCKS, DOMAINS};
-ghost use Rattle.scmi_core.specs.Pending.{has_room_beside, has_set_of, load_beside, sets_by};
+ghost use Rattle.scmi_core.specs.Pending.{has_room_beside, has_set_of, load_beside, sets_by, unwanted};
 ghost use Rattle.scmi_core.specs.declared.outboxes.TheConstants.{OUTBOX_ROOM};
 ghost use Rattle.scmi_core.specs.declared.pending.TheConstants.{MASK_BITS};
 
@@ -70,6 +70,16 @@ impl Pending {
         ensures rest { self.new ≡ drop 1 self.old }
     {
         self.sets.remove(0)
+    }
+
+    /// Takes back an agent's wish for delayed responses to its sets.
+    pub fn forget_wishes(&mut self, agent: u32)
+        ensures { self.new ≡ map (unwanted agent) self.old }
+    {
+        let sets = self.sets.as_mut_slice();
+        for set in sets.iter_mut() {
+            set.wanted &= set.agent != agent;
+        }
     }
 
     /// The first set.

@@ -1,0 +1,20 @@
+//! What is left of an agent that restarted without the platform.
+ghost use Rattle.std.specs.Prelude.{◌≡◌, ◌≤◌, length};
+ghost use Rattle.scmi_plan.specs.declared.limits.TheConstants.{AGENTS};
+ghost use Rattle.scmi_core.specs.Step.{HasRestarted};
+
+use crate::tables::Tables;
+
+impl Tables {
+    /// Ends the requests for notifications of an agent that restarted, drops its messages, and takes
+    /// back its wish for delayed responses to its pending sets.
+    pub fn restart(&mut self, agent: u32)
+        requires first { 1 ≤ agent }
+        requires last { agent ≤ AGENTS }
+        ensures { HasRestarted agent self.old self.new }
+    {
+        self.power.reset(agent);
+        self.pending.forget_wishes(agent);
+        self.outboxes.clear(agent);
+    }
+}
