@@ -12,6 +12,7 @@ fn knows_no_agent(core: &mut Core, agent: u32) -> bool {
     core.command(agent, &Frame::Good(message(0x0000_4000, &[]))) == Err(CoreError::NoAgent)
         && core.front(agent) == Err(CoreError::NoAgent)
         && core.sent(agent) == Err(CoreError::NoAgent)
+        && core.restart(agent) == Err(CoreError::NoAgent)
 }
 
 /// Whether nothing is pending, agent 1's outbox is empty, and nothing happened yet.
@@ -76,6 +77,36 @@ fn the_trace_has_each_event_once(rt: HostRuntime) -> Result<(), Fail> {
         Event::Command(1, set),
         Event::Advance,
         Event::Sent(1),
+    ];
+    assert!(rt; has_events(&core.into_trace(), &events));
+    Ok(())
+}
+
+/// Whether an agent that restarts while a notification waits for it and a set of it is pending gets
+/// neither that notification nor one more, nor a delayed response.
+fn restarts(core: &mut Core, request: &Frame, now: &Frame, later: &Frame) -> bool {
+    core.command(1, request).is_ok()
+        && core.command(2, now).is_ok()
+        && core.command(1, later).is_ok()
+        && core.front(1) != Ok(None)
+        && core.restart(1) == Ok(())
+        && core.advance() == Ok(true)
+        && core.front(1) == Ok(None)
+}
+
+#[test]
+fn an_agent_that_restarts_gets_nothing_old(rt: HostRuntime) -> Result<(), Fail> {
+    let mut core = Core::new(rt.alloc(), reference_plan(rt.alloc())?);
+    let request = Frame::Good(message(0x0000_4406, &[0, 1]));
+    let now = Frame::Good(message(0x0000_4404, &[0, 0, 0]));
+    let later = Frame::Good(message(0x0004_4404, &[1, 0, 0x4000_0000]));
+    assert!(rt; restarts(&mut core, &request, &now, &later));
+    let events = [
+        Event::Command(1, request),
+        Event::Command(2, now),
+        Event::Command(1, later),
+        Event::Restarted(1),
+        Event::Advance,
     ];
     assert!(rt; has_events(&core.into_trace(), &events));
     Ok(())

@@ -38,10 +38,10 @@ impl Trace {
 /// are the laws.
 ///
 /// At most 8 sets are pending, an agent's outbox and its pending sets are at most 16 together, and
-/// no delayed response is lost. A command that is refused moves nobody. Without all the commands
-/// that an agent had refused, a history is as legal, and the same to every other agent. Each
-/// change came of a command whose agent might make that change there, and what agents may do is
-/// said by the trusted agent alone. Each answer and each message has room in its agent's channels,
+/// no delayed response is lost unless its agent restarts. A command that is refused moves nobody.
+/// Without all the commands that an agent had refused, a history is as legal, and the same to every
+/// other agent. Each change came of a command whose agent might make that change there, and what
+/// agents may do is said by the trusted agent alone. Each answer and each message has room in its agent's channels,
 /// and for an agent that the platform can't send to none is made. What a history changes of the hardware is what each event
 /// changes, in order.
 pub fn every_legal_history()

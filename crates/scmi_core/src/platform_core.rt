@@ -224,8 +224,8 @@ impl Core {
     }
 
     /// The events so far. They are a legal history: at most 8 sets are pending in it, each agent's
-    /// outbox and pending sets are at most 16, no delayed response is lost, and what an agent got has
-    /// room in its channels.
+    /// outbox and pending sets are at most 16, no delayed response is lost unless its agent restarts,
+    /// and what an agent got has room in its channels.
     #[tactic(auto, using(crate::proofs::Bounds::bounds, crate::proofs::Responses::responses))]
     pub fn trace(&self) -> &Trace
         ensures events { result.now.events ≡ self.now.history }
