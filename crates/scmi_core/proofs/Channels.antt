@@ -44,7 +44,6 @@ use Rattle.scmi_core.specs.Reply.{fits_channel, reply_words}
 use Rattle.scmi_core.specs.Situation.{Situation, clock_view, power_view}
 use Rattle.scmi_core.specs.Subscriptions.{subscription, subscription_after_reset, subscription_at}
 use Rattle.scmi_core.specs.Value.{Change, Enabled, Rate, State, Thing}
-use Rattle.scmi_core.proofs.Deeds.{added_success}
 use Rattle.scmi_core.proofs.Following.{change_in, completed_in, failed_in, made_next, messages-next, next, pending_next, situation-next}
 use Rattle.scmi_core.proofs.Isolation.{answers-push}
 use Rattle.scmi_core.proofs.Legal.{Grown, IsLegal-front, advances_le-accepted, deeds-push, empty, grow, grown, sent_le-made}

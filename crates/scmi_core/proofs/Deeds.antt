@@ -1,7 +1,7 @@
 -- What one more deed adds to subscriptions, pending sets and outboxes, and when a history stays legal.
 use Rattle.std.proofs.Common.{◌≡◌, ℕ, zero, suc, ◌+◌, ◌≤◌, true, false, List, [], ◌∷◌, ◌++◌, length, take, drop, map, slice_get, Option, Some, None, Bool, unwrap_or, refl, sym, ap, ◌∙◌, subst, arith, if◌then◌else◌}
 use Rattle.std.specs.List.{filter_map, cons_option}
-use Rattle.std.proofs.lemmas.List.{append_assoc, append-nil, drop-append-le, drop-drop, take-append-le, same_from_push}
+use Rattle.std.proofs.lemmas.List.{append_assoc, append-nil, drop-append-le, drop-drop, same_from_push}
 use Rattle.std.proofs.lemmas.List.Elements.{filter_map-append}
 use Rattle.std.proofs.lemmas.Grind.{fold-append}
 use Rattle.scmi_codec.specs.declared.message.Message.{Message}
@@ -73,7 +73,7 @@ value-push board t h deed =
 pub is_subscriber-push : (a d : ℕ) (h : List Deed) (deed : Deed) → is_subscriber a d (h ++ deed ∷ []) ≡ unwrap_or (subscription_at a d deed) (is_subscriber a d h)
 is_subscriber-push a d h deed = latest-filter_map (subscription_at a d) false h (Some deed)
 
-pub accepted_sets-push : (board : Board) (h : List Deed) (deed : Deed) → accepted_sets board (h ++ deed ∷ []) 
+pub accepted_sets-push : (board : Board) (h : List Deed) (deed : Deed) → accepted_sets board (h ++ deed ∷ [])
     ≡ sets_left (advances h) (restarted_by deed.event) (accepted_sets board h) ++ option_to_list (option_and_then (acceptance board) (added_success deed))
 accepted_sets-push board h deed =
     fold_with_prefix-push
@@ -110,7 +110,7 @@ sets_left-pending zero (Some a) sets = refl
 sets_left-pending (suc n) (Some a) [] = refl
 sets_left-pending (suc n) (Some a) (p ∷ ps) = sets_left-pending n (Some a) ps
 
-pub messages_made-push : (board : Board) (a : ℕ) (h : List Deed) (deed : Deed) → messages_made board a (h ++ deed ∷ []) 
+pub messages_made-push : (board : Board) (a : ℕ) (h : List Deed) (deed : Deed) → messages_made board a (h ++ deed ∷ [])
     ≡ messages_left (sent_count a h) (is_restart_of a deed.event) (messages_made board a h) ++ made_by board a h (messages_made board a h) deed
 messages_made-push board a h deed =
     fold_with_prefix-push (λ before so_far x. messages_left (sent_count a before) (is_restart_of a x.event) so_far ++ made_by board a before so_far x) [] [] h deed

@@ -1,4 +1,4 @@
-use Rattle.std.proofs.Common.{◌≡◌, ◌≤◌, ◌-◌, ◌<◌, [], length, length-set, ap, ◌∙◌, arith}
+use Rattle.std.proofs.Common.{◌≡◌, ◌-◌, length, length-set, ap, ◌∙◌, arith}
 use Rattle.scmi_core.proofs.Boxes.{few_after}
 use Rattle.scmi_core.proofs.outboxes.Outboxes.clear.Goals as goal
 
