@@ -1,5 +1,5 @@
 -- The controller's ends go on keeping what ties them to the history.
-use Rattle.std.proofs.Common.{◌≡◌, ◌≢◌, inl, inr, ℕ, zero, suc, ◌+◌, ◌<◌, List, [], ◌∷◌, ◌++◌, length, map, get_or, set, arith, ◌∙◌, sym, ap, subst, refl, true, false, ◌||◌, Bool, Option, Some, None, Result, Ok, Err, OnErr, IfOk}
+use Rattle.std.proofs.Common.{◌≡◌, ◌≢◌, inl, inr, ℕ, zero, suc, ◌+◌, ◌<◌, List, [], ◌∷◌, ◌++◌, length, map, get_or, set, arith, ◌∙◌, sym, ap, subst, refl, true, false, ◌||◌, Bool, Option, Some, None, Result, Ok, Err, OnErr, OnOk, IfOk}
 use Rattle.std.specs.Prelude.{is_some}
 use Rattle.std.specs.Option.{option_or}
 use Rattle.std.proofs.lemmas.List.{length-append, length-map, length-set, map-append, set-get_or, take-append-le, take_all}
@@ -12,7 +12,7 @@ use Rattle.scmi_link.specs.Calls.{Collects}
 use Rattle.scmi_link.specs.declared.collected.Collected.{Collected}
 use Rattle.scmi_link.specs.declared.collected.Collected.TheVariants as collected
 use Rattle.scmi_core.specs.declared.event.Event.{Event}
-use Rattle.scmi_core.specs.declared.event.Event.TheVariants.{Command, Advance, Sent, CommandFailed, AdvanceFailed}
+use Rattle.scmi_core.specs.declared.event.Event.TheVariants.{Command, Advance, Sent, CommandFailed, AdvanceFailed, Restarted}
 use Rattle.scmi_core.specs.declared.core_error.CoreError.{CoreError}
 use Rattle.scmi_core.specs.Platform.{Platform}
 use Rattle.scmi_plan.specs.Board.{Board}
@@ -25,7 +25,7 @@ use Rattle.scmi_core.specs.declared.effect.Effect.{Effect}
 use Rattle.scmi_core.specs.Driven.{HappensOn, HasMade, IsCommandOf, IsEnd}
 use Rattle.scmi_core.specs.Effect.{effects}
 use Rattle.scmi_core.proofs.EffectsMade.{made-on}
-use Rattle.scmi_core.proofs.Laws.{frames_failed_own, frames_failed_other, answers_failed_own, answers_failed_other, advance_failed, frames_own, frames_other, answers_own, answers_other, IsQuiet, advance, sent_to, frames_quiet, answers_quiet, delivered_kept, delivered_sent, delivered_other, as_many}
+use Rattle.scmi_core.proofs.Laws.{frames_failed_own, frames_failed_other, answers_failed_own, answers_failed_other, advance_failed, frames_own, frames_other, answers_own, answers_other, IsQuiet, advance, restarted, sent_to, frames_quiet, answers_quiet, delivered_kept, delivered_sent, delivered_other, as_many}
 use Rattle.scmi_ends.specs.declared.served.Served.{Served}
 use Rattle.scmi_ends.specs.declared.served.Served.TheVariants as served
 use Rattle.scmi_ends.specs.declared.flushed.Flushed.{Flushed}
@@ -208,32 +208,37 @@ made_serve board a h h' applied applied' before old new served.Done s made = mad
 
 -- ADVANCE
 
--- a set completes
-pub agrees_advance : (board : Board) (h : List Event) (vs : List CalleeView) (cs : List CallerView) (ps : List (Option ℕ)) → EndsAgree board h vs cs ps → IsLegal board (h ++ Advance ∷ []) → EndsAgree board (h ++ Advance ∷ []) vs cs ps
-agrees_advance board h vs cs ps kept legal = record {
+-- an event that is no command and posts nothing
+agrees_quiet : (board : Board) (h : List Event) (e : Event) (vs : List CalleeView) (cs : List CallerView) (ps : List (Option ℕ)) → IsQuiet e → ((b : ℕ) → is_sent_by b e ≡ false) → EndsAgree board h vs cs ps → IsLegal board (h ++ e ∷ [])
+    → EndsAgree board (h ++ e ∷ []) vs cs ps
+agrees_quiet board h e vs cs ps quiet unsent kept legal = record {
   legal = legal;
   callees_count = kept.callees_count;
   callers_count = kept.callers_count;
   closed_at_count = kept.closed_at_count;
-  shut = shut_quiet h Advance advance vs ps kept.shut;
-  served = from_all (IsServed board h) (IsServed board (h ++ Advance ∷ [])) (served_quiet board h Advance advance) 1 vs kept.served;
-  delivers = from_all (IsDelivered board h) (IsDelivered board (h ++ Advance ∷ [])) (λ b v t. t ∙ ap (map Good) (sym (delivered_kept board b h Advance kept.legal refl))) 1 cs kept.delivers;
+  shut = shut_quiet h e quiet vs ps kept.shut;
+  served = from_all (IsServed board h) (IsServed board (h ++ e ∷ [])) (served_quiet board h e quiet) 1 vs kept.served;
+  delivers = from_all (IsDelivered board h) (IsDelivered board (h ++ e ∷ [])) (λ b v t. t ∙ ap (map Good) (sym (delivered_kept board b h e kept.legal (unsent b)))) 1 cs kept.delivers;
 }
+
+-- a set completes
+pub agrees_advance : (board : Board) (h : List Event) (vs : List CalleeView) (cs : List CallerView) (ps : List (Option ℕ)) → EndsAgree board h vs cs ps → IsLegal board (h ++ Advance ∷ []) → EndsAgree board (h ++ Advance ∷ []) vs cs ps
+agrees_advance board h vs cs ps kept legal = agrees_quiet board h Advance vs cs ps advance (λ b. refl) kept legal
 
 -- a set ends, which completes or fails
 agrees_end_of : (board : Board) (h : List Event) (event : Event) (vs : List CalleeView) (cs : List CallerView) (ps : List (Option ℕ)) → IsEnd event → EndsAgree board h vs cs ps → IsLegal board (h ++ event ∷ []) → EndsAgree board (h ++ event ∷ []) vs cs ps
 agrees_end_of board h event vs cs ps (inl is) kept legal =
     subst (λ v. EndsAgree board (h ++ v ∷ []) vs cs ps) (sym is) (agrees_advance board h vs cs ps kept (subst (λ v. IsLegal board (h ++ v ∷ [])) is legal))
 agrees_end_of board h event vs cs ps (inr is) kept legal =
-    subst (λ v. EndsAgree board (h ++ v ∷ []) vs cs ps) (sym is) (record {
-      legal = subst (λ v. IsLegal board (h ++ v ∷ [])) is legal;
-      callees_count = kept.callees_count;
-      callers_count = kept.callers_count;
-      closed_at_count = kept.closed_at_count;
-      shut = shut_quiet h AdvanceFailed advance_failed vs ps kept.shut;
-      served = from_all (IsServed board h) (IsServed board (h ++ AdvanceFailed ∷ [])) (served_quiet board h AdvanceFailed advance_failed) 1 vs kept.served;
-      delivers = from_all (IsDelivered board h) (IsDelivered board (h ++ AdvanceFailed ∷ [])) (λ b v t. t ∙ ap (map Good) (sym (delivered_kept board b h AdvanceFailed kept.legal refl))) 1 cs kept.delivers;
-    })
+    subst (λ v. EndsAgree board (h ++ v ∷ []) vs cs ps) (sym is)
+    (agrees_quiet board h AdvanceFailed vs cs ps advance_failed (λ b. refl) kept (subst (λ v. IsLegal board (h ++ v ∷ [])) is legal))
+
+-- what `Core::restart` leaves, whatever it answers
+pub agrees_after_restart : (old new : Platform) (a : ℕ) (vs : List CalleeView) (cs : List CallerView) (ps : List (Option ℕ)) (r : Result (Unit {0}) CoreError) → EndsAgree old.board old.history vs cs ps → new.board ≡ old.board → IsLegal new.board new.history
+    → OnOk r (new.history ≡ old.history ++ Restarted a ∷ []) → OnErr r (new ≡ old) → EndsAgree new.board new.history vs cs ps
+agrees_after_restart old new a vs cs ps (Ok done) kept eb legal event err =
+    rw eb (subst (λ k. EndsAgree old.board k vs cs ps) (sym event) (agrees_quiet old.board old.history (Restarted a) vs cs ps (restarted a) (λ b. refl) kept (subst (λ k. IsLegal old.board k) event (rw eb at legal))))
+agrees_after_restart old new a vs cs ps (Err e) kept eb legal event err = subst (λ p. EndsAgree p.board p.history vs cs ps) (sym err) kept
 
 -- what `Core::advance_on` leaves, whatever it answers
 pub agrees_after_on : (old new : Platform) (applied applied' : Option (List Effect)) (vs : List CalleeView) (cs : List CallerView) (ps : List (Option ℕ)) (r : Result Bool CoreError) → EndsAgree old.board old.history vs cs ps → new.board ≡ old.board → IsLegal new.board new.history

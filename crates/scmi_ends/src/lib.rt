@@ -15,6 +15,7 @@ mod flush;
 mod flushed;
 mod link;
 mod pause;
+mod restart;
 mod retire;
 mod serve;
 mod serve_error;
