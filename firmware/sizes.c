@@ -39,10 +39,14 @@ static void *do_calls(void *of)
             area.length = 4 + 4 * (try % 5);
             for (uint32_t i = 0; i < 4; i++)
                 area.payload[i] = try >> (2 * i + 3) & 3;
-            if (scmi_ask(&platform, 1 + try % AGENTS, area.bytes, &effect) == SCMI_DONE && try % 7 == 0)
-                scmi_fail(&platform, 1 + try % AGENTS, area.bytes);
-            else
+            if (try % 3 == 0)
                 scmi_answer(&platform, 1 + try % AGENTS, area.bytes);
+            else if (scmi_ask(&platform, 1 + try % AGENTS, area.bytes, &effect) == SCMI_EFFECT) {
+                if (try % 7 == 0)
+                    scmi_fail(&platform, area.bytes);
+                else
+                    scmi_commit(&platform, area.bytes);
+            }
             if (scmi_ask_advance(&platform, &effect) == SCMI_DONE && try % 5 == 0)
                 scmi_fail_advance(&platform);
             else if (try % 3 == 0)

@@ -7,8 +7,8 @@
  * payload words, the calls whose names end in _in take an area of that size, and the number of its bytes.
  *
  * Every call gives a number from the list below; after any but SCMI_DONE nothing has changed, neither the
- * platform, nor an area, nor what else it was given. No call waits, keeps a pointer that it was given, or reads or
- * writes but what it was given and the platform's own block.
+ * platform, nor an area, nor what else it was given, but after SCMI_EFFECT, which scmi_ask alone gives. No call waits,
+ * keeps a pointer that it was given, or reads or writes but what it was given and the platform's own block.
  *
  * Calls on one platform may come from any thread and from any core, one at a time, each seeing what the call before
  * it wrote: a lock around each call is enough, with its acquire and its release. Nothing is kept by thread or by
@@ -75,7 +75,7 @@ typedef union scmi_area {
 
 enum {
     SCMI_DONE = 0,
-    SCMI_NOTHING = 1,     /* no frame to answer, no hardware to change, no set pending, or no message to post */
+    SCMI_NOTHING = 1,     /* no frame to answer, no command asked about, no set pending, or no message to post */
     SCMI_MEMORY = 2,      /* memory was refused */
     SCMI_NO_AGENT = 3,    /* the board has no agent of this number */
     SCMI_NOT_FREE = 4,    /* the area still holds a message */
@@ -85,6 +85,8 @@ enum {
     SCMI_NO_FRAME = 8,    /* the channel is free: its area holds no frame */
     SCMI_WRONG_SIZE = 10, /* the area has not the size of the agent's channel */
     SCMI_NO_RESOURCE = 11, /* the board has no domain or clock of this number */
+    SCMI_ASKED = 12,      /* a command was asked about, and is neither committed nor failed */
+    SCMI_EFFECT = 13,     /* of scmi_ask: make this change, then scmi_commit or scmi_fail */
     SCMI_RULE = 16,       /* + N, from 1 to 5: the first rule that the board breaks */
     SCMI_LINE = 256       /* + L: line L of the board's text, from 1, has another form */
 };
@@ -129,57 +131,65 @@ uint32_t scmi_platform_new_recorded(scmi_platform *platform, const uint8_t *boar
 
 /*
  * Executes the frame that stands in an agent's area, and answers it in place: the reply and status word 1, or
- * status word 3 to a malformed frame. SCMI_DONE, SCMI_NO_PLATFORM, SCMI_NOTHING (the channel is free),
+ * status word 3 to a malformed frame. SCMI_DONE, SCMI_NO_PLATFORM, SCMI_ASKED, SCMI_NOTHING (the channel is free),
  * SCMI_NO_AGENT, or SCMI_MEMORY of a platform that keeps its history. Agents are numbered from 1.
  */
 uint32_t scmi_answer(scmi_platform *platform, uint32_t agent, uint8_t area[SCMI_AREA_BYTES]);
 
 /*
- * Gives what the frame that stands in an agent's area is to change of the hardware, before scmi_answer executes
- * it; the platform and the area stay as they were. SCMI_DONE, SCMI_NO_PLATFORM, SCMI_NO_FRAME (the channel is
- * free), SCMI_NO_AGENT, or SCMI_NOTHING (the frame changes nothing of the hardware). After SCMI_DONE the program
- * makes the change, and then calls scmi_answer with the same area, or scmi_fail where the hardware refused; no
- * call that changes the platform may come between, or what was asked may no longer be so.
+ * The same beside hardware, which is changed before the command is executed. A frame that changes none of it is
+ * executed and answered in place, as by scmi_answer: SCMI_DONE. Else SCMI_EFFECT: `effect` says what it is to change,
+ * the platform keeps the frame as it was read, and the area stays as it was. The program makes the change, and calls
+ * scmi_commit, or scmi_fail where the hardware refused; until then every call that would change the platform gives
+ * SCMI_ASKED and changes nothing, and the calls that read it go on. SCMI_NO_PLATFORM, SCMI_ASKED, SCMI_NO_FRAME (the
+ * channel is free), SCMI_NO_AGENT, or SCMI_MEMORY of a platform that keeps its history; after SCMI_EFFECT there is
+ * room for the event.
  */
-uint32_t scmi_ask(scmi_platform *platform, uint32_t agent, const uint8_t area[SCMI_AREA_BYTES], scmi_effect *effect);
+uint32_t scmi_ask(scmi_platform *platform, uint32_t agent, uint8_t area[SCMI_AREA_BYTES], scmi_effect *effect);
 
 /*
- * Answers the frame that stands in an agent's area by HARDWARE_ERROR, in place: the hardware refused what
- * scmi_ask gave, and every value stays as it was. SCMI_DONE, SCMI_NO_PLATFORM, SCMI_NO_FRAME, SCMI_NO_AGENT,
- * SCMI_NOTHING (the frame changes nothing of the hardware), or SCMI_MEMORY of a platform that keeps its history.
+ * The hardware has made what scmi_ask gave: the command is executed as it was kept, and its answer written into the
+ * area whole, status, length, header and payload. Nothing of the area is read, so what an agent does to it after
+ * scmi_ask changes neither what is executed nor the answer. SCMI_DONE, SCMI_NO_PLATFORM, SCMI_NOTHING (no command was
+ * asked about), or SCMI_WRONG_SIZE (it stood in an area of another size), and never SCMI_MEMORY.
  */
-uint32_t scmi_fail(scmi_platform *platform, uint32_t agent, uint8_t area[SCMI_AREA_BYTES]);
+uint32_t scmi_commit(scmi_platform *platform, uint8_t area[SCMI_AREA_BYTES]);
+
+/* The same where the hardware refused: the answer is HARDWARE_ERROR, and every value stays as it was. */
+uint32_t scmi_fail(scmi_platform *platform, uint8_t area[SCMI_AREA_BYTES]);
 
 /*
  * The same in an area that has the size of the agent's channel, as scmi_channel gives it: `bytes` bytes. A frame
- * that is longer than the channel is malformed, and no reply is longer. SCMI_NO_PLATFORM, SCMI_NO_AGENT and
- * SCMI_WRONG_SIZE (`bytes` is another size) come before all else, in this order; the other numbers as above. Where
- * the channel is whole they do what the calls above do.
+ * that is longer than the channel is malformed, and no reply is longer. SCMI_NO_PLATFORM, SCMI_ASKED, SCMI_NO_AGENT
+ * and SCMI_WRONG_SIZE (`bytes` is another size) come before all else, in this order; the other numbers as above. Where
+ * the channel is whole they do what the calls above do. A command that was asked about by scmi_ask_in is committed or
+ * fails in as many bytes.
  */
 uint32_t scmi_answer_in(scmi_platform *platform, uint32_t agent, uint8_t *area, size_t bytes);
-uint32_t scmi_ask_in(scmi_platform *platform, uint32_t agent, const uint8_t *area, size_t bytes, scmi_effect *effect);
-uint32_t scmi_fail_in(scmi_platform *platform, uint32_t agent, uint8_t *area, size_t bytes);
+uint32_t scmi_ask_in(scmi_platform *platform, uint32_t agent, uint8_t *area, size_t bytes, scmi_effect *effect);
+uint32_t scmi_commit_in(scmi_platform *platform, uint8_t *area, size_t bytes);
+uint32_t scmi_fail_in(scmi_platform *platform, uint8_t *area, size_t bytes);
 
 /* Gives what an agent's channels are. SCMI_DONE, SCMI_NO_PLATFORM or SCMI_NO_AGENT. */
 uint32_t scmi_channel(scmi_platform *platform, uint32_t agent, scmi_channel_numbers *channel);
 
 /*
- * Completes the first pending set. SCMI_DONE, SCMI_NO_PLATFORM, SCMI_NOTHING (none is pending), or SCMI_MEMORY
- * of a platform that keeps its history.
+ * Completes the first pending set. SCMI_DONE, SCMI_NO_PLATFORM, SCMI_ASKED, SCMI_NOTHING (none is pending), or
+ * SCMI_MEMORY of a platform that keeps its history.
  */
 uint32_t scmi_advance(scmi_platform *platform);
 
 /*
  * Gives what the completion of the first pending set is to change of the hardware; the platform stays as it was.
- * SCMI_DONE, SCMI_NO_PLATFORM or SCMI_NOTHING (none is pending). The first set stays the first, whatever
- * commands are answered, until scmi_advance or scmi_fail_advance takes it off.
+ * SCMI_DONE, SCMI_NO_PLATFORM or SCMI_NOTHING (none is pending). Nothing is kept of it: the first set stays the
+ * first, whatever commands are answered, until scmi_advance or scmi_fail_advance takes it off.
  */
 uint32_t scmi_ask_advance(scmi_platform *platform, scmi_effect *effect);
 
 /*
  * Takes the first pending set off, whose change the hardware refused: its delayed response, if one is wanted, is
- * HARDWARE_ERROR, and every value stays as it was. SCMI_DONE, SCMI_NO_PLATFORM, SCMI_NOTHING (none is pending),
- * or SCMI_MEMORY of a platform that keeps its history.
+ * HARDWARE_ERROR, and every value stays as it was. SCMI_DONE, SCMI_NO_PLATFORM, SCMI_ASKED, SCMI_NOTHING (none is
+ * pending), or SCMI_MEMORY of a platform that keeps its history.
  */
 uint32_t scmi_fail_advance(scmi_platform *platform);
 
@@ -190,11 +200,11 @@ uint32_t scmi_fail_advance(scmi_platform *platform);
  */
 uint32_t scmi_next(scmi_platform *platform, uint32_t agent, uint8_t area[SCMI_AREA_BYTES]);
 
-/* The same into an area that has the size of the agent's channel, with scmi_answer_in's order of refusals. */
+/* The same into an area that has the size of the agent's channel; SCMI_WRONG_SIZE comes behind SCMI_NO_AGENT. */
 uint32_t scmi_next_in(scmi_platform *platform, uint32_t agent, uint8_t *area, size_t bytes);
 
 /*
- * Takes the first message off an agent's outbox, as posted. SCMI_DONE, SCMI_NO_PLATFORM, SCMI_NO_AGENT,
+ * Takes the first message off an agent's outbox, as posted. SCMI_DONE, SCMI_NO_PLATFORM, SCMI_ASKED, SCMI_NO_AGENT,
  * SCMI_NOTHING (the outbox is empty), or SCMI_MEMORY of a platform that keeps its history.
  */
 uint32_t scmi_sent(scmi_platform *platform, uint32_t agent);
@@ -246,7 +256,7 @@ SCMI_HOLDS(sizeof(scmi_channel_numbers) == 8, "the size of a channel's numbers")
 typedef struct scmi_library {
     uint32_t area_bytes, payload_words;
     uint32_t done, nothing, memory, no_agent, not_free, no_platform, in_use, no_history, no_frame;
-    uint32_t wrong_size, no_resource, rule, line;
+    uint32_t wrong_size, no_resource, asked, effect, rule, line;
     uint32_t effect_state, effect_rate, effect_enabled;
 } scmi_library;
 
@@ -284,9 +294,10 @@ static inline int scmi_header_fits(void)
            of.nothing == SCMI_NOTHING && of.memory == SCMI_MEMORY && of.no_agent == SCMI_NO_AGENT &&
            of.not_free == SCMI_NOT_FREE && of.no_platform == SCMI_NO_PLATFORM && of.in_use == SCMI_IN_USE &&
            of.no_history == SCMI_NO_HISTORY && of.no_frame == SCMI_NO_FRAME &&
-           of.wrong_size == SCMI_WRONG_SIZE && of.no_resource == SCMI_NO_RESOURCE && of.rule == SCMI_RULE &&
-           of.line == SCMI_LINE && scmi_version() == scmi_header_version() && of.effect_state == SCMI_EFFECT_STATE && of.effect_rate == SCMI_EFFECT_RATE &&
-           of.effect_enabled == SCMI_EFFECT_ENABLED;
+           of.wrong_size == SCMI_WRONG_SIZE && of.no_resource == SCMI_NO_RESOURCE && of.asked == SCMI_ASKED &&
+           of.effect == SCMI_EFFECT && of.rule == SCMI_RULE && of.line == SCMI_LINE &&
+           of.effect_state == SCMI_EFFECT_STATE && of.effect_rate == SCMI_EFFECT_RATE &&
+           of.effect_enabled == SCMI_EFFECT_ENABLED && scmi_version() == scmi_header_version();
 }
 
 #ifdef __cplusplus

@@ -159,9 +159,8 @@ static inline int scmi_mailbox_is_free(const scmi_mailbox *box)
 /* ---- The platform's side. */
 
 /*
- * Copies the command that stands in a channel (A2P), for scmi_ask, scmi_answer and scmi_fail; the channel stays
- * busy. SCMI_DONE, of a malformed frame too, which scmi_answer answers; SCMI_NOTHING where the channel is free, and
- * then the copy is as it was.
+ * Copies the command that stands in a channel (A2P), for scmi_ask or scmi_answer; the channel stays busy. SCMI_DONE,
+ * of a malformed frame too, which they answer; SCMI_NOTHING where the channel is free, and then the copy is as it was.
  */
 static inline uint32_t scmi_mailbox_take(const scmi_mailbox *box, scmi_area *area)
 {
@@ -172,7 +171,7 @@ static inline uint32_t scmi_mailbox_take(const scmi_mailbox *box, scmi_area *are
 }
 
 /*
- * Writes the answer that scmi_answer or scmi_fail left in a copy into its channel, which is free then. SCMI_DONE;
+ * Writes the answer that scmi_ask, scmi_answer, scmi_commit or scmi_fail left in a copy into its channel, which is free then. SCMI_DONE;
  * SCMI_NOTHING where the copy holds no answer, and then nothing is written; SCMI_MAILBOX_LENGTH where the channel
  * has fewer words than the reply, and then the agent has a channel error.
  */

@@ -9,12 +9,13 @@
     for header, words in platform.messages(1):       # delayed responses and notifications
         ..
 
-The calls of scmi.h have their names here: answer, ask, fail, advance, ask_advance, fail_advance, next, sent,
+The calls of scmi.h have their names here: answer, ask, commit, fail, advance, ask_advance, fail_advance, next, sent,
 channel, domain_state, clock_rate, clock_enabled, pending, outbox_length, history_length, version. An area is a
 bytearray of the size of its agent's channel, AREA_BYTES bytes where the board says nothing else, changed in place:
-answer, ask, fail and next are the calls of C that are told its bytes. A call gives True where C gives
+answer, ask, commit, fail and next are the calls of C that are told its bytes. A call gives True where C gives
 SCMI_DONE and False where it gives SCMI_NOTHING or SCMI_NO_FRAME (those that give a value give it, or None); any
-other number is raised as Refused, and then nothing has changed. One thread at a time calls a platform.
+other number is raised as Refused, and then nothing has changed. ask gives the Effect that is to be made, and then
+commit or fail answers; it gives None where the command was answered, or there was none. One thread at a time calls a platform.
 
 The library is the file that SCMI_LIBRARY names, else libscmi.so beside this file or where ./install puts it.
 """
@@ -27,7 +28,7 @@ from pathlib import Path
 __version__ = "0.9.0-dev"
 
 DONE, NOTHING, MEMORY, NO_AGENT, NOT_FREE, NO_PLATFORM, IN_USE, NO_HISTORY, NO_FRAME = range(9)
-WRONG_SIZE, NO_RESOURCE = 10, 11
+WRONG_SIZE, NO_RESOURCE, ASKED, EFFECT = 10, 11, 12, 13
 RULE, LINE = 16, 256
 STATE, RATE, ENABLED = 1, 2, 3
 AREA_BYTES, PAYLOAD_WORDS = 284, 64
@@ -51,7 +52,8 @@ class Refused(Exception):
     NAMES = ("done", "nothing to do", "memory was refused", "the board has no such agent",
              "the area holds a message", "there is no platform", "there is a platform already",
              "the platform keeps no history", "the area holds no frame", "number 9",
-             "the area has not the size of the channel", "the board has no such domain or clock")
+             "the area has not the size of the channel", "the board has no such domain or clock",
+             "a command was asked about, and is neither committed nor failed")
 
     def __init__(self, number):
         self.number = number
@@ -84,7 +86,8 @@ class _Numbers(ctypes.Structure):
     WANTED = dict(
         area_bytes=AREA_BYTES, payload_words=PAYLOAD_WORDS, done=DONE, nothing=NOTHING, memory=MEMORY,
         no_agent=NO_AGENT, not_free=NOT_FREE, no_platform=NO_PLATFORM, in_use=IN_USE, no_history=NO_HISTORY,
-        no_frame=NO_FRAME, wrong_size=WRONG_SIZE, no_resource=NO_RESOURCE, rule=RULE, line=LINE, effect_state=STATE, effect_rate=RATE, effect_enabled=ENABLED)
+        no_frame=NO_FRAME, wrong_size=WRONG_SIZE, no_resource=NO_RESOURCE, asked=ASKED, effect=EFFECT, rule=RULE,
+        line=LINE, effect_state=STATE, effect_rate=RATE, effect_enabled=ENABLED)
     _fields_ = [(name, ctypes.c_uint32) for name in WANTED]
 
 
@@ -105,7 +108,8 @@ def load(file=None):
     for name, *arguments in (
             ("scmi_platform_new", ctypes.c_char_p, ctypes.c_size_t),
             ("scmi_platform_new_recorded", ctypes.c_char_p, ctypes.c_size_t),
-            ("scmi_answer_in", number, *area), ("scmi_ask_in", number, *area, effect), ("scmi_fail_in", number, *area),
+            ("scmi_answer_in", number, *area), ("scmi_ask_in", number, *area, effect), ("scmi_commit_in", *area),
+            ("scmi_fail_in", *area),
             ("scmi_advance",), ("scmi_ask_advance", effect), ("scmi_fail_advance",),
             ("scmi_next_in", number, *area), ("scmi_sent", number),
             ("scmi_channel", number, ctypes.POINTER(_Channel)), ("scmi_domain_state", number, word),
@@ -168,9 +172,12 @@ class Platform:
             return number == DONE
         raise Refused(number)
 
-    def _over(self, call, agent, area, *more):
+    def _number(self, call, area, *agent, more=()):
         held = (ctypes.c_uint8 * len(area)).from_buffer(area)
-        return self._give(call(self._handle, agent, held, len(area), *more))
+        return call(self._handle, *agent, held, len(area), *more)
+
+    def _over(self, call, area, *agent):
+        return self._give(self._number(call, area, *agent))
 
     def _read(self, call, *of, into=ctypes.c_uint32):
         value = into()
@@ -182,14 +189,20 @@ class Platform:
         return Effect(effect.kind, effect.id, effect.low | effect.high << 32) if done else None
 
     def answer(self, agent, area):
-        return self._over(self._library.scmi_answer_in, agent, area)
+        return self._over(self._library.scmi_answer_in, area, agent)
 
     def ask(self, agent, area):
         effect = _Effect()
-        return self._effect(self._over(self._library.scmi_ask_in, agent, area, effect), effect)
+        number = self._number(self._library.scmi_ask_in, area, agent, more=(effect,))
+        if number != EFFECT:
+            self._give(number)
+        return self._effect(number == EFFECT, effect)
 
-    def fail(self, agent, area):
-        return self._over(self._library.scmi_fail_in, agent, area)
+    def commit(self, area):
+        return self._over(self._library.scmi_commit_in, area)
+
+    def fail(self, area):
+        return self._over(self._library.scmi_fail_in, area)
 
     def advance(self):
         return self._give(self._library.scmi_advance(self._handle))
@@ -202,7 +215,7 @@ class Platform:
         return self._give(self._library.scmi_fail_advance(self._handle))
 
     def next(self, agent, area):
-        return self._over(self._library.scmi_next_in, agent, area)
+        return self._over(self._library.scmi_next_in, area, agent)
 
     def sent(self, agent):
         return self._give(self._library.scmi_sent(self._handle, agent))
@@ -249,11 +262,10 @@ class Platform:
         """
         token = self._tokens.get(agent, 0)
         area = command(header_of(protocol, message, token), *words, size=self.channel(agent).bytes)
-        effect = drive and self.ask(agent, area)
-        if effect and not drive(effect):
-            self.fail(agent, area)
-        else:
+        if not drive:
             self.answer(agent, area)
+        elif effect := self.ask(agent, area):
+            (self.commit if drive(effect) else self.fail)(area)
         self._tokens[agent] = (token + 1) % 1024
         if word(area, AREA_STATUS) != FREE:
             raise ChannelError("the frame was malformed")

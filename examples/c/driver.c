@@ -33,9 +33,11 @@ static uint32_t serve(scmi_platform *platform, uint32_t agent, uint8_t *area)
 {
     scmi_effect effect;
 
-    if (scmi_ask(platform, agent, area, &effect) == SCMI_DONE && !drive(&effect))
-        return scmi_fail(platform, agent, area);
-    return scmi_answer(platform, agent, area);
+    uint32_t given = scmi_ask(platform, agent, area, &effect);
+
+    if (given != SCMI_EFFECT)
+        return given;
+    return drive(&effect) ? scmi_commit(platform, area) : scmi_fail(platform, area);
 }
 
 static uint32_t complete(scmi_platform *platform)
@@ -78,14 +80,15 @@ static void refuse(scmi_platform *platform)
     uint8_t area[SCMI_AREA_BYTES] = { 0 };
     scmi_effect effect = { 0 };
 
+    printf("nothing asked: commit %u", (unsigned)scmi_commit(platform, area));
+    printf(", fail %u\n", (unsigned)scmi_fail(platform, area));
     area_set_word(area, SCMI_AREA_STATUS, STATUS_FREE);
-    printf("free: ask %u", (unsigned)scmi_ask(platform, 1, area, &effect));
-    printf(", fail %u\n", (unsigned)scmi_fail(platform, 1, area));
+    printf("free: ask %u\n", (unsigned)scmi_ask(platform, 1, area, &effect));
     area_post(area, 0x00005006, 1, (uint32_t[]){ 0 });
-    printf("a get: ask %u", (unsigned)scmi_ask(platform, 1, area, &effect));
-    printf(", fail %u, status word %u\n", (unsigned)scmi_fail(platform, 1, area), (unsigned)area_word(area, SCMI_AREA_STATUS));
     printf("no agent: ask %u", (unsigned)scmi_ask(platform, 3, area, &effect));
-    printf(", fail %u\n", (unsigned)scmi_fail(platform, 3, area));
+    printf(", status word %u\n", (unsigned)area_word(area, SCMI_AREA_STATUS));
+    printf("a get: ask %u", (unsigned)scmi_ask(platform, 1, area, &effect));
+    printf(", commit %u, status word %u\n", (unsigned)scmi_commit(platform, area), (unsigned)area_word(area, SCMI_AREA_STATUS));
     printf("none pending: ask %u", (unsigned)scmi_ask_advance(platform, &effect));
     printf(", fail %u, kind %u\n", (unsigned)scmi_fail_advance(platform), (unsigned)effect.kind);
 }

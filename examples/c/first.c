@@ -27,10 +27,12 @@ static void serve(scmi_platform *platform, const scmi_mailbox *box, uint32_t age
 
     if (scmi_mailbox_take(box, &area) != SCMI_DONE)
         return;
-    if (scmi_ask(platform, agent, area.bytes, &effect) == SCMI_DONE && !drive(&effect))
-        scmi_fail(platform, agent, area.bytes);
-    else
-        scmi_answer(platform, agent, area.bytes);
+    if (scmi_ask(platform, agent, area.bytes, &effect) == SCMI_EFFECT) {
+        if (drive(&effect))
+            scmi_commit(platform, area.bytes);
+        else
+            scmi_fail(platform, area.bytes);
+    }
     scmi_mailbox_answer(box, &area);
 }
 

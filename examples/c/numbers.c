@@ -24,6 +24,8 @@ int main(void)
     FITS("SCMI_NO_FRAME", of.no_frame);
     FITS("SCMI_WRONG_SIZE", of.wrong_size);
     FITS("SCMI_NO_RESOURCE", of.no_resource);
+    FITS("SCMI_ASKED", of.asked);
+    FITS("SCMI_EFFECT", of.effect);
     FITS("SCMI_RULE", of.rule);
     FITS("SCMI_LINE", of.line);
     FITS("SCMI_EFFECT_STATE", of.effect_state);

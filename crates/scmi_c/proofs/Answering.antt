@@ -1,5 +1,5 @@
 -- The header of a reply, which stands in the area already.
-use Rattle.std.proofs.Common.{rules, ◌≡◌, ℕ, ◌-◌, ◌/◌, ◌%◌, ◌==◌, Bool, true, false, if◌then◌else◌, List, Option, Some, None, IsSomeAnd, sym, subst, ap, ◌∙◌}
+use Rattle.std.proofs.Common.{rules, ◌≡◌, ℕ, ◌-◌, ◌/◌, ◌%◌, ◌==◌, Bool, true, false, if◌then◌else◌, List, Option, Some, None, IsSomeAnd, sym, subst, ap, refl, ◌∙◌}
 use Rattle.scmi_codec.specs.Area.{area_after_answer, frame_waiting, header_at, length_at, message_of, status_at, is_well_formed}
 use Rattle.scmi_codec.specs.Header.{header_of}
 use Rattle.scmi_codec.specs.Word.{words_at}
@@ -10,8 +10,10 @@ use Rattle.scmi_codec.specs.declared.frame.Answer.TheVariants.{Reply, ChannelErr
 use Rattle.scmi_plan.specs.Board.{Board}
 use Rattle.scmi_core.specs.Reply.{answer_in, fits_channel, reply_in}
 use Rattle.scmi_core.specs.Situation.{Situation}
-use Rattle.scmi_core.specs.History.{answer_to, deeds}
+use Rattle.scmi_core.specs.History.{answer_to, answer_with, deeds}
 use Rattle.scmi_core.specs.Outbox.{situation_after}
+use Rattle.scmi_core.specs.declared.answered.Answered.{Answered}
+use Rattle.scmi_core.specs.declared.answered.Answered.TheVariants as answered
 use Rattle.scmi_core.specs.declared.event.Event.{Event}
 
 -- what holds of the value that there is
@@ -53,3 +55,12 @@ answered-area board a h area new frame reply waits is written =
     written
     ∙ ap (λ header. area_after_answer (Reply (record { header = header; payload = record { items = reply.payload.items } })) area) (sym head)
     ∙ ap (λ answer. area_after_answer answer area) is
+
+-- and so is one that was answered with a channel error
+pub answered-here : (board : Board) (a : ℕ) (h : List Event) (area new : List ℕ) (frame : Frame) (x : Answered) (reply : Message)
+    → frame_waiting area ≡ Some frame → answer_with x reply ≡ answer_to board a frame h
+    → (x ≡ answered.Reply → new ≡ area_after_answer (Reply (message_of (header_at area) reply.payload.items)) area)
+    → (x ≡ answered.ChannelError → new ≡ area_after_answer ChannelError area)
+    → new ≡ area_after_answer (answer_to board a frame h) area
+answered-here board a h area new frame answered.Reply reply waits is written error = answered-area board a h area new frame reply waits is (written refl)
+answered-here board a h area new frame answered.ChannelError reply waits is written error = error refl ∙ ap (λ answer. area_after_answer answer area) is

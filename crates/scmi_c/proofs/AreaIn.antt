@@ -2,7 +2,7 @@
 use Rattle.std.proofs.Common.{rules, ◌≡◌, ℕ, ◌-◌, ◌/◌, ◌%◌, ◌==◌, ◌≤◌, ◌&&◌, Bool, true, false, if◌then◌else◌, List, [], ◌∷◌, length, slice_get, nat_le, Option, Some, None, Result, Ok, Err, OnOk, is_none, sym, subst, ap, refl, ◌∙◌, arith}
 use Rattle.std.specs.Prelude.{⊤}
 use Rattle.std.specs.List.{All}
-use Rattle.std.proofs.lemmas.Bool.{and_from, eq-eqb, le-leb}
+use Rattle.std.proofs.lemmas.Bool.{and_from, and_parts, eq-eqb, le-leb, leb-true}
 use Rattle.std.proofs.lemmas.List.Elements.{All-head, All-drop}
 use Rattle.scmi_codec.specs.Area.{area_after_answer, header_at, length_at, message_of, status_at, is_well_formed_within, waiting_within}
 use Rattle.scmi_codec.specs.declared.channel_area.ChannelAreaError.{ChannelAreaError}
@@ -112,22 +112,31 @@ answered-in board a h area new frame answered.Reply reply law room waits is writ
     ∙ ap (λ answer. area_after_answer answer area) is
 answered-in board a h area new frame answered.ChannelError reply law room waits is written error = error refl ∙ ap (λ answer. area_after_answer answer area) is
 
--- a reply of a status alone
-failed-header : (words : ℕ) (area : List ℕ) (frame : Frame) (reply : Message) → waiting_within words area ≡ Some frame → Reply reply ≡ failed_answer frame
-    → (reply.header ≡ header_of (header_at area)) × (length reply.payload.items ≡ 1)
-failed-header words area (Good m) reply waits is =
-    let same : reply ≡ message_with m.header failed_words = search rules in
-    (ap (λ (r : Message). r.header) same ∙ waiting-header words area m waits, ap (λ (r : Message). length r.payload.items) same)
-failed-header words area (Malformed len header) reply waits is = absurd (cc)
+-- the same of an answer that was written whole
+pub committed-in : (board : Board) (a : ℕ) (h : List Event) (area new : List ℕ) (frame : Frame) (x : Answered) (reply : Message)
+    → IsLawful board → (channel_of board a).words ≤ capacity area → answer_with x reply ≡ answer_to board a frame h
+    → (x ≡ answered.Reply → length reply.payload.items ≤ capacity area → new ≡ area_after_answer (Reply reply) area)
+    → (x ≡ answered.ChannelError → new ≡ area_after_answer ChannelError area)
+    → new ≡ area_after_answer (answer_to board a frame h) area
+committed-in board a h area new frame answered.Reply reply law room is written error =
+    let short : IsAnswerWithin board a (Reply reply) = subst (IsAnswerWithin board a) (sym is) (answer-within board a frame h law) in
+    written refl (omega (arith, short, room)) ∙ ap (λ answer. area_after_answer answer area) is
+committed-in board a h area new frame answered.ChannelError reply law room is written error = error refl ∙ ap (λ answer. area_after_answer answer area) is
 
-pub failed-in : (board : Board) (a : ℕ) (area new : List ℕ) (frame : Frame) (reply : Message)
-    → IsLawful board → capacity area ≡ (channel_of board a).words → channel_waiting area ≡ Some frame → Reply reply ≡ failed_answer frame
-    → (length reply.payload.items ≤ capacity area → new ≡ area_after_answer (Reply (message_of (header_at area) reply.payload.items)) area)
+-- a reply of a status alone has room in each area
+one-word : (frame : Frame) (reply : Message) → Reply reply ≡ failed_answer frame → length reply.payload.items ≡ 1
+one-word (Good m) reply is =
+    let same : reply ≡ message_with m.header failed_words = search rules in
+    ap (λ (r : Message). length r.payload.items) same
+one-word (Malformed len header) reply is = absurd (cc)
+
+pub failed-in : (area new : List ℕ) (frame : Frame) (reply : Message) → is_channel_size (length area) ≡ true → Reply reply ≡ failed_answer frame
+    → (length reply.payload.items ≤ capacity area → new ≡ area_after_answer (Reply reply) area)
     → new ≡ area_after_answer (failed_answer frame) area
-failed-in board a area new frame reply law room waits is written =
-    let two = failed-header (capacity area) area frame reply waits is in
-    let least = (lawful_channel board a law).0 in
-    written (omega (arith, least, room, two.1)) ∙ of-header area reply two.0 ∙ ap (λ answer. area_after_answer answer area) is
+failed-in area new frame reply size is written =
+    let one = one-word frame reply is in
+    let long : 60 ≤ length area = leb-true 60 (length area) (and_parts (nat_le 60 (length area)) (nat_le (length area) 284 && (length area % 4 == 0)) size).0 in
+    written (omega (arith, one, long)) ∙ ap (λ answer. area_after_answer answer area) is
 
 -- MESSAGES
 

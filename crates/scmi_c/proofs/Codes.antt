@@ -1,38 +1,31 @@
--- What a code tells of what a call gave.
-use Rattle.std.proofs.Common.{rules, ◌≡◌, ◌↔◌, ℕ, List, Option, Some, None, Result, Ok, Err, IfSome, sym, subst}
-use Rattle.scmi_codec.specs.declared.frame.Frame.{Frame}
-use Rattle.scmi_core.specs.declared.event.Event.{Event}
+-- What a code says of why a call did nothing.
+use Rattle.std.proofs.Common.{rules, ◌≡◌, ◌↔◌, ℕ, Option, Some, Result, Err, IsSomeAnd, sym, subst, ap, ◌∙◌}
+use Rattle.std.specs.Prelude.{⊤}
 use Rattle.scmi_c.specs.declared.held.Held.{Held}
 use Rattle.scmi_c.specs.declared.refusal.Refusal.{Refusal}
 use Rattle.scmi_c.specs.declared.refusal.Refusal.TheVariants.{Nothing, Memory, NoAgent, NotFree, NoFrame, WrongSize}
-use Rattle.scmi_c.specs.Calls.{ChangesNothing}
+use Rattle.scmi_c.specs.Kept.{IsUnasked, Kept}
 use Rattle.scmi_c.specs.Refusal.{code_of}
-use Rattle.scmi_c.specs.Standing.{board_of, StandsAt}
+use Rattle.scmi_c.specs.Standing.{LacksAgent}
 
--- the code 1 is that of Nothing
-pub nothing-code : {A : Type 0} (r : Result A Refusal) → (code_of r ≡ 1) ↔ (r ≡ Err Nothing)
-nothing-code (Ok x) = search rules
-nothing-code (Err Nothing) = search rules
-nothing-code (Err Memory) = search rules
-nothing-code (Err NoAgent) = search rules
-nothing-code (Err NotFree) = search rules
-nothing-code (Err NoFrame) = search rules
-nothing-code (Err WrongSize) = search rules
+-- the code 3 is that of NoAgent
+agent-code : (refusal : Refusal) → (code_of {A = ⊤} (Err refusal) ≡ 3) ↔ (refusal ≡ NoAgent)
+agent-code Nothing = search rules
+agent-code Memory = search rules
+agent-code NoAgent = search rules
+agent-code NotFree = search rules
+agent-code NoFrame = search rules
+agent-code WrongSize = search rules
 
--- what holds of a value, if there is one, is carried over
-pub if-some : {A : Type 0} (o : Option A) (P Q : A → Type 0) → ((x : A) → P x → Q x) → IfSome o P → IfSome o Q
-if-some None P Q f p = tt
-if-some (Some x) P Q f p = f x p
+same-refusal : {A : Type 0} (r : Result A Refusal) (a b : Refusal) → r ≡ Err a → r ≡ Err b → a ≡ b
+same-refusal r a b one two = cc
 
--- a call whose frame changes nothing, told by its code
-pub told-nothing : {A : Type 0} (o : Option Held) (d e : Held) (frame : Option Frame) (agent n : ℕ) (r : Result A Refusal)
-    → o ≡ Some d → e ≡ d → n ≡ code_of r
-    → IfSome frame (λ f. (h : List Event) → StandsAt e h → (r ≡ Err Nothing) ↔ ChangesNothing (board_of e) agent f h)
-    → IfSome o (λ p. IfSome frame (λ f. (h : List Event) → StandsAt p h → (n ≡ 1) ↔ ChangesNothing (board_of p) agent f h))
-told-nothing o d e frame agent n r held same code all =
-    subst (λ (m : Option Held). IfSome m (λ p. IfSome frame (λ f. (h : List Event) → StandsAt p h → (n ≡ 1) ↔ ChangesNothing (board_of p) agent f h))) (sym held)
-    (subst (λ (p : Held). IfSome frame (λ f. (h : List Event) → StandsAt p h → (n ≡ 1) ↔ ChangesNothing (board_of p) agent f h)) same
-    (if-some frame _ _ (λ f told h at.
-    let one : (n ≡ 1) ↔ (r ≡ Err Nothing) = subst (λ (k : ℕ). (k ≡ 1) ↔ (r ≡ Err Nothing)) (sym code) (nothing-code r) in
-    let two = told h at in
-    ((λ x. two.0 (one.0 x)), (λ y. one.1 (two.1 y)))) all))
+-- a call of which the board lacks the agent, by its code
+pub lacks-agent : {A : Type 0} (o : Option Kept) (k : Kept) (held : Held) (W : Type 0) (agent n : ℕ) (r : Result A Refusal) (refusal : Refusal)
+    → o ≡ Some k → IsUnasked k → k.held ≡ held → r ≡ Err refusal → n ≡ code_of {A = ⊤} (Err refusal) → ((r ≡ Err NoAgent) ↔ (W × LacksAgent agent held))
+    → (n ≡ 3) ↔ IsSomeAnd o (λ p. IsUnasked p × W × LacksAgent agent p.held)
+lacks-agent o k held W agent n r refusal is free same err code all =
+    subst (λ (o : Option Kept). (n ≡ 3) ↔ IsSomeAnd o (λ p. IsUnasked p × W × LacksAgent agent p.held)) (sym is) (
+      (λ x. let both : W × LacksAgent agent held = all.0 (err ∙ ap (λ (e : Refusal). Err e) ((agent-code refusal).0 (sym code ∙ x))) in (free, both.0, subst (LacksAgent agent) (sym same) both.1)),
+      (λ y. code ∙ (agent-code refusal).1 (same-refusal r refusal NoAgent err (all.1 (y.1, subst (LacksAgent agent) same y.2)))),
+    )

@@ -4,3 +4,4 @@ mod Answering
 mod Codes
 mod ChannelLines
 mod AreaIn
+mod Keeping

@@ -5,13 +5,14 @@ use Rattle.scmi_codec.specs.declared.frame.Frame.{Frame}
 use Rattle.scmi_codec.specs.declared.message.Message.{Message}
 use Rattle.scmi_plan.specs.Agent.{IsAgent}
 use Rattle.scmi_plan.specs.Board.{Board}
+use Rattle.scmi_plan.specs.Plan.{IsLawful}
 use Rattle.scmi_core.specs.Effect.{effect_after}
 use Rattle.scmi_core.specs.History.{answer_to, outbox}
 use Rattle.scmi_core.specs.Reply.{failed_answer}
 use Rattle.scmi_core.specs.declared.event.Event.{Event}
 use Rattle.scmi_core.specs.declared.event.Event.TheVariants.{Command as Called, CommandFailed}
 use Rattle.scmi_c.specs.declared.held.Held.{Held}
-use Rattle.scmi_c.specs.Standing.{board_of, StandsAt}
+use Rattle.scmi_c.specs.Standing.{board_of, HasRoom, StandsAsBefore, StandsAt}
 
 -- one more event has happened to a platform
 pub record HasHappened (p k : Held) (event : Event) : Type 0 where
@@ -22,6 +23,13 @@ pub record HasHappened (p k : Held) (event : Event) : Type 0 where
 pub record HasAnswered (p k : Held) (agent : ℕ) (frame : Frame) (before after : List ℕ) : Type 0 where
   pub answer : (h : List Event) → StandsAt p h → after ≡ area_after_answer (answer_to (board_of p) agent frame h) before
   pub event : HasHappened p k (Called agent frame)
+
+-- a command of an agent of the board waits to be committed or to fail: the platform stands where it stood, and there is room for one more event
+pub record IsAskedAbout (p k : Held) (agent : ℕ) : Type 0 where
+  pub is_agent : IsAgent (length (board_of p).agents) agent
+  pub stands : StandsAsBefore p k
+  pub room : HasRoom k
+  pub lawful : IsLawful (board_of p)
 
 -- an agent's frame failed, and the area is the answer HARDWARE_ERROR to it
 pub record HasFailed (p k : Held) (agent : ℕ) (frame : Frame) (before after : List ℕ) : Type 0 where

@@ -1,5 +1,6 @@
 pub mod Handle
 pub mod Standing
+pub mod Kept
 pub mod Channel
 pub mod Calls
 pub mod Refusal

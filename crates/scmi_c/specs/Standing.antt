@@ -1,5 +1,5 @@
 -- What a handle stands for, and after which histories.
-use Rattle.std.specs.Prelude.{◌≡◌, ℕ, ◌<◌, List, length, ⊤}
+use Rattle.std.specs.Prelude.{◌≡◌, ◌↔◌, ℕ, ◌<◌, List, length, ⊤}
 use Rattle.scmi_plan.specs.Agent.{IsNoAgent}
 use Rattle.scmi_plan.specs.Board.{Board}
 use Rattle.scmi_core.specs.Standing.{StandsAfter}
@@ -25,6 +25,16 @@ LacksAgent agent p = IsNoAgent (length (board_of p).agents) agent
 abbrev pub HasNoRoom : Held → Type 0
 HasNoRoom (Endless p) = ⊥
 HasNoRoom (Recorded c) = ¬ (0 < c.room)
+
+-- a platform has room for one more event
+abbrev pub HasRoom : Held → Type 0
+HasRoom (Endless p) = ⊤
+HasRoom (Recorded c) = 0 < c.room
+
+-- the same board, after the same histories
+pub record StandsAsBefore (p k : Held) : Type 0 where
+  pub after : (h : List Event) → StandsAt p h ↔ StandsAt k h
+  pub board : board_of k ≡ board_of p
 
 -- a platform records its history
 abbrev pub IsRecorded : Held → Type 0

@@ -4,19 +4,22 @@ ghost use Rattle.scmi_codec.specs.Area.{frame_waiting};
 ghost use Rattle.scmi_core.specs.History.{IsIdle};
 ghost use Rattle.scmi_core.specs.declared.event.Event.{Event};
 ghost use Rattle.scmi_core.specs.declared.event.Event.TheVariants.{Advance};
+ghost use Rattle.scmi_c.specs.Kept.{IsAsked, IsUnasked};
 ghost use Rattle.scmi_c.specs.Standing.{board_of, StandsAt, LacksAgent, HasNoRoom};
 ghost use Rattle.scmi_c.specs.Calls.{HasAnswered, HasHappened};
-ghost use Rattle.scmi_c.specs.declared.code.TheConstants.{DONE, NOTHING, MEMORY, NO_AGENT, NO_PLATFORM};
+ghost use Rattle.scmi_c.specs.declared.code.TheConstants.{ASKED, DONE, NOTHING, MEMORY, NO_AGENT, NO_PLATFORM};
 
 use crate::area::answer;
-use crate::code::{DONE, MEMORY, NO_PLATFORM, NOTHING, code};
+use crate::code::{DONE, MEMORY, NOTHING, code};
+use crate::desk::Desk;
 use crate::handle::Handle;
 use scmi_codec::AREA_BYTES;
 use std::alloc::Global;
 
 /// Executes the frame that stands in an agent's area, and answers it in place. `DONE`; `NO_PLATFORM`;
-/// `NOTHING` where the channel is free; `NO_AGENT`; `MEMORY`, of a platform that keeps its history alone.
-/// After another number than `DONE` nothing changed.
+/// `ASKED` where a command waits to be committed or to fail; `NOTHING` where the channel is free;
+/// `NO_AGENT`; `MEMORY`, of a platform that keeps its history alone. After another number than `DONE`
+/// nothing changed.
 #[unsafe(no_mangle)]
 pub extern "C" fn scmi_answer(
     alloc: Global,
@@ -27,43 +30,51 @@ pub extern "C" fn scmi_answer(
     ensures done { result ≡ DONE →
         IsSomeAnd platform.old.value (λ p.
         IsSomeAnd platform.new.value (λ k.
-        IsSomeAnd (frame_waiting area.old)
-        (λ frame. HasAnswered p k agent frame area.old area.new))) }
+        IsSomeAnd (frame_waiting area.old) (λ frame. IsUnasked k
+        × HasAnswered p.held k.held agent frame area.old area.new))) }
     ensures no_platform { (result ≡ NO_PLATFORM) ↔ (platform.old.value ≡ None) }
+    ensures asked { (result ≡ ASKED) ↔ IsSomeAnd platform.old.value IsAsked }
     ensures free { (result ≡ NOTHING) ↔
-        IsSomeAnd platform.old.value (λ _. frame_waiting area.old ≡ None) }
+        IsSomeAnd platform.old.value (λ p. IsUnasked p × (frame_waiting area.old ≡ None)) }
     ensures no_agent { (result ≡ NO_AGENT) ↔
-        IsSomeAnd platform.old.value (λ p.
-        (frame_waiting area.old ≢ None) × LacksAgent agent p) }
-    ensures errors { (result ≤ NO_AGENT) ⊎ (result ≡ NO_PLATFORM) }
-    ensures memory { result ≡ MEMORY → IsSomeAnd platform.old.value HasNoRoom }
+        IsSomeAnd platform.old.value (λ p. IsUnasked p ×
+        (frame_waiting area.old ≢ None) × LacksAgent agent p.held) }
+    ensures errors { (result ≤ NO_AGENT) ⊎ (result ≡ NO_PLATFORM) ⊎ (result ≡ ASKED) }
+    ensures memory { result ≡ MEMORY → IsSomeAnd platform.old.value (λ p. HasNoRoom p.held) }
     ensures kept { result ≢ DONE →
         (platform.new.value ≡ platform.old.value) × (area.new ≡ area.old) }
 {
-    let Some(mut desk) = platform.take(alloc) else {
-        return NO_PLATFORM;
+    let mut desk = match platform.take_unasked(alloc) {
+        Ok(desk) => desk,
+        Err(number) => return number,
     };
-    let given = answer(&mut desk, agent, area);
+    let seat: &mut Desk = &mut desk;
+    let given = answer(&mut seat.held, &mut seat.exchange, agent, area);
     platform.put(desk);
     code(given)
 }
 
-/// Completes the first pending set. `DONE`; `NO_PLATFORM`; `NOTHING` where none is pending; `MEMORY`, of
-/// a platform that keeps its history alone. After another number than `DONE` nothing changed.
+/// Completes the first pending set. `DONE`; `NO_PLATFORM`; `ASKED` where a command waits to be committed
+/// or to fail; `NOTHING` where none is pending; `MEMORY`, of a platform that keeps its history alone.
+/// After another number than `DONE` nothing changed.
 #[unsafe(no_mangle)]
 pub extern "C" fn scmi_advance(alloc: Global, platform: &mut Handle) -> u32
     ensures done { result ≡ DONE →
         IsSomeAnd platform.old.value (λ p.
-        IsSomeAnd platform.new.value (λ k. HasHappened p k Advance)) }
-    ensures nothing { IfSome platform.old.value (λ p.
-        (h : List Event) → StandsAt p h → (result ≡ NOTHING) ↔ IsIdle (board_of p) h) }
-    ensures errors { (result ≤ MEMORY) ⊎ (result ≡ NO_PLATFORM) }
+        IsSomeAnd platform.new.value (λ k.
+        IsUnasked k × HasHappened p.held k.held Advance)) }
+    ensures nothing { IfSome platform.old.value (λ p. IsUnasked p →
+        (h : List Event) → StandsAt p.held h →
+        (result ≡ NOTHING) ↔ IsIdle (board_of p.held) h) }
+    ensures asked { (result ≡ ASKED) ↔ IsSomeAnd platform.old.value IsAsked }
+    ensures errors { (result ≤ MEMORY) ⊎ (result ≡ NO_PLATFORM) ⊎ (result ≡ ASKED) }
     ensures no_platform { (result ≡ NO_PLATFORM) ↔ (platform.old.value ≡ None) }
-    ensures memory { result ≡ MEMORY → IsSomeAnd platform.old.value HasNoRoom }
+    ensures memory { result ≡ MEMORY → IsSomeAnd platform.old.value (λ p. HasNoRoom p.held) }
     ensures kept { result ≢ DONE → platform.new.value ≡ platform.old.value }
 {
-    let Some(mut desk) = platform.take(alloc) else {
-        return NO_PLATFORM;
+    let mut desk = match platform.take_unasked(alloc) {
+        Ok(desk) => desk,
+        Err(number) => return number,
     };
     let given = desk.held.advance();
     platform.put(desk);

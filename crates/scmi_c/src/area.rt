@@ -1,44 +1,103 @@
 //! Areas that a platform answers and fills.
-ghost use Rattle.std.specs.Prelude.{◌≡◌, ◌≢◌, ◌↔◌, None, List, IsSomeAnd, OnOk, OnErr, Err};
-ghost use Rattle.scmi_codec.specs.Area.{frame_waiting};
+ghost use Rattle.std.specs.Prelude.{◌≡◌, ◌≢◌, ◌↔◌, Some, None, List, IsSomeAnd, IfOk, OnOk, OnErr, Ok, Err};
+ghost use Rattle.scmi_codec.specs.Area.{area_after_answer, frame_waiting, header_at, message_of};
+ghost use Rattle.scmi_codec.specs.declared.frame.Answer.TheVariants as frame_answer;
+ghost use Rattle.scmi_core.specs.Effect.{effect_after};
+ghost use Rattle.scmi_core.specs.declared.answered.Answered.TheVariants as answered_by;
 ghost use Rattle.scmi_core.specs.declared.event.Event.{Event};
+ghost use Rattle.scmi_core.specs.declared.event.Event.TheVariants.{Command as Called};
 ghost use Rattle.scmi_c.specs.Standing.{board_of, StandsAt, LacksAgent, HasNoRoom};
-ghost use Rattle.scmi_c.specs.Calls.{HasAnswered, HasPosted, HasNext, LacksNext};
+ghost use Rattle.scmi_c.specs.Calls.{HasAnswered, HasPosted, HasNext, IsAskedAbout, LacksNext};
 
-use crate::desk::Desk;
+use crate::desk::Exchange;
 use crate::held::Held;
 use crate::refusal::Refusal;
 use scmi_codec::{
-    AREA_BYTES, Answer, is_free, read_area_into, write_answer, write_message, write_response,
+    AREA_BYTES, Answer, Payload, is_free, read_area_into, write_answer, write_message,
+    write_response,
 };
-use scmi_core::Answered;
+use scmi_core::{Answered, Effect};
 
 /// Executes the frame that stands in an agent's area, and answers it in place. `Nothing` where the
 /// channel is free; else `NoAgent` where the board lacks the agent, and `Memory` where the history could
 /// not grow. Then nothing changed.
-pub fn answer(desk: &mut Desk, agent: u32, area: &mut [u8; AREA_BYTES]) -> Result<(), Refusal>
+pub fn answer(
+    held: &mut Held,
+    exchange: &mut Exchange,
+    agent: u32,
+    area: &mut [u8; AREA_BYTES],
+) -> Result<(), Refusal>
     ensures ok { OnOk result
         (IsSomeAnd
         (frame_waiting area.old)
-        (λ frame. HasAnswered desk.old desk.new agent frame area.old area.new)) }
+        (λ frame. HasAnswered held.old held.new agent frame area.old area.new)) }
     ensures free { (result ≡ Err Refusal.Nothing) ↔ (frame_waiting area.old ≡ None) }
     ensures no_agent { (result ≡ Err Refusal.NoAgent) ↔
-        ((frame_waiting area.old ≢ None) × LacksAgent agent desk.old) }
-    ensures memory { result ≡ Err Refusal.Memory → HasNoRoom desk.old }
+        ((frame_waiting area.old ≢ None) × LacksAgent agent held.old) }
+    ensures memory { result ≡ Err Refusal.Memory → HasNoRoom held.old }
     ensures never { (result ≢ Err Refusal.NotFree) × (result ≢ Err Refusal.NoFrame)
         × (result ≢ Err Refusal.WrongSize) }
-    ensures err { OnErr result (desk.new ≡ desk.old) }
+    ensures err { OnErr result (held.new ≡ held.old) }
     ensures kept { OnErr result (area.new ≡ area.old) }
 {
-    let Ok(true) = read_area_into(area, &mut desk.frame) else {
+    let Ok(true) = read_area_into(area, &mut exchange.frame) else {
         return Err(Refusal::Nothing);
     };
-    let _ = match desk.held.command(agent, &desk.frame, &mut desk.reply)? {
-        // The reply's header is the frame's, which stands in the area.
-        Answered::Reply => write_response(area, &desk.reply.payload),
+    let answered = held.command(agent, &exchange.frame, &mut exchange.reply)?;
+    put_answer(area, answered, &exchange.reply.payload);
+    Ok(())
+}
+
+/// Writes what a frame was answered with over it: the reply's header is the frame's, which stands in
+/// the area.
+fn put_answer(area: &mut [u8; AREA_BYTES], answered: Answered, payload: &Payload)
+    ensures reply { answered ≡ answered_by.Reply → area.new ≡ area_after_answer
+        (frame_answer.Reply (message_of (header_at area.old) payload.now.items)) area.old }
+    ensures error { answered ≡ answered_by.ChannelError →
+        area.new ≡ area_after_answer frame_answer.ChannelError area.old }
+{
+    let _ = match answered {
+        Answered::Reply => write_response(area, payload),
         Answered::ChannelError => write_answer(area, &Answer::ChannelError),
     };
-    Ok(())
+}
+
+/// Executes the frame that stands in an agent's area and answers it in place, if it changes no hardware.
+/// Else gives what it is to change, and keeps the frame, and there is room for its event. `NoFrame` where
+/// the channel is free; else `NoAgent` where the board lacks the agent, and `Memory` where the history
+/// could not grow. Then nothing changed.
+pub fn ask(
+    held: &mut Held,
+    exchange: &mut Exchange,
+    agent: u32,
+    area: &mut [u8; AREA_BYTES],
+) -> Result<Option<Effect>, Refusal>
+    ensures effect { IfOk result (λ effect. IsSomeAnd (frame_waiting area.old) (λ frame.
+        (h : List Event) → StandsAt held.old h →
+        effect ≡ effect_after (board_of held.old) h (Called agent frame))) }
+    ensures answered { result ≡ Ok None → IsSomeAnd (frame_waiting area.old) (λ frame.
+        HasAnswered held.old held.new agent frame area.old area.new) }
+    ensures asked { IfOk result (λ effect. effect ≢ None →
+        (frame_waiting area.old ≡ Some exchange.new.frame) × (area.new ≡ area.old)
+        × IsAskedAbout held.old held.new agent) }
+    ensures no_frame { (result ≡ Err Refusal.NoFrame) ↔ (frame_waiting area.old ≡ None) }
+    ensures no_agent { (result ≡ Err Refusal.NoAgent) ↔
+        ((frame_waiting area.old ≢ None) × LacksAgent agent held.old) }
+    ensures memory { result ≡ Err Refusal.Memory → HasNoRoom held.old }
+    ensures never { (result ≢ Err Refusal.NotFree) × (result ≢ Err Refusal.Nothing)
+        × (result ≢ Err Refusal.WrongSize) }
+    ensures err { OnErr result (held.new ≡ held.old) }
+    ensures kept { OnErr result (area.new ≡ area.old) }
+{
+    let Ok(true) = read_area_into(area, &mut exchange.frame) else {
+        return Err(Refusal::NoFrame);
+    };
+    let effect = held.ask(agent, &exchange.frame)?;
+    if effect.is_none() {
+        let answered = held.command(agent, &exchange.frame, &mut exchange.reply)?;
+        put_answer(area, answered, &exchange.reply.payload);
+    }
+    Ok(effect)
 }
 
 /// Writes the first message of an agent's outbox into an area, as a caller posts it. `NoAgent` where the

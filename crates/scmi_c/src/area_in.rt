@@ -1,5 +1,5 @@
 //! Areas of the size of their agent's channel, which a platform answers and fills.
-ghost use Rattle.std.specs.Prelude.{◌≡◌, ◌≢◌, ◌↔◌, ◌≤◌, Some, None, IsSomeAnd, IfSome, IfOk, OnOk, OnErr, Err, List, length, true};
+ghost use Rattle.std.specs.Prelude.{◌≡◌, ◌≢◌, ◌↔◌, ◌≤◌, Some, None, IsSomeAnd, IfOk, OnOk, OnErr, Ok, Err, List, length, true};
 ghost use Rattle.scmi_codec.specs.Area.{area_after_answer, header_at, message_of};
 ghost use Rattle.scmi_codec.specs.ChannelArea.{capacity, channel_waiting, is_channel_size};
 ghost use Rattle.scmi_codec.specs.declared.frame.Answer.TheVariants as frame_answer;
@@ -7,11 +7,11 @@ ghost use Rattle.scmi_core.specs.Effect.{effect_after};
 ghost use Rattle.scmi_core.specs.declared.answered.Answered.TheVariants as answered_by;
 ghost use Rattle.scmi_core.specs.declared.event.Event.{Event};
 ghost use Rattle.scmi_core.specs.declared.event.Event.TheVariants.{Command as Called};
-ghost use Rattle.scmi_c.specs.Calls.{ChangesNothing, HasAnswered, HasFailed, HasNext, LacksNext};
+ghost use Rattle.scmi_c.specs.Calls.{HasAnswered, HasNext, IsAskedAbout, LacksNext};
 ghost use Rattle.scmi_c.specs.Channel.{HasAnotherSize, HasPostedIn, HasSize, IsFreeOf};
 ghost use Rattle.scmi_c.specs.Standing.{HasNoRoom, LacksAgent, StandsAt, board_of};
 
-use crate::desk::Desk;
+use crate::desk::Exchange;
 use crate::held::Held;
 use crate::refusal::Refusal;
 use scmi_codec::{
@@ -22,26 +22,31 @@ use scmi_core::{Answered, Effect};
 
 /// As `area::answer`, in an area of the size of its agent's channel. `NoAgent`, and then `WrongSize`,
 /// come before all else.
-pub fn answer(desk: &mut Desk, agent: u32, area: &mut [u8]) -> Result<(), Refusal>
+pub fn answer(
+    held: &mut Held,
+    exchange: &mut Exchange,
+    agent: u32,
+    area: &mut [u8],
+) -> Result<(), Refusal>
     ensures ok { OnOk result
         (IsSomeAnd
         (channel_waiting area.old)
-        (λ frame. HasAnswered desk.old desk.new agent frame area.old area.new)) }
-    ensures no_agent { (result ≡ Err Refusal.NoAgent) ↔ LacksAgent agent desk.old }
+        (λ frame. HasAnswered held.old held.new agent frame area.old area.new)) }
+    ensures no_agent { (result ≡ Err Refusal.NoAgent) ↔ LacksAgent agent held.old }
     ensures wrong_size { (result ≡ Err Refusal.WrongSize)
-        ↔ HasAnotherSize agent (length area.old) desk.old }
-    ensures free { (result ≡ Err Refusal.Nothing) ↔ IsFreeOf agent area.old desk.old }
-    ensures memory { result ≡ Err Refusal.Memory → HasNoRoom desk.old }
+        ↔ HasAnotherSize agent (length area.old) held.old }
+    ensures free { (result ≡ Err Refusal.Nothing) ↔ IsFreeOf agent area.old held.old }
+    ensures memory { result ≡ Err Refusal.Memory → HasNoRoom held.old }
     ensures never { (result ≢ Err Refusal.NotFree) × (result ≢ Err Refusal.NoFrame) }
-    ensures err { OnErr result (desk.new ≡ desk.old) }
+    ensures err { OnErr result (held.new ≡ held.old) }
     ensures kept { OnErr result (area.new ≡ area.old) }
 {
-    desk.held.check_size(agent, area.len())?;
-    let Ok(true) = read_channel_area_into(area, &mut desk.frame) else {
+    held.check_size(agent, area.len())?;
+    let Ok(true) = read_channel_area_into(area, &mut exchange.frame) else {
         return Err(Refusal::Nothing);
     };
-    let answered = desk.held.command(agent, &desk.frame, &mut desk.reply)?;
-    put_answer(area, answered, &desk.reply.payload);
+    let answered = held.command(agent, &exchange.frame, &mut exchange.reply)?;
+    put_answer(area, answered, &exchange.reply.payload);
     Ok(())
 }
 
@@ -61,62 +66,42 @@ fn put_answer(area: &mut [u8], answered: Answered, payload: &Payload)
     };
 }
 
-/// As `hardware::ask`, of a frame in an area of the size of its agent's channel. `NoAgent`, and then
-/// `WrongSize`, come before all else.
-pub fn ask(desk: &mut Desk, agent: u32, area: &[u8]) -> Result<Effect, Refusal>
-    ensures ok { IfOk result (λ effect.
-        IsSomeAnd (channel_waiting area.now) (λ frame.
-        (h : List Event) → StandsAt desk.old h →
-        effect_after (board_of desk.old) h (Called agent frame) ≡ Some effect)) }
-    ensures no_agent { (result ≡ Err Refusal.NoAgent) ↔ LacksAgent agent desk.old }
+/// As `area::ask`, in an area of the size of its agent's channel. `NoAgent`, and then `WrongSize`, come
+/// before all else.
+pub fn ask(
+    held: &mut Held,
+    exchange: &mut Exchange,
+    agent: u32,
+    area: &mut [u8],
+) -> Result<Option<Effect>, Refusal>
+    ensures effect { IfOk result (λ effect. IsSomeAnd (channel_waiting area.old) (λ frame.
+        (h : List Event) → StandsAt held.old h →
+        effect ≡ effect_after (board_of held.old) h (Called agent frame))) }
+    ensures answered { result ≡ Ok None → IsSomeAnd (channel_waiting area.old) (λ frame.
+        HasAnswered held.old held.new agent frame area.old area.new) }
+    ensures asked { IfOk result (λ effect. effect ≢ None →
+        (channel_waiting area.old ≡ Some exchange.new.frame) × (area.new ≡ area.old)
+        × IsAskedAbout held.old held.new agent) }
+    ensures size { OnOk result (HasSize agent (length area.old) held.old) }
+    ensures no_agent { (result ≡ Err Refusal.NoAgent) ↔ LacksAgent agent held.old }
     ensures wrong_size { (result ≡ Err Refusal.WrongSize)
-        ↔ HasAnotherSize agent (length area.now) desk.old }
-    ensures no_frame { (result ≡ Err Refusal.NoFrame) ↔ IsFreeOf agent area.now desk.old }
-    ensures nothing { HasSize agent (length area.now) desk.old →
-        IfSome (channel_waiting area.now) (λ frame.
-        (h : List Event) → StandsAt desk.old h →
-        (result ≡ Err Refusal.Nothing) ↔ ChangesNothing (board_of desk.old) agent frame h) }
-    ensures never { (result ≢ Err Refusal.NotFree) × (result ≢ Err Refusal.Memory) }
-    ensures same { desk.new ≡ desk.old }
-{
-    desk.held.check_size(agent, area.len())?;
-    let Ok(true) = read_channel_area_into(area, &mut desk.frame) else {
-        return Err(Refusal::NoFrame);
-    };
-    match desk.held.effect_of(agent, &desk.frame)? {
-        Some(effect) => Ok(effect),
-        None => Err(Refusal::Nothing),
-    }
-}
-
-/// As `hardware::fail`, of a frame in an area of the size of its agent's channel. `NoAgent`, and then
-/// `WrongSize`, come before all else.
-pub fn fail(desk: &mut Desk, agent: u32, area: &mut [u8]) -> Result<(), Refusal>
-    ensures ok { OnOk result
-        (IsSomeAnd
-        (channel_waiting area.old)
-        (λ frame. HasFailed desk.old desk.new agent frame area.old area.new)) }
-    ensures no_agent { (result ≡ Err Refusal.NoAgent) ↔ LacksAgent agent desk.old }
-    ensures wrong_size { (result ≡ Err Refusal.WrongSize)
-        ↔ HasAnotherSize agent (length area.old) desk.old }
-    ensures no_frame { (result ≡ Err Refusal.NoFrame) ↔ IsFreeOf agent area.old desk.old }
-    ensures nothing { HasSize agent (length area.old) desk.old →
-        IfSome (channel_waiting area.old) (λ frame.
-        (h : List Event) → StandsAt desk.old h →
-        (result ≡ Err Refusal.Nothing) ↔ ChangesNothing (board_of desk.old) agent frame h) }
-    ensures memory { result ≡ Err Refusal.Memory → HasNoRoom desk.old }
-    ensures never { result ≢ Err Refusal.NotFree }
-    ensures err { OnErr result (desk.new ≡ desk.old) }
+        ↔ HasAnotherSize agent (length area.old) held.old }
+    ensures no_frame { (result ≡ Err Refusal.NoFrame) ↔ IsFreeOf agent area.old held.old }
+    ensures memory { result ≡ Err Refusal.Memory → HasNoRoom held.old }
+    ensures never { (result ≢ Err Refusal.NotFree) × (result ≢ Err Refusal.Nothing) }
+    ensures err { OnErr result (held.new ≡ held.old) }
     ensures kept { OnErr result (area.new ≡ area.old) }
 {
-    desk.held.check_size(agent, area.len())?;
-    let Ok(true) = read_channel_area_into(area, &mut desk.frame) else {
+    held.check_size(agent, area.len())?;
+    let Ok(true) = read_channel_area_into(area, &mut exchange.frame) else {
         return Err(Refusal::NoFrame);
     };
-    desk.held
-        .command_failed(agent, &desk.frame, &mut desk.reply)?;
-    put_answer(area, Answered::Reply, &desk.reply.payload);
-    Ok(())
+    let effect = held.ask(agent, &exchange.frame)?;
+    if effect.is_none() {
+        let answered = held.command(agent, &exchange.frame, &mut exchange.reply)?;
+        put_answer(area, answered, &exchange.reply.payload);
+    }
+    Ok(effect)
 }
 
 /// As `area::post_next`, in an area of the size of its agent's channel. `NoAgent`, and then

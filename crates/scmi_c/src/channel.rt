@@ -34,7 +34,7 @@ impl Held {
         ensures legal { (h : List Event) → StandsAt self.now h → IsLegal (board_of self.now) h }
     {
         let plan = match self {
-            Held::Endless(platform) => platform.board(),
+            Held::Endless(endless) => endless.platform.board(),
             Held::Recorded(core) => {
                 let _trace = core.trace();
                 core.board()
@@ -109,10 +109,10 @@ pub extern "C" fn scmi_channel(
 ) -> u32
     ensures done { result ≡ DONE →
         IsSomeAnd platform.old.value (λ p.
-        channel.new ≡ numbers_of_channel (channel_of (board_of p) agent)) }
+        channel.new ≡ numbers_of_channel (channel_of (board_of p.held) agent)) }
     ensures platform { platform.new.value ≡ platform.old.value }
     ensures no_platform { (result ≡ NO_PLATFORM) ↔ (platform.old.value ≡ None) }
-    ensures no_agent { (result ≡ NO_AGENT) ↔ IsSomeAnd platform.old.value (LacksAgent agent) }
+    ensures no_agent { (result ≡ NO_AGENT) ↔ IsSomeAnd platform.old.value (λ p. LacksAgent agent p.held) }
     ensures errors { (result ≡ DONE) ⊎ (result ≡ NO_AGENT) ⊎ (result ≡ NO_PLATFORM) }
     ensures kept { result ≢ DONE → channel.new ≡ channel.old }
 {

@@ -7,7 +7,7 @@ use crate::refusal::Refusal;
 /// The call did what it is for.
 pub const DONE: u32 = 0;
 
-/// No frame to answer, no hardware to change, no set pending, or no message to post.
+/// No frame to answer, no command that was asked about, no set pending, or no message to post.
 pub const NOTHING: u32 = 1;
 
 /// Memory was refused.
@@ -36,6 +36,12 @@ pub const WRONG_SIZE: u32 = 10;
 
 /// The board lacks the domain or clock.
 pub const NO_RESOURCE: u32 = 11;
+
+/// A command was asked about, and is neither committed nor failed.
+pub const ASKED: u32 = 12;
+
+/// The hardware is to be changed, and then the command committed or failed.
+pub const EFFECT: u32 = 13;
 
 /// What a rule's number is added to.
 pub const RULE: u32 = 16;

@@ -5,9 +5,10 @@ ghost use Rattle.scmi_core.specs.History.{IsIdle};
 ghost use Rattle.scmi_core.specs.declared.event.Event.{Event};
 ghost use Rattle.scmi_core.specs.declared.event.Event.TheVariants.{Advance, AdvanceFailed};
 ghost use Rattle.scmi_c.specs.Effect.{numbers_of};
+ghost use Rattle.scmi_c.specs.Kept.{IsAsked, IsUnasked};
 ghost use Rattle.scmi_c.specs.Standing.{board_of, StandsAt, HasNoRoom};
 ghost use Rattle.scmi_c.specs.Calls.{HasHappened};
-ghost use Rattle.scmi_c.specs.declared.code.TheConstants.{DONE, NOTHING, MEMORY, NO_PLATFORM};
+ghost use Rattle.scmi_c.specs.declared.code.TheConstants.{ASKED, DONE, NOTHING, MEMORY, NO_PLATFORM};
 
 use crate::code::{DONE, MEMORY, NO_PLATFORM, NOTHING};
 use crate::effect::{EffectNumbers, numbers_of};
@@ -24,11 +25,11 @@ pub extern "C" fn scmi_ask_advance(
 ) -> u32
     ensures done { result ≡ DONE →
         IsSomeAnd platform.old.value (λ p.
-        (h : List Event) → StandsAt p h →
-        option_map numbers_of (effect_after (board_of p) h Advance) ≡ Some effect.new) }
+        (h : List Event) → StandsAt p.held h →
+        option_map numbers_of (effect_after (board_of p.held) h Advance) ≡ Some effect.new) }
     ensures nothing { IfSome platform.old.value (λ p.
-        (h : List Event) → StandsAt p h →
-        (result ≡ NOTHING) ↔ (effect_after (board_of p) h Advance ≡ None)) }
+        (h : List Event) → StandsAt p.held h →
+        (result ≡ NOTHING) ↔ (effect_after (board_of p.held) h Advance ≡ None)) }
     ensures platform { platform.new.value ≡ platform.old.value }
     ensures no_platform { (result ≡ NO_PLATFORM) ↔ (platform.old.value ≡ None) }
     ensures errors { (result ≤ NOTHING) ⊎ (result ≡ NO_PLATFORM) }
@@ -48,23 +49,27 @@ pub extern "C" fn scmi_ask_advance(
     }
 }
 
-/// Takes the first pending set off, whose change the hardware refused. `DONE`; `NO_PLATFORM`; `NOTHING`
-/// where none is pending; `MEMORY`, of a platform that keeps its history alone. After another number
-/// than `DONE` nothing changed.
+/// Takes the first pending set off, whose change the hardware refused. `DONE`; `NO_PLATFORM`; `ASKED`
+/// where a command waits to be committed or to fail; `NOTHING` where none is pending; `MEMORY`, of a
+/// platform that keeps its history alone. After another number than `DONE` nothing changed.
 #[unsafe(no_mangle)]
 pub extern "C" fn scmi_fail_advance(alloc: Global, platform: &mut Handle) -> u32
     ensures done { result ≡ DONE →
         IsSomeAnd platform.old.value (λ p.
-        IsSomeAnd platform.new.value (λ k. HasHappened p k AdvanceFailed)) }
-    ensures nothing { IfSome platform.old.value (λ p.
-        (h : List Event) → StandsAt p h → (result ≡ NOTHING) ↔ IsIdle (board_of p) h) }
-    ensures errors { (result ≤ MEMORY) ⊎ (result ≡ NO_PLATFORM) }
+        IsSomeAnd platform.new.value (λ k.
+        IsUnasked k × HasHappened p.held k.held AdvanceFailed)) }
+    ensures nothing { IfSome platform.old.value (λ p. IsUnasked p →
+        (h : List Event) → StandsAt p.held h →
+        (result ≡ NOTHING) ↔ IsIdle (board_of p.held) h) }
+    ensures asked { (result ≡ ASKED) ↔ IsSomeAnd platform.old.value IsAsked }
+    ensures errors { (result ≤ MEMORY) ⊎ (result ≡ NO_PLATFORM) ⊎ (result ≡ ASKED) }
     ensures no_platform { (result ≡ NO_PLATFORM) ↔ (platform.old.value ≡ None) }
-    ensures memory { result ≡ MEMORY → IsSomeAnd platform.old.value HasNoRoom }
+    ensures memory { result ≡ MEMORY → IsSomeAnd platform.old.value (λ p. HasNoRoom p.held) }
     ensures kept { result ≢ DONE → platform.new.value ≡ platform.old.value }
 {
-    let Some(mut desk) = platform.take(alloc) else {
-        return NO_PLATFORM;
+    let mut desk = match platform.take_unasked(alloc) {
+        Ok(desk) => desk,
+        Err(number) => return number,
     };
     let given = desk.held.advance_failed();
     platform.put(desk);

@@ -1,7 +1,9 @@
 //! A platform as a C program holds it.
-ghost use Rattle.std.specs.Prelude.{◌≡◌, Option, Some, None, MatchOption};
-ghost use Rattle.scmi_c.specs.declared.held.Held.{Held};
+ghost use Rattle.std.specs.Prelude.{◌≡◌, ◌↔◌, ◌⊎◌, Option, Some, None, MatchOption, IsSomeAnd, IfOk, IfErr, OnOk, OnErr, Err};
+ghost use Rattle.scmi_c.specs.Kept.{Kept, IsAsked, IsUnasked};
+ghost use Rattle.scmi_c.specs.declared.code.TheConstants.{ASKED, NO_PLATFORM};
 
+use crate::code::{ASKED, NO_PLATFORM};
 use crate::desk::Desk;
 use crate::loose::Loose;
 use std::alloc::Global;
@@ -14,7 +16,7 @@ use std::ptr::null_mut;
 #[derive(Drop)]
 pub struct Handle {
     at: *mut u8,
-    pub ghost value: { Option Held },
+    pub ghost value: { Option Kept },
 }
 
 impl Model for Handle {
@@ -68,6 +70,27 @@ impl Handle {
             Some(loose) => Some(loose.into_box()),
             None => None,
         }
+    }
+
+    /// Takes a platform out of which no command was asked about, and leaves nothing. `NO_PLATFORM` where
+    /// there is none, and `ASKED` where a command waits; then nothing changed.
+    pub fn take_unasked(&mut self, alloc: Global) -> Result<Box<Desk>, u32>
+        ensures taken { IfOk result (λ desk. self.old.value ≡ Some desk.value) }
+        ensures unasked { IfOk result (λ desk. IsUnasked desk.value) }
+        ensures left { OnOk result (self.new.value ≡ None) }
+        ensures no_platform { (result ≡ Err NO_PLATFORM) ↔ (self.old.value ≡ None) }
+        ensures asked { (result ≡ Err ASKED) ↔ IsSomeAnd self.old.value IsAsked }
+        ensures errors { IfErr result (λ n. (n ≡ NO_PLATFORM) ⊎ (n ≡ ASKED)) }
+        ensures kept { OnErr result (self.new.value ≡ self.old.value) }
+    {
+        let Some(desk) = self.take(alloc) else {
+            return Err(NO_PLATFORM);
+        };
+        if desk.is_asked() {
+            self.put(desk);
+            return Err(ASKED);
+        }
+        Ok(desk)
     }
 
     /// Holds a platform, where nothing was held.

@@ -1,24 +1,26 @@
 //! What a handle stands for.
-ghost use Rattle.std.specs.Prelude.{◌≡◌, ◌≢◌, ◌↔◌, List, length, true, false, slice_get, IfOk, OnOk, OnErr, IfErr, Ok, Err};
+ghost use Rattle.std.specs.Prelude.{◌≡◌, ◌≢◌, ◌↔◌, List, length, true, false, slice_get, IfOk, OnOk, OnErr, IfErr, None, Ok, Err};
 ghost use Rattle.std.specs.Option.{option_copied};
 ghost use Rattle.scmi_plan.specs.Agent.{IsAgent, IsNoAgent};
+ghost use Rattle.scmi_plan.specs.Plan.{IsLawful};
 ghost use Rattle.scmi_core.specs.History.{IsIdle, HasNothingFor, answer_to, answer_with, outbox};
 ghost use Rattle.scmi_core.specs.declared.event.Event.{Event};
 ghost use Rattle.scmi_core.specs.declared.event.Event.TheVariants.{Command as Called, Advance, Sent, CommandFailed, AdvanceFailed};
 ghost use Rattle.scmi_codec.specs.declared.frame.Answer.TheVariants.{Reply};
 ghost use Rattle.scmi_core.specs.Effect.{effect_after};
 ghost use Rattle.scmi_core.specs.Reply.{failed_answer};
-ghost use Rattle.scmi_c.specs.Standing.{board_of, StandsAt, HasNoRoom};
+ghost use Rattle.scmi_c.specs.Standing.{board_of, StandsAt, StandsAsBefore, HasNoRoom, HasRoom};
 ghost use Rattle.scmi_c.specs.Calls.{HasHappened, ChangesNothing};
 
+use crate::unrecorded::Unrecorded;
 use scmi_codec::{Frame, Message};
-use scmi_core::{Answered, Core, CoreError, Effect, Platform};
+use scmi_core::{Answered, Core, CoreError, Effect};
 
 /// A platform of either kind.
 #[derive(Drop)]
 pub enum Held {
     /// It keeps no history, and takes no memory however long it runs.
-    Endless(Platform),
+    Endless(Unrecorded),
     /// It keeps its history, which takes memory with each event.
     Recorded(Core),
 }
@@ -43,7 +45,7 @@ impl Held {
         ensures err { OnErr result (self.new ≡ self.old) }
     {
         match self {
-            Held::Endless(platform) => platform.command(agent, frame, reply),
+            Held::Endless(endless) => endless.command(agent, frame, reply),
             Held::Recorded(core) => core.command_into(agent, frame, reply),
         }
     }
@@ -61,7 +63,7 @@ impl Held {
         ensures err { OnErr result (self.new ≡ self.old) }
     {
         match self {
-            Held::Endless(platform) => Ok(platform.advance()),
+            Held::Endless(endless) => Ok(endless.advance()),
             Held::Recorded(core) => core.advance(),
         }
     }
@@ -79,7 +81,7 @@ impl Held {
     {
         self.check_agent(agent)?;
         Ok(match self {
-            Held::Endless(platform) => platform.first(agent),
+            Held::Endless(endless) => endless.platform.first(agent),
             Held::Recorded(core) => core.first(agent),
         })
     }
@@ -102,7 +104,7 @@ impl Held {
         ensures { result ≡ length (board_of self.now).agents }
     {
         match self {
-            Held::Endless(platform) => platform.agents(),
+            Held::Endless(endless) => endless.platform.agents(),
             Held::Recorded(core) => core.agents(),
         }
     }
@@ -120,7 +122,7 @@ impl Held {
         ensures err { OnErr result (self.new ≡ self.old) }
     {
         match self {
-            Held::Endless(platform) => platform.sent(agent),
+            Held::Endless(endless) => endless.sent(agent),
             Held::Recorded(core) => core.sent(agent),
         }
     }
@@ -138,8 +140,46 @@ impl Held {
     {
         self.check_agent(agent)?;
         match self {
-            Held::Endless(platform) => platform.effect_of(agent, frame),
+            Held::Endless(endless) => endless.platform.effect_of(agent, frame),
             Held::Recorded(core) => core.effect_of(agent, frame),
+        }
+    }
+
+    /// As `effect_of`; where the command changes something, there is then room for its event.
+    /// `Memory` where the history could not grow. Nothing else changed.
+    pub fn ask(&mut self, agent: u32, frame: &Frame) -> Result<Option<Effect>, CoreError>
+        ensures effect { (h : List Event) → StandsAt self.old h →
+            IfOk result (λ effect.
+            effect ≡ effect_after (board_of self.old) h (Called agent frame.now)) }
+        ensures agent { OnOk result (IsAgent (length (board_of self.old).agents) agent) }
+        ensures room { IfOk result (λ effect. effect ≢ None → HasRoom self.new) }
+        ensures lawful { IfOk result (λ effect. effect ≢ None → IsLawful (board_of self.old)) }
+        ensures stands { StandsAsBefore self.old self.new }
+        ensures none { result ≡ Ok None → self.new ≡ self.old }
+        ensures no_agent { (result ≡ Err CoreError.NoAgent) ↔
+            IsNoAgent (length (board_of self.old).agents) agent }
+        ensures not_nothing { result ≢ Err CoreError.Nothing }
+        ensures memory { result ≡ Err CoreError.Memory → HasNoRoom self.old }
+        ensures err { OnErr result (self.new ≡ self.old) }
+    {
+        let effect = self.effect_of(agent, frame)?;
+        if effect.is_some() {
+            let _board = self.board();
+            self.reserve()?;
+        }
+        Ok(effect)
+    }
+
+    /// Makes room for one more event. `Memory` where the history could not grow; then nothing changed.
+    fn reserve(&mut self) -> Result<(), CoreError>
+        ensures room { OnOk result (HasRoom self.new) }
+        ensures stands { StandsAsBefore self.old self.new }
+        ensures memory { IfErr result (λ e. (e ≡ CoreError.Memory) × HasNoRoom self.old) }
+        ensures err { OnErr result (self.new ≡ self.old) }
+    {
+        match self {
+            Held::Endless(_) => Ok(()),
+            Held::Recorded(core) => core.reserve(),
         }
     }
 
@@ -150,7 +190,7 @@ impl Held {
             result ≡ effect_after (board_of self.now) h Advance }
     {
         match self {
-            Held::Endless(platform) => platform.effect_of_advance(),
+            Held::Endless(endless) => endless.platform.effect_of_advance(),
             Held::Recorded(core) => core.effect_of_advance(),
         }
     }
@@ -171,11 +211,14 @@ impl Held {
             ChangesNothing (board_of self.old) agent frame.now h }
         ensures no_agent { (result ≡ Err CoreError.NoAgent) ↔
             IsNoAgent (length (board_of self.old).agents) agent }
+        ensures changes { ((h : List Event) → StandsAt self.old h →
+            effect_after (board_of self.old) h (Called agent frame.now) ≢ None) →
+            result ≢ Err CoreError.Nothing }
         ensures memory { result ≡ Err CoreError.Memory → HasNoRoom self.old }
         ensures err { OnErr result (self.new ≡ self.old) }
     {
         match self {
-            Held::Endless(platform) => platform.command_failed(agent, frame, reply),
+            Held::Endless(endless) => endless.platform.command_failed(agent, frame, reply),
             Held::Recorded(core) => core.command_failed(agent, frame, reply),
         }
     }
@@ -194,7 +237,7 @@ impl Held {
         ensures err { OnErr result (self.new ≡ self.old) }
     {
         match self {
-            Held::Endless(platform) => Ok(platform.advance_failed()),
+            Held::Endless(endless) => Ok(endless.advance_failed()),
             Held::Recorded(core) => core.advance_failed(),
         }
     }

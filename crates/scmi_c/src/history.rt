@@ -15,11 +15,11 @@ use std::alloc::Global;
 pub extern "C" fn scmi_history_length(alloc: Global, platform: &mut Handle, events: &mut u64) -> u32
     ensures done { result ≡ DONE →
         IsSomeAnd platform.old.value (λ p.
-        (h : List Event) → StandsAt p h → events.new ≡ length h) }
+        (h : List Event) → StandsAt p.held h → events.new ≡ length h) }
     ensures platform { platform.new.value ≡ platform.old.value }
     ensures no_platform { (result ≡ NO_PLATFORM) ↔ (platform.old.value ≡ None) }
     ensures no_history { (result ≡ NO_HISTORY) ↔
-        IsSomeAnd platform.old.value (λ p. ¬ (IsRecorded p)) }
+        IsSomeAnd platform.old.value (λ p. ¬ (IsRecorded p.held)) }
     ensures errors { (result ≡ DONE) ⊎ (result ≡ NO_PLATFORM) ⊎ (result ≡ NO_HISTORY) }
     ensures kept { result ≢ DONE → events.new ≡ events.old }
 {

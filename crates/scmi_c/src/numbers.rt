@@ -3,8 +3,8 @@ ghost use Rattle.std.specs.Prelude.{◌≡◌};
 ghost use Rattle.scmi_c.specs.Numbers.{numbers_of_library, version_of_library};
 
 use crate::code::{
-    DONE, IN_USE, LINE, MEMORY, NO_AGENT, NO_FRAME, NO_HISTORY, NO_PLATFORM, NO_RESOURCE, NOT_FREE,
-    NOTHING, RULE, WRONG_SIZE,
+    ASKED, DONE, EFFECT, IN_USE, LINE, MEMORY, NO_AGENT, NO_FRAME, NO_HISTORY, NO_PLATFORM,
+    NO_RESOURCE, NOT_FREE, NOTHING, RULE, WRONG_SIZE,
 };
 use crate::effect::{ENABLED, RATE, STATE};
 use scmi_codec::{AREA_BYTES, PAYLOAD_WORDS};
@@ -29,6 +29,8 @@ pub struct Numbers {
     pub no_frame: u32,
     pub wrong_size: u32,
     pub no_resource: u32,
+    pub asked: u32,
+    pub effect: u32,
     pub rule: u32,
     pub line: u32,
     pub effect_state: u32,
@@ -55,6 +57,8 @@ pub extern "C" fn scmi_numbers(numbers: &mut Numbers)
         no_frame: NO_FRAME,
         wrong_size: WRONG_SIZE,
         no_resource: NO_RESOURCE,
+        asked: ASKED,
+        effect: EFFECT,
         rule: RULE,
         line: LINE,
         effect_state: STATE,

@@ -1,7 +1,8 @@
 //! Platforms are made and freed.
-ghost use Rattle.std.specs.Prelude.{◌≡◌, ◌≢◌, ◌↔◌, ◌⊎◌, [], Some, None, Ok, Err, IsSomeAnd};
+ghost use Rattle.std.specs.Prelude.{◌≡◌, ◌≢◌, ◌↔◌, ◌⊎◌, [], None, Ok, Err, IsSomeAnd};
 ghost use Rattle.scmi_plan.specs.Plan.{IsLawful};
 ghost use Rattle.scmi_c.specs.Board.{IsFault, board_of_text};
+ghost use Rattle.scmi_c.specs.Kept.{IsUnasked};
 ghost use Rattle.scmi_c.specs.Standing.{board_of, StandsAt, IsRecorded};
 ghost use Rattle.scmi_c.specs.declared.code.TheConstants.{DONE, IN_USE, MEMORY};
 
@@ -10,7 +11,8 @@ use crate::code::{DONE, IN_USE, MEMORY};
 use crate::desk::Desk;
 use crate::handle::Handle;
 use crate::held::Held;
-use scmi_core::{Core, Platform};
+use crate::unrecorded::Unrecorded;
+use scmi_core::Core;
 use std::alloc::Global;
 
 /// Makes a platform of a board's text, which keeps no history and takes no memory from then on. `DONE`;
@@ -19,9 +21,9 @@ use std::alloc::Global;
 #[unsafe(no_mangle)]
 pub extern "C" fn scmi_platform_new(alloc: Global, platform: &mut Handle, board: &[u8]) -> u32
     ensures done { result ≡ DONE →
-        IsSomeAnd platform.new.value (λ p.
-        (board_of_text board.now ≡ Ok (board_of p)) × StandsAt p [] × IsLawful (board_of p)
-        × (¬ (IsRecorded p))) }
+        IsSomeAnd platform.new.value (λ p. IsUnasked p
+        × (board_of_text board.now ≡ Ok (board_of p.held)) × StandsAt p.held []
+        × IsLawful (board_of p.held) × (¬ (IsRecorded p.held))) }
     ensures fault { (result ≡ DONE) ⊎ (result ≡ IN_USE) ⊎ (result ≡ MEMORY)
         ⊎ (board_of_text board.now ≡ Err result) }
     ensures in_use { (result ≡ IN_USE) ↔ (platform.old.value ≢ None) }
@@ -33,7 +35,7 @@ pub extern "C" fn scmi_platform_new(alloc: Global, platform: &mut Handle, board:
         return IN_USE;
     }
     match read_plan(alloc, board) {
-        Ok(plan) => hold(alloc, platform, Held::Endless(Platform::new(plan))),
+        Ok(plan) => hold(alloc, platform, Held::Endless(Unrecorded::new(plan))),
         Err(fault) => fault,
     }
 }
@@ -46,9 +48,9 @@ pub extern "C" fn scmi_platform_new_recorded(
     board: &[u8],
 ) -> u32
     ensures done { result ≡ DONE →
-        IsSomeAnd platform.new.value (λ p.
-        (board_of_text board.now ≡ Ok (board_of p)) × StandsAt p [] × IsLawful (board_of p)
-        × IsRecorded p) }
+        IsSomeAnd platform.new.value (λ p. IsUnasked p
+        × (board_of_text board.now ≡ Ok (board_of p.held)) × StandsAt p.held []
+        × IsLawful (board_of p.held) × IsRecorded p.held) }
     ensures fault { (result ≡ DONE) ⊎ (result ≡ IN_USE) ⊎ (result ≡ MEMORY)
         ⊎ (board_of_text board.now ≡ Err result) }
     ensures in_use { (result ≡ IN_USE) ↔ (platform.old.value ≢ None) }
@@ -68,7 +70,8 @@ pub extern "C" fn scmi_platform_new_recorded(
 /// Puts a platform into the heap and its handle.
 fn hold(alloc: Global, platform: &mut Handle, held: Held) -> u32
     requires { platform.old.value ≡ None }
-    ensures done { result ≡ DONE → platform.new.value ≡ Some held }
+    ensures done { result ≡ DONE →
+        IsSomeAnd platform.new.value (λ p. IsUnasked p × (p.held ≡ held)) }
     ensures errors { (result ≡ DONE) ⊎ (result ≡ MEMORY) }
     ensures kept { result ≢ DONE → platform.new.value ≡ platform.old.value }
 {

@@ -8,7 +8,7 @@ use thiserror::Error;
 /// Why a call on a platform did nothing.
 #[derive(Clone, Copy, PartialEq, Eq, Debug, Error)]
 pub enum Refusal {
-    /// No frame to answer, no hardware to change, no set pending, or no message to post.
+    /// No frame to answer, no command that was asked about, no set pending, or no message to post.
     #[error("there is nothing to do")]
     Nothing = 1,
     /// The history could not grow.

@@ -6,7 +6,8 @@ ghost use Rattle.scmi_core.specs.declared.event.Event.{Event};
 ghost use Rattle.scmi_core.specs.declared.event.Event.TheVariants.{Sent};
 ghost use Rattle.scmi_c.specs.Standing.{board_of, StandsAt, LacksAgent, HasNoRoom};
 ghost use Rattle.scmi_c.specs.Calls.{HasPosted, HasHappened, HasNext, LacksNext};
-ghost use Rattle.scmi_c.specs.declared.code.TheConstants.{DONE, NOTHING, MEMORY, NO_AGENT, NOT_FREE, NO_PLATFORM};
+ghost use Rattle.scmi_c.specs.Kept.{IsAsked, IsUnasked};
+ghost use Rattle.scmi_c.specs.declared.code.TheConstants.{ASKED, DONE, NOTHING, MEMORY, NO_AGENT, NOT_FREE, NO_PLATFORM};
 
 use crate::area::post_next;
 use crate::code::{NO_PLATFORM, code};
@@ -26,17 +27,17 @@ pub extern "C" fn scmi_next(
     area: &mut [u8; AREA_BYTES],
 ) -> u32
     ensures done { result ≡ DONE →
-        IsSomeAnd platform.old.value (λ p. HasPosted p agent area.old area.new) }
+        IsSomeAnd platform.old.value (λ p. HasPosted p.held agent area.old area.new) }
     ensures platform { platform.new.value ≡ platform.old.value }
     ensures no_platform { (result ≡ NO_PLATFORM) ↔ (platform.old.value ≡ None) }
     ensures nothing { IfSome platform.old.value (λ p.
-        (h : List Event) → StandsAt p h →
-        (result ≡ NOTHING) ↔ LacksNext (board_of p) agent h) }
-    ensures no_agent { (result ≡ NO_AGENT) ↔ IsSomeAnd platform.old.value (LacksAgent agent) }
+        (h : List Event) → StandsAt p.held h →
+        (result ≡ NOTHING) ↔ LacksNext (board_of p.held) agent h) }
+    ensures no_agent { (result ≡ NO_AGENT) ↔ IsSomeAnd platform.old.value (λ p. LacksAgent agent p.held) }
     ensures not_free { IfSome platform.old.value (λ p.
-        (h : List Event) → StandsAt p h →
+        (h : List Event) → StandsAt p.held h →
         (result ≡ NOT_FREE) ↔
-        (HasNext (board_of p) agent h × (frame_waiting area.old ≢ None))) }
+        (HasNext (board_of p.held) agent h × (frame_waiting area.old ≢ None))) }
     ensures errors { (result ≤ NO_PLATFORM) × (result ≢ MEMORY) }
     ensures kept { result ≢ DONE → area.new ≡ area.old }
 {
@@ -49,24 +50,29 @@ pub extern "C" fn scmi_next(
 }
 
 /// Takes the first message off an agent's outbox, as posted. `DONE`; `NO_PLATFORM`; `NO_AGENT`;
-/// `NOTHING` where the outbox is empty; `MEMORY`, of a platform that keeps its history alone. After
-/// another number than `DONE` nothing changed.
+/// `ASKED` where a command waits to be committed or to fail; `NOTHING` where the outbox is empty;
+/// `MEMORY`, of a platform that keeps its history alone. After another number than `DONE` nothing
+/// changed.
 #[unsafe(no_mangle)]
 pub extern "C" fn scmi_sent(alloc: Global, platform: &mut Handle, agent: u32) -> u32
     ensures done { result ≡ DONE →
         IsSomeAnd platform.old.value (λ p.
-        IsSomeAnd platform.new.value (λ k. HasHappened p k (Sent agent))) }
-    ensures nothing { IfSome platform.old.value (λ p.
-        (h : List Event) → StandsAt p h →
-        (result ≡ NOTHING) ↔ HasNothingFor (board_of p) agent h) }
-    ensures no_agent { (result ≡ NO_AGENT) ↔ IsSomeAnd platform.old.value (LacksAgent agent) }
-    ensures errors { (result ≤ NO_AGENT) ⊎ (result ≡ NO_PLATFORM) }
+        IsSomeAnd platform.new.value (λ k.
+        IsUnasked k × HasHappened p.held k.held (Sent agent))) }
+    ensures nothing { IfSome platform.old.value (λ p. IsUnasked p →
+        (h : List Event) → StandsAt p.held h →
+        (result ≡ NOTHING) ↔ HasNothingFor (board_of p.held) agent h) }
+    ensures no_agent { (result ≡ NO_AGENT) ↔
+        IsSomeAnd platform.old.value (λ p. IsUnasked p × LacksAgent agent p.held) }
+    ensures asked { (result ≡ ASKED) ↔ IsSomeAnd platform.old.value IsAsked }
+    ensures errors { (result ≤ NO_AGENT) ⊎ (result ≡ NO_PLATFORM) ⊎ (result ≡ ASKED) }
     ensures no_platform { (result ≡ NO_PLATFORM) ↔ (platform.old.value ≡ None) }
-    ensures memory { result ≡ MEMORY → IsSomeAnd platform.old.value HasNoRoom }
+    ensures memory { result ≡ MEMORY → IsSomeAnd platform.old.value (λ p. HasNoRoom p.held) }
     ensures kept { result ≢ DONE → platform.new.value ≡ platform.old.value }
 {
-    let Some(mut desk) = platform.take(alloc) else {
-        return NO_PLATFORM;
+    let mut desk = match platform.take_unasked(alloc) {
+        Ok(desk) => desk,
+        Err(number) => return number,
     };
     let given = desk.held.sent(agent).map_err(Refusal::from);
     platform.put(desk);

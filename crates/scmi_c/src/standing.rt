@@ -18,7 +18,7 @@ impl Held {
         ensures none { (result ≡ None) ↔ (length (board_of self.now).domains ≤ domain) }
     {
         match self {
-            Held::Endless(platform) => platform.power_state(domain),
+            Held::Endless(endless) => endless.platform.power_state(domain),
             Held::Recorded(core) => core.power_state(domain),
         }
     }
@@ -30,7 +30,7 @@ impl Held {
         ensures none { (result ≡ None) ↔ (length (board_of self.now).clocks ≤ clock) }
     {
         match self {
-            Held::Endless(platform) => platform.clock_rate(clock),
+            Held::Endless(endless) => endless.platform.clock_rate(clock),
             Held::Recorded(core) => core.clock_rate(clock),
         }
     }
@@ -43,7 +43,7 @@ impl Held {
         ensures none { (result ≡ None) ↔ (length (board_of self.now).clocks ≤ clock) }
     {
         match self {
-            Held::Endless(platform) => platform.is_clock_enabled(clock),
+            Held::Endless(endless) => endless.platform.is_clock_enabled(clock),
             Held::Recorded(core) => core.is_clock_enabled(clock),
         }
     }
@@ -55,7 +55,7 @@ impl Held {
             (pending_sets (board_of self.now) (deeds (board_of self.now) h)) place }
     {
         let sets = match self {
-            Held::Endless(platform) => platform.pending_sets(),
+            Held::Endless(endless) => endless.platform.pending_sets(),
             Held::Recorded(core) => core.pending_sets(),
         };
         sets.get(place as usize).copied()
@@ -68,7 +68,7 @@ impl Held {
         ensures none { (result ≡ None) ↔ LacksAgent agent self.now }
     {
         match self {
-            Held::Endless(platform) => platform.waiting(agent),
+            Held::Endless(endless) => endless.platform.waiting(agent),
             Held::Recorded(core) => core.waiting(agent),
         }
     }

@@ -22,12 +22,12 @@ pub extern "C" fn scmi_domain_state(
 ) -> u32
     ensures done { result ≡ DONE →
         IsSomeAnd platform.old.value (λ p.
-        (h : List Event) → StandsAt p h →
-        state.new ≡ value_after (board_of p) (State domain) h) }
+        (h : List Event) → StandsAt p.held h →
+        state.new ≡ value_after (board_of p.held) (State domain) h) }
     ensures platform { platform.new.value ≡ platform.old.value }
     ensures no_platform { (result ≡ NO_PLATFORM) ↔ (platform.old.value ≡ None) }
     ensures no_resource { (result ≡ NO_RESOURCE) ↔
-        IsSomeAnd platform.old.value (λ p. length (board_of p).domains ≤ domain) }
+        IsSomeAnd platform.old.value (λ p. length (board_of p.held).domains ≤ domain) }
     ensures errors { (result ≡ DONE) ⊎ (result ≡ NO_PLATFORM) ⊎ (result ≡ NO_RESOURCE) }
     ensures kept { result ≢ DONE → state.new ≡ state.old }
 {
@@ -57,13 +57,13 @@ pub extern "C" fn scmi_clock_rate(
 ) -> u32
     ensures done { result ≡ DONE →
         IsSomeAnd platform.old.value (λ p.
-        (h : List Event) → StandsAt p h →
-        (low.new ≡ value_after (board_of p) (Rate clock) h % 2 ^ 32)
-        × (high.new ≡ value_after (board_of p) (Rate clock) h / 2 ^ 32)) }
+        (h : List Event) → StandsAt p.held h →
+        (low.new ≡ value_after (board_of p.held) (Rate clock) h % 2 ^ 32)
+        × (high.new ≡ value_after (board_of p.held) (Rate clock) h / 2 ^ 32)) }
     ensures platform { platform.new.value ≡ platform.old.value }
     ensures no_platform { (result ≡ NO_PLATFORM) ↔ (platform.old.value ≡ None) }
     ensures no_resource { (result ≡ NO_RESOURCE) ↔
-        IsSomeAnd platform.old.value (λ p. length (board_of p).clocks ≤ clock) }
+        IsSomeAnd platform.old.value (λ p. length (board_of p.held).clocks ≤ clock) }
     ensures errors { (result ≡ DONE) ⊎ (result ≡ NO_PLATFORM) ⊎ (result ≡ NO_RESOURCE) }
     ensures kept { result ≢ DONE → (low.new ≡ low.old) × (high.new ≡ high.old) }
 {
@@ -92,12 +92,12 @@ pub extern "C" fn scmi_clock_enabled(
 ) -> u32
     ensures done { result ≡ DONE →
         IsSomeAnd platform.old.value (λ p.
-        (h : List Event) → StandsAt p h →
-        enabled.new ≡ value_after (board_of p) (Enabled clock) h) }
+        (h : List Event) → StandsAt p.held h →
+        enabled.new ≡ value_after (board_of p.held) (Enabled clock) h) }
     ensures platform { platform.new.value ≡ platform.old.value }
     ensures no_platform { (result ≡ NO_PLATFORM) ↔ (platform.old.value ≡ None) }
     ensures no_resource { (result ≡ NO_RESOURCE) ↔
-        IsSomeAnd platform.old.value (λ p. length (board_of p).clocks ≤ clock) }
+        IsSomeAnd platform.old.value (λ p. length (board_of p.held).clocks ≤ clock) }
     ensures errors { (result ≡ DONE) ⊎ (result ≡ NO_PLATFORM) ⊎ (result ≡ NO_RESOURCE) }
     ensures kept { result ≢ DONE → enabled.new ≡ enabled.old }
 {

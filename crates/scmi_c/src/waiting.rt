@@ -26,13 +26,13 @@ pub extern "C" fn scmi_pending(
 ) -> u32
     ensures done { result ≡ DONE →
         IsSomeAnd platform.old.value (λ p.
-        (h : List Event) → StandsAt p h →
-        IsSomeAnd (slice_get (pending_sets (board_of p) (deeds (board_of p) h)) place) (λ set.
+        (h : List Event) → StandsAt p.held h →
+        IsSomeAnd (slice_get (pending_sets (board_of p.held) (deeds (board_of p.held) h)) place) (λ set.
         (agent.new ≡ set.agent) × (effect.new ≡ numbers_of (setting_effect set.setting)))) }
     ensures nothing { IfSome platform.old.value (λ p.
-        (h : List Event) → StandsAt p h →
+        (h : List Event) → StandsAt p.held h →
         (result ≡ NOTHING) ↔
-        (slice_get (pending_sets (board_of p) (deeds (board_of p) h)) place ≡ None)) }
+        (slice_get (pending_sets (board_of p.held) (deeds (board_of p.held) h)) place ≡ None)) }
     ensures platform { platform.new.value ≡ platform.old.value }
     ensures no_platform { (result ≡ NO_PLATFORM) ↔ (platform.old.value ≡ None) }
     ensures errors { (result ≤ NOTHING) ⊎ (result ≡ NO_PLATFORM) }
@@ -64,11 +64,11 @@ pub extern "C" fn scmi_outbox_length(
 ) -> u32
     ensures done { result ≡ DONE →
         IsSomeAnd platform.old.value (λ p.
-        (h : List Event) → StandsAt p h →
-        messages.new ≡ length (outbox (board_of p) agent h)) }
+        (h : List Event) → StandsAt p.held h →
+        messages.new ≡ length (outbox (board_of p.held) agent h)) }
     ensures platform { platform.new.value ≡ platform.old.value }
     ensures no_platform { (result ≡ NO_PLATFORM) ↔ (platform.old.value ≡ None) }
-    ensures no_agent { (result ≡ NO_AGENT) ↔ IsSomeAnd platform.old.value (LacksAgent agent) }
+    ensures no_agent { (result ≡ NO_AGENT) ↔ IsSomeAnd platform.old.value (λ p. LacksAgent agent p.held) }
     ensures errors { (result ≡ DONE) ⊎ (result ≡ NO_AGENT) ⊎ (result ≡ NO_PLATFORM) }
     ensures kept { result ≢ DONE → messages.new ≡ messages.old }
 {

@@ -56,12 +56,14 @@ bool controller_serve(uint32_t agent, uint8_t *area)
 {
     scmi_channel_numbers channel = { 0 };
     scmi_effect effect;
-    bool changes = scmi_channel(&platform, agent, &channel) == SCMI_DONE &&
-                   scmi_ask_in(&platform, agent, area, channel.bytes, &effect) == SCMI_DONE;
+    uint32_t given = scmi_channel(&platform, agent, &channel) == SCMI_DONE
+                         ? scmi_ask_in(&platform, agent, area, channel.bytes, &effect)
+                         : SCMI_NO_AGENT;
+    bool changes = given == SCMI_EFFECT;
     bool made = changes && hardware_make(&effect);
-    uint32_t given = changes && !made ? scmi_fail_in(&platform, agent, area, channel.bytes)
-                                      : scmi_answer_in(&platform, agent, area, channel.bytes);
 
+    if (changes)
+        given = made ? scmi_commit_in(&platform, area, channel.bytes) : scmi_fail_in(&platform, area, channel.bytes);
     if (given != SCMI_DONE)
         return false;
     if (changes) {

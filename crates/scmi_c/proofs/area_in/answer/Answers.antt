@@ -10,7 +10,7 @@ returns-clause-ok c =
     some-and (channel_waiting c.args.area.now) c.read_channel_area_into.new.frame _ (search rules)
     (record {
       answer = λ h at.
-          answered-in (board_of c.args.desk.now) c.args.agent h c.args.area.now c.put_answer.new.area c.read_channel_area_into.new.frame _ c.command.new.reply
+          answered-in (board_of c.args.held.now) c.args.agent h c.args.area.now c.put_answer.new.area c.read_channel_area_into.new.frame _ c.command.new.reply
           (search rules) (search rules) (search rules) (search rules) c.put_answer.ensures.reply c.put_answer.ensures.error;
       event = search rules;
     })

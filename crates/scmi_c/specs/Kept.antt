@@ -1,0 +1,51 @@
+-- What a handle keeps: a platform, and the command that it was asked about, which is to be committed or to fail.
+use Rattle.std.specs.Prelude.{◌≡◌, ◌≢◌, ℕ, ◌≤◌, List, length, true, Option, Some, None}
+use Rattle.scmi_codec.specs.ChannelArea.{channel_words, is_channel_size}
+use Rattle.scmi_codec.specs.declared.frame.Frame.{Frame}
+use Rattle.scmi_plan.specs.Agent.{IsAgent}
+use Rattle.scmi_plan.specs.Board.{channel_of}
+use Rattle.scmi_plan.specs.Plan.{IsLawful}
+use Rattle.scmi_core.specs.Effect.{effect_after}
+use Rattle.scmi_core.specs.declared.event.Event.{Event}
+use Rattle.scmi_core.specs.declared.event.Event.TheVariants.{Command as Called}
+use Rattle.scmi_c.specs.declared.desk.Asker.{Asker}
+use Rattle.scmi_c.specs.declared.held.Held.{Held}
+use Rattle.scmi_c.specs.Standing.{board_of, HasRoom, StandsAsBefore, StandsAt}
+
+-- a command that was asked about: its agent, its frame as it was read, and the bytes of its area
+pub record Asked : Type 0 where
+  pub agent : ℕ
+  pub frame : Frame
+  pub bytes : ℕ
+
+-- a platform, and the command that it was asked about, if there is one
+pub record Kept : Type 0 where
+  pub held : Held
+  pub asked : Option Asked
+
+-- a command was asked about, and is neither committed nor failed
+abbrev pub IsAsked : Kept → Type 0
+IsAsked k = k.asked ≢ None
+
+-- no command waits to be committed or to fail
+abbrev pub IsUnasked : Kept → Type 0
+IsUnasked k = k.asked ≡ None
+
+-- who asked, with the frame that was read
+abbrev pub asked_by : Frame → Option Asker → Option Asked
+asked_by frame None = None
+asked_by frame (Some asker) = Some (record { agent = asker.agent; frame = frame; bytes = asker.bytes })
+
+-- a command may be committed and may fail: it is of an agent of the board and is to change the hardware, there is room for its event, and its area has room for its answer
+pub record IsAskable (held : Held) (asked : Asked) : Type 0 where
+  pub agent : IsAgent (length (board_of held).agents) asked.agent
+  pub effect : (h : List Event) → StandsAt held h → effect_after (board_of held) h (Called asked.agent asked.frame) ≢ None
+  pub room : HasRoom held
+  pub lawful : IsLawful (board_of held)
+  pub size : is_channel_size asked.bytes ≡ true
+  pub words : (channel_of (board_of held) asked.agent).words ≤ channel_words asked.bytes
+
+-- a platform was asked about a frame that stands in an area of so many bytes, and it stands where it stood
+pub record HasAsked (p : Held) (k : Kept) (agent : ℕ) (frame : Frame) (bytes : ℕ) : Type 0 where
+  pub asked : k.asked ≡ Some (record { agent = agent; frame = frame; bytes = bytes })
+  pub stands : StandsAsBefore p k.held

@@ -1,0 +1,89 @@
+//! Commands in areas of the size of their agent's channel are executed, or asked about.
+ghost use Rattle.std.specs.Prelude.{◌≡◌, ◌≢◌, ◌↔◌, ◌⊎◌, Some, None, IsSomeAnd, List, length, option_map};
+ghost use Rattle.scmi_codec.specs.ChannelArea.{channel_waiting};
+ghost use Rattle.scmi_core.specs.Effect.{effect_after};
+ghost use Rattle.scmi_core.specs.declared.event.Event.{Event};
+ghost use Rattle.scmi_core.specs.declared.event.Event.TheVariants.{Command as Called};
+ghost use Rattle.scmi_c.specs.Effect.{numbers_of};
+ghost use Rattle.scmi_c.specs.Kept.{HasAsked, IsAsked, IsUnasked};
+ghost use Rattle.scmi_c.specs.Standing.{board_of, StandsAt, LacksAgent, HasNoRoom};
+ghost use Rattle.scmi_c.specs.Calls.{ChangesNothing, HasAnswered};
+ghost use Rattle.scmi_c.specs.Channel.{HasAnotherSize, IsFreeOf};
+ghost use Rattle.scmi_c.specs.declared.code.TheConstants.{ASKED, DONE, EFFECT, MEMORY, NO_AGENT, NO_PLATFORM, NO_FRAME, WRONG_SIZE};
+
+use crate::area_in::ask;
+use crate::code::{DONE, EFFECT, code};
+use crate::desk::{Asker, Desk};
+use crate::effect::{EffectNumbers, numbers_of};
+use crate::handle::Handle;
+use std::alloc::Global;
+
+/// As `scmi_ask`, of a frame in an area of the size of its agent's channel. `NO_PLATFORM`, `ASKED`,
+/// `NO_AGENT` and `WRONG_SIZE`, where the area has another size, come before all else, in this order.
+#[unsafe(no_mangle)]
+pub extern "C" fn scmi_ask_in(
+    alloc: Global,
+    platform: &mut Handle,
+    agent: u32,
+    area: &mut [u8],
+    effect: &mut EffectNumbers,
+) -> u32
+    ensures done { result ≡ DONE →
+        IsSomeAnd platform.old.value (λ p.
+        IsSomeAnd platform.new.value (λ k.
+        IsSomeAnd (channel_waiting area.old) (λ frame. IsUnasked k
+        × HasAnswered p.held k.held agent frame area.old area.new))) }
+    ensures nothing { result ≡ DONE →
+        IsSomeAnd platform.old.value (λ p.
+        IsSomeAnd (channel_waiting area.old) (λ frame.
+        (h : List Event) → StandsAt p.held h →
+        ChangesNothing (board_of p.held) agent frame h)) }
+    ensures asks { result ≡ EFFECT →
+        IsSomeAnd platform.old.value (λ p.
+        IsSomeAnd platform.new.value (λ k.
+        IsSomeAnd (channel_waiting area.old) (λ frame.
+        HasAsked p.held k agent frame (length area.old)))) }
+    ensures effect { result ≡ EFFECT →
+        IsSomeAnd platform.old.value (λ p.
+        IsSomeAnd (channel_waiting area.old) (λ frame.
+        (h : List Event) → StandsAt p.held h →
+        option_map numbers_of (effect_after (board_of p.held) h (Called agent frame))
+        ≡ Some effect.new)) }
+    ensures no_platform { (result ≡ NO_PLATFORM) ↔ (platform.old.value ≡ None) }
+    ensures asked { (result ≡ ASKED) ↔ IsSomeAnd platform.old.value IsAsked }
+    ensures no_agent { (result ≡ NO_AGENT) ↔
+        IsSomeAnd platform.old.value (λ p. IsUnasked p × LacksAgent agent p.held) }
+    ensures wrong_size { (result ≡ WRONG_SIZE) ↔ IsSomeAnd platform.old.value (λ p.
+        IsUnasked p × HasAnotherSize agent (length area.old) p.held) }
+    ensures no_frame { (result ≡ NO_FRAME) ↔
+        IsSomeAnd platform.old.value (λ p. IsUnasked p × IsFreeOf agent area.old p.held) }
+    ensures errors { (result ≡ DONE) ⊎ (result ≡ EFFECT) ⊎ (result ≡ MEMORY) ⊎
+        (result ≡ NO_AGENT) ⊎ (result ≡ NO_PLATFORM) ⊎ (result ≡ NO_FRAME) ⊎
+        (result ≡ ASKED) ⊎ (result ≡ WRONG_SIZE) }
+    ensures memory { result ≡ MEMORY → IsSomeAnd platform.old.value (λ p. HasNoRoom p.held) }
+    ensures area { result ≢ DONE → area.new ≡ area.old }
+    ensures kept { result ≢ DONE → result ≢ EFFECT → platform.new.value ≡ platform.old.value }
+    ensures same { result ≢ EFFECT → effect.new ≡ effect.old }
+{
+    let mut desk = match platform.take_unasked(alloc) {
+        Ok(desk) => desk,
+        Err(number) => return number,
+    };
+    let seat: &mut Desk = &mut desk;
+    let given = ask(&mut seat.held, &mut seat.exchange, agent, area);
+    if let Ok(Some(_)) = given {
+        seat.asker = Some(Asker {
+            agent,
+            bytes: area.len(),
+        });
+    }
+    platform.put(desk);
+    match given {
+        Ok(Some(change)) => {
+            *effect = numbers_of(change);
+            EFFECT
+        }
+        Ok(None) => DONE,
+        Err(refusal) => code(Err(refusal)),
+    }
+}

@@ -1,0 +1,76 @@
+//! What a program answers once it has asked the hardware.
+ghost use Rattle.std.specs.Prelude.{◌≡◌, ◌≢◌, ◌↔◌, ◌⊎◌, None, IsSomeAnd};
+ghost use Rattle.scmi_codec.specs.declared.area.TheConstants.{AREA_BYTES};
+ghost use Rattle.scmi_c.specs.Calls.{HasAnswered, HasFailed};
+ghost use Rattle.scmi_c.specs.Kept.{IsUnasked};
+ghost use Rattle.scmi_c.specs.declared.code.TheConstants.{DONE, NOTHING, NO_PLATFORM, WRONG_SIZE};
+
+use crate::code::{NO_PLATFORM, code};
+use crate::handle::Handle;
+use crate::settle::{commit, fail};
+use scmi_codec::AREA_BYTES;
+use std::alloc::Global;
+
+/// Executes the command that `scmi_ask` gave a change of, which the hardware has made, and writes its
+/// answer whole: nothing of the area is read. `DONE`; `NO_PLATFORM`; `NOTHING` where no command was asked
+/// about; `WRONG_SIZE` where it stood in an area of another size. After another number than `DONE`
+/// nothing changed.
+#[unsafe(no_mangle)]
+pub extern "C" fn scmi_commit(
+    alloc: Global,
+    platform: &mut Handle,
+    area: &mut [u8; AREA_BYTES],
+) -> u32
+    ensures done { result ≡ DONE →
+        IsSomeAnd platform.old.value (λ p.
+        IsSomeAnd platform.new.value (λ k.
+        IsSomeAnd p.asked (λ asked. IsUnasked k
+        × HasAnswered p.held k.held asked.agent asked.frame area.old area.new))) }
+    ensures no_platform { (result ≡ NO_PLATFORM) ↔ (platform.old.value ≡ None) }
+    ensures nothing { (result ≡ NOTHING) ↔ IsSomeAnd platform.old.value IsUnasked }
+    ensures wrong_size { (result ≡ WRONG_SIZE) ↔ IsSomeAnd platform.old.value (λ p.
+        IsSomeAnd p.asked (λ asked. asked.bytes ≢ AREA_BYTES)) }
+    ensures errors { (result ≡ DONE) ⊎ (result ≡ NO_PLATFORM) ⊎
+        (result ≡ NOTHING) ⊎ (result ≡ WRONG_SIZE) }
+    ensures kept { result ≢ DONE →
+        (platform.new.value ≡ platform.old.value) × (area.new ≡ area.old) }
+{
+    let Some(mut desk) = platform.take(alloc) else {
+        return NO_PLATFORM;
+    };
+    let given = commit(&mut desk, area);
+    platform.put(desk);
+    code(given)
+}
+
+/// Answers the command that `scmi_ask` gave a change of, which the hardware refused, by HARDWARE_ERROR,
+/// and writes its answer whole: nothing of the area is read. `DONE`; `NO_PLATFORM`; `NOTHING` where no
+/// command was asked about; `WRONG_SIZE` where it stood in an area of another size. After another number
+/// than `DONE` nothing changed.
+#[unsafe(no_mangle)]
+pub extern "C" fn scmi_fail(
+    alloc: Global,
+    platform: &mut Handle,
+    area: &mut [u8; AREA_BYTES],
+) -> u32
+    ensures done { result ≡ DONE →
+        IsSomeAnd platform.old.value (λ p.
+        IsSomeAnd platform.new.value (λ k.
+        IsSomeAnd p.asked (λ asked. IsUnasked k
+        × HasFailed p.held k.held asked.agent asked.frame area.old area.new))) }
+    ensures no_platform { (result ≡ NO_PLATFORM) ↔ (platform.old.value ≡ None) }
+    ensures nothing { (result ≡ NOTHING) ↔ IsSomeAnd platform.old.value IsUnasked }
+    ensures wrong_size { (result ≡ WRONG_SIZE) ↔ IsSomeAnd platform.old.value (λ p.
+        IsSomeAnd p.asked (λ asked. asked.bytes ≢ AREA_BYTES)) }
+    ensures errors { (result ≡ DONE) ⊎ (result ≡ NO_PLATFORM) ⊎
+        (result ≡ NOTHING) ⊎ (result ≡ WRONG_SIZE) }
+    ensures kept { result ≢ DONE →
+        (platform.new.value ≡ platform.old.value) × (area.new ≡ area.old) }
+{
+    let Some(mut desk) = platform.take(alloc) else {
+        return NO_PLATFORM;
+    };
+    let given = fail(&mut desk, area);
+    platform.put(desk);
+    code(given)
+}

@@ -1,0 +1,89 @@
+//! A command that was asked about is committed, or fails.
+ghost use Rattle.std.specs.Prelude.{◌≡◌, ◌≢◌, ◌↔◌, ◌⊎◌, ◌≤◌, length, IfErr, IfOk, IsSomeAnd, OnOk, OnErr, Err, true};
+ghost use Rattle.scmi_codec.specs.Area.{area_after_answer};
+ghost use Rattle.scmi_codec.specs.ChannelArea.{capacity, is_channel_size};
+ghost use Rattle.scmi_codec.specs.declared.frame.Answer.TheVariants as frame_answer;
+ghost use Rattle.scmi_core.specs.declared.answered.Answered.TheVariants as answered_by;
+ghost use Rattle.scmi_c.specs.Calls.{HasAnswered, HasFailed};
+ghost use Rattle.scmi_c.specs.Kept.{IsUnasked};
+
+use crate::desk::Desk;
+use crate::refusal::Refusal;
+use scmi_codec::{Answer, Message, write_channel_answer, write_channel_message};
+use scmi_core::Answered;
+
+/// Executes the command that was asked about, whose change the hardware has made, and writes its answer
+/// whole: nothing of the area is read. `Nothing` where no command was asked about, `WrongSize` where the
+/// area has not the size of that in which the command stood; then nothing changed. It is refused for
+/// nothing else.
+pub fn commit(desk: &mut Desk, area: &mut [u8]) -> Result<(), Refusal>
+    ensures ok { OnOk result (IsSomeAnd desk.old.asked (λ asked.
+        HasAnswered desk.old.held desk.new.held asked.agent asked.frame area.old area.new)) }
+    ensures unasked { OnOk result (IsUnasked desk.new) }
+    ensures nothing { (result ≡ Err Refusal.Nothing) ↔ IsUnasked desk.old }
+    ensures wrong_size { (result ≡ Err Refusal.WrongSize) ↔
+        IsSomeAnd desk.old.asked (λ asked. asked.bytes ≢ length area.old) }
+    ensures errors { IfErr result (λ e. (e ≡ Refusal.Nothing) ⊎ (e ≡ Refusal.WrongSize)) }
+    ensures err { OnErr result (desk.new ≡ desk.old) }
+    ensures kept { OnErr result (area.new ≡ area.old) }
+{
+    let Some(asker) = desk.asker else {
+        return Err(Refusal::Nothing);
+    };
+    if asker.bytes != area.len() {
+        return Err(Refusal::WrongSize);
+    }
+    let answered = desk.held.command(asker.agent, &desk.exchange.frame, &mut desk.exchange.reply)?;
+    write_whole(area, answered, &desk.exchange.reply);
+    desk.asker = None;
+    Ok(())
+}
+
+/// Answers the command that was asked about, whose change the hardware refused, by HARDWARE_ERROR, and
+/// writes its answer whole: nothing of the area is read. `Nothing` where no command was asked about,
+/// `WrongSize` where the area has not the size of that in which the command stood; then nothing changed.
+/// It is refused for nothing else.
+pub fn fail(desk: &mut Desk, area: &mut [u8]) -> Result<(), Refusal>
+    ensures ok { OnOk result (IsSomeAnd desk.old.asked (λ asked.
+        HasFailed desk.old.held desk.new.held asked.agent asked.frame area.old area.new)) }
+    ensures unasked { OnOk result (IsUnasked desk.new) }
+    ensures nothing { (result ≡ Err Refusal.Nothing) ↔ IsUnasked desk.old }
+    ensures wrong_size { (result ≡ Err Refusal.WrongSize) ↔
+        IsSomeAnd desk.old.asked (λ asked. asked.bytes ≢ length area.old) }
+    ensures errors { IfErr result (λ e. (e ≡ Refusal.Nothing) ⊎ (e ≡ Refusal.WrongSize)) }
+    ensures err { OnErr result (desk.new ≡ desk.old) }
+    ensures kept { OnErr result (area.new ≡ area.old) }
+{
+    let Some(asker) = desk.asker else {
+        return Err(Refusal::Nothing);
+    };
+    if area.len() != asker.bytes {
+        return Err(Refusal::WrongSize);
+    }
+    desk.held.command_failed(asker.agent, &desk.exchange.frame, &mut desk.exchange.reply)?;
+    write_whole(area, Answered::Reply, &desk.exchange.reply);
+    desk.asker = None;
+    Ok(())
+}
+
+/// Writes what a frame was answered with: of a reply its length, header and words, and last the status
+/// word.
+fn write_whole(area: &mut [u8], answered: Answered, reply: &Message)
+    requires size { is_channel_size (length area.old) ≡ true }
+    ensures reply { answered ≡ answered_by.Reply →
+        length reply.now.payload.items ≤ capacity area.old →
+        area.new ≡ area_after_answer (frame_answer.Reply reply.now) area.old }
+    ensures error { answered ≡ answered_by.ChannelError →
+        area.new ≡ area_after_answer frame_answer.ChannelError area.old }
+{
+    match answered {
+        Answered::Reply => {
+            // As posted, and then the channel is free.
+            let _ = write_channel_message(area, reply);
+            let _ = write_channel_answer(area, &Answer::Released);
+        }
+        Answered::ChannelError => {
+            let _ = write_channel_answer(area, &Answer::ChannelError);
+        }
+    }
+}
