@@ -210,6 +210,15 @@ uint32_t scmi_next_in(scmi_platform *platform, uint32_t agent, uint8_t *area, si
 uint32_t scmi_sent(scmi_platform *platform, uint32_t agent);
 
 /*
+ * Ends what an agent asked for that restarted while the platform went on: its requests for notifications, the
+ * messages in its outbox, and the delayed responses to its pending sets. Permissions, values and the pending sets
+ * themselves stay; so does a message that stands in its channel already, which the program makes free
+ * (scmi_mailbox_start). SCMI_DONE, SCMI_NO_PLATFORM, SCMI_ASKED, SCMI_NO_AGENT, or SCMI_MEMORY of a platform that
+ * keeps its history.
+ */
+uint32_t scmi_restart(scmi_platform *platform, uint32_t agent);
+
+/*
  * Where the platform stands; it stays as it was. At the start they give what the hardware is to be brought to. A
  * domain's state is 0 ON or 0x40000000 OFF; a clock's rate is in Hz, by its lower and upper word; `enabled` is 1
  * or 0. SCMI_DONE, SCMI_NO_PLATFORM, or SCMI_NO_RESOURCE (the board has no such domain or clock).

@@ -111,7 +111,7 @@ def load(file=None):
             ("scmi_answer_in", number, *area), ("scmi_ask_in", number, *area, effect), ("scmi_commit_in", *area),
             ("scmi_fail_in", *area),
             ("scmi_advance",), ("scmi_ask_advance", effect), ("scmi_fail_advance",),
-            ("scmi_next_in", number, *area), ("scmi_sent", number),
+            ("scmi_next_in", number, *area), ("scmi_sent", number), ("scmi_restart", number),
             ("scmi_channel", number, ctypes.POINTER(_Channel)), ("scmi_domain_state", number, word),
             ("scmi_clock_rate", number, word, word), ("scmi_clock_enabled", number, word),
             ("scmi_pending", number, word, effect), ("scmi_outbox_length", number, count),
@@ -219,6 +219,9 @@ class Platform:
 
     def sent(self, agent):
         return self._give(self._library.scmi_sent(self._handle, agent))
+
+    def restart(self, agent):
+        return self._give(self._library.scmi_restart(self._handle, agent))
 
     def channel(self, agent):
         """The size of an agent's areas in bytes, and whether the platform can't send to it."""

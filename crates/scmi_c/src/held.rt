@@ -5,7 +5,7 @@ ghost use Rattle.scmi_plan.specs.Agent.{IsAgent, IsNoAgent};
 ghost use Rattle.scmi_plan.specs.Plan.{IsLawful};
 ghost use Rattle.scmi_core.specs.History.{IsIdle, HasNothingFor, answer_to, answer_with, outbox};
 ghost use Rattle.scmi_core.specs.declared.event.Event.{Event};
-ghost use Rattle.scmi_core.specs.declared.event.Event.TheVariants.{Command as Called, Advance, Sent, CommandFailed, AdvanceFailed};
+ghost use Rattle.scmi_core.specs.declared.event.Event.TheVariants.{Command as Called, Advance, Sent, CommandFailed, AdvanceFailed, Restarted};
 ghost use Rattle.scmi_codec.specs.declared.frame.Answer.TheVariants.{Reply};
 ghost use Rattle.scmi_core.specs.Effect.{effect_after};
 ghost use Rattle.scmi_core.specs.Reply.{failed_answer};
@@ -124,6 +124,22 @@ impl Held {
         match self {
             Held::Endless(endless) => endless.sent(agent),
             Held::Recorded(core) => core.sent(agent),
+        }
+    }
+
+    /// Ends what an agent asked for that restarted. `NoAgent` where the board lacks the agent, and
+    /// `Memory` where the history could not grow; then nothing changed.
+    pub fn restart(&mut self, agent: u32) -> Result<(), CoreError>
+        ensures event { OnOk result (HasHappened self.old self.new (Restarted agent)) }
+        ensures no_agent { (result ≡ Err CoreError.NoAgent) ↔
+            IsNoAgent (length (board_of self.old).agents) agent }
+        ensures not_nothing { result ≢ Err CoreError.Nothing }
+        ensures memory { result ≡ Err CoreError.Memory → HasNoRoom self.old }
+        ensures err { OnErr result (self.new ≡ self.old) }
+    {
+        match self {
+            Held::Endless(platform) => platform.restart(agent),
+            Held::Recorded(core) => core.restart(agent),
         }
     }
 

@@ -27,6 +27,7 @@ mod loose;
 mod numbers;
 mod open;
 mod refusal;
+mod restart;
 mod send;
 mod settle;
 mod standing;

@@ -4,7 +4,7 @@ ghost use Rattle.scmi_plan.specs.Agent.{IsNoAgent};
 ghost use Rattle.scmi_core.specs.History.{HasNothingFor, IsIdle, answer_to, answer_with};
 ghost use Rattle.scmi_core.specs.Standing.{MovesOn, StandsAfter};
 ghost use Rattle.scmi_core.specs.declared.event.Event.{Event};
-ghost use Rattle.scmi_core.specs.declared.event.Event.TheVariants.{Command as Called, Advance, Sent, AdvanceFailed};
+ghost use Rattle.scmi_core.specs.declared.event.Event.TheVariants.{Command as Called, Advance, Sent, AdvanceFailed, Restarted};
 
 use scmi_codec::{Frame, Message};
 use scmi_core::{Answered, CoreError, Platform};
@@ -96,6 +96,20 @@ impl Unrecorded {
         ensures err { OnErr result (self.new ≡ self.old) }
     {
         self.platform.sent(agent)?;
+        Ok(())
+    }
+
+    /// Ends what an agent asked for that restarted. `NoAgent` where the board lacks the agent, the only
+    /// refusal; then nothing changed.
+    pub fn restart(&mut self, agent: u32) -> Result<(), CoreError>
+        ensures event { OnOk result (MovesOn self.old (Restarted agent) self.new) }
+        ensures board { self.new.board ≡ self.old.board }
+        ensures no_agent { (result ≡ Err CoreError.NoAgent)
+            ↔ IsNoAgent (length self.old.board.agents) agent }
+        ensures errors { IfErr result (λ e. e ≡ CoreError.NoAgent) }
+        ensures err { OnErr result (self.new ≡ self.old) }
+    {
+        self.platform.restart(agent)?;
         Ok(())
     }
 }

@@ -1,0 +1,67 @@
+/*
+ * An agent that restarts while the platform goes on: what the platform would still have sent to it is dropped, so
+ * that its first messages are none of those that it asked for before. All else stays.
+ */
+#include <stdio.h>
+#include <string.h>
+
+#include "area.h"
+#include "scmi_memory.h"
+
+static const char board[] = "board Acme Lab 0x00010000 1\n"
+                            "agent ap\n"
+                            "agent modem\n"
+                            "domain cpu off san\n"
+                            "clock core on 100 list 100,200,300\n"
+                            "end\n";
+static uint8_t memory[16 * 1024];
+
+static void call(scmi_platform *platform, uint32_t agent, uint32_t header, unsigned count, const uint32_t *words)
+{
+    uint8_t area[SCMI_AREA_BYTES] = { 0 };
+    uint32_t given;
+
+    area_post(area, header, count, words);
+    given = scmi_answer(platform, agent, area);
+    printf("agent %u header 0x%08x -> %u, words", (unsigned)agent, (unsigned)header, (unsigned)given);
+    area_print_words(area);
+}
+
+static void show(const char *when, scmi_platform *platform)
+{
+    uint64_t messages = 0;
+
+    scmi_outbox_length(platform, 2, &messages);
+    printf("%s: %u messages for agent 2\n", when, (unsigned)messages);
+}
+
+int main(void)
+{
+    scmi_platform platform = { 0 };
+    uint8_t area[SCMI_AREA_BYTES] = { 0 };
+    scmi_effect effect;
+
+    if (!scmi_header_fits())
+        return printf("scmi.h is not the library's\n"), 1;
+    printf("no platform: restart %u\n", (unsigned)scmi_restart(&platform, 2));
+    if (scmi_platform_new_in(&platform, memory, sizeof(memory), (const uint8_t *)board, strlen(board)) != SCMI_DONE)
+        return 1;
+    call(&platform, 2, 0x00004406, 2, (uint32_t[]){ 0, 1 });         /* POWER_STATE_NOTIFY of cpu */
+    call(&platform, 2, 0x00045005, 4, (uint32_t[]){ 1, 0, 300, 0 }); /* CLOCK_RATE_SET, 300 Hz later, token 1 */
+    call(&platform, 1, 0x00004404, 3, (uint32_t[]){ 0, 0, 0 });      /* POWER_STATE_SET, cpu on */
+    show("before", &platform);
+    printf("restart %u, of no agent %u\n", (unsigned)scmi_restart(&platform, 2), (unsigned)scmi_restart(&platform, 3));
+    show("restarted", &platform);
+    printf("advance %u\n", (unsigned)scmi_advance(&platform));
+    show("completed", &platform);
+    call(&platform, 2, 0x00005006, 1, (uint32_t[]){ 0 });                 /* CLOCK_RATE_GET */
+    call(&platform, 1, 0x00004404, 3, (uint32_t[]){ 0, 0, 0x40000000 });  /* POWER_STATE_SET, cpu off */
+    show("switched", &platform);
+    area_post(area, 0x00004404, 3, (uint32_t[]){ 0, 0, 0 });
+    printf("ask %u", (unsigned)scmi_ask(&platform, 1, area, &effect));
+    printf(", restart %u", (unsigned)scmi_restart(&platform, 2));
+    printf(", commit %u", (unsigned)scmi_commit(&platform, area));
+    printf(", restart %u\n", (unsigned)scmi_restart(&platform, 2));
+    scmi_platform_free(&platform);
+    return 0;
+}
