@@ -23,6 +23,7 @@ mod served;
 mod shut;
 mod shut_error;
 mod wait_reply;
+mod waited;
 
 pub use agent_end::AgentEnd;
 pub use connecting::connect;
@@ -33,3 +34,4 @@ pub use pause::Pause;
 pub use serve_error::ServeError;
 pub use served::Served;
 pub use shut_error::ShutError;
+pub use waited::Waited;
