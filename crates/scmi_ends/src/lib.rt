@@ -24,6 +24,7 @@ mod served;
 mod shut;
 mod shut_error;
 mod wait_reply;
+mod waited;
 
 pub use agent_end::AgentEnd;
 pub use connecting::connect;
@@ -34,3 +35,4 @@ pub use pause::Pause;
 pub use serve_error::ServeError;
 pub use served::Served;
 pub use shut_error::ShutError;
+pub use waited::Waited;

@@ -4,30 +4,42 @@ ghost use Rattle.std.specs.Prelude.{◌≡◌};
 use crate::agent_end::AgentEnd;
 use crate::link::Link;
 use crate::pause::Pause;
+use crate::waited::Waited;
 use scmi_link::{Channel, Collected};
 use std::sync::Wait;
 
 impl<C: Channel> AgentEnd<C> {
     ghost use Rattle.scmi_ends.specs.AgentView.{IsOfLink};
-    ghost use Rattle.scmi_ends.specs.Poll.{Waits};
+    ghost use Rattle.scmi_ends.specs.Poll.{Looks, Waits};
 
-    /// Collects on A2P until there is an answer or `Closed`, at most `turns` times.
+    /// Collects on A2P until there is an answer or `Closed`, at most `turns` times, and says how
+    /// often it did.
     ///
-    /// `Nothing` where each of them gave `Nothing`; with 0 turns nothing changes. After each of
-    /// these the thread pauses (own).
-    #[tactic(auto, unfolding(crate::specs::Poll::more_collects))]
-    pub fn wait_reply<R: Wait>(&mut self, rt: &R, link: &Link<C>, turns: u32) -> Collected
+    /// `Nothing` where each of `turns` looks gave `Nothing`; with 0 turns nothing changes. Any other
+    /// answer comes after at least one look. After each look that gave `Nothing` the thread pauses
+    /// (own).
+    #[tactic(auto, unfolding(crate::specs::Poll::more_calls))]
+    pub fn wait_reply<R: Wait>(&mut self, rt: &R, link: &Link<C>, turns: u32) -> Waited
         requires { IsOfLink (C.identity link.now.a2p) (C.identity link.now.p2a) self.old }
         ensures same { self.new ≡ record self.old { caller = self.new.caller } }
-        ensures waits { Waits turns self.old.caller result self.new.caller }
+        ensures waits { Waits turns self.old.caller result.answer self.new.caller }
+        ensures looks { Looks turns result.answer result.looks self.old.caller self.new.caller }
     {
         let mut pause = Pause::new();
-        'turns: for _ in 0..turns {
+        'turns: for turn in 0..turns {
             match self.collect(link) {
                 Collected::Nothing => pause.wait(rt),
-                other => return other,
+                answer => {
+                    return Waited {
+                        answer,
+                        looks: turn + 1,
+                    };
+                }
             }
         }
-        Collected::Nothing
+        Waited {
+            answer: Collected::Nothing,
+            looks: turns,
+        }
     }
 }

@@ -79,23 +79,23 @@ messages_silent [] = refl
 messages_silent (m ∷ messages) = messages_silent messages
 
 call_silent : (full : Bool) (n protocol id : ℕ) (payload : ArrayVec ℕ) (s : Option Stop) (part : Part) → CallWrites full n protocol id payload s part → first_closing part.lines ≡ None
-call_silent full n protocol id payload _ _ (call_answered reply) = refl
-call_silent full n protocol id payload _ _ (call_did_not_fit long) = refl
+call_silent full n protocol id payload _ _ (call_answered reply looks of_it) = refl
+call_silent full n protocol id payload _ _ (call_did_not_fit long looks of_it) = refl
 call_silent full n protocol id payload _ _ (call_found_no_place may) = refl
 call_silent full n protocol id payload _ _ call_ran_out = refl
 call_silent full n protocol id payload _ _ call_had_no_room = refl
 
 until_silent : (full : Bool) (n domain state : ℕ) (s : Option Stop) (part : Part) → UntilWrites full n domain state s part → first_closing part.lines ≡ None
-until_silent full n domain state _ _ (state_seen others last below not has) = refl
-until_silent full n domain state _ _ (state_not_seen others all not) = refl
-until_silent full n domain state _ _ (state_ran_out others below not) = refl
-until_silent full n domain state _ _ (state_found_no_place others below not may) = refl
-until_silent full n domain state _ _ (state_had_no_room others below not) = refl
+until_silent full n domain state _ _ (state_seen others last below not has looks of_each) = refl
+until_silent full n domain state _ _ (state_not_seen others all not looks of_each) = refl
+until_silent full n domain state _ _ (state_ran_out others below not looks of_each) = refl
+until_silent full n domain state _ _ (state_found_no_place others below not may looks of_each) = refl
+until_silent full n domain state _ _ (state_had_no_room others below not looks of_each) = refl
 
 p2a_silent : (count : ℕ) (s : Option Stop) (part : Part) → P2aWrites count s part → first_closing part.lines ≡ None
-p2a_silent count _ _ (messages_taken messages many) = messages_silent messages
-p2a_silent count _ _ (messages_ran_out messages below) = behind (map line.P2a messages) (line.Limit ∷ []) (messages_silent messages)
-p2a_silent count _ _ (messages_had_no_room messages below) = messages_silent messages
+p2a_silent count _ _ (messages_taken messages many looks of_each) = messages_silent messages
+p2a_silent count _ _ (messages_ran_out messages below looks of_each) = behind (map line.P2a messages) (line.Limit ∷ []) (messages_silent messages)
+p2a_silent count _ _ (messages_had_no_room messages below looks of_each) = messages_silent messages
 
 ended_silent : (why : Stop) (part : Part) → CloseWrites (Some why) part → first_closing part.lines ≡ None
 ended_silent _ _ close_had_no_room = refl

@@ -1,6 +1,7 @@
 pub mod TokenLemmas
 pub mod LineLemmas
 pub mod ClosesLemmas
+pub mod Looking
 pub mod Answered
 pub mod ScriptRunLemmas
 pub mod OrderLemmas

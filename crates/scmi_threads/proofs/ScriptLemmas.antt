@@ -1,11 +1,14 @@
 -- A script that was run order by order.
-use Rattle.std.proofs.Common.{◌≡◌, ℕ, suc, ◌+◌, ◌<◌, ◌≤◌, Bool, false, ◌||◌, List, [], ◌∷◌, ◌++◌, length, take, drop, get_or, Option, Some, None, inl, inr, refl, sym, ap, ap₂, ◌∙◌, subst, arith}
-use Rattle.std.specs.List.{flat_map}
+use Rattle.std.proofs.Common.{◌≡◌, ℕ, suc, ◌+◌, ◌%◌, ◌^◌, ◌<◌, ◌≤◌, Bool, false, ◌||◌, List, [], ◌∷◌, ◌++◌, length, take, drop, get_or, Option, Some, None, inl, inr, refl, sym, ap, ap₂, ◌∙◌, subst, arith}
+use Rattle.std.specs.List.{flat_map, sum_by}
 use Rattle.std.proofs.lemmas.Bool.Decides.{leb_tells}
 use Rattle.std.proofs.lemmas.List.{append-nil, length-append, take_more, drop_more, take_all, take-append-drop}
 use Rattle.std.proofs.lemmas.Grind.{flat_map-append}
 use Rattle.scmi_link.specs.View.{CallerView, new_caller}
-use Rattle.scmi_threads.specs.Logs.{IsEmptyLog}
+use Rattle.std.proofs.lemmas.List.Sums.{sum_by-append}
+use Rattle.scmi_ends.specs.Poll.{more_calls}
+use Rattle.scmi_ends.proofs.Counts.{calls_of_sum}
+use Rattle.scmi_threads.specs.Logs.{HasSameLooks, IsEmptyLog}
 use Rattle.scmi_threads.specs.Orders.{HasDone, HasMore, IsAtRest}
 use Rattle.scmi_threads.specs.Parts.{Part, Writes}
 use Rattle.scmi_threads.specs.ScriptLogs.{Follows, all_done, ends_here, goes_on, IsGatedLog, IsMadeOf, IsScriptLog, is_close, line_number}
@@ -62,7 +65,7 @@ pub record HasFollowed (full : Bool) (orders : List Order) (caller : CallerView)
 pub nothing_followed : (full : Bool) (caller : CallerView) (log : AgentLog) → IsEmptyLog log → caller ≡ new_caller → HasFollowed full [] caller log
 nothing_followed full caller log empty new = record {
   parts = [];
-  made = record { posted = empty.posted; read = empty.read; taken = empty.p2a; lines = empty.lines };
+  made = record { posted = empty.posted; read = empty.read; taken = empty.p2a; lines = empty.lines; reply_looks = empty.reply_looks; message_looks = empty.message_looks };
   follows = all_done false 0;
   closed = ap (λ v. v.closed) new;
   posted = ap length empty.posted;
@@ -73,12 +76,21 @@ nothing_followed full caller log empty new = record {
 one_more : {X : Type 0} (f : Part → List X) (ps : List Part) (p : Part) (old new : List X) → old ≡ flat_map f ps → new ≡ old ++ f p → new ≡ flat_map f (ps ++ p ∷ [])
 one_more f ps p old new is e = e ∙ ap (λ xs. xs ++ f p) is ∙ sym (flat_map-append f ps (p ∷ []) ∙ ap (λ xs. flat_map f ps ++ xs) (append-nil (f p)))
 
+one_sum : (f : Part → ℕ) (p : Part) → sum_by f (p ∷ []) ≡ f p
+one_sum f p = omega arith
+
+-- more looks, modulo 2^64
+more_looks : (f : Part → ℕ) (ps : List Part) (p : Part) (old new : ℕ) → old ≡ sum_by f ps % 2 ^ 64 → new ≡ more_calls (f p) old → new ≡ sum_by f (ps ++ p ∷ []) % 2 ^ 64
+more_looks f ps p old new is e = e ∙ ap (more_calls (f p)) is ∙ calls_of_sum (f p) (sum_by f ps) ∙ ap (λ n. n % 2 ^ 64) (sym (sum_by-append f ps (p ∷ []) ∙ ap (λ n. sum_by f ps + n) (one_sum f p)))
+
 made_more : (ps : List Part) (p : Part) (before after : AgentLog) → IsMadeOf ps before → HasMore p before after → IsMadeOf (ps ++ p ∷ []) after
 made_more ps p before after made more = record {
   posted = one_more (λ q. q.posted) ps p before.posted.items after.posted.items made.posted more.posted;
   read = one_more (λ q. q.read) ps p before.read.items after.read.items made.read more.read;
   taken = one_more (λ q. q.taken) ps p before.p2a.items after.p2a.items made.taken more.taken;
   lines = one_more (λ q. q.lines) ps p before.lines.items after.lines.items made.lines more.lines;
+  reply_looks = more_looks (λ q. q.reply_looks) ps p before.reply_looks after.reply_looks made.reply_looks more.reply_looks;
+  message_looks = more_looks (λ q. q.message_looks) ps p before.message_looks after.message_looks made.message_looks more.message_looks;
 }
 
 writes_after : (full : Bool) (xs : List Order) (x : Order) (s : Option Stop) (v w : CallerView) (before after : AgentLog) (f : HasFollowed full xs v before) (d : HasDone full x s v w before after) → Writes full (closed_after false xs) (posted_after 0 f.parts) x s d.part
@@ -97,12 +109,12 @@ followed_more full xs x v w before after f d =
       not_stopped = d.not_stopped ∙ f.not_stopped;
     }
 
-pub followed_to : (full : Bool) (asked : ℕ → Type 0) (script xs rest : List Order) (x : Order) (why : Stop) (v w : CallerView) (before mid after : AgentLog) → xs ++ x ∷ rest ≡ script → HasFollowed full xs v before → HasDone full x (Some why) v w before mid → after.posted.items ≡ mid.posted.items → after.read.items ≡ mid.read.items → after.p2a.items ≡ mid.p2a.items → after.lines.items ≡ mid.lines.items → after.stopped ≡ Some why → ((k : ℕ) → k < length xs + 1 → asked (line_number k)) → IsGatedLog full asked script after
-followed_to full asked script xs rest x why v w before mid after is f d p r t l s gate =
+pub followed_to : (full : Bool) (asked : ℕ → Type 0) (script xs rest : List Order) (x : Order) (why : Stop) (v w : CallerView) (before mid after : AgentLog) → xs ++ x ∷ rest ≡ script → HasFollowed full xs v before → HasDone full x (Some why) v w before mid → after.posted.items ≡ mid.posted.items → after.read.items ≡ mid.read.items → after.p2a.items ≡ mid.p2a.items → after.lines.items ≡ mid.lines.items → HasSameLooks mid after → after.stopped ≡ Some why → ((k : ℕ) → k < length xs + 1 → asked (line_number k)) → IsGatedLog full asked script after
+followed_to full asked script xs rest x why v w before mid after is f d p r t l k s gate =
     let made = made_more f.parts d.part before mid f.made d.more in
     let script_log : IsScriptLog full script after = record {
       parts = f.parts ++ d.part ∷ [];
-      made = record { posted = p ∙ made.posted; read = r ∙ made.read; taken = t ∙ made.taken; lines = l ∙ made.lines };
+      made = record { posted = p ∙ made.posted; read = r ∙ made.read; taken = t ∙ made.taken; lines = l ∙ made.lines; reply_looks = k.replies ∙ made.reply_looks; message_looks = k.messages ∙ made.message_looks };
       follows = subst (λ o. Follows full false 0 script o (f.parts ++ d.part ∷ [])) (sym s) (subst (λ os. Follows full false 0 os (Some why) (f.parts ++ d.part ∷ [])) is (follows_to x rest why d.part f.follows (writes_after full xs x (Some why) v w before mid f d)));
     } in
     record { script = script_log; gate = λ k below. gate k (omega (arith, below, length-append f.parts (d.part ∷ []), follows_long f.follows)) }

@@ -22,6 +22,13 @@ pub record IsEmptyLog (log : AgentLog) : Type 0 where
   pub lines : log.lines.items ≡ []
   pub closing : log.closing ≡ None
   pub stopped : log.stopped ≡ None
+  pub reply_looks : log.reply_looks ≡ 0
+  pub message_looks : log.message_looks ≡ 0
+
+-- both logs count the same looks
+pub record HasSameLooks (old new : AgentLog) : Type 0 where
+  pub replies : new.reply_looks ≡ old.reply_looks
+  pub messages : new.message_looks ≡ old.message_looks
 
 -- both logs say the same
 pub record IsSameLog (old new : AgentLog) : Type 0 where
@@ -31,6 +38,7 @@ pub record IsSameLog (old new : AgentLog) : Type 0 where
   pub lines : new.lines.items ≡ old.lines.items
   pub closing : new.closing ≡ old.closing
   pub stopped : new.stopped ≡ old.stopped
+  pub looks : HasSameLooks old new
 
 -- the log says what the agent has done at its ends
 pub record IsLogOf (agent : AgentView) (log : AgentLog) : Type 0 where
@@ -38,6 +46,8 @@ pub record IsLogOf (agent : AgentView) (log : AgentLog) : Type 0 where
   pub read : log.read.items ≡ agent.caller.read
   pub p2a : log.p2a.items ≡ agent.callee.taken
   pub closing : IsClosedAs log.closing agent.caller
+  pub reply_looks : log.reply_looks ≡ agent.caller.collects
+  pub message_looks : log.message_looks ≡ agent.callee.takes
 
 -- the log of agent a agrees with the history
 pub record LogHeadline (board : Board) (h : List Event) (a : ℕ) (log : AgentLog) : Type 0 where

@@ -10,9 +10,11 @@ use Rattle.scmi_link.specs.View.{CallerView}
 use Rattle.scmi_link.specs.declared.post_error.PostError.{PostError}
 use Rattle.scmi_link.specs.declared.post_error.PostError.TheVariants as post
 use Rattle.scmi_plan.specs.declared.agent_channel.TheConstants.{LEAST_CHANNEL_WORDS}
-use Rattle.scmi_threads.specs.Parts.{Part, HasState, Writes, state_commands}
+use Rattle.scmi_ends.specs.Poll.{more_calls}
+use Rattle.scmi_threads.specs.Parts.{Part, AreLooksOf, HasState, Writes, state_commands}
 use Rattle.scmi_threads.specs.ScriptLogs.{is_close}
 use Rattle.scmi_threads.specs.declared.agent_log.AgentLog.{AgentLog}
+use Rattle.scmi_threads.specs.declared.limits.TheConstants.{TURNS}
 use Rattle.scmi_threads.specs.declared.line.Line.{Line}
 use Rattle.scmi_threads.specs.declared.line.Line.TheVariants as line
 use Rattle.scmi_threads.specs.declared.order.Order.{Order}
@@ -44,6 +46,7 @@ IsAtRest log = length log.posted.items ≡ length log.read.items
 -- what the calls of a call leave as it was, beside the lines
 pub record LeavesRest (old new : CallerView) (before after : AgentLog) : Type 0 where
   pub taken : after.p2a.items ≡ before.p2a.items
+  pub message_looks : after.message_looks ≡ before.message_looks
   pub stopped : after.stopped ≡ before.stopped
   pub closed : new.closed ≡ old.closed
 
@@ -54,16 +57,27 @@ HasAwaited command line.Error old new = IsAnswerTo command ChannelError × (new 
 HasAwaited command line.Limit old new = new ≡ old
 HasAwaited command _ old new = ⊥
 
+-- how many looks a wait for an answer had, by its line: TURNS where they ran out, else those of a wait that was answered
+abbrev pub AreLooksBy : Line → ℕ → Type 0
+AreLooksBy line.Limit looks = looks ≡ TURNS
+AreLooksBy _ looks = AreLooksOf 1 looks
+
+-- the log counts the looks of a wait that ended in this line
+pub record HasWaited (line : Line) (before after : AgentLog) : Type 0 where
+  pub looks : ℕ
+  pub many : AreLooksBy line looks
+  pub counted : after.reply_looks ≡ more_calls looks before.reply_looks
+
 -- what a post can be refused for: the script has closed, or it has not and the kind of channel may have no place
 abbrev pub IsRefusal : Bool → Bool → PostError → Type 0
 IsRefusal full closed post.Closed = closed ≡ true
 IsRefusal full closed post.Full = (closed ≡ false) × (full ≡ true)
 IsRefusal full closed _ = ⊥
 
--- a call of a command, by its line: it was refused, or the script had not closed, and it was posted and waited for
+-- a call of a command, by its line: it was refused, without a look, or the script had not closed, and it was posted and waited for
 abbrev pub HasAsked : Bool → Bool → Frame → Line → AgentLog → AgentLog → Type 0
-HasAsked full closed command (line.NotPosted error) before after = IsRefusal full closed error × (after.posted.items ≡ before.posted.items) × (after.read.items ≡ before.read.items)
-HasAsked full closed command line before after = (closed ≡ false) × (after.posted.items ≡ before.posted.items ++ command ∷ []) × HasAwaited command line before.read.items after.read.items
+HasAsked full closed command (line.NotPosted error) before after = IsRefusal full closed error × (after.posted.items ≡ before.posted.items) × (after.read.items ≡ before.read.items) × (after.reply_looks ≡ before.reply_looks)
+HasAsked full closed command line before after = (closed ≡ false) × (after.posted.items ≡ before.posted.items ++ command ∷ []) × HasAwaited command line before.read.items after.read.items × HasWaited line before after
 
 -- the line says that a reply came
 abbrev pub IsGot : Line → Type 0
@@ -88,6 +102,9 @@ pub record HasAskedFor (closed : Bool) (domain state count : ℕ) (before after 
   pub none_has_it : All (λ reply. ¬ (HasState state reply)) others
   pub posted : after.posted.items ≡ before.posted.items ++ state_commands (length before.posted.items) domain count
   pub read : after.read.items ≡ before.read.items ++ map Reply others
+  pub looks : ℕ
+  pub of_each : AreLooksOf count looks
+  pub counted : after.reply_looks ≡ more_calls looks before.reply_looks
 
 -- why the script ends, by whether the state was seen
 abbrev pub stop_of_seen : Result Bool Stop → Option Stop
@@ -108,6 +125,7 @@ pub record HasLooked (full closed : Bool) (domain state : ℕ) (seen : Result Bo
   pub posted : after.posted.items ≡ before.posted.items ++ part.posted
   pub read : after.read.items ≡ before.read.items ++ part.read
   pub lines : part.lines ≡ lines_of_seen seen
+  pub counted : after.reply_looks ≡ more_calls part.reply_looks before.reply_looks
 
 -- why an order ended the script, if it did
 abbrev pub stop_of : Result (Unit {0}) Stop → Option Stop
@@ -120,10 +138,30 @@ pub record IsUnmoved (old new : CallerView) (before after : AgentLog) : Type 0 w
   pub read : after.read.items ≡ before.read.items
   pub stopped : after.stopped ≡ before.stopped
   pub closed : new.closed ≡ old.closed
+  pub reply_looks : after.reply_looks ≡ before.reply_looks
 
--- one more message was taken, by an end that has not closed, and has its line, or none: the turns ran out, or memory was refused
+-- a message was taken, by an end that has not closed, and has its line
+pub record TakesOne (closed : Bool) (before after : AgentLog) : Type 0 where
+  pub unclosed : closed ≡ false
+  pub message : Frame
+  pub taken : after.p2a.items ≡ before.p2a.items ++ message ∷ []
+  pub lines : after.lines.items ≡ before.lines.items ++ line.P2a message ∷ []
+
+-- the looks of a wait for a message, by how it ended: those of one that was answered, TURNS where they ran out, none where memory was refused
+abbrev pub AreLooksFor : Result (Unit {0}) Stop → ℕ → Type 0
+AreLooksFor (Ok done) looks = AreLooksOf 1 looks
+AreLooksFor (Err stop.Limit) looks = looks ≡ TURNS
+AreLooksFor (Err stop.Memory) looks = looks ≡ 0
+
+-- the log counts the looks of a wait for a message that ended so
+pub record HasLookedFor (result : Result (Unit {0}) Stop) (before after : AgentLog) : Type 0 where
+  pub looks : ℕ
+  pub many : AreLooksFor result looks
+  pub counted : after.message_looks ≡ more_calls looks before.message_looks
+
+-- one more message was taken, or none: the turns ran out, or memory was refused
 abbrev pub HasTaken : Bool → Result (Unit {0}) Stop → AgentLog → AgentLog → Type 0
-HasTaken closed (Ok done) before after = (closed ≡ false) × (message : Frame) × (after.p2a.items ≡ before.p2a.items ++ message ∷ []) × (after.lines.items ≡ before.lines.items ++ line.P2a message ∷ [])
+HasTaken closed (Ok done) before after = TakesOne closed before after
 HasTaken closed (Err stop.Limit) before after = (after.p2a.items ≡ before.p2a.items) × (after.lines.items ≡ before.lines.items ++ line.Limit ∷ [])
 HasTaken closed (Err stop.Memory) before after = (after.p2a.items ≡ before.p2a.items) × (after.lines.items ≡ before.lines.items)
 
@@ -133,6 +171,8 @@ pub record HasMore (part : Part) (before after : AgentLog) : Type 0 where
   pub read : after.read.items ≡ before.read.items ++ part.read
   pub taken : after.p2a.items ≡ before.p2a.items ++ part.taken
   pub lines : after.lines.items ≡ before.lines.items ++ part.lines
+  pub reply_looks : after.reply_looks ≡ more_calls part.reply_looks before.reply_looks
+  pub message_looks : after.message_looks ≡ more_calls part.message_looks before.message_looks
 
 -- an order was carried out, and wrote its part
 pub record HasDone (full : Bool) (order : Order) (stopped : Option Stop) (old new : CallerView) (before after : AgentLog) : Type 0 where

@@ -1,6 +1,6 @@
 -- How a log follows its script.
-use Rattle.std.specs.Prelude.{◌≡◌, ◌==◌, ℕ, ◌+◌, ◌-◌, ◌^◌, ◌<◌, min, Bool, true, false, ◌||◌, if◌then◌else◌, List, [], ◌∷◌, length, Option, Some, None}
-use Rattle.std.specs.List.{flat_map}
+use Rattle.std.specs.Prelude.{◌≡◌, ◌==◌, ℕ, ◌+◌, ◌-◌, ◌%◌, ◌^◌, ◌<◌, min, Bool, true, false, ◌||◌, if◌then◌else◌, List, [], ◌∷◌, length, Option, Some, None}
+use Rattle.std.specs.List.{flat_map, sum_by}
 use Rattle.scmi_threads.specs.Parts.{Part, Writes}
 use Rattle.scmi_threads.specs.declared.agent_log.AgentLog.{AgentLog}
 use Rattle.scmi_threads.specs.declared.order.Order.{Order}
@@ -19,12 +19,14 @@ pub data Follows (full : Bool) : Bool → ℕ → List Order → Option Stop →
   ends_here : (closed : Bool) (n : ℕ) (order : Order) (orders : List Order) (why : Stop) (part : Part) → Writes full closed n order (Some why) part → Follows full closed n (order ∷ orders) (Some why) (part ∷ [])
   goes_on : (closed : Bool) (n : ℕ) (order : Order) (orders : List Order) (stopped : Option Stop) (part : Part) (parts : List Part) → Writes full closed n order None part → Follows full (is_close order || closed) (n + length part.posted) orders stopped parts → Follows full closed n (order ∷ orders) stopped (part ∷ parts)
 
--- the log is these parts, one after another
+-- the log is these parts, one after another, and counts their looks modulo 2^64
 pub record IsMadeOf (parts : List Part) (log : AgentLog) : Type 0 where
   pub posted : log.posted.items ≡ flat_map (λ part. part.posted) parts
   pub read : log.read.items ≡ flat_map (λ part. part.read) parts
   pub taken : log.p2a.items ≡ flat_map (λ part. part.taken) parts
   pub lines : log.lines.items ≡ flat_map (λ part. part.lines) parts
+  pub reply_looks : log.reply_looks ≡ sum_by (λ part. part.reply_looks) parts % 2 ^ 64
+  pub message_looks : log.message_looks ≡ sum_by (λ part. part.message_looks) parts % 2 ^ 64
 
 -- the log follows the script: each order, in turn, wrote a part of it, and all of them where the script was not stopped
 pub record IsScriptLog (full : Bool) (orders : List Order) (log : AgentLog) : Type 0 where

@@ -26,6 +26,10 @@ pub struct AgentLog {
     pub lines: Vec<Line>,
     /// Why its script ended early, if it did.
     pub stopped: Option<Stop>,
+    /// How often it looked for a reply, modulo 2^64.
+    pub reply_looks: u64,
+    /// How often it looked for a P2A message, modulo 2^64.
+    pub message_looks: u64,
     ghost tokens_are: { map command_token posted.items ≡ first_tokens (length posted.items) },
     ghost messages_are: { messages_of lines.items ≡ p2a.items },
     ghost closing_is: { closing ≡ first_closing lines.items },
@@ -37,7 +41,7 @@ impl AgentLog {
     ghost use Rattle.std.specs.Option.{option_or};
     ghost use Rattle.scmi_codec.specs.declared.header.TheConstants.{TOKENS};
     ghost use Rattle.scmi_threads.specs.Lines.{IsOfCall};
-    ghost use Rattle.scmi_threads.specs.Logs.{IsEmptyLog, IsSameLog};
+    ghost use Rattle.scmi_threads.specs.Logs.{HasSameLooks, IsEmptyLog, IsSameLog};
     ghost use Rattle.scmi_threads.specs.declared.line.Line.TheVariants as line;
     ghost use Rattle.scmi_threads.specs.declared.stop.Stop.TheVariants as stop;
 
@@ -52,6 +56,8 @@ impl AgentLog {
             closing: None,
             lines: Vec::new(alloc),
             stopped: None,
+            reply_looks: 0,
+            message_looks: 0,
         }
     }
 
@@ -97,6 +103,7 @@ impl AgentLog {
         ensures same { (self.new.read ≡ self.old.read) × (self.new.p2a ≡ self.old.p2a) ×
             (self.new.lines ≡ self.old.lines) × (self.new.closing ≡ self.old.closing) ×
             (self.new.stopped ≡ self.old.stopped) }
+        ensures looks { HasSameLooks self.old self.new }
     {
         self.posted.push_reserved(frame);
     }
@@ -108,6 +115,7 @@ impl AgentLog {
         ensures same { (self.new.posted ≡ self.old.posted) × (self.new.p2a ≡ self.old.p2a) ×
             (self.new.lines ≡ self.old.lines) × (self.new.closing ≡ self.old.closing) ×
             (self.new.stopped ≡ self.old.stopped) }
+        ensures looks { HasSameLooks self.old self.new }
     {
         self.read.push_reserved(answer);
     }
@@ -120,6 +128,7 @@ impl AgentLog {
         ensures lines { self.new.lines.items ≡ self.old.lines.items ++ line.P2a frame ∷ [] }
         ensures same { (self.new.posted ≡ self.old.posted) × (self.new.read ≡ self.old.read) ×
             (self.new.closing ≡ self.old.closing) × (self.new.stopped ≡ self.old.stopped) }
+        ensures looks { HasSameLooks self.old self.new }
     {
         self.lines.push_reserved(Line::P2a(frame.copy()));
         self.p2a.push_reserved(frame);
@@ -132,6 +141,7 @@ impl AgentLog {
         ensures lines { self.new.lines.items ≡ self.old.lines.items ++ line.Close closing ∷ [] }
         ensures same { (self.new.posted ≡ self.old.posted) × (self.new.read ≡ self.old.read) ×
             (self.new.p2a ≡ self.old.p2a) × (self.new.stopped ≡ self.old.stopped) }
+        ensures looks { HasSameLooks self.old self.new }
     {
         self.closing = self.closing.or(Some(closing));
         self.lines.push_reserved(Line::Close(closing));
@@ -146,6 +156,7 @@ impl AgentLog {
         ensures same { (self.new.posted ≡ self.old.posted) × (self.new.read ≡ self.old.read) ×
             (self.new.p2a ≡ self.old.p2a) × (self.new.closing ≡ self.old.closing) ×
             (self.new.stopped ≡ self.old.stopped) }
+        ensures looks { HasSameLooks self.old self.new }
     {
         self.lines.push_reserved(line);
     }

@@ -40,7 +40,7 @@ impl<'a, C: Channel> ScriptRun<'a, C> {
     ghost use Rattle.scmi_link.specs.View.{knows_close};
     ghost use Rattle.scmi_threads.specs.Lines.{IsOfCall};
     ghost use Rattle.scmi_threads.specs.Logs.{IsSameLog};
-    ghost use Rattle.scmi_threads.specs.Orders.{HasAsked, HasAwaited, HasDone, IsAtRest, IsRefusal, IsUndisturbed, LeavesRest, stop_of};
+    ghost use Rattle.scmi_threads.specs.Orders.{HasAsked, HasAwaited, HasDone, HasWaited, IsAtRest, IsRefusal, IsUndisturbed, LeavesRest, stop_of};
     ghost use Rattle.scmi_threads.specs.Parts.{command};
     ghost use Rattle.scmi_threads.specs.ScriptRuns.{HasRun};
     ghost use Rattle.scmi_threads.specs.declared.order.Order.TheVariants as order;
@@ -68,6 +68,7 @@ impl<'a, C: Channel> ScriptRun<'a, C> {
 
     /// Makes room in the log, posts a command, and waits for its reply. Gives the line that says
     /// what came of it.
+    #[tactic(auto, using(crate::proofs::Looking::waited_since))]
     pub(crate) fn ask<R: Wait>(
         &mut self,
         rt: &R,
@@ -96,13 +97,14 @@ impl<'a, C: Channel> ScriptRun<'a, C> {
     }
 
     // Posts a command, and notes it, for which there is room.
-    #[tactic(auto, using(crate::proofs::TokenLemmas::next_push, crate::proofs::ClosesLemmas::stays_open, crate::proofs::ClosesLemmas::is_refused, crate::proofs::Answered::before_post))]
+    #[tactic(auto, using(crate::proofs::TokenLemmas::next_push, crate::proofs::ClosesLemmas::stays_open, crate::proofs::ClosesLemmas::is_refused, crate::proofs::Answered::before_post, crate::proofs::Looking::post_looks))]
     fn post_command(&mut self, protocol: u8, id: u8, payload: &Payload) -> Result<(), PostError>
         requires { vec_len self.old.log.posted < vec_capacity self.old.log.posted }
         ensures ran { HasRun self.old self.new }
         ensures unclosed { OnOk result (self.new.end.caller.closed ≡ false) }
         ensures same { (self.new.log.read ≡ self.old.log.read) ×
-            (self.new.log.lines ≡ self.old.log.lines) }
+            (self.new.log.lines ≡ self.old.log.lines) ×
+            (self.new.log.reply_looks ≡ self.old.log.reply_looks) }
         ensures posted { OnOk result
             (self.new.log.posted.items ≡ self.old.log.posted.items ++ command
             (length self.old.log.posted.items) protocol id payload.now ∷ []) }
@@ -127,8 +129,9 @@ impl<'a, C: Channel> ScriptRun<'a, C> {
         Ok(())
     }
 
-    // Waits for the reply, and notes it, for which there is room. Gives the line that says so.
-    #[tactic(auto, using(crate::proofs::ClosesLemmas::has_waited, crate::proofs::Answered::before_wait, crate::proofs::Answered::answer_read))]
+    // Waits for the reply, counts the looks, and notes it, for which there is room. Gives the line
+    // that says so.
+    #[tactic(auto, using(crate::proofs::ClosesLemmas::has_waited, crate::proofs::Answered::before_wait, crate::proofs::Answered::answer_read, crate::proofs::Looking::has_waited, crate::proofs::Looking::wait_counted))]
     fn await_reply<R: Wait>(&mut self, rt: &R) -> Line
         requires room { vec_len self.old.log.read < vec_capacity self.old.log.read }
         requires unclosed { self.old.end.caller.closed ≡ false }
@@ -139,11 +142,14 @@ impl<'a, C: Channel> ScriptRun<'a, C> {
             → self.old.log.posted.items ≡ frames ++ command ∷ []
             → length frames ≡ length self.old.log.read.items → IsUndisturbed self.new.end.caller
             → HasAwaited command result self.old.log.read.items self.new.log.read.items }
+        ensures waited { HasWaited result self.old.log self.new.log }
         ensures posted { self.new.log.posted ≡ self.old.log.posted }
         ensures rest { LeavesRest self.old.end.caller self.new.end.caller self.old.log
             self.new.log }
     {
-        match self.end.wait_reply(rt, self.link, TURNS) {
+        let waited = self.end.wait_reply(rt, self.link, TURNS);
+        self.log.reply_looks = self.log.reply_looks.wrapping_add(u64::from(waited.looks));
+        match waited.answer {
             Collected::Got(answer) => {
                 let line = line_of(&answer);
                 self.log.note_read(answer);

@@ -10,8 +10,9 @@ use std::sync::Wait;
 
 impl<'a, C: Channel> ScriptRun<'a, C> {
     ghost use Rattle.std.specs.Prelude.{◌≡◌, ◌<◌, vec_len, vec_capacity, IsTrue};
+    ghost use Rattle.scmi_link.specs.View.{one_more};
     ghost use Rattle.scmi_threads.specs.Logs.{IsSameLog};
-    ghost use Rattle.scmi_threads.specs.Orders.{HasDone, HasTaken, IsUnmoved, stop_of};
+    ghost use Rattle.scmi_threads.specs.Orders.{HasDone, HasLookedFor, HasTaken, IsUnmoved, TakesOne, stop_of};
     ghost use Rattle.scmi_threads.specs.ScriptRuns.{HasRun};
     ghost use Rattle.scmi_threads.specs.declared.order.Order.TheVariants as order;
 
@@ -33,6 +34,7 @@ impl<'a, C: Channel> ScriptRun<'a, C> {
         ensures unmoved { IsUnmoved self.old.end.caller self.new.end.caller self.old.log
             self.new.log }
         ensures taken { HasTaken self.old.end.caller.closed result self.old.log self.new.log }
+        ensures looks { HasLookedFor result self.old.log self.new.log }
     {
         self.log.reserve_message()?;
         let mut pause = Pause::new();
@@ -46,18 +48,22 @@ impl<'a, C: Channel> ScriptRun<'a, C> {
         Err(Stop::Limit)
     }
 
-    // Looks once for a message, and notes it, for which there is room. Says whether one came.
-    #[tactic(auto, using(crate::proofs::ClosesLemmas::takes_open))]
+    // Looks once for a message, counts that, and notes the message, for which there is room. Says
+    // whether one came.
+    #[tactic(auto, using(crate::proofs::ClosesLemmas::takes_open, crate::proofs::Looking::look_counted))]
     fn look(&mut self) -> bool
         requires p2a { vec_len self.old.log.p2a < vec_capacity self.old.log.p2a }
         requires lines { vec_len self.old.log.lines < vec_capacity self.old.log.lines }
         ensures ran { HasRun self.old self.new }
         ensures unmoved { IsUnmoved self.old.end.caller self.new.end.caller self.old.log
             self.new.log }
+        ensures counted { self.new.log.message_looks ≡ one_more self.old.log.message_looks }
         ensures taken { IsTrue result →
-            HasTaken self.old.end.caller.closed (Ok tt) self.old.log self.new.log }
-        ensures none { ¬ (IsTrue result) → self.new.log ≡ self.old.log }
+            TakesOne self.old.end.caller.closed self.old.log self.new.log }
+        ensures none { ¬ (IsTrue result) → (self.new.log.p2a ≡ self.old.log.p2a) ×
+            (self.new.log.lines ≡ self.old.log.lines) }
     {
+        self.log.message_looks = self.log.message_looks.wrapping_add(1);
         match self.end.next_p2a(self.link) {
             Some(frame) => {
                 self.log.note_message(frame);

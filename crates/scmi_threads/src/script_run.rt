@@ -26,6 +26,8 @@ pub struct ScriptRun<'a, C: Channel> {
     ghost read_is: { log.read.items ≡ end.caller.read },
     ghost p2a_is: { log.p2a.items ≡ end.callee.taken },
     ghost token_is: { end.token ≡ length log.posted.items % TOKENS },
+    ghost replies_looked: { log.reply_looks ≡ end.caller.collects },
+    ghost messages_looked: { log.message_looks ≡ end.callee.takes },
     ghost both_closed: { end.callee.closed ≡ end.caller.closed },
     ghost closing_is: { IsClosedAs log.closing end.caller } by { IsClosedAs-prop log.closing end.caller },
 }

@@ -40,9 +40,11 @@ use std::thread::Threads;
 /// took are those delivered, at most the last left out, and with its outbox they are all that was
 /// made for it, where no delayed response is lost; and its n-th command has token (n - 1) modulo
 /// 1,024. Each log follows its agent's script order by order, and to its end where it was not
-/// stopped, and before each line that was begun the gate was asked with that agent and line. After a close that succeeded no further command of the script is executed: its other
-/// orders post nothing, read no answer and take no message. Want of memory before the scripts start
-/// is the only refusal.
+/// stopped, and before each line that was begun the gate was asked with that agent and line. A wait
+/// that ran out had `TURNS` looks, and one that was answered at least one and at most `TURNS`; a log
+/// counts them, modulo 2^64. After a close that succeeded no further command of the script is
+/// executed: its other orders post nothing, read no answer and take no message. Want of memory
+/// before the scripts start is the only refusal.
 pub fn run_agents<C: Channel, G: Gate, R: Threads + Wait + Sync>(
     rt: &R,
     alloc: Global,

@@ -8,7 +8,7 @@ pub script_runs-preserved : goal.script_runs-preserved
 script_runs-preserved g c =
     let kept = c.script_runs.invariant in
     let script_run = c.remove-end.result in
-    let logged : IsLogOf script_run.end script_run.log = record { posted = script_run.posted_is; read = script_run.read_is; p2a = script_run.p2a_is; closing = script_run.closing_is } in
+    let logged : IsLogOf script_run.end script_run.log = record { posted = script_run.posted_is; read = script_run.read_is; p2a = script_run.p2a_is; closing = script_run.closing_is; reply_looks = script_run.replies_looked; message_looks = script_run.messages_looked } in
     record {
       a2p = moved (λ e. e.a2p_identity) (λ s. s.end.a2p_identity) c.script_runs.ends.items c.push_reserved.new.self.items c.script_runs.script_runs.items c.remove-end.new.self.items script_run.end script_run _ kept.a2p (omega (arith, c.remove-end.ensures.len, c.script_runs.script_runs.ok.0)) c.remove-end.ensures.value c.remove-end.ensures.items c.push_reserved.ensures.items refl;
       p2a = moved (λ e. e.p2a_identity) (λ s. s.end.p2a_identity) c.script_runs.ends.items c.push_reserved.new.self.items c.script_runs.script_runs.items c.remove-end.new.self.items script_run.end script_run _ kept.p2a (omega (arith, c.remove-end.ensures.len, c.script_runs.script_runs.ok.0)) c.remove-end.ensures.value c.remove-end.ensures.items c.push_reserved.ensures.items refl;

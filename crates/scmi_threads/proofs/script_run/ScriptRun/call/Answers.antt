@@ -23,11 +23,12 @@ returns-clause-done g c = λ u rest.
     let called = order.Call c.args.protocol c.args.id c.args.payload.now in
     subst (λ r. HasDone g.C.Channel.FULL called (stop_of r) old.end.caller c.ask.new.self.end.caller old.log c.note.new.self) (sym c.ending_of-ended.ensures)
     (done_since g.C.Channel.FULL called (stop_of (ending c.in_ok-line.line)) old.end.caller c.ask.new.self.end.caller old.log reserved c.note.new.self same
-    (call_done g.C.Channel.FULL c.args.protocol c.args.id c.args.payload.now c.in_ok-line.line old.end.caller c.ask.new.self.end.caller reserved c.ask.new.self.log c.note.new.self (c.in_ok-line.ensures.asked u (still_rests old.log reserved same rest)) c.ask.ensures.rest (ap (λ v. v.items) c.ask.ensures.lines)
+    (call_done g.C.Channel.FULL c.args.protocol c.args.id c.args.payload.now old.end.caller c.ask.new.self.end.caller reserved c.ask.new.self.log c.note.new.self c.ask.ensures.rest c.in_ok-line.line (c.in_ok-line.ensures.asked u (still_rests old.log reserved same rest)) (ap (λ v. v.items) c.ask.ensures.lines)
     (record {
       posted = ap (λ v. v.items) c.note.ensures.same.0;
       read = ap (λ v. v.items) c.note.ensures.same.1;
       taken = ap (λ v. v.items) c.note.ensures.same.2;
       lines = c.note.ensures.lines;
       stopped = c.note.ensures.same.4;
+      looks = c.note.ensures.looks;
     })))

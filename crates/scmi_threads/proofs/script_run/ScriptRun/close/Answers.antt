@@ -22,6 +22,7 @@ returns-in-Ok-clause-done g c = λ rest.
       taken = ap (λ v. v.items) c.note_closing.ensures.same.2;
       lines = c.note_closing.ensures.lines;
       stopped = c.note_closing.ensures.same.3;
+      looks = c.note_closing.ensures.looks;
     }))
     (λ e. ap (λ v. v.closed) (closes closing.Idle e).closed)
     (λ e. (closes closing.Withdrawn e).was_outstanding)

@@ -49,7 +49,7 @@ returns-in-Err g c =
       ran = record { a2p = ran.a2p; p2a = ran.p2a; script = ran.script; id = ran.id; undisturbed = ran.undisturbed };
       log = λ empty new u.
           let f = c.orders.invariant.followed empty new (c.step.ensures.ran.undisturbed u) in
-          followed_to g.C.Channel.FULL (g.G.Gate.asked c.args.gate.now c.args.self.now.end.id) script (take i script) (drop (i + 1) script) order c.in-Err.stop mid.end.caller after.end.caller mid.log after.log _ (all_orders script i order c.orders-test.true c.order-item.is) f (c.in-Err.ensures.done u f.rest) refl refl refl refl refl
+          followed_to g.C.Channel.FULL (g.G.Gate.asked c.args.gate.now c.args.self.now.end.id) script (take i script) (drop (i + 1) script) order c.in-Err.stop mid.end.caller after.end.caller mid.log after.log _ (all_orders script i order c.orders-test.true c.order-item.is) f (c.in-Err.ensures.done u f.rest) refl refl refl refl (record { replies = refl; messages = refl }) refl
           (λ k below. asked_now (g.G.Gate.asked c.args.gate.now) c.args.self.now.end.id c.id.result i c.orders.line c.saturating_add-line.result c.orders.invariant.line c.saturating_add-line.ensures (c.id.ensures ∙ c.orders.invariant.ran.id) c.orders.invariant.gate (search rules) k (omega (arith, below, length-take i script, c.orders-test.true)));
     }
 

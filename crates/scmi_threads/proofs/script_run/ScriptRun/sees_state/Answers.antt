@@ -2,8 +2,17 @@ use Rattle.std.proofs.Common.{◌≡◌, ◌∙◌, ◌∷◌, [], refl, rules, 
 use Rattle.scmi_threads.specs.Orders.{HasAsked, IsGot, ShowsState}
 use Rattle.scmi_threads.specs.Parts.{command}
 use Rattle.scmi_threads.proofs.ScriptRunLemmas.{has_run}
-use Rattle.scmi_threads.proofs.OrderLemmas.{left_rest, asked_rests, one_asked, looked_seen, looked_in_vain, looked_to_the_end, looked_without_room}
+use Rattle.scmi_threads.proofs.OrderLemmas.{left_rest, asked_rests, one_asked, looked_seen, looked_in_vain, looked_to_the_end, looked_without_room, none_asked}
 use Rattle.scmi_threads.proofs.script_run.ScriptRun.sees_state.Goals as goal
+
+pub calls-init : goal.calls-init
+calls-init g c = record {
+  ran = record { a2p = refl; p2a = refl; script = refl; id = refl; undisturbed = λ u. u };
+  lines = refl;
+  rest = record { taken = refl; message_looks = refl; stopped = refl; closed = refl };
+  asking = λ u rest. none_asked c.args.self.now.end.caller.closed c.args.domain c.args.state c.args.self.now.log c.args.self.now.log
+      (record { posted = refl; read = refl; p2a = refl; lines = refl; closing = refl; stopped = refl; looks = record { replies = refl; messages = refl } });
+}
 
 pub returns-in_err-line-clause-looked : goal.returns-in_err-line-clause-looked
 returns-in_err-line-clause-looked g c = λ u rest.

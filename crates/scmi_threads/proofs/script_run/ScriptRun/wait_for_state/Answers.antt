@@ -36,6 +36,7 @@ returns-then-branch-clause-done g c = λ u rest.
       taken = ap (λ v. v.items) c.note.ensures.same.2;
       lines = c.note.ensures.lines;
       stopped = c.note.ensures.same.4;
+      looks = c.note.ensures.looks;
     }))
 
 pub returns-clause-done : goal.returns-clause-done
@@ -54,4 +55,5 @@ returns-clause-done g c = λ u rest.
       taken = ap (λ v. v.items) c.note-2.ensures.same.2;
       lines = c.note-2.ensures.lines;
       stopped = c.note-2.ensures.same.4;
+      looks = c.note-2.ensures.looks;
     }))
