@@ -147,7 +147,7 @@ fn read_and_close<C: Channel, R: Wait>(rt: &R, end: &mut AgentEnd<C>, link: &Lin
     requires { IsOfLink (C.identity link.now.a2p) (C.identity link.now.p2a) end.old }
     ensures { HasSameIdentities end.old end.new }
 {
-    let got = match end.wait_reply(rt, link, TURNS).answer {
+    let got = match end.wait_reply(rt, link, TURNS) {
         Collected::Got(answer) => answer == response(),
         _ => false,
     };

@@ -19,7 +19,7 @@ use std::marker::Model;
 /// command.
 ///
 /// Condition of each call that is given a link: it is the agent's own. No call takes memory, and
-/// none but `wait_reply` waits.
+/// none but `wait_counted` and `wait_reply` waits.
 #[derive(Drop)]
 pub struct AgentEnd<C: Channel> {
     caller: C::Caller,

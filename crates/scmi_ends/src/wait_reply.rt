@@ -19,7 +19,7 @@ impl<C: Channel> AgentEnd<C> {
     /// answer comes after at least one look. After each look that gave `Nothing` the thread pauses
     /// (own).
     #[tactic(auto, unfolding(crate::specs::Poll::more_calls))]
-    pub fn wait_reply<R: Wait>(&mut self, rt: &R, link: &Link<C>, turns: u32) -> Waited
+    pub fn wait_counted<R: Wait>(&mut self, rt: &R, link: &Link<C>, turns: u32) -> Waited
         requires { IsOfLink (C.identity link.now.a2p) (C.identity link.now.p2a) self.old }
         ensures same { self.new ≡ record self.old { caller = self.new.caller } }
         ensures waits { Waits turns self.old.caller result.answer self.new.caller }
@@ -41,5 +41,14 @@ impl<C: Channel> AgentEnd<C> {
             answer: Collected::Nothing,
             looks: turns,
         }
+    }
+
+    /// As `wait_counted`, without the count.
+    pub fn wait_reply<R: Wait>(&mut self, rt: &R, link: &Link<C>, turns: u32) -> Collected
+        requires { IsOfLink (C.identity link.now.a2p) (C.identity link.now.p2a) self.old }
+        ensures same { self.new ≡ record self.old { caller = self.new.caller } }
+        ensures waits { Waits turns self.old.caller result self.new.caller }
+    {
+        self.wait_counted(rt, link, turns).answer
     }
 }

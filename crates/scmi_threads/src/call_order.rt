@@ -147,7 +147,7 @@ impl<'a, C: Channel> ScriptRun<'a, C> {
         ensures rest { LeavesRest self.old.end.caller self.new.end.caller self.old.log
             self.new.log }
     {
-        let waited = self.end.wait_reply(rt, self.link, TURNS);
+        let waited = self.end.wait_counted(rt, self.link, TURNS);
         self.log.reply_looks = self.log.reply_looks.wrapping_add(u64::from(waited.looks));
         match waited.answer {
             Collected::Got(answer) => {
