@@ -1,0 +1,5 @@
+mod ItemLists
+mod Marked
+mod MeantExamples
+mod NameLists
+mod UnderWay
