@@ -1,8 +1,9 @@
-//! The program for people: it runs sessions, describes areas of shared memory, and draws sessions.
+//! The program for people: it runs sessions, describes areas of shared memory, draws sessions, and
+//! answers the lines of a session one by one.
 //!
 //! The main type is `Request`, what the arguments ask for. The main theorem is the contract of
-//! `run_request` with those of `request_of` and `file_of`: where the status is 0, what was written is
-//! what the asked task writes of the input, or the asked text, to the last byte.
+//! `run_request` with those of `request_of` and `file_of`, and that of `run_session`: where the status is
+//! 0, what was written is what the asked task writes of the input, or the asked text, to the last byte.
 #![tactic(auto)]
 
 mod file;
@@ -11,6 +12,7 @@ mod refusal;
 mod report;
 mod request;
 mod run;
+mod serve_session;
 mod session;
 mod task;
 mod teller;
@@ -23,7 +25,7 @@ use crate::refusal::{WRONG_ARGUMENT, lack_board, refuse, refuse_file};
 use crate::report::{report_input, report_output};
 use crate::request::{Request, request_of};
 use crate::run::run_request;
-use crate::session::serve_session;
+use crate::serve_session::serve_session;
 use crate::task::Task;
 use scmi_explain::{Kept, LastLine};
 use scmi_modes::RunError;

@@ -35,6 +35,9 @@ enum Why {
 }
 
 impl Opened {
+    ghost use Rattle.std.specs.Prelude.{◌≡◌, IfOk};
+    ghost use Rattle.scmi_plan.specs.RawPlan.{asked_board};
+
     /// The board of a file.
     pub fn read<B: Read + Drop>(alloc: Global, file: &mut B) -> Result<Opened, Refused> {
         let mut text = Vec::new(alloc);
@@ -49,7 +52,9 @@ impl Opened {
     }
 
     /// The board.
-    pub fn board(&self) -> &RawPlan {
+    pub fn board(&self) -> &RawPlan
+        ensures { result.now ≡ self.now.board }
+    {
         &self.board
     }
 
@@ -59,7 +64,9 @@ impl Opened {
     }
 
     /// Two plans of the board.
-    pub fn plans(&self, alloc: Global) -> Result<(Plan, Plan), PlanError> {
+    pub fn plans(&self, alloc: Global) -> Result<(Plan, Plan), PlanError>
+        ensures { IfOk result (λ plans. plans.0 ≡ asked_board self.now.board) }
+    {
         Ok((
             Plan::check(alloc, &self.board)?,
             Plan::check(alloc, &self.board)?,

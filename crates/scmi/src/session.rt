@@ -1,99 +1,50 @@
 //! A session whose lines are answered one by one.
+ghost use Rattle.std.specs.Prelude.{◌≡◌, OnOk};
+ghost use Rattle.scmi_plan.specs.RawPlan.{asked_board};
+ghost use Rattle.scmi.specs.Session.{IsSession};
+
 use crate::opened::Opened;
-use crate::report::report_output;
-use crate::teller::Teller;
-use scmi_explain::{Expected, Fault, Kept, LastLine, explain};
-use scmi_input::{CountedReader, INPUT_BYTES, Input};
-use scmi_live::{LiveError, run_live};
-use scmi_modes::RunError;
+use scmi_input::{CountedRead, CountedReader, Input};
+use scmi_live::{Listener, LiveError, run_live};
 use scmi_words::WordChannel;
 use std::alloc::Global;
-use std::io;
-use std::io::{BufWriter, Eprint, Print, Read, Write};
+use std::io::{Read, Write};
 
-/// What messages call the lines of a session.
-pub const LINES: &str = "standard input";
-
-/// Answers the lines of a reader on the board of a file of this name, and gives the exit status.
-pub fn serve_session<T: Print + Eprint, B: Read + Drop, R: Read + Drop>(
-    rt: &T,
-    alloc: Global,
-    name: &str,
-    file: B,
-    reader: R,
-) -> u8 {
-    let mut file = Kept::new(alloc, file);
-    let mut writer = LastLine::new(io::writer(rt));
-    match Opened::read(alloc, &mut file) {
-        Ok(opened) => match BufWriter::new(alloc, io::writer(rt)) {
-            Ok(buffer) => answer(rt, alloc, &opened, reader, buffer),
-            Err(_) => answer(rt, alloc, &opened, reader, io::writer(rt)),
-        },
-        Err(refused) => {
-            let fault = refused.fault();
-            if writeln!(writer, "fault {fault}").is_err() {
-                report_output(rt, writer.error());
-                return RunError::Write.status();
-            }
-            refused.report(rt, alloc, name, file.error());
-            fault.status()
-        }
-    }
-}
-
-/// Answers the lines of a reader on a board.
-fn answer<T: Eprint, R: Read + Drop, W: Write + Drop>(
-    rt: &T,
+/// Answers the lines of a reader on the board of a session, and gives the exit status: 0, or that of the
+/// error, which the last line names. A fault that can't be written gives status 1.
+pub fn run_session<R: Read, W: Write, L: Listener>(
     alloc: Global,
     opened: &Opened,
-    reader: R,
-    writer: W,
-) -> u8 {
-    let mut kept = Kept::new(alloc, reader);
-    let mut output = LastLine::new(writer);
-    let status = match opened.plans(alloc) {
-        Ok(plans) => {
-            let mut teller = Teller::new(rt, alloc, opened);
-            let mut input = Input::new(CountedReader::new(&mut kept));
-            match run_live::<WordChannel, _, _, _>(
-                alloc,
-                opened.board(),
-                plans,
-                &mut input,
-                &mut output,
-                &mut teller,
-            ) {
-                Ok(()) => 0,
-                Err(fault) => write_fault(&mut output, fault),
-            }
-        }
-        Err(_) => write_fault(&mut output, LiveError::Memory),
-    };
-    let is_flushed = output.flush().is_ok();
-    if status == LiveError::Write.status() || !is_flushed {
-        report_output(rt, output.error());
-        return LiveError::Write.status();
+    reader: &mut R,
+    writer: &mut W,
+    listener: &mut L,
+) -> u8
+    ensures { result ≡ 0 → IsSession (asked_board opened.now.board) (R.remaining reader.old)
+        (W.contents writer.old) (W.contents writer.new) }
+{
+    let mut input = Input::new(CountedReader::new(reader));
+    match answer_lines(alloc, opened, &mut input, writer, listener) {
+        Ok(()) => 0,
+        Err(LiveError::Write) => LiveError::Write.status(),
+        Err(fault) => match writeln!(writer, "fault {fault}") {
+            Ok(()) => fault.status(),
+            Err(_) => LiveError::Write.status(),
+        },
     }
-    if let Some(fault) = Fault::of_line(output.line()) {
-        report_lines(rt, alloc, fault, kept.error());
-    }
-    status
 }
 
-/// Writes why a session ended before its lines did, and gives the status.
-fn write_fault<W: Write>(writer: &mut W, fault: LiveError) -> u8 {
-    if fault != LiveError::Write && writeln!(writer, "fault {fault}").is_err() {
-        return LiveError::Write.status();
-    }
-    fault.status()
-}
-
-/// Says why the lines were not read to their end.
-fn report_lines(rt: &impl Eprint, alloc: Global, fault: Fault, error: Option<io::Error>) {
-    let found = explain(alloc, Expected::Session, &[], fault);
-    let _ = match (fault, error) {
-        (Fault::Size, _) => eprintln!(rt; "{LINES}: a line is longer than {INPUT_BYTES} bytes"),
-        (Fault::Read, Some(error)) => eprintln!(rt; "{LINES}{found}: {error}"),
-        _ => eprintln!(rt; "{LINES}{found}"),
+fn answer_lines<R: CountedRead + Drop, W: Write, L: Listener>(
+    alloc: Global,
+    opened: &Opened,
+    input: &mut Input<R>,
+    writer: &mut W,
+    listener: &mut L,
+) -> Result<(), LiveError>
+    ensures { OnOk result (IsSession (asked_board opened.now.board) input.old.left
+        (W.contents writer.old) (W.contents writer.new)) }
+{
+    let Ok(plans) = opened.plans(alloc) else {
+        return Err(LiveError::Memory);
     };
+    run_live::<WordChannel, _, _, _>(alloc, opened.board(), plans, input, writer, listener)
 }

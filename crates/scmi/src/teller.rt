@@ -1,7 +1,7 @@
 //! What is said on standard error while a session runs.
 
 use crate::opened::Opened;
-use crate::session::LINES;
+use crate::serve_session::LINES;
 use crate::unknown_text::UnknownText;
 use scmi_explain::{Expected, Fault, explain};
 use scmi_live::{Listener, unknown_in};

@@ -1,3 +1,4 @@
+mod FewItems
 mod ItemLists
 mod Marked
 mod MeantExamples

@@ -1,7 +1,7 @@
 //! The commands that items stand for.
 ghost use Rattle.std.specs.Prelude.{◌≡◌, map};
 ghost use Rattle.scmi_plan.specs.RawPlan.{asked_board};
-ghost use Rattle.scmi_live.specs.NamedStep.{call_of, call_of_message, call_of_name, call_of_protocol};
+ghost use Rattle.scmi_live.specs.NamedStep.{call_by, call_of, call_of_message, call_of_name, call_of_protocol};
 
 use crate::messages::{id_of, message_named, protocol_of};
 use crate::payload::payload_meant;
@@ -13,11 +13,19 @@ pub(crate) fn call_of(board: &RawPlan, items: &[&[u8]]) -> Option<Call>
     ensures { result ≡ call_of (asked_board board.now) (map (λ item. item.now) items.now) }
 {
     match items {
-        [first, rest @ ..] => match protocol_of(*first) {
-            Some(protocol) => call_of_protocol(board, protocol, rest),
-            None => call_of_name(board, *first, rest),
-        },
+        [first, rest @ ..] => call_by(board, protocol_of(*first), *first, rest),
         [] => None,
+    }
+}
+
+/// The command of a protocol where the first item stands for one, and else of the message of that name.
+fn call_by(board: &RawPlan, protocol: Option<u8>, first: &[u8], items: &[&[u8]]) -> Option<Call>
+    ensures { result ≡ call_by (asked_board board.now) protocol first.now
+        (map (λ item. item.now) items.now) }
+{
+    match protocol {
+        Some(protocol) => call_of_protocol(board, protocol, items),
+        None => call_of_name(board, first, items),
     }
 }
 
