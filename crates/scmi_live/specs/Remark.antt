@@ -2,7 +2,7 @@
 use Rattle.std.specs.Prelude.{ℕ, ◌==◌, Bool, true, false, List, [], ◌∷◌, ◌++◌, Option, Some, None}
 use Rattle.std.specs.Option.{option_map_or}
 use Rattle.scmi_codec.specs.declared.frame.Frame.{Frame}
-use Rattle.scmi_codec.specs.declared.frame.Frame.TheVariants.{Good, Malformed}
+use Rattle.scmi_codec.specs.declared.frame.Frame.TheVariants.{Good}
 use Rattle.scmi_codec.specs.declared.frame.Answer.TheVariants.{Reply}
 use Rattle.scmi_link.specs.declared.collected.Collected.{Collected}
 use Rattle.scmi_link.specs.declared.collected.Collected.TheVariants.{Got}

@@ -177,13 +177,7 @@ fn command_of(frame: &Frame) -> Option<Command> {
 
 fn message_of(call: &Call) -> Message {
     Message {
-        header: Header {
-            reserved: 0,
-            token: 0,
-            protocol: call.protocol,
-            kind: 0,
-            id: call.message,
-        },
+        header: Header::unpack(u32::from(call.protocol) << 10 | u32::from(call.message)),
         payload: payload_of(call.payload.as_slice()),
     }
 }

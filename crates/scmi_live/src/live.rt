@@ -129,9 +129,9 @@ impl<'a, C: Channel> Live<'a, C> {
 
     /// Ends the session: gathers all ends, and writes the length of the history.
     pub(crate) fn end<W: Write>(self, writer: &mut W) -> Result<(), LiveError>
-        ensures gathered { IsGathered self.session }
+        ensures gathered { IsGathered self.entry.session }
         ensures text { OnOk result (Appends (W.contents writer.old) (W.contents writer.new)
-            (step_text (Trace (length self.session.platform.history)))) }
+            (step_text (Trace (length self.entry.session.platform.history)))) }
     {
         let events = self.session.retire().len();
         write_line(writer, &StepLine::Trace { events })?;

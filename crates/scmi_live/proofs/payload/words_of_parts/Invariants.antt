@@ -1,4 +1,4 @@
-use Rattle.std.proofs.Common.{◌≡◌, map, length}
+use Rattle.std.proofs.Common.{◌≡◌, length}
 use Rattle.scmi_plan.specs.RawPlan.{asked_board}
 use Rattle.scmi_live.specs.Payload.{words_behind}
 use Rattle.scmi_live.proofs.payload.words_of_parts.Given as goal
