@@ -3,3 +3,4 @@ pub mod Request
 pub mod Texts
 pub mod Program
 pub mod File
+pub mod Session

@@ -1,24 +1,32 @@
-//! The program for people: it runs sessions, describes areas of shared memory, and draws sessions.
+//! The program for people: it runs sessions, describes areas of shared memory, draws sessions, and
+//! answers the lines of a session one by one.
 //!
 //! The main type is `Request`, what the arguments ask for. The main theorem is the contract of
-//! `run_request` with those of `request_of` and `file_of`: where the status is 0, what was written is
-//! what the asked task writes of the input, or the asked text, to the last byte.
+//! `run_request` with those of `request_of` and `file_of`, and that of `run_session`: where the status is
+//! 0, what was written is what the asked task writes of the input, or the asked text, to the last byte.
 #![tactic(auto)]
 
 mod file;
+mod opened;
 mod refusal;
 mod report;
 mod request;
 mod run;
+mod serve_session;
+mod session;
 mod task;
+mod teller;
 mod texts;
+mod unknown_text;
 mod word;
 
 use crate::file::file_of;
-use crate::refusal::{WRONG_ARGUMENT, refuse, refuse_file};
+use crate::refusal::{WRONG_ARGUMENT, lack_board, refuse, refuse_file};
 use crate::report::{report_input, report_output};
 use crate::request::{Request, request_of};
 use crate::run::run_request;
+use crate::serve_session::serve_session;
+use crate::task::Task;
 use scmi_explain::{Kept, LastLine};
 use scmi_modes::RunError;
 use std::alloc::Global;
@@ -48,11 +56,15 @@ fn main(rt: HostRuntime) -> ExitCode {
     };
     if let Some((task, name)) = file_of(arguments.as_slice()) {
         return ExitCode::from(match fs::open(&rt, name) {
+            Ok(file) if task == Task::Session => {
+                serve_session(&rt, alloc, name, file, rt.reader())
+            }
             Ok(file) => serve(&rt, alloc, Request::Do(task), name, file),
             Err(error) => refuse_file(&rt, name, &error),
         });
     }
     ExitCode::from(match request_of(arguments.as_slice()) {
+        Some(Request::Do(Task::Session)) => lack_board(&rt),
         Some(request) => serve(&rt, alloc, request, STANDARD_INPUT, rt.reader()),
         None => refuse(&rt, alloc, arguments.as_slice()),
     })

@@ -26,6 +26,12 @@ pub fn refuse(rt: &impl Eprint, alloc: Global, arguments: &[String]) -> u8 {
     WRONG_ARGUMENT
 }
 
+/// Says on standard error that a session needs the file of its board, and gives the exit status.
+pub fn lack_board(rt: &impl Eprint) -> u8 {
+    let _ = eprintln!(rt; "scmi: session needs the file of its board; see scmi session --help");
+    WRONG_ARGUMENT
+}
+
 /// Says on standard error why a file can't be opened, and gives the exit status.
 pub fn refuse_file(rt: &impl Eprint, name: &str, error: &Error) -> u8 {
     let _ = eprintln!(rt; "scmi: {name} can't be opened: {error}");

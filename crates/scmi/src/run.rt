@@ -2,6 +2,7 @@
 ghost use Rattle.std.specs.Prelude.{◌≡◌};
 ghost use Rattle.scmi.specs.Program.{Answers};
 
+use crate::refusal::WRONG_ARGUMENT;
 use crate::request::Request;
 use crate::task::Task;
 use crate::texts::text_of;
@@ -37,6 +38,8 @@ pub fn run_request<T: Threads + Wait + Sync, R: Read, W: Write>(
         ),
         Request::Do(Task::Decode) => run_decode(alloc, reader, writer),
         Request::Do(Task::Chart) => run_draw(alloc, reader, writer),
+        // Its board is read from a file.
+        Request::Do(Task::Session) => WRONG_ARGUMENT,
         _ => match writer.write_all(text_of(request).as_bytes()) {
             Ok(()) => 0,
             Err(_) => RunError::Write.status(),

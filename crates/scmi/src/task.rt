@@ -9,4 +9,6 @@ pub enum Task {
     Decode,
     /// Draws a session.
     Chart,
+    /// Answers the lines of a session one by one.
+    Session,
 }

@@ -19,6 +19,8 @@ pub struct Texts<T> {
     pub decode: T,
     /// How to draw a session.
     pub chart: T,
+    /// How to give the lines of a session one by one.
+    pub session: T,
     /// Which program this is.
     pub version: T,
 }
@@ -29,12 +31,14 @@ pub const TEXTS: Texts<&'static str> = Texts {
 Both sides of Arm's System Control and Management Interface (SCMI, DEN0056B).
 
 Usage: scmi [run | decode | chart] [FILE]
-       scmi help [run | decode | chart]
+       scmi session BOARD
+       scmi help [run | decode | chart | session]
        scmi --version
 
-  run     runs a session of a platform and its agents; so it does without a word
-  decode  tells what areas of shared memory are
-  chart   draws a session as a picture (SVG)
+  run      runs a session of a platform and its agents; so it does without a word
+  decode   tells what areas of shared memory are
+  chart    draws a session as a picture (SVG)
+  session  answers the lines of a session one by one, with names in place of numbers
 
 It reads FILE or standard input, and writes to standard output.
 Status: 0 done; 1 the output failed; 2 the input is refused, and the last line says why;
@@ -74,6 +78,21 @@ The output is an SVG. docs/CHART.md has the signs.
 
 Example: scmi chart examples/two_agents.in > run.svg
 ",
+    session: "\
+Answers the lines of standard input one by one: each is a step of a session, on the board of a
+file, and its answer is written before the next line is read.
+
+Usage: scmi session BOARD
+
+BOARD has the lines of a board, from board to end. A line is one of the steps of scmi run over
+words, in numbers, or with names: agents, domains and clocks by their names on the board,
+messages by theirs, on and off, and a rate in Hz as one number. Flags that are left out are 0.
+After the line 'words on' replies are described, in lines that begin with #, until 'words off'.
+A line that is no step is explained on standard error, and the session goes on. So is a
+notification that is dropped. docs/SCRIPTS.md has more.
+
+Example: echo 'do ap POWER_STATE_SET cpu on' | scmi session examples/phone.board
+",
     version: "Tolbjir scmi 0.9.0-dev: SCMI 2.0 (DEN0056B), proved in Rattle where the build says so\n",
 };
 
@@ -86,6 +105,7 @@ pub fn text_of(request: Request) -> &'static str
         Request::HelpOn(Task::Run) => TEXTS.run,
         Request::HelpOn(Task::Decode) => TEXTS.decode,
         Request::HelpOn(Task::Chart) => TEXTS.chart,
+        Request::HelpOn(Task::Session) => TEXTS.session,
         Request::Version => TEXTS.version,
         Request::Do(_) => "",
     }

@@ -31,7 +31,7 @@ pub struct Spelling<T> {
 pub type HeldSpelling = Spelling<&'static str>;
 
 /// All words that the program knows.
-pub const WORDS: [HeldSpelling; 8] = [
+pub const WORDS: [HeldSpelling; 9] = [
     Spelling {
         text: "run",
         word: Word::Task(Task::Run),
@@ -43,6 +43,10 @@ pub const WORDS: [HeldSpelling; 8] = [
     Spelling {
         text: "chart",
         word: Word::Task(Task::Chart),
+    },
+    Spelling {
+        text: "session",
+        word: Word::Task(Task::Session),
     },
     Spelling {
         text: "help",

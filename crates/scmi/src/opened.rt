@@ -1,0 +1,154 @@
+//! The board of a session, from its file.
+
+use scmi_board::{Lines, read_board};
+use scmi_explain::{Expected, Fault, explain};
+use scmi_input::{CountedReader, InputError, read_rest};
+use scmi_modes::RunError;
+use scmi_plan::{Plan, PlanError, RawPlan};
+use std::alloc::Global;
+use std::io::{Eprint, Error, Read};
+
+/// The line of a mode before a board, with which its text is explained as an input of that mode.
+const MODE_LINE: &[u8] = b"steps words\n";
+
+/// A board as its file has it, and its text behind the line of a mode.
+#[derive(Drop)]
+pub struct Opened {
+    board: RawPlan,
+    text: Vec<u8>,
+}
+
+/// Why a file is refused, and its text behind the line of a mode.
+#[derive(Drop)]
+pub struct Refused {
+    why: Why,
+    text: Vec<u8>,
+}
+
+/// Why a file is refused.
+#[derive(Clone, Copy, PartialEq, Eq)]
+enum Why {
+    /// It is refused as an input of a mode would be.
+    Fault(RunError),
+    /// The line of this number stands behind the board.
+    Behind(u32),
+}
+
+impl Opened {
+    ghost use Rattle.std.specs.Prelude.{◌≡◌, IfOk};
+    ghost use Rattle.scmi_plan.specs.RawPlan.{asked_board};
+
+    /// The board of a file.
+    pub fn read<B: Read + Drop>(alloc: Global, file: &mut B) -> Result<Opened, Refused> {
+        let mut text = Vec::new(alloc);
+        match fill(alloc, &mut text, file) {
+            Ok(()) => {}
+            Err(error) => return Err(refused(Why::Fault(RunError::from(error)), text)),
+        }
+        match board_of(alloc, &text) {
+            Ok(board) => Ok(Opened { board, text }),
+            Err(why) => Err(refused(why, text)),
+        }
+    }
+
+    /// The board.
+    pub fn board(&self) -> &RawPlan
+        ensures { result.now ≡ self.now.board }
+    {
+        &self.board
+    }
+
+    /// The text of the board behind the line of a mode; it ends with a line feed.
+    pub fn text(&self) -> &[u8] {
+        &self.text
+    }
+
+    /// Two plans of the board.
+    pub fn plans(&self, alloc: Global) -> Result<(Plan, Plan), PlanError>
+        ensures { IfOk result (λ plans. plans.0 ≡ asked_board self.now.board) }
+    {
+        Ok((
+            Plan::check(alloc, &self.board)?,
+            Plan::check(alloc, &self.board)?,
+        ))
+    }
+}
+
+impl Refused {
+    /// The fault, whose line is one of the file.
+    pub fn fault(&self) -> RunError {
+        match self.why {
+            Why::Fault(RunError::Board(line)) | Why::Behind(line) => {
+                RunError::Board(line.saturating_sub(1).max(1))
+            }
+            Why::Fault(fault) => fault,
+        }
+    }
+
+    /// Says on standard error what is wrong with the file of this name; the error is that of its reads.
+    pub fn report(&self, rt: &impl Eprint, alloc: Global, name: &str, error: Option<Error>) {
+        let fault = match self.why {
+            Why::Behind(line) => {
+                let line = line.saturating_sub(1);
+                let _ = eprintln!(rt;
+                    "{name}:{line}: a session's file has a board and nothing behind its line end; \
+                    the steps are read from standard input"
+                );
+                return;
+            }
+            Why::Fault(RunError::Board(0 | 1)) => {
+                let _ = eprintln!(rt;
+                    "{name}: the file has no board; its first line is board VENDOR SUBVENDOR VERSION TRUSTED"
+                );
+                return;
+            }
+            Why::Fault(RunError::Board(line)) => Fault::Board(line),
+            Why::Fault(RunError::Plan(rule)) => Fault::Plan(rule),
+            Why::Fault(RunError::Size) => Fault::Size,
+            Why::Fault(RunError::Read) => Fault::Read,
+            Why::Fault(_) => Fault::Memory,
+        };
+        let mut found = explain(alloc, Expected::Session, &self.text, fault);
+        found.line = match found.line {
+            Some(line) => Some(line.saturating_sub(1).max(1)),
+            None => None,
+        };
+        let _ = match error {
+            Some(error) if fault == Fault::Read => eprintln!(rt; "{name}{found}: {error}"),
+            _ => eprintln!(rt; "{name}{found}"),
+        };
+    }
+}
+
+fn refused(why: Why, text: Vec<u8>) -> Refused {
+    Refused { why, text }
+}
+
+/// Reads a file behind the line of a mode; the last line gets the line feed that it may lack.
+fn fill<B: Read>(alloc: Global, text: &mut Vec<u8>, file: &mut B) -> Result<(), InputError> {
+    let file = read_rest(alloc, &mut CountedReader::new(file))?;
+    let is_kept = text.extend_from_slice(MODE_LINE).is_ok()
+        && text.extend_from_slice(&file).is_ok()
+        && (file.is_empty() || file.last() == Some(&b'\n') || text.push(b'\n').is_ok());
+    if is_kept {
+        Ok(())
+    } else {
+        Err(InputError::Memory)
+    }
+}
+
+/// The board of a text, which keeps every rule, and behind which nothing stands.
+fn board_of(alloc: Global, text: &[u8]) -> Result<RawPlan, Why> {
+    let mut lines = Lines::new(&text[MODE_LINE.len().min(text.len())..]);
+    let board = match read_board(alloc, &mut lines) {
+        Ok(board) => board,
+        Err(error) => return Err(Why::Fault(RunError::from(error))),
+    };
+    if let Some(line) = lines.next_line() {
+        return Err(Why::Behind(line.number));
+    }
+    match Plan::check(alloc, &board) {
+        Ok(_) => Ok(board),
+        Err(error) => Err(Why::Fault(RunError::from(error))),
+    }
+}

@@ -1,0 +1,6 @@
+mod FewItems
+mod ItemLists
+mod Marked
+mod MeantExamples
+mod NameLists
+mod UnderWay

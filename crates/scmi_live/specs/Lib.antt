@@ -1,0 +1,9 @@
+pub mod Names
+pub mod Messages
+pub mod Payload
+pub mod Forms
+pub mod NamedStep
+pub mod Meant
+pub mod Remark
+pub mod LiveError
+pub mod Live

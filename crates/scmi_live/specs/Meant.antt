@@ -1,0 +1,65 @@
+-- What a line of a session means.
+use Rattle.std.specs.Prelude.{ℕ, not, Bool, true, false, if◌then◌else◌, List, [], ◌∷◌, Option, Some, None, Result, Ok, Err}
+use Rattle.std.specs.Str.{bytes_eq}
+use Rattle.scmi_board.specs.Items.{◌>>=◌, items_of}
+use Rattle.scmi_board.specs.Lines.{is_significant, lines_left}
+use Rattle.scmi_plan.specs.Board.{Board}
+use Rattle.scmi_text.specs.Step.{IsStepOf}
+use Rattle.scmi_text.specs.StepText.{steps_of_lines}
+use Rattle.scmi_text.specs.declared.step.Step.{Step}
+use Rattle.scmi_live.specs.NamedStep.{named_step}
+use Rattle.scmi_live.specs.declared.meant.Meant.{Meant}
+use Rattle.scmi_live.specs.declared.meant.Meant.TheVariants.{Nothing, Describe, Does, Unknown}
+use Rattle.scmi_live.specs.declared.meant.TheConstants.{WORDS_ON, WORDS_OFF}
+
+-- the one step of a list that has one
+abbrev pub only_step : List Step → Option Step
+only_step [] = None
+only_step (step ∷ []) = Some step
+only_step (step ∷ next ∷ more) = None
+
+-- the one step of a text that stands for one
+abbrev pub one_step : Result (List Step) ℕ → Option Step
+one_step (Ok steps) = only_step steps
+one_step (Err line) = None
+
+-- the step of a line as a script has it
+abbrev pub step_by_numbers : ℕ → List ℕ → Option Step
+step_by_numbers agents text = one_step (steps_of_lines agents (lines_left (record { rest = text; number = 1 })))
+
+-- the step of a line whose items may be names
+abbrev pub step_by_names : Board → ℕ → List ℕ → Option Step
+step_by_names board agents text = items_of text >>= named_step board agents
+
+-- a line of numbers is the step that a script has in it, whatever names the board has
+abbrev pub or_step : Option Step → Option Step → Option Step
+or_step (Some step) named = Some step
+or_step None named = named
+
+-- the step that a line stands for, on a board with this number of agents
+abbrev pub step_meant : Board → ℕ → List ℕ → Option Step
+step_meant board agents text = or_step (step_by_numbers agents text) (step_by_names board agents text)
+
+-- whether replies are described behind a line that says so
+abbrev pub described_by : List ℕ → Option Bool
+described_by text = if bytes_eq text WORDS_ON.now then Some true else if bytes_eq text WORDS_OFF.now then Some false else None
+
+-- a line that is a step, or none
+abbrev pub step_or_unknown : Option Step → Meant
+step_or_unknown (Some step) = Does step
+step_or_unknown None = Unknown
+
+-- a line that says whether replies are described, or another
+abbrev pub describe_or : Option Bool → Meant → Meant
+describe_or (Some on) other = Describe on
+describe_or None other = other
+
+-- the agent that a line names is one of the board's
+abbrev pub IsMeantOf : ℕ → Meant → Type 0
+IsMeantOf agents (Does step) = IsStepOf agents step
+IsMeantOf agents other = Unit {0}
+
+-- what a line means, on a board with this number of agents
+abbrev pub line_meant : Board → ℕ → List ℕ → Meant
+line_meant board agents text =
+    if not (is_significant text) then Nothing else describe_or (described_by text) (step_or_unknown (step_meant board agents text))

@@ -1,0 +1,87 @@
+-- The payload words that the items of a line stand for.
+use Rattle.std.specs.Prelude.{ℕ, ◌+◌, ◌==◌, ◌&&◌, nat_le, Bool, true, false, if◌then◌else◌, List, [], ◌∷◌, ◌++◌, length, map, Option, Some, None}
+use Rattle.std.specs.Option.{option_map}
+use Rattle.std.specs.Str.{bytes_eq}
+use Rattle.scmi_board.specs.Items.{◌>>=◌}
+use Rattle.scmi_board.specs.Number.{number_of}
+use Rattle.scmi_board.specs.Rows.{after_each}
+use Rattle.scmi_codec.specs.Listing.{Said, listed_row, rows_of}
+use Rattle.scmi_codec.specs.Rate.{rate_words}
+use Rattle.scmi_codec.specs.declared.messages.Part.{Part}
+use Rattle.scmi_codec.specs.declared.messages.Part.TheVariants as part
+use Rattle.scmi_codec.specs.declared.payload.TheConstants.{PAYLOAD_WORDS}
+use Rattle.scmi_plan.specs.Board.{Board}
+use Rattle.scmi_live.specs.Names.{number_from, or_named}
+use Rattle.scmi_live.specs.Messages.{id_in, protocol_named}
+use Rattle.scmi_live.specs.declared.word.TheConstants.{ON, OFF, OFF_STATE}
+
+-- `on` or `off`, by the words that they stand for
+abbrev pub switched : ℕ → ℕ → List ℕ → Option ℕ
+switched on off item = if bytes_eq item ON.now then Some on else if bytes_eq item OFF.now then Some off else None
+
+-- the word that a name stands for where a message of a protocol has this part
+abbrev pub word_named : Board → ℕ → Part → List ℕ → Option ℕ
+word_named board protocol part.Agent item = number_from 1 item board.agents
+word_named board protocol part.Domain item = number_from 0 item (map (λ domain. domain.name) board.domains)
+word_named board protocol part.Clock item = number_from 0 item (map (λ clock. clock.name) board.clocks)
+word_named board protocol part.Protocol item = protocol_named item
+word_named board protocol part.Message item = id_in item (rows_of protocol)
+word_named board protocol part.State item = switched 0 OFF_STATE item
+word_named board protocol part.Enable item = switched 1 0 item
+word_named board protocol part.ClockAttributes item = switched 1 0 item
+word_named board protocol part item = None
+
+-- the word that an item stands for
+abbrev pub word_meant : Board → ℕ → Part → List ℕ → Option ℕ
+word_meant board protocol part item = or_named (number_of 32 item) (word_named board protocol part item)
+
+-- the words that an item stands for: two of a rate, the lower one first, and one of all else
+abbrev pub words_of_item : Board → ℕ → Part → List ℕ → Option (List ℕ)
+words_of_item board protocol part.Rate item = option_map rate_words (number_of 64 item)
+words_of_item board protocol part item = option_map (λ word. word ∷ []) (word_meant board protocol part item)
+
+-- whether a part is flags
+abbrev pub is_flags : Part → Bool
+is_flags part.PermitFlags = true
+is_flags part.ResetFlags = true
+is_flags part.PowerFlags = true
+is_flags part.RateFlags = true
+is_flags part = false
+
+-- the first of the items that are left, and the others
+abbrev pub first_left : List (List ℕ) → Option (List ℕ × List (List ℕ))
+first_left [] = None
+first_left (item ∷ items) = Some (item, items)
+
+-- the words of a part behind which this number of parts stand, and the items that are left: flags that have no item are 0
+abbrev pub first_words : Board → ℕ → Part → ℕ → List (List ℕ) → Option (List ℕ × List (List ℕ))
+first_words board protocol part behind items =
+    if is_flags part && (length items == behind) then Some (0 ∷ [], items)
+    else first_left items >>= λ found. option_map (λ words. (words, found.1)) (words_of_item board protocol part found.0)
+
+-- words behind others, where a payload has room for them
+abbrev pub joined : List ℕ → List ℕ → Option (List ℕ)
+joined words more = if nat_le (length words + length more) PAYLOAD_WORDS then Some (words ++ more) else None
+
+-- the words that items stand for, part by part, behind others
+abbrev pub words_behind : Board → ℕ → List ℕ → List Part → List (List ℕ) → Option (List ℕ)
+words_behind board protocol words [] [] = Some words
+words_behind board protocol words [] (item ∷ items) = None
+words_behind board protocol words (part ∷ parts) items =
+    first_words board protocol part (length parts) items >>= λ found. joined words found.0 >>= λ more. words_behind board protocol more parts found.1
+
+-- a number behind others, where a payload has room for it
+abbrev pub with_number : List ℕ → List ℕ → Option (List ℕ)
+with_number words item = number_of 32 item >>= λ word. joined words (word ∷ [])
+
+-- items that are numbers
+abbrev pub numbers : List (List ℕ) → Option (List ℕ)
+numbers items = after_each with_number [] items
+
+-- the payload that items stand for: part by part where the message is known, else numbers
+abbrev pub payload_by : Board → ℕ → Option Said → List (List ℕ) → Option (List ℕ)
+payload_by board protocol None items = numbers items
+payload_by board protocol (Some row) items = words_behind board protocol [] row.asks items
+
+abbrev pub payload_meant : Board → ℕ → ℕ → List (List ℕ) → Option (List ℕ)
+payload_meant board protocol id items = payload_by board protocol (listed_row protocol id) items

@@ -1,0 +1,31 @@
+//! Sessions whose lines are answered one by one, and in which names may stand for numbers.
+//!
+//! The main theorems are the contract of `step_meant`, the step that a line stands for: that of its
+//! numbers, as a script has it, or else that of its names; and that of `run_live`: what is written is the
+//! lines that these steps give, one after the other, and in the end the length of the history.
+#![tactic(auto)]
+
+mod drops;
+mod form;
+mod items;
+mod left_items;
+mod listener;
+mod live;
+mod live_error;
+mod meant;
+mod messages;
+mod named;
+mod named_call;
+mod named_step;
+mod payload;
+mod remark;
+mod run;
+mod standing;
+mod unknown;
+mod word;
+
+pub use listener::Listener;
+pub use live_error::LiveError;
+pub use meant::step_meant;
+pub use run::run_live;
+pub use unknown::{Unknown, unknown_in};

@@ -1,0 +1,126 @@
+//! What a line of a session means.
+ghost use Rattle.std.specs.Prelude.{◌≡◌, IfOk, IfSome};
+ghost use Rattle.scmi_plan.specs.RawPlan.{asked_board};
+ghost use Rattle.scmi_text.specs.Step.{IsStepOf};
+ghost use Rattle.scmi_live.specs.Meant.{IsMeantOf, described_by, line_meant, only_step, step_by_names, step_by_numbers, step_meant};
+
+use crate::items::items_of;
+use crate::named_step::named_step;
+use scmi_board::{LineError, Lines, TextError, is_significant};
+use scmi_plan::RawPlan;
+use scmi_text::{Step, StepList, read_steps};
+use std::alloc::{AllocError, Global};
+
+/// From here on replies are described, or are not.
+pub(crate) const WORDS_ON: &[u8] = b"words on";
+
+pub(crate) const WORDS_OFF: &[u8] = b"words off";
+
+/// What a line means.
+#[derive(Drop)]
+pub(crate) enum Meant {
+    /// Nothing: it is empty or a remark.
+    Nothing,
+    /// From here on replies are described in words, or are not.
+    Describe(bool),
+    /// This step.
+    Does(Step),
+    /// It stands for nothing.
+    Unknown,
+}
+
+/// What a line means on a board with this number of agents. The only error is out of memory.
+pub(crate) fn line_meant(
+    alloc: Global,
+    board: &RawPlan,
+    agents: u32,
+    text: &[u8],
+) -> Result<Meant, AllocError>
+    ensures agent { IfOk result (IsMeantOf agents) }
+    ensures meant { IfOk result (λ meant. meant ≡
+        line_meant (asked_board board.now) agents text.now) }
+{
+    if !is_significant(text) {
+        return Ok(Meant::Nothing);
+    }
+    if let Some(on) = described_by(text) {
+        return Ok(Meant::Describe(on));
+    }
+    match step_meant(alloc, board, agents, text)? {
+        Some(step) => Ok(Meant::Does(step)),
+        None => Ok(Meant::Unknown),
+    }
+}
+
+/// Whether replies are described behind a line that says so.
+fn described_by(text: &[u8]) -> Option<bool>
+    ensures { result ≡ described_by text.now }
+{
+    if text == WORDS_ON {
+        return Some(true);
+    }
+    if text == WORDS_OFF {
+        return Some(false);
+    }
+    None
+}
+
+/// The step that a line stands for: the one of its numbers, as a script has it, or else that of its
+/// names.
+pub fn step_meant(
+    alloc: Global,
+    board: &RawPlan,
+    agents: u32,
+    text: &[u8],
+) -> Result<Option<Step>, AllocError>
+    ensures agent { IfOk result (λ step. IfSome step (IsStepOf agents)) }
+    ensures step { IfOk result (λ step. step ≡ step_meant (asked_board board.now) agents text.now) }
+{
+    match step_by_numbers(alloc, agents, text)? {
+        Some(step) => Ok(Some(step)),
+        None => step_by_names(alloc, board, agents, text),
+    }
+}
+
+/// The step of a line as a script has it.
+fn step_by_numbers(alloc: Global, agents: u32, text: &[u8]) -> Result<Option<Step>, AllocError>
+    ensures agent { IfOk result (λ step. IfSome step (IsStepOf agents)) }
+    ensures step { IfOk result (λ step. step ≡ step_by_numbers agents text.now) }
+{
+    let mut lines = Lines::new(text);
+    match read_steps(alloc, &mut lines, agents) {
+        Ok(steps) => Ok(only_step(&steps)),
+        Err(TextError::Memory) => Err(AllocError),
+        Err(_) => Ok(None),
+    }
+}
+
+/// The one step of a list that has one.
+fn only_step(steps: &StepList) -> Option<Step>
+    ensures { result ≡ only_step steps.now }
+{
+    if steps.len() != 1 {
+        return None;
+    }
+    let mut step = Step::Advance;
+    steps.read_into(0, &mut step);
+    Some(step)
+}
+
+/// The step of a line whose items may be names.
+fn step_by_names(
+    alloc: Global,
+    board: &RawPlan,
+    agents: u32,
+    text: &[u8],
+) -> Result<Option<Step>, AllocError>
+    ensures agent { IfOk result (λ step. IfSome step (IsStepOf agents)) }
+    ensures step { IfOk result (λ step.
+        step ≡ step_by_names (asked_board board.now) agents text.now) }
+{
+    match items_of(alloc, text) {
+        Ok(items) => Ok(named_step(board, agents, items.as_slice())),
+        Err(LineError::Memory) => Err(AllocError),
+        Err(LineError::Form) => Ok(None),
+    }
+}

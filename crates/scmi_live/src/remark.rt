@@ -1,0 +1,115 @@
+//! Replies in words, as remarks behind their lines.
+ghost use Rattle.std.specs.Prelude.{◌≡◌, OnOk, true};
+ghost use Rattle.std.specs.Option.{option_map_or};
+ghost use Rattle.std.specs.Io.KnownBytes.{Appends};
+ghost use Rattle.scmi_describe.specs.Description.{described_free, described_p2a, described_response};
+ghost use Rattle.scmi_describe.specs.Text.{description_text};
+ghost use Rattle.scmi_live.specs.Remark.{described_line, marked, marked_byte, remark_text};
+
+use crate::live_error::LiveError;
+use scmi_codec::{Answer, Command, Frame, Message, Status};
+use scmi_describe::{Description, response_status, write_description};
+use scmi_link::Collected;
+use scmi_text::StepLine;
+use std::alloc::Global;
+use std::io;
+use std::io::Write;
+
+/// Writes what a line gives in words, each line of it behind a mark that makes it a remark; nothing of a
+/// line that gives no message.
+pub(crate) fn write_remark<W: Write>(
+    alloc: Global,
+    writer: &mut W,
+    line: &StepLine,
+) -> Result<(), LiveError>
+    ensures { OnOk result (Appends (W.contents writer.old) (W.contents writer.new)
+        (remark_text line.now)) }
+{
+    let Some(description) = described_line(line) else {
+        return Ok(());
+    };
+    let mut text = Vec::new(alloc);
+    let Ok(()) = write_description(&mut text, &description) else {
+        return Err(LiveError::Memory);
+    };
+    match write_marked(writer, &text) {
+        Ok(()) => Ok(()),
+        Err(_) => Err(LiveError::Write),
+    }
+}
+
+/// What the message of a line is: a reply that was collected, or what an agent took from P2A.
+fn described_line(line: &StepLine) -> Option<Description>
+    ensures { result ≡ described_line line.now }
+{
+    match line {
+        StepLine::Collected { collected, .. } => match collected {
+            Collected::Got(Answer::Reply(message)) => Some(described_message(message.copy())),
+            _ => None,
+        },
+        StepLine::P2a { frame, .. } => match frame {
+            Some(Frame::Good(message)) => Some(described_message(message.copy())),
+            _ => None,
+        },
+        _ => None,
+    }
+}
+
+/// What a message is in a free channel.
+fn described_message(message: Message) -> Description
+    ensures { result ≡ described_free (Frame.Good message) }
+{
+    match message.header.kind {
+        0 => described_response(message),
+        2 => Description::Delayed {
+            is_free: true,
+            message,
+        },
+        3 => Description::Notification {
+            is_free: true,
+            message,
+        },
+        _ => Description::Foreign {
+            is_free: true,
+            message,
+        },
+    }
+}
+
+/// What a message of type 0 is in a free channel.
+fn described_response(message: Message) -> Description
+    ensures { result ≡ described_response message }
+{
+    match response_status(&message) {
+        None => {
+            let request = Command::read(&message);
+            Description::Withdrawn { message, request }
+        }
+        Some(Status::Success) => Description::Reply { message },
+        Some(status) => Description::Refusal { message, status },
+    }
+}
+
+/// Writes lines, each behind a mark.
+fn write_marked<W: Write>(writer: &mut W, text: &[u8]) -> io::Result<()>
+    ensures { OnOk result (Appends (W.contents writer.old) (W.contents writer.new)
+        (marked true text.now)) }
+{
+    let mut begins = true;
+    'bytes: for byte in text {
+        write_byte(writer, begins, *byte)?;
+        begins = *byte == b'\n';
+    }
+    Ok(())
+}
+
+/// Writes a byte, behind a mark where a line begins with it.
+fn write_byte<W: Write>(writer: &mut W, begins: bool, byte: u8) -> io::Result<()>
+    ensures { OnOk result (Appends (W.contents writer.old) (W.contents writer.new)
+        (marked_byte begins byte)) }
+{
+    if begins {
+        return writer.write_all(&[b'#', b' ', byte]);
+    }
+    writer.write_all(&[byte])
+}

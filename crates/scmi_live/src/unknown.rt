@@ -1,0 +1,120 @@
+//! Why a line with names stands for no step.
+
+use crate::form::{FORMS, Form, form_in};
+use crate::items::items_of;
+use crate::messages::{id_in, id_of, listed_row, message_named, protocol_of};
+use crate::named_step::agent_of;
+use crate::word::{is_flags, words_of_item};
+use scmi_board::word;
+use scmi_codec::{BASE_MESSAGES, CLOCK_MESSAGES, HeldRow, POWER_MESSAGES, Part};
+use scmi_plan::RawPlan;
+use std::alloc::Global;
+
+/// Why a line stands for no step, where its names are looked up.
+#[derive(Clone, Copy)]
+pub enum Unknown<'a> {
+    /// This item is no agent of the board.
+    Agent(&'a [u8]),
+    /// This item is no message, no protocol and no number.
+    Message(&'a [u8]),
+    /// More protocols than one have this message.
+    Shared(&'a [u8]),
+    /// This item, of this number in the line, does not stand for this part of the message.
+    Part(usize, &'a [u8], Part),
+    /// The message, of this name, has these parts, and there are more or fewer items.
+    Count(&'static str, &'static [Part]),
+}
+
+/// Why a line stands for no step, where it has names: `None` where its form is not known, all its items
+/// are numbers, or a byte of it is no printable character, as a carriage return at its end is none.
+pub fn unknown_in<'a>(
+    alloc: Global,
+    board: &RawPlan,
+    agents: u32,
+    text: &'a [u8],
+) -> Option<Unknown<'a>> {
+    if !text
+        .iter()
+        .all(|byte| byte.is_ascii_graphic() || *byte == b' ')
+    {
+        return None;
+    }
+    let items = items_of(alloc, text).ok()?;
+    match items.as_slice() {
+        [first, who, rest @ ..] => {
+            let form = form_in(&FORMS, *first)?;
+            if word(*who).is_some() && rest.iter().all(|item| word(*item).is_some()) {
+                return None;
+            }
+            if agent_of(board, agents, *who).is_none() {
+                return Some(Unknown::Agent(*who));
+            }
+            match form {
+                Form::Do | Form::Call => unknown_command(board, rest),
+                _ => None,
+            }
+        }
+        _ => None,
+    }
+}
+
+/// Why items stand for no command.
+fn unknown_command<'a>(board: &RawPlan, items: &[&'a [u8]]) -> Option<Unknown<'a>> {
+    match items {
+        [first, rest @ ..] => match (protocol_of(*first), rest) {
+            (Some(protocol), [message, behind @ ..]) => match id_of(protocol, *message) {
+                Some(id) => unknown_payload(board, protocol, id, 5, behind),
+                None => Some(Unknown::Message(*message)),
+            },
+            (Some(_), []) => None,
+            (None, _) => unknown_name(board, *first, rest),
+        },
+        [] => None,
+    }
+}
+
+/// The same where the first item is to be the name of a message.
+fn unknown_name<'a>(board: &RawPlan, name: &'a [u8], items: &[&'a [u8]]) -> Option<Unknown<'a>> {
+    if let Some((protocol, id)) = message_named(name) {
+        return unknown_payload(board, protocol, id, 4, items);
+    }
+    if is_in(&BASE_MESSAGES, name) || is_in(&POWER_MESSAGES, name) || is_in(&CLOCK_MESSAGES, name) {
+        return Some(Unknown::Shared(name));
+    }
+    Some(Unknown::Message(name))
+}
+
+fn is_in(rows: &[HeldRow], name: &[u8]) -> bool {
+    id_in(rows, name).is_some()
+}
+
+/// Why items, of which the first has this number in the line, are not the payload of a message.
+fn unknown_payload<'a>(
+    board: &RawPlan,
+    protocol: u8,
+    id: u8,
+    mut number: usize,
+    mut items: &[&'a [u8]],
+) -> Option<Unknown<'a>> {
+    let row = listed_row(protocol, id)?;
+    let mut parts = row.asks;
+    let flags = parts.iter().filter(|part| is_flags(**part)).count();
+    if items.len() > parts.len() || items.len() + flags < parts.len() {
+        return Some(Unknown::Count(row.name, row.asks));
+    }
+    while let [part, behind @ ..] = parts {
+        parts = behind;
+        if is_flags(*part) && items.len() == behind.len() {
+            continue;
+        }
+        let [item, left @ ..] = items else {
+            return Some(Unknown::Count(row.name, row.asks));
+        };
+        if words_of_item(board, protocol, *part, *item).is_none() {
+            return Some(Unknown::Part(number, *item, *part));
+        }
+        number = number.saturating_add(1);
+        items = left;
+    }
+    Some(Unknown::Count(row.name, row.asks))
+}

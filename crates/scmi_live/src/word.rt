@@ -1,0 +1,98 @@
+//! The words that an item stands for, by the part of a message that it is.
+ghost use Rattle.std.specs.Prelude.{◌≡◌, ◌∷◌, []};
+ghost use Rattle.std.specs.Option.{option_map};
+ghost use Rattle.scmi_plan.specs.RawPlan.{asked_board};
+ghost use Rattle.scmi_live.specs.Payload.{is_flags, switched, word_meant, word_named, words_of_item};
+
+use crate::messages::{id_in, protocol_named, rows_of};
+use crate::named::number_from;
+use arrayvec::ArrayVec;
+use scmi_board::{number, word};
+use scmi_codec::{Part, rate_words};
+use scmi_plan::RawPlan;
+
+/// The words of a state.
+pub(crate) const ON: &[u8] = b"on";
+
+pub(crate) const OFF: &[u8] = b"off";
+
+/// The state OFF of a power domain, as a word.
+pub(crate) const OFF_STATE: u32 = 0x4000_0000;
+
+/// The words of one part of a payload.
+pub(crate) type PartWords = ArrayVec<u32, 2>;
+
+/// The words that an item stands for where a message of a protocol has this part; `None` where it stands
+/// for none.
+pub(crate) fn words_of_item(
+    board: &RawPlan,
+    protocol: u8,
+    part: Part,
+    item: &[u8],
+) -> Option<PartWords>
+    ensures { option_map (λ words. words.items) result ≡
+        words_of_item (asked_board board.now) protocol part item.now }
+{
+    match part {
+        Part::Rate => Some(PartWords::from(rate_words(number(item)?))),
+        _ => Some(one_word(word_meant(board, protocol, part, item)?)),
+    }
+}
+
+/// One word.
+pub(crate) fn one_word(word: u32) -> PartWords
+    ensures { result.items ≡ word ∷ [] }
+{
+    let mut words = PartWords::new();
+    words.push(word);
+    words
+}
+
+/// The word that an item stands for: its number, or what its name stands for.
+pub(crate) fn word_meant(board: &RawPlan, protocol: u8, part: Part, item: &[u8]) -> Option<u32>
+    ensures { result ≡ word_meant (asked_board board.now) protocol part item.now }
+{
+    match word(item) {
+        Some(word) => Some(word),
+        None => word_named(board, protocol, part, item),
+    }
+}
+
+/// The word that a name stands for.
+fn word_named(board: &RawPlan, protocol: u8, part: Part, item: &[u8]) -> Option<u32>
+    ensures { result ≡ word_named (asked_board board.now) protocol part item.now }
+{
+    match part {
+        Part::Agent => number_from(1, &board.agents, item),
+        Part::Domain => number_from(0, &board.domains, item),
+        Part::Clock => number_from(0, &board.clocks, item),
+        Part::Protocol => Some(u32::from(protocol_named(item)?)),
+        Part::Message => Some(u32::from(id_in(rows_of(protocol), item)?)),
+        Part::State => switched(0, OFF_STATE, item),
+        Part::Enable | Part::ClockAttributes => switched(1, 0, item),
+        _ => None,
+    }
+}
+
+/// `on` or `off`, by the words that they stand for.
+fn switched(on: u32, off: u32, item: &[u8]) -> Option<u32>
+    ensures { result ≡ switched on off item.now }
+{
+    if item == ON {
+        return Some(on);
+    }
+    if item == OFF {
+        return Some(off);
+    }
+    None
+}
+
+/// Whether a part is flags.
+pub(crate) fn is_flags(part: Part) -> bool
+    ensures { result ≡ is_flags part }
+{
+    matches!(
+        part,
+        Part::PermitFlags | Part::ResetFlags | Part::PowerFlags | Part::RateFlags
+    )
+}
