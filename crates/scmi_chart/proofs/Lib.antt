@@ -1,1 +1,6 @@
-pub mod Same
+mod Heads
+mod LabelExamples
+mod Named
+mod Numbers
+mod Turned
+mod WithFields

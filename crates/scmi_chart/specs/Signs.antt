@@ -8,6 +8,7 @@ use Rattle.scmi_codec.specs.declared.frame.Answer.{Answer}
 use Rattle.scmi_codec.specs.declared.frame.Answer.TheVariants.{Reply}
 use Rattle.scmi_codec.specs.declared.frame.Frame.{Frame}
 use Rattle.scmi_codec.specs.declared.frame.Frame.TheVariants.{Good}
+use Rattle.scmi_plan.specs.Board.{Board}
 use Rattle.scmi_link.specs.declared.collected.Collected.{Collected}
 use Rattle.scmi_link.specs.declared.collected.Collected.TheVariants as collected
 use Rattle.scmi_link.specs.declared.closing.Closing.{Closing}
@@ -28,15 +29,16 @@ use Rattle.scmi_svg.specs.declared.mark.Outcome.{Outcome}
 use Rattle.scmi_svg.specs.declared.mark.Outcome.TheVariants as outcome
 use Rattle.scmi_svg.specs.declared.mark.Side.{Side}
 use Rattle.scmi_svg.specs.declared.mark.Side.TheVariants as side
+use Rattle.scmi_chart.specs.Wording.{Wording, answer_wording, asked_wording, posted_wording, refused_wording, wording_of}
 
--- what a mark says: an agent posted a command, with its token where it has one; a post was refused; the platform executed a command; an agent read the answer to its command, and whether it was a success; an agent took a delayed response or a notification; the platform posted a message; it was to complete a pending set, and whether there was one; it ended one whose change the hardware refused; the hardware refused what an agent's command was to change; channels were closed; or a step of an agent's came to nothing
+-- what a mark says, with the words of its message: whether a command that an agent posted was executed, with its token where it has one; a post was refused; the platform executed a command; how the answer to its command that an agent read turned out; an agent took a delayed response or a notification; the platform posted a message; it was to complete a pending set, and whether there was one; it ended one whose change the hardware refused; the hardware refused what an agent's command was to change; channels were closed; or a step of an agent's came to nothing
 pub data Sign : Type 0 where
-  sent : ℕ → Option ℕ → Sign
-  unsent : ℕ → Sign
+  sent : Bool → ℕ → Option ℕ → Wording → Sign
+  unsent : ℕ → Wording → Sign
   executed : Sign
-  answered : ℕ → Bool → Sign
-  delayed : ℕ → ℕ → Sign
-  notified : ℕ → Sign
+  answered : ℕ → Outcome → Wording → Sign
+  delayed : ℕ → ℕ → Wording → Sign
+  notified : ℕ → Wording → Sign
   posted : Sign
   advanced : Bool → Sign
   failed : Sign
@@ -44,21 +46,15 @@ pub data Sign : Type 0 where
   closed : ℕ → Side → Sign
   remarked : ℕ → Sign
 
--- whether an outcome is a success
-abbrev pub succeeds : Outcome → Bool
-succeeds outcome.Success = true
-succeeds outcome.Pending = true
-succeeds outcome.Refusal = false
-
 -- what a mark says
 abbrev pub sign_of : Mark → Sign
-sign_of (mark.Command m token) = sent m.agent token
-sign_of (mark.Withdrawn m token) = sent m.agent token
-sign_of (mark.Refused m) = unsent m.agent
+sign_of (mark.Command m token) = sent true m.agent token (wording_of m)
+sign_of (mark.Withdrawn m token) = sent false m.agent token (wording_of m)
+sign_of (mark.Refused m) = unsent m.agent (wording_of m)
 sign_of (mark.Execution slot until) = executed
-sign_of (mark.Reply m outcome) = answered m.agent (succeeds outcome)
-sign_of (mark.Delayed m token) = delayed m.agent token
-sign_of (mark.Notification m) = notified m.agent
+sign_of (mark.Reply m outcome) = answered m.agent outcome (wording_of m)
+sign_of (mark.Delayed m token) = delayed m.agent token (wording_of m)
+sign_of (mark.Notification m) = notified m.agent (wording_of m)
 sign_of (mark.Posted slot) = posted
 sign_of (mark.Advance slot effective text) = advanced effective
 sign_of (mark.Closed agent slot by text) = closed agent by
@@ -85,6 +81,10 @@ abbrev pub is_success : Answer → Bool
 is_success (Reply m) = begins_with_success m.payload.items
 is_success _ = false
 
+-- how an answer turned out: a refusal, or a success, of a set that takes effect later or of another command
+abbrev pub outcome_of : Answer → Bool → Outcome
+outcome_of answer later = if is_success answer then (if later then outcome.Pending else outcome.Success) else outcome.Refusal
+
 -- whether words are the payload of a reply with the status HARDWARE_ERROR
 abbrev pub begins_with_hardware_error : List ℕ → Bool
 begins_with_hardware_error [] = false
@@ -95,16 +95,24 @@ abbrev pub is_hardware_error : Collected → Bool
 is_hardware_error (collected.Got (Reply m)) = begins_with_hardware_error m.payload.items
 is_hardware_error _ = false
 
--- what stands of an agent that collected
-abbrev pub collected_signs : ℕ → Collected → List Sign
-collected_signs a collected.Nothing = remarked a ∷ []
-collected_signs a collected.Closed = remarked a ∷ []
-collected_signs a (collected.Got answer) = answered a (is_success answer) ∷ []
+-- what stands of an agent that read an answer, which turned out so
+abbrev pub answered_sign : Board → ℕ → Answer → Outcome → Sign
+answered_sign board a answer outcome = answered a outcome (answer_wording board answer outcome)
 
--- what stands of an agent's command before it is collected in the same step
-abbrev pub exchange_signs : ℕ → Collected → List Sign
-exchange_signs a (collected.Got answer) = sent a (reply_token (collected.Got answer)) ∷ executed ∷ []
-exchange_signs a c = sent a (reply_token c) ∷ []
+-- what stands of a command that a step posted with this token, if it is known
+abbrev pub sent_sign : Board → Bool → Step → ℕ → Option ℕ → Sign
+sent_sign board x s a token = sent x a token (asked_wording board s token)
+
+-- what stands of an agent that collected, whose last command was to take effect later or at once
+abbrev pub collected_signs : Board → ℕ → Bool → Collected → List Sign
+collected_signs board a later collected.Nothing = remarked a ∷ []
+collected_signs board a later collected.Closed = remarked a ∷ []
+collected_signs board a later (collected.Got answer) = answered_sign board a answer (outcome_of answer later) ∷ []
+
+-- what stands of an agent's command before it is collected in the same step: it was executed if it was answered
+abbrev pub exchange_signs : Board → Bool → Step → ℕ → Collected → List Sign
+exchange_signs board x s a (collected.Got answer) = sent_sign board x s a (reply_token (collected.Got answer)) ∷ executed ∷ []
+exchange_signs board x s a c = sent_sign board x s a (reply_token c) ∷ []
 
 -- what stands of hardware that refused, before an agent collected in the same step
 abbrev pub fault_signs : ℕ → Collected → List Sign
@@ -115,14 +123,14 @@ abbrev pub failed_signs : Bool → List Sign
 failed_signs true = failed ∷ []
 failed_signs false = advanced false ∷ []
 
--- what stands of an agent that took a message with this header
-abbrev pub posted_sign : ℕ → HeaderFields → Sign
-posted_sign a h = if h.kind == 3 then notified a else delayed a h.token
+-- what stands of an agent that took a message with this header, which says this
+abbrev pub posted_sign : ℕ → HeaderFields → Wording → Sign
+posted_sign a h says = if h.kind == 3 then notified a says else delayed a h.token says
 
 -- what stands of an agent that was to take a message
-abbrev pub taken_signs : ℕ → Option Frame → List Sign
-taken_signs a (Some (Good m)) = posted_sign a m.header ∷ []
-taken_signs a _ = remarked a ∷ []
+abbrev pub taken_signs : Board → ℕ → Option Frame → List Sign
+taken_signs board a (Some (Good m)) = posted_sign a m.header (posted_wording board m) ∷ []
+taken_signs board a _ = remarked a ∷ []
 
 -- what stands of an agent that was served
 abbrev pub served_signs : ℕ → Served → List Sign
@@ -144,24 +152,21 @@ abbrev pub shut_signs : {T : Type 0} → ℕ → Result T ShutError → List Sig
 shut_signs a (Ok u) = closed a side.Platform ∷ []
 shut_signs a (Err refusal) = remarked a ∷ []
 
--- what stands of a step that came to this line: each command that was posted, each that was refused, each execution, answer and message, each message that was posted, each advance, each refusal of the hardware and each close, by its agent, once; and what came to nothing
-abbrev pub signs_of : Step → StepLine → List Sign
-signs_of s (line.Token a token) = sent (lane a) (Some token) ∷ []
-signs_of s (line.Posted a) = sent (lane a) (raw_token s) ∷ []
-signs_of s (line.NotPosted a refusal) = unsent (lane a) ∷ []
-signs_of s (line.Served a served) = served_signs (lane a) served
-signs_of (step.Do b call) (line.Collected a c) = exchange_signs (lane a) c ++ collected_signs (lane a) c
-signs_of (step.Fail b call) (line.Collected a c) = exchange_signs (lane a) c ++ fault_signs (lane a) c ++ collected_signs (lane a) c
-signs_of s (line.Collected a c) = collected_signs (lane a) c
-signs_of s (line.Advanced more) = advanced more ∷ []
-signs_of s (line.AdvanceFailed more) = failed_signs more
-signs_of s (line.Flushed a flushed) = flushed_signs (lane a) flushed
-signs_of s (line.P2a a frame) = taken_signs (lane a) frame
-signs_of s (line.Closed a closing) = closed_signs (lane a) closing
-signs_of s (line.Shut a closing) = shut_signs (lane a) closing
-signs_of s (line.Trace events) = []
-
--- what stands of a run of these steps, which came to these lines, one for each
-abbrev pub run_signs : List Step → List StepLine → List Sign
-run_signs (s ∷ steps) (l ∷ lines) = signs_of s l ++ run_signs steps lines
-run_signs _ _ = []
+-- what stands of a step that came to this line: each command that was posted, and whether it is executed, in this step or later; each post that was refused, each execution, answer and message, each message that was posted, each advance, each refusal of the hardware and each close, by its agent, once, in the words of its message; and what came to nothing. A set of the agent's last command may be one that takes effect later
+abbrev pub signs_of : Board → Bool → Bool → Step → StepLine → List Sign
+signs_of board x later s (line.Token a token) = sent_sign board x s (lane a) (Some token) ∷ []
+signs_of board x later s (line.Posted a) = sent_sign board x s (lane a) (raw_token s) ∷ []
+signs_of board x later s (line.NotPosted a refusal) = unsent (lane a) (refused_wording board s refusal) ∷ []
+signs_of board x later s (line.Served a served) = served_signs (lane a) served
+signs_of board x later (step.Do b call) (line.Collected a c) =
+    exchange_signs board x (step.Do b call) (lane a) c ++ collected_signs board (lane a) later c
+signs_of board x later (step.Fail b call) (line.Collected a c) =
+    exchange_signs board x (step.Fail b call) (lane a) c ++ fault_signs (lane a) c ++ collected_signs board (lane a) later c
+signs_of board x later s (line.Collected a c) = collected_signs board (lane a) later c
+signs_of board x later s (line.Advanced more) = advanced more ∷ []
+signs_of board x later s (line.AdvanceFailed more) = failed_signs more
+signs_of board x later s (line.Flushed a flushed) = flushed_signs (lane a) flushed
+signs_of board x later s (line.P2a a frame) = taken_signs board (lane a) frame
+signs_of board x later s (line.Closed a closing) = closed_signs (lane a) closing
+signs_of board x later s (line.Shut a closing) = shut_signs (lane a) closing
+signs_of board x later s (line.Trace events) = []

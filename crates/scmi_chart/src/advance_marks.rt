@@ -1,6 +1,7 @@
 //! Pending sets that the platform was to end.
-ghost use Rattle.std.specs.Prelude.{◌≡◌, [], ◌∷◌, ◌++◌, OnOk};
+ghost use Rattle.std.specs.Prelude.{◌≡◌, [], ◌∷◌, OnOk};
 ghost use Rattle.scmi_chart.specs.Signs.{advanced, failed_signs};
+ghost use Rattle.scmi_chart.specs.Shown.{adds};
 
 use crate::recorder::Recorder;
 use scmi_svg::Mark;
@@ -9,7 +10,7 @@ use std::alloc::AllocError;
 impl<'a> Recorder<'a> {
     /// The platform was to complete a pending set.
     pub(crate) fn record_advance(&mut self, slot: u16, more: bool) -> Result<(), AllocError>
-        ensures { OnOk result (self.new ≡ self.old ++ advanced more ∷ []) }
+        ensures { OnOk result (self.new ≡ adds (advanced more ∷ []) self.old) }
     {
         let text = if more {
             self.levels
@@ -26,7 +27,7 @@ impl<'a> Recorder<'a> {
 
     /// The platform was to end a pending set, whose change the hardware refused.
     pub(crate) fn record_failure(&mut self, slot: u16, more: bool) -> Result<(), AllocError>
-        ensures { OnOk result (self.new ≡ self.old ++ failed_signs more) }
+        ensures { OnOk result (self.new ≡ adds (failed_signs more) self.old) }
     {
         if !more {
             return self.record_advance(slot, false);

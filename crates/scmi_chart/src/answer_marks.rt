@@ -1,14 +1,14 @@
 //! Answers that agents read.
-ghost use Rattle.std.specs.Prelude.{◌≡◌, [], ◌∷◌, ◌++◌, OnOk};
-ghost use Rattle.scmi_chart.specs.Signs.{is_success, answered, collected_signs};
+ghost use Rattle.std.specs.Prelude.{◌≡◌, [], ◌∷◌, OnOk, get_or, false};
+ghost use Rattle.scmi_chart.specs.Signs.{answered_sign, collected_signs, outcome_of};
+ghost use Rattle.scmi_chart.specs.Shown.{adds};
 
-use crate::detail::answer_detail;
+use crate::arrows::{Way, answer_arrow};
 use crate::recorder::Recorder;
-use crate::reply_label::answer_label;
-use crate::sign::{answered_slot, outcome_of};
+use crate::sign::outcome_of;
 use scmi_codec::Answer;
 use scmi_link::Collected;
-use scmi_svg::{Mark, Message, Side};
+use scmi_svg::{Mark, Side};
 use std::alloc::AllocError;
 
 impl<'a> Recorder<'a> {
@@ -19,7 +19,8 @@ impl<'a> Recorder<'a> {
         slot: u16,
         collected: &Collected,
     ) -> Result<(), AllocError>
-        ensures { OnOk result (self.new ≡ self.old ++ collected_signs agent collected.now) }
+        ensures { OnOk result (self.new ≡ adds (collected_signs self.old.board agent
+            (get_or self.old.laters agent false) collected.now) self.old) }
     {
         match collected {
             Collected::Nothing => self.remark(agent, slot, Side::Agent, "nothing yet"),
@@ -35,18 +36,16 @@ impl<'a> Recorder<'a> {
         slot: u16,
         answer: &Answer,
     ) -> Result<(), AllocError>
-        ensures { OnOk result (self.new ≡ self.old ++ answered agent (is_success answer.now) ∷ []) }
+        ensures { OnOk result (self.new ≡ adds (answered_sign self.old.board agent answer.now
+            (outcome_of answer.now (get_or self.old.laters agent false)) ∷ []) self.old) }
     {
-        let command = self.parties.settle(agent);
-        let outcome = outcome_of(answer, command);
-        let label = answer_label(self.alloc, self.board, answer, outcome)?;
-        let message = Message {
+        let outcome = outcome_of(answer, self.parties.is_later(agent));
+        let way = Way {
             agent,
-            slot: answered_slot(command, slot),
+            slot: self.parties.settle(agent).unwrap_or(slot),
             taken: slot,
-            label,
-            detail: answer_detail(self.alloc, answer)?,
         };
+        let message = answer_arrow(self.alloc, self.board, way, answer, outcome)?;
         self.marks.add(Mark::Reply { message, outcome })
     }
 }

@@ -1,19 +1,26 @@
 //! What the agents' posts ask for, in words.
-use crate::label::{add_field, name_label, name_of};
+ghost use Rattle.std.specs.Prelude.{◌≡◌, IfOk, OnOk};
+ghost use Rattle.scmi_codec.specs.Command.{command_of};
+ghost use Rattle.scmi_plan.specs.RawPlan.{asked_board};
+ghost use Rattle.scmi_chart.specs.LabelWords.{words_of};
+ghost use Rattle.scmi_chart.specs.Asked.{asked_words, asks_for_itself, command_words, malformed_words, with_command, with_itself, with_kind};
+
+use crate::fields::add_fields;
+use crate::label::{name_label, name_of, plain_label};
+use crate::posts::message_of;
 use crate::words::{numbered_word, payload_words};
-use scmi_codec::{BASE_PROTOCOL, ClockCommand, Command, Header, Message, Payload, PowerCommand};
+use scmi_codec::{BASE_PROTOCOL, Command, Message};
 use scmi_describe::command_fields;
 use scmi_plan::RawPlan;
 use scmi_svg::Label;
-use scmi_text::{AgentStep, Call, Step};
+use scmi_text::{AgentStep, Step};
 use std::alloc::{AllocError, Global};
 
 /// What the command of a step asks for. Nothing of a step that posts none.
-pub(crate) fn asked_label(
-    alloc: Global,
-    board: &RawPlan,
-    step: &Step,
-) -> Result<Label, AllocError> {
+pub(crate) fn asked_label(alloc: Global, board: &RawPlan, step: &Step) -> Result<Label, AllocError>
+    ensures { IfOk result (λ label.
+        words_of label ≡ asked_words (asked_board board.now) step.now) }
+{
     match step {
         Step::Agent {
             step: AgentStep::Malformed { length, .. },
@@ -21,82 +28,85 @@ pub(crate) fn asked_label(
         } => malformed_label(alloc, *length),
         _ => match message_of(step) {
             Some(message) => command_label(alloc, board, &message),
-            None => Ok(name_label(alloc, Vec::new(alloc))),
+            None => plain_label(alloc, ""),
         },
     }
 }
 
-/// Whether a step posts an asynchronous set.
-pub(crate) fn sets_later(step: &Step) -> bool {
-    let Some(message) = message_of(step) else {
-        return false;
-    };
-    match Command::read(&message) {
-        Ok(Command::Power(PowerCommand::Set { flags, .. }))
-        | Ok(Command::Clock(ClockCommand::SetRate { flags, .. })) => flags % 2 == 1,
-        _ => false,
-    }
-}
-
-/// The message that a step posts, its token aside.
-pub(crate) fn message_of(step: &Step) -> Option<Message> {
-    match step {
-        Step::Do { call, .. }
-        | Step::Fail { call, .. }
-        | Step::Agent {
-            step: AgentStep::Call(call),
-            ..
-        } => Some(call_message(call)),
-        Step::Agent {
-            step: AgentStep::Raw(message),
-            ..
-        } => Some(message.copy()),
-        _ => None,
-    }
-}
-
-/// The message of a call, with token 0.
-fn call_message(call: &Call) -> Message {
-    let mut payload = Payload::new();
-    let _ = payload.try_extend_from_slice(call.payload.as_slice());
-    Message {
-        header: Header::unpack(u32::from(call.protocol) << 10 | u32::from(call.message)),
-        payload,
-    }
-}
-
-/// Whether a message is BASE_DISCOVER_AGENT of the number that stands for the caller there.
-fn asks_for_itself(message: &Message) -> bool {
-    let header = message.header;
-    match (header.protocol, header.id, message.payload.as_slice()) {
-        (BASE_PROTOCOL, 0x7, [u32::MAX]) => true,
-        _ => false,
-    }
-}
-
-fn malformed_label(alloc: Global, length: u32) -> Result<Label, AllocError> {
-    let mut label = name_label(alloc, Vec::from_slice(alloc, b"malformed")?);
+fn malformed_label(alloc: Global, length: u32) -> Result<Label, AllocError>
+    ensures { IfOk result (λ label. words_of label ≡ malformed_words length) }
+{
+    let mut label = plain_label(alloc, "malformed")?;
     label.object = numbered_word(alloc, "length", length)?;
     Ok(label)
 }
 
 /// What a message asks for: the fields of the command that it carries, or its words.
-fn command_label(alloc: Global, board: &RawPlan, message: &Message) -> Result<Label, AllocError> {
+#[tactic(auto, unfolding(crate::specs::Asked::command_words))]
+fn command_label(alloc: Global, board: &RawPlan, message: &Message) -> Result<Label, AllocError>
+    ensures { IfOk result (λ label.
+        words_of label ≡ command_words (asked_board board.now) message.now) }
+{
     let header = message.header;
     let mut label = name_label(alloc, name_of(alloc, header.protocol, header.id)?);
+    add_command(alloc, board, &mut label, message)?;
+    add_itself(alloc, &mut label, message)?;
+    add_kind(alloc, &mut label, header.kind)?;
+    Ok(label)
+}
+
+/// Adds the fields of the command that a message carries, or its words.
+fn add_command(
+    alloc: Global,
+    board: &RawPlan,
+    label: &mut Label,
+    message: &Message,
+) -> Result<(), AllocError>
+    ensures { OnOk result (words_of label.new ≡ with_command (asked_board board.now)
+        message.now.payload.items (command_of message.now) (words_of label.old)) }
+{
     match Command::read(message) {
         Ok(command) => {
-            for field in command_fields(&command).as_slice() {
-                add_field(alloc, board, &mut label, field)?;
-            }
+            let fields = command_fields(&command);
+            add_fields(alloc, board, label, fields.as_slice())
         }
-        Err(_) => label.object = payload_words(alloc, message.payload.as_slice())?,
+        Err(_) => {
+            label.object = payload_words(alloc, message.payload.as_slice())?;
+            Ok(())
+        }
     }
+}
+
+/// Adds that an agent asks for itself, where it does.
+fn add_itself(alloc: Global, label: &mut Label, message: &Message) -> Result<(), AllocError>
+    ensures { OnOk result (words_of label.new
+        ≡ with_itself (asks_for_itself message.now) (words_of label.old)) }
+{
     if asks_for_itself(message) {
         label.object = Vec::from_slice(alloc, b"itself")?;
     }
-    if header.kind != 0 {
-        label.tag = numbered_word(alloc, "type", u32::from(header.kind))?;
+    Ok(())
+}
+
+/// Whether a message is BASE_DISCOVER_AGENT of the number that stands for the caller there.
+fn asks_for_itself(message: &Message) -> bool
+    ensures { result ≡ asks_for_itself message.now }
+{
+    if message.header.protocol != BASE_PROTOCOL || message.header.id != 0x7 {
+        return false;
     }
-    Ok(label)
+    match message.payload.as_slice() {
+        [agent] => *agent == u32::MAX,
+        _ => false,
+    }
+}
+
+/// Adds the type of a message that is no command.
+fn add_kind(alloc: Global, label: &mut Label, kind: u8) -> Result<(), AllocError>
+    ensures { OnOk result (words_of label.new ≡ with_kind kind (words_of label.old)) }
+{
+    if kind != 0 {
+        label.tag = numbered_word(alloc, "type", u32::from(kind))?;
+    }
+    Ok(())
 }

@@ -1,6 +1,7 @@
 //! Closes of channels, from either side.
-ghost use Rattle.std.specs.Prelude.{◌≡◌, ◌++◌, OnOk};
+ghost use Rattle.std.specs.Prelude.{◌≡◌, OnOk};
 ghost use Rattle.scmi_chart.specs.Signs.{closed_signs, shut_signs};
+ghost use Rattle.scmi_chart.specs.Shown.{adds};
 
 use crate::board_names::agent_name;
 use crate::recorder::Recorder;
@@ -17,7 +18,7 @@ impl<'a> Recorder<'a> {
         slot: u16,
         closing: &Result<Closing, CloseError>,
     ) -> Result<(), AllocError>
-        ensures { OnOk result (self.new ≡ self.old ++ closed_signs agent closing.now) }
+        ensures { OnOk result (self.new ≡ adds (closed_signs agent closing.now) self.old) }
     {
         let text = match closing {
             Err(CloseError::InService) => {
@@ -45,7 +46,7 @@ impl<'a> Recorder<'a> {
         slot: u16,
         closing: &Result<(), ShutError>,
     ) -> Result<(), AllocError>
-        ensures { OnOk result (self.new ≡ self.old ++ shut_signs agent closing.now) }
+        ensures { OnOk result (self.new ≡ adds (shut_signs agent closing.now) self.old) }
     {
         match closing {
             Err(_) => self.remark(agent, slot, Side::Platform, "close refused"),

@@ -1,44 +1,40 @@
 //! Commands that agents posted, and those that were not posted.
-ghost use Rattle.std.specs.Prelude.{◌≡◌, [], ◌∷◌, ◌++◌, OnOk};
-ghost use Rattle.scmi_chart.specs.Signs.{sent, unsent};
+ghost use Rattle.std.specs.Prelude.{◌≡◌, [], ◌∷◌, OnOk};
+ghost use Rattle.scmi_chart.specs.Signs.{sent_sign, unsent};
+ghost use Rattle.scmi_chart.specs.Service.{sets_later};
+ghost use Rattle.scmi_chart.specs.Shown.{adds, with_later};
+ghost use Rattle.scmi_chart.specs.Wording.{refused_wording};
 
-use crate::asked::{asked_label, sets_later};
-use crate::detail::step_detail;
-use crate::parties::Outstanding;
+use crate::arrows::{Way, asked_arrow, refused_arrow};
+use crate::posts::sets_later;
 use crate::recorder::Recorder;
-use crate::sign::refusal_words;
+use crate::sign::command_mark;
 use scmi_link::PostError;
-use scmi_svg::{Mark, Message};
+use scmi_svg::Mark;
 use scmi_text::Step;
 use std::alloc::AllocError;
 
 impl<'a> Recorder<'a> {
-    /// A command was posted.
+    /// A command was posted, which is executed in this step or is not yet.
     pub(crate) fn record_post(
         &mut self,
         agent: u8,
         slot: u16,
         step: &Step,
         token: Option<u16>,
+        is_executed: bool,
     ) -> Result<(), AllocError>
-        ensures { OnOk result (self.new ≡ self.old ++ sent agent token ∷ []) }
+        ensures { OnOk result (self.new ≡ with_later agent (sets_later step.now)
+            (adds (sent_sign self.old.board is_executed step.now agent token ∷ []) self.old)) }
     {
-        let place = self.marks.next_place();
-        let label = asked_label(self.alloc, self.board, step)?;
-        let message = Message {
+        let way = Way {
             agent,
             slot,
             taken: slot,
-            label,
-            detail: step_detail(self.alloc, step, token)?,
         };
-        self.marks.add(Mark::Withdrawn { message, token })?;
-        let command = Outstanding {
-            place,
-            sets_later: sets_later(step),
-            answered: None,
-        };
-        self.parties.post(agent, command);
+        let message = asked_arrow(self.alloc, self.board, way, step, token)?;
+        self.marks.add(command_mark(message, token, is_executed))?;
+        self.parties.post(agent, sets_later(step));
         Ok(())
     }
 
@@ -50,17 +46,15 @@ impl<'a> Recorder<'a> {
         step: &Step,
         refusal: PostError,
     ) -> Result<(), AllocError>
-        ensures { OnOk result (self.new ≡ self.old ++ unsent agent ∷ []) }
+        ensures { OnOk result (self.new ≡ adds (unsent agent
+            (refused_wording self.old.board step.now refusal) ∷ []) self.old) }
     {
-        let mut label = asked_label(self.alloc, self.board, step)?;
-        label.tag = Vec::from_slice(self.alloc, refusal_words(refusal).as_bytes())?;
-        let message = Message {
+        let way = Way {
             agent,
             slot,
             taken: slot,
-            label,
-            detail: step_detail(self.alloc, step, None)?,
         };
+        let message = refused_arrow(self.alloc, self.board, way, step, refusal)?;
         self.marks.add(Mark::Refused { message })
     }
 }

@@ -1,14 +1,14 @@
 //! Messages that the platform sends of its own accord, from its outboxes to the agents.
-ghost use Rattle.std.specs.Prelude.{◌≡◌, ◌++◌, OnOk};
+ghost use Rattle.std.specs.Prelude.{◌≡◌, OnOk};
 ghost use Rattle.scmi_chart.specs.Signs.{flushed_signs, taken_signs};
+ghost use Rattle.scmi_chart.specs.Shown.{adds};
 
-use crate::detail::message_detail;
+use crate::arrows::{Way, posted_arrow};
 use crate::recorder::Recorder;
-use crate::reply_label::posted_label;
 use crate::sign::posted_mark;
 use scmi_codec::Frame;
 use scmi_ends::Flushed;
-use scmi_svg::{Mark, Message, Side};
+use scmi_svg::{Mark, Side};
 use std::alloc::AllocError;
 
 impl<'a> Recorder<'a> {
@@ -19,7 +19,7 @@ impl<'a> Recorder<'a> {
         slot: u16,
         flushed: Flushed,
     ) -> Result<(), AllocError>
-        ensures { OnOk result (self.new ≡ self.old ++ flushed_signs agent flushed) }
+        ensures { OnOk result (self.new ≡ adds (flushed_signs agent flushed) self.old) }
     {
         match flushed {
             Flushed::Nothing => self.remark(agent, slot, Side::Platform, "outbox empty"),
@@ -39,23 +39,19 @@ impl<'a> Recorder<'a> {
         slot: u16,
         frame: &Option<Frame>,
     ) -> Result<(), AllocError>
-        ensures { OnOk result (self.new ≡ self.old ++ taken_signs agent frame.now) }
+        ensures { OnOk result (self.new
+            ≡ adds (taken_signs self.old.board agent frame.now) self.old) }
     {
         match frame {
             None => self.remark(agent, slot, Side::Agent, "no message"),
             Some(Frame::Good(message)) => {
-                let label = posted_label(self.alloc, self.board, message)?;
-                let mark = posted_mark(
-                    Message {
-                        agent,
-                        slot: self.parties.take(agent).unwrap_or(slot),
-                        taken: slot,
-                        label,
-                        detail: message_detail(self.alloc, message)?,
-                    },
-                    &message.header,
-                );
-                self.marks.add(mark)
+                let way = Way {
+                    agent,
+                    slot: self.parties.take(agent).unwrap_or(slot),
+                    taken: slot,
+                };
+                let arrow = posted_arrow(self.alloc, self.board, way, message)?;
+                self.marks.add(posted_mark(arrow, &message.header))
             }
             Some(Frame::Malformed { .. }) => {
                 self.remark(agent, slot, Side::Agent, "a malformed message")

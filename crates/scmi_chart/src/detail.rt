@@ -1,65 +1,98 @@
 //! Messages in hexadecimal, which a reader sees who points at a mark.
-use crate::asked::message_of;
+ghost use Rattle.std.specs.Prelude.{◌≡◌, ◌++◌, IfOk, OnOk};
+ghost use Rattle.scmi_chart.specs.Detail.{answer_detail, header_detail, malformed_detail, message_detail, step_detail, words_detail};
+ghost use Rattle.scmi_chart.specs.Posted.{with_token};
+
+use crate::posts::message_of;
 use crate::words::{all_words, hex_words};
-use scmi_codec::{Answer, Message};
+use scmi_codec::{Answer, Header, Message, TOKENS};
 use scmi_text::{AgentStep, Step};
 use std::alloc::{AllocError, Global};
 
 /// The header and words of a message.
-pub(crate) fn message_detail(alloc: Global, message: &Message) -> Result<Vec<u8>, AllocError> {
-    words_detail(alloc, message.header.pack(), message.payload.as_slice())
+pub(crate) fn message_detail(alloc: Global, message: &Message) -> Result<Vec<u8>, AllocError>
+    ensures { IfOk result (λ text. text.items ≡ message_detail message.now) }
+{
+    let mut text = header_detail(alloc, message.header.pack())?;
+    add_words(alloc, &mut text, message.payload.as_slice())?;
+    Ok(text)
 }
 
-/// A header word, and words.
-fn words_detail(alloc: Global, header: u32, words: &[u32]) -> Result<Vec<u8>, AllocError> {
-    let mut text = header_detail(alloc, header)?;
+/// Adds payload words, if there are any.
+fn add_words(alloc: Global, text: &mut Vec<u8>, words: &[u32]) -> Result<(), AllocError>
+    ensures { OnOk result (text.new.items ≡ text.old.items ++ words_detail words.now) }
+{
     if !words.is_empty() {
         text.extend_from_slice(b", words ")?;
         text.extend_from_slice(&all_words(alloc, words)?)?;
     }
-    Ok(text)
+    Ok(())
 }
 
-/// The header and words of the message that a step posts, with its token; the length and header of a
-/// frame that is malformed.
+/// The header and words of the message that a step posts, with its token if that is known; the length
+/// and header of a frame that is malformed.
 pub(crate) fn step_detail(
     alloc: Global,
     step: &Step,
     token: Option<u16>,
-) -> Result<Vec<u8>, AllocError> {
-    if let Step::Agent {
-        step: AgentStep::Malformed { length, header },
-        ..
-    } = step
-    {
-        let mut text = header_detail(alloc, *header)?;
-        let words = format!(in alloc; ", length {length}")?;
-        text.extend_from_slice(words.as_bytes())?;
-        return Ok(text);
-    }
-    match message_of(step) {
-        Some(message) => {
-            let header = message.header.pack() | token_bits(token);
-            words_detail(alloc, header, message.payload.as_slice())
-        }
-        None => Ok(Vec::new(alloc)),
+) -> Result<Vec<u8>, AllocError>
+    ensures { IfOk result (λ text. text.items ≡ step_detail step.now token) }
+{
+    match step {
+        Step::Agent {
+            step: AgentStep::Malformed { length, header },
+            ..
+        } => malformed_detail(alloc, *length, *header),
+        _ => match message_of(step) {
+            Some(message) => message_detail(
+                alloc,
+                &Message {
+                    header: with_token(message.header, token),
+                    payload: message.payload,
+                },
+            ),
+            None => Ok(Vec::new(alloc)),
+        },
     }
 }
 
-/// A token where it stands in a header word; 0 where there is none.
-fn token_bits(token: Option<u16>) -> u32 {
-    u32::from(token.unwrap_or(0) & 0x3ff) << 18
+/// The same header with this token, if it is known.
+fn with_token(header: Header, token: Option<u16>) -> Header
+    ensures { result ≡ with_token token header }
+{
+    match token {
+        Some(token) => Header {
+            token: token % TOKENS,
+            ..header
+        },
+        None => header,
+    }
+}
+
+/// The header and the length of a malformed frame.
+#[tactic(auto, unfolding(crate::specs::Detail::malformed_detail))]
+fn malformed_detail(alloc: Global, length: u32, header: u32) -> Result<Vec<u8>, AllocError>
+    ensures { IfOk result (λ text. text.items ≡ malformed_detail length header) }
+{
+    let mut text = header_detail(alloc, header)?;
+    let words = format!(in alloc; ", length {length}")?;
+    text.extend_from_slice(words.as_bytes())?;
+    Ok(text)
 }
 
 /// The header and words of an answer; nothing of one without a message.
-pub(crate) fn answer_detail(alloc: Global, answer: &Answer) -> Result<Vec<u8>, AllocError> {
+pub(crate) fn answer_detail(alloc: Global, answer: &Answer) -> Result<Vec<u8>, AllocError>
+    ensures { IfOk result (λ text. text.items ≡ answer_detail answer.now) }
+{
     match answer {
         Answer::Reply(message) => message_detail(alloc, message),
         Answer::Released | Answer::ChannelError => Ok(Vec::new(alloc)),
     }
 }
 
-fn header_detail(alloc: Global, header: u32) -> Result<Vec<u8>, AllocError> {
+fn header_detail(alloc: Global, header: u32) -> Result<Vec<u8>, AllocError>
+    ensures { IfOk result (λ text. text.items ≡ header_detail header) }
+{
     let mut text = Vec::from_slice(alloc, b"header ")?;
     text.extend_from_slice(&hex_words(alloc, header)?)?;
     Ok(text)

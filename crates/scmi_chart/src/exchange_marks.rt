@@ -1,6 +1,8 @@
 //! Commands that were posted, served and collected in one step.
-ghost use Rattle.std.specs.Prelude.{◌≡◌, ◌++◌, OnOk};
-ghost use Rattle.scmi_chart.specs.Signs.{exchange_signs, fault_signs, collected_signs};
+ghost use Rattle.std.specs.Prelude.{◌≡◌, [], ◌∷◌, true, OnOk, Some, is_some};
+ghost use Rattle.scmi_chart.specs.Signs.{exchange_signs, executed, fault_signs, sent_sign};
+ghost use Rattle.scmi_chart.specs.Service.{if_got, sets_later};
+ghost use Rattle.scmi_chart.specs.Shown.{adds, exchanged, serves, with_later};
 
 use crate::recorder::Recorder;
 use crate::sign::{is_hardware_error, reply_token};
@@ -18,9 +20,7 @@ impl<'a> Recorder<'a> {
         step: &Step,
         collected: &Collected,
     ) -> Result<(), AllocError>
-        ensures { OnOk result
-            (self.new ≡
-            self.old ++ exchange_signs agent collected.now ++ collected_signs agent collected.now) }
+        ensures { OnOk result (self.new ≡ exchanged step.now agent collected.now [] self.old) }
     {
         self.record_service(agent, slot, step, collected)?;
         self.record_collect(agent, slot.saturating_add(1), collected)
@@ -34,10 +34,8 @@ impl<'a> Recorder<'a> {
         step: &Step,
         collected: &Collected,
     ) -> Result<(), AllocError>
-        ensures { OnOk result
-            (self.new ≡
-            self.old ++ exchange_signs agent collected.now ++ fault_signs agent collected.now
-            ++ collected_signs agent collected.now) }
+        ensures { OnOk result (self.new ≡ exchanged step.now agent collected.now
+            (fault_signs agent collected.now) self.old) }
     {
         self.record_service(agent, slot, step, collected)?;
         self.record_fault(agent, slot, collected)?;
@@ -52,13 +50,34 @@ impl<'a> Recorder<'a> {
         step: &Step,
         collected: &Collected,
     ) -> Result<(), AllocError>
-        ensures { OnOk result (self.new ≡ self.old ++ exchange_signs agent collected.now) }
+        ensures { OnOk result (self.new ≡ with_later agent (sets_later step.now)
+            (serves (if_got agent collected.now) (exchange_signs self.old.board
+            (is_some (if_got agent collected.now)) step.now agent collected.now) self.old)) }
     {
-        self.record_post(agent, slot, step, reply_token(collected))?;
-        if let Collected::Got(_) = collected {
-            self.record_execution(agent, slot, slot.saturating_add(1))?;
+        let token = reply_token(collected);
+        match collected {
+            Collected::Got(_) => self.record_executed(agent, slot, step, token),
+            _ => self.record_post(agent, slot, step, token, false),
         }
-        Ok(())
+    }
+
+    /// A command was posted, and executed in this slot.
+    fn record_executed(
+        &mut self,
+        agent: u8,
+        slot: u16,
+        step: &Step,
+        token: Option<u16>,
+    ) -> Result<(), AllocError>
+        ensures { OnOk result (self.new ≡ with_later agent (sets_later step.now)
+            (serves (Some agent)
+            (sent_sign self.old.board true step.now agent token ∷ executed ∷ []) self.old)) }
+    {
+        let until = slot.saturating_add(1);
+        self.parties.answer(agent, until);
+        self.marks.serve(agent, slot);
+        self.record_post(agent, slot, step, token, true)?;
+        self.marks.add(Mark::Execution { slot, until })
     }
 
     /// The hardware refused what the agent's command was to change, if the reply says so.
@@ -68,7 +87,7 @@ impl<'a> Recorder<'a> {
         slot: u16,
         collected: &Collected,
     ) -> Result<(), AllocError>
-        ensures { OnOk result (self.new ≡ self.old ++ fault_signs agent collected.now) }
+        ensures { OnOk result (self.new ≡ adds (fault_signs agent collected.now) self.old) }
     {
         if !is_hardware_error(collected) {
             return Ok(());

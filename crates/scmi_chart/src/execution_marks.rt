@@ -1,6 +1,8 @@
 //! Commands that the platform executed.
-ghost use Rattle.std.specs.Prelude.{◌≡◌, [], ◌∷◌, ◌++◌, OnOk};
+ghost use Rattle.std.specs.Prelude.{◌≡◌, [], ◌∷◌, OnOk, Some};
 ghost use Rattle.scmi_chart.specs.Signs.{executed, served_signs};
+ghost use Rattle.scmi_chart.specs.Service.{if_done};
+ghost use Rattle.scmi_chart.specs.Shown.{serves};
 
 use crate::recorder::Recorder;
 use scmi_ends::Served;
@@ -15,7 +17,8 @@ impl<'a> Recorder<'a> {
         slot: u16,
         served: Served,
     ) -> Result<(), AllocError>
-        ensures { OnOk result (self.new ≡ self.old ++ served_signs agent served) }
+        ensures { OnOk result (self.new
+            ≡ serves (if_done agent served) (served_signs agent served) self.old) }
     {
         match served {
             Served::Nothing => self.remark(agent, slot, Side::Platform, "nothing to serve"),
@@ -30,11 +33,10 @@ impl<'a> Recorder<'a> {
         slot: u16,
         until: u16,
     ) -> Result<(), AllocError>
-        ensures { OnOk result (self.new ≡ self.old ++ executed ∷ []) }
+        ensures { OnOk result (self.new ≡ serves (Some agent) (executed ∷ []) self.old) }
     {
-        if let Some(place) = self.parties.answer(agent, until) {
-            self.marks.take(place, slot);
-        }
+        self.parties.answer(agent, until);
+        self.marks.serve(agent, slot);
         self.marks.add(Mark::Execution { slot, until })
     }
 }

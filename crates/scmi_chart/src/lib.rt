@@ -2,11 +2,13 @@
 //!
 //! The main type is `Recorder`, which is given one step after the other and looks at the platform
 //! after each. The main theorem is the contract of `Recorder::record`: the marks that a step adds are
-//! those of its line, in order, each of the agent that the line names, and no others.
+//! those of its line, in order, each of the agent that the line names and with the words of its
+//! message, and no others.
 #![tactic(auto)]
 
 mod advance_marks;
 mod answer_marks;
+mod arrows;
 mod asked;
 mod board_names;
 mod close_marks;
@@ -15,12 +17,15 @@ mod delivery_marks;
 mod detail;
 mod exchange_marks;
 mod execution_marks;
+mod fields;
 mod label;
 mod level;
 mod levels;
 mod lifelines;
 mod marks;
 mod parties;
+mod posted_label;
+mod posts;
 mod recorder;
 mod remark_marks;
 mod reply_label;

@@ -1,5 +1,8 @@
 //! The lifelines of a chart.
-use crate::board_names::agent_name;
+ghost use Rattle.std.specs.Prelude.{◌≡◌, ◌+◌, IfOk, map, string_bytes};
+ghost use Rattle.scmi_chart.specs.Signs.{lane};
+ghost use Rattle.scmi_chart.specs.Shown.{head_of, heads_from};
+
 use crate::parties::Parties;
 use scmi_plan::RawPlan;
 use scmi_svg::Lifeline;
@@ -10,14 +13,25 @@ pub(crate) fn lifelines_of(
     alloc: Global,
     board: &RawPlan,
     parties: &Parties,
-) -> Result<Vec<Lifeline>, AllocError> {
+) -> Result<Vec<Lifeline>, AllocError>
+    ensures { IfOk result (λ lifelines.
+        map head_of lifelines.items ≡ heads_from 1 (map string_bytes board.now.agents.items)) }
+{
     let mut lifelines = Vec::new(alloc);
-    for agent in 1..=board.agents.len().min(255) as u8 {
+    'agents: for name in &board.agents {
+        let agent = lane_behind(lifelines.len());
         lifelines.push(Lifeline {
             agent,
-            name: agent_name(alloc, board, u32::from(agent))?,
+            name: Vec::from_slice(alloc, name.as_bytes())?,
             closed: parties.closed_at(agent),
         })?;
     }
     Ok(lifelines)
+}
+
+/// The lifeline behind so many.
+fn lane_behind(count: usize) -> u8
+    ensures { result ≡ lane (1 + count) }
+{
+    count.min(254) as u8 + 1
 }

@@ -1,8 +1,10 @@
 //! The marks of a chart so far.
-ghost use Rattle.std.specs.Prelude.{◌≡◌, [], ◌∷◌, ◌++◌, OnOk, length, map};
-ghost use Rattle.scmi_chart.specs.Signs.{sign_of};
+ghost use Rattle.std.specs.Prelude.{◌≡◌, [], ◌∷◌, ◌++◌, true, OnOk, Some, map};
+ghost use Rattle.scmi_chart.specs.Signs.{sign_of, sent};
+ghost use Rattle.scmi_chart.specs.Service.{executed_by};
+ghost use Rattle.scmi_chart.specs.Wording.{wording_of};
 
-use scmi_svg::Mark;
+use scmi_svg::{Mark, Message};
 use std::alloc::{AllocError, Global};
 use std::marker::Model;
 use std::mem;
@@ -31,11 +33,6 @@ impl Marks {
         }
     }
 
-    /// The place of the next mark.
-    pub fn next_place(&self) -> usize {
-        self.marks.len()
-    }
-
     pub fn add(&mut self, mark: Mark) -> Result<(), AllocError>
         ensures { OnOk result (self.new ≡ self.old ++ sign_of mark ∷ []) }
     {
@@ -43,13 +40,11 @@ impl Marks {
         Ok(())
     }
 
-    /// The platform took the command of the mark at a place, in this slot.
-    pub fn take(&mut self, place: usize, slot: u16)
-        ensures { self.new ≡ self.old }
+    /// The platform took the command of an agent in this slot.
+    pub fn serve(&mut self, agent: u8, slot: u16)
+        ensures { self.new ≡ map (executed_by (Some agent)) self.old }
     {
-        if place < self.marks.len() {
-            take_command(&mut self.marks[place], slot);
-        }
+        execute_all(&mut self.marks, agent, slot);
     }
 
     /// All marks, in order.
@@ -60,15 +55,36 @@ impl Marks {
     }
 }
 
-/// Makes a command that was not taken yet one that was taken in this slot.
-fn take_command(mark: &mut Mark, slot: u16)
-    ensures { sign_of mark.new ≡ sign_of mark.old }
+/// Makes the commands of an agent that were not taken yet ones that were taken in this slot.
+fn execute_all(marks: &mut [Mark], agent: u8, slot: u16)
+    ensures { map sign_of marks.new ≡ map (executed_by (Some agent)) (map sign_of marks.old) }
+{
+    'marks: for i in 0..marks.len() {
+        execute(&mut marks[i], agent, slot);
+    }
+}
+
+/// Makes a command of an agent that was not taken yet one that was taken in this slot.
+fn execute(mark: &mut Mark, agent: u8, slot: u16)
+    ensures { sign_of mark.new ≡ executed_by (Some agent) (sign_of mark.old) }
 {
     *mark = match mem::replace(mark, Mark::Posted { slot }) {
-        Mark::Withdrawn { mut message, token } => {
-            message.taken = slot;
-            Mark::Command { message, token }
+        Mark::Withdrawn { message, token } => {
+            if message.agent == agent {
+                executed_command(message, token, slot)
+            } else {
+                Mark::Withdrawn { message, token }
+            }
         }
         other => other,
     };
+}
+
+/// A command that was taken in this slot.
+fn executed_command(message: Message, token: Option<u16>, slot: u16) -> Mark
+    ensures { sign_of result ≡ sent true message.agent token (wording_of message) }
+{
+    let mut message = message;
+    message.taken = slot;
+    Mark::Command { message, token }
 }

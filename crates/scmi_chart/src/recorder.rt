@@ -1,6 +1,8 @@
 //! What a run leaves in its chart, step by step.
-ghost use Rattle.std.specs.Prelude.{◌≡◌, [], ◌++◌, OnOk, IfOk, map};
-ghost use Rattle.scmi_chart.specs.Signs.{sign_of, signs_of};
+ghost use Rattle.std.specs.Prelude.{◌≡◌, OnOk, IfOk, map};
+ghost use Rattle.scmi_plan.specs.RawPlan.{asked_board};
+ghost use Rattle.scmi_chart.specs.Signs.{sign_of};
+ghost use Rattle.scmi_chart.specs.Shown.{nothing_shown, shown_after, head_of, heads_from};
 
 use crate::levels::Levels;
 use crate::lifelines::lifelines_of;
@@ -28,18 +30,22 @@ pub struct Recorder<'a> {
 }
 
 impl<'a> Model for Recorder<'a> {
-    ghost use Rattle.std.specs.Prelude.{List};
-    ghost use Rattle.scmi_chart.specs.Signs.{Sign};
+    ghost use Rattle.scmi_plan.specs.RawPlan.{asked_board};
+    ghost use Rattle.scmi_chart.specs.Shown.{Shown};
 
-    ghost Value = { List Sign };
+    ghost Value = { Shown };
 
-    ghost view = { λ r. r.marks };
+    ghost view = { λ r. record {
+      signs = r.marks;
+      laters = r.parties;
+      board = asked_board r.board.now;
+    } };
 }
 
 impl<'a> Recorder<'a> {
     /// The chart of a run that has not begun, of a platform with this board.
     pub fn new(alloc: Global, board: &'a RawPlan, core: &Core) -> Result<Recorder<'a>, AllocError>
-        ensures { IfOk result (λ recorder. recorder ≡ []) }
+        ensures { IfOk result (λ recorder. recorder ≡ nothing_shown (asked_board board.now)) }
     {
         Ok(Recorder {
             alloc,
@@ -61,7 +67,7 @@ impl<'a> Recorder<'a> {
         came: &StepLine,
         core: &Core,
     ) -> Result<(), AllocError>
-        ensures marks { OnOk result (self.new ≡ self.old ++ signs_of step.now came.now) }
+        ensures marks { OnOk result (self.new ≡ shown_after step.now came.now self.old) }
     {
         let slot = self.slots;
         self.begin(script, step, came)?;
@@ -95,7 +101,7 @@ impl<'a> Recorder<'a> {
 
     /// Marks what came of a step.
     fn mark(&mut self, slot: u16, step: &Step, came: &StepLine) -> Result<(), AllocError>
-        ensures { OnOk result (self.new ≡ self.old ++ signs_of step.now came.now) }
+        ensures { OnOk result (self.new ≡ shown_after step.now came.now self.old) }
     {
         match came {
             StepLine::Token { agent, token } => self.record_post(
@@ -103,12 +109,14 @@ impl<'a> Recorder<'a> {
                 slot,
                 step,
                 Some(*token),
+                false,
             ),
             StepLine::Posted { agent } => self.record_post(
                 lane(*agent),
                 slot,
                 step,
                 raw_token(step),
+                false,
             ),
             StepLine::NotPosted { agent, refusal } => {
                 self.record_refusal(lane(*agent), slot, step, *refusal)
@@ -134,7 +142,9 @@ impl<'a> Recorder<'a> {
 
     /// The chart of the run, with this title and this line below it.
     pub fn finish(self, title: Vec<u8>, subtitle: Vec<u8>) -> Result<Chart, AllocError>
-        ensures marks { IfOk result (λ chart. map sign_of chart.marks.items ≡ self.entry) }
+        ensures marks { IfOk result (λ chart. map sign_of chart.marks.items ≡ self.entry.signs) }
+        ensures lifelines { IfOk result (λ chart.
+            map head_of chart.lifelines.items ≡ heads_from 1 self.entry.board.agents) }
     {
         let end = self.slots.saturating_add(1);
         Ok(Chart {

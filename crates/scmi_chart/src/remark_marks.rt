@@ -1,6 +1,7 @@
 //! Words beside lifelines, of what came to nothing.
-ghost use Rattle.std.specs.Prelude.{◌≡◌, [], ◌∷◌, ◌++◌, OnOk};
+ghost use Rattle.std.specs.Prelude.{◌≡◌, [], ◌∷◌, OnOk};
 ghost use Rattle.scmi_chart.specs.Signs.{remarked};
+ghost use Rattle.scmi_chart.specs.Shown.{adds};
 
 use crate::recorder::Recorder;
 use scmi_svg::{Mark, Side};
@@ -15,7 +16,7 @@ impl<'a> Recorder<'a> {
         beside: Side,
         text: &str,
     ) -> Result<(), AllocError>
-        ensures { OnOk result (self.new ≡ self.old ++ remarked agent ∷ []) }
+        ensures { OnOk result (self.new ≡ adds (remarked agent ∷ []) self.old) }
     {
         let text = Vec::from_slice(self.alloc, text.as_bytes())?;
         self.marks.add(Mark::Remark {

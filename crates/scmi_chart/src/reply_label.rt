@@ -1,58 +1,96 @@
-//! What the platform's messages say, in words.
-use crate::label::{add_field, name_label, name_of};
+//! What answers say, in words.
+ghost use Rattle.std.specs.Prelude.{◌≡◌, IfOk, OnOk};
+ghost use Rattle.scmi_describe.specs.Replies.{reply_fields};
+ghost use Rattle.scmi_plan.specs.RawPlan.{asked_board};
+ghost use Rattle.scmi_chart.specs.LabelWords.{words_of};
+ghost use Rattle.scmi_chart.specs.Answered.{answer_words, list_text, reply_words, status_text, with_list, with_outcome, with_reply};
+
+use crate::fields::add_fields;
+use crate::label::{name_label, plain_label};
 use crate::words::{hex_words, payload_words};
-use scmi_codec::{Answer, CLOCK_PROTOCOL, Message, POWER_PROTOCOL, Status, rate_of};
-use scmi_describe::{Field, notification_name, reply_fields, status_name};
+use scmi_codec::{Answer, CLOCK_PROTOCOL, Header, Message, Status};
+use scmi_describe::{reply_fields, status_name};
 use scmi_plan::RawPlan;
 use scmi_svg::{Label, Outcome};
 use std::alloc::{AllocError, Global};
 
 /// What an answer says.
+#[tactic(auto, unfolding(crate::specs::Answered::answer_words))]
 pub(crate) fn answer_label(
     alloc: Global,
     board: &RawPlan,
     answer: &Answer,
     outcome: Outcome,
-) -> Result<Label, AllocError> {
+) -> Result<Label, AllocError>
+    ensures { IfOk result (λ label.
+        words_of label ≡ answer_words (asked_board board.now) answer.now outcome) }
+{
     match answer {
-        Answer::Reply(message) => {
-            let is_later = matches!(outcome, Outcome::Pending);
-            reply_label(alloc, board, message, is_later)
-        }
+        Answer::Reply(message) => reply_label(alloc, board, message, outcome),
         Answer::Released => plain_label(alloc, "released, no reply"),
         Answer::ChannelError => plain_label(alloc, "channel error"),
     }
 }
 
-/// What a reply says: its status, and what follows it. `is_later` is a set that takes effect later.
+/// What a reply says: its status, and what follows it.
 fn reply_label(
     alloc: Global,
     board: &RawPlan,
     message: &Message,
-    is_later: bool,
-) -> Result<Label, AllocError> {
+    outcome: Outcome,
+) -> Result<Label, AllocError>
+    ensures { IfOk result (λ label. words_of label
+        ≡ reply_words (asked_board board.now) message.now.header outcome
+        message.now.payload.items) }
+{
     let [word, words @ ..] = message.payload.as_slice() else {
-        return Ok(name_label(alloc, Vec::from_slice(alloc, b"no status")?));
+        return plain_label(alloc, "no status");
     };
     let mut label = name_label(alloc, status_words(alloc, *word)?);
-    let header = message.header;
-    match reply_fields(header.protocol, header.id, words) {
-        Ok(fields) => {
-            for field in fields.as_slice() {
-                add_field(alloc, board, &mut label, field)?;
-            }
-        }
-        Err(Status::NotSupported) => add_list(alloc, &mut label, header.protocol, words)?,
-        Err(_) => label.object = payload_words(alloc, words)?,
-    }
-    if is_later {
-        label.tag = Vec::from_slice(alloc, b"accepted, takes effect at an advance")?;
-    }
+    add_reply(alloc, board, &mut label, &message.header, words)?;
+    add_outcome(alloc, &mut label, outcome)?;
     Ok(label)
 }
 
+/// Adds what follows the status of a reply.
+fn add_reply(
+    alloc: Global,
+    board: &RawPlan,
+    label: &mut Label,
+    header: &Header,
+    words: &[u32],
+) -> Result<(), AllocError>
+    ensures { OnOk result (words_of label.new
+        ≡ with_reply (asked_board board.now) header.now.protocol words.now
+        (reply_fields header.now.protocol header.now.id words.now) (words_of label.old)) }
+{
+    match reply_fields(header.protocol, header.id, words) {
+        Ok(fields) => add_fields(alloc, board, label, fields.as_slice()),
+        Err(Status::NotSupported) => add_list(alloc, label, header.protocol, words),
+        Err(_) => {
+            label.object = payload_words(alloc, words)?;
+            Ok(())
+        }
+    }
+}
+
+/// Adds that a set takes effect later, where it does.
+fn add_outcome(alloc: Global, label: &mut Label, outcome: Outcome) -> Result<(), AllocError>
+    ensures { OnOk result (words_of label.new ≡ with_outcome outcome (words_of label.old)) }
+{
+    match outcome {
+        Outcome::Pending => {
+            label.tag = Vec::from_slice(alloc, b"accepted, takes effect at an advance")?;
+        }
+        Outcome::Success | Outcome::Refusal => {}
+    }
+    Ok(())
+}
+
 /// A status by its name, or else its word.
-fn status_words(alloc: Global, word: u32) -> Result<Vec<u8>, AllocError> {
+pub(crate) fn status_words(alloc: Global, word: u32) -> Result<Vec<u8>, AllocError>
+    ensures { IfOk result (λ words. words.items ≡ status_text word) }
+{
     match Status::of_word(word) {
         Some(status) => Vec::from_slice(alloc, status_name(status).as_bytes()),
         None => hex_words(alloc, word),
@@ -60,90 +98,27 @@ fn status_words(alloc: Global, word: u32) -> Result<Vec<u8>, AllocError> {
 }
 
 /// Adds how many rates or protocols a list has.
-fn add_list(
-    alloc: Global,
-    label: &mut Label,
-    protocol: u8,
-    words: &[u32],
-) -> Result<(), AllocError> {
-    let [word, ..] = words else {
-        return Ok(());
-    };
-    let text = if protocol != CLOCK_PROTOCOL {
-        format!(in alloc; "{word} protocols")?
-    } else if word & 0x1000 != 0 {
-        format!(in alloc; "lowest, highest, step")?
-    } else {
-        format!(in alloc; "{} rates, {} left", word & 0xfff, word >> 16)?
-    };
-    label.object = text.into_bytes();
+fn add_list(alloc: Global, label: &mut Label, protocol: u8, words: &[u32]) -> Result<(), AllocError>
+    ensures { OnOk result (words_of label.new
+        ≡ with_list protocol words.now (words_of label.old)) }
+{
+    if let [word, ..] = words {
+        label.object = list_words(alloc, protocol, *word)?;
+    }
     Ok(())
 }
 
-/// What an answer without a status says.
-fn plain_label(alloc: Global, words: &str) -> Result<Label, AllocError> {
-    Ok(name_label(alloc, Vec::from_slice(alloc, words.as_bytes())?))
-}
-
-/// What a message from the platform of its own accord says.
-pub(crate) fn posted_label(
-    alloc: Global,
-    board: &RawPlan,
-    message: &Message,
-) -> Result<Label, AllocError> {
-    let header = message.header;
-    let mut label = match notification_name(header.protocol, header.id) {
-        Some(name) if header.kind == 3 => name_label(
-            alloc,
-            Vec::from_slice(alloc, name.as_bytes())?,
-        ),
-        _ => delayed_label(alloc, message)?,
+/// How many rates or protocols a list has, by its first word.
+#[tactic(auto, unfolding(crate::specs::Answered::list_text))]
+fn list_words(alloc: Global, protocol: u8, word: u32) -> Result<Vec<u8>, AllocError>
+    ensures { IfOk result (λ words. words.items ≡ list_text protocol word) }
+{
+    let words = if protocol != CLOCK_PROTOCOL {
+        format!(in alloc; "{word} protocols")?
+    } else if word / 4096 % 2 == 1 {
+        format!(in alloc; "lowest, highest, step")?
+    } else {
+        format!(in alloc; "{} rates, {} left", word % 4096, word >> 16)?
     };
-    for field in posted_fields(message).as_slice() {
-        add_field(alloc, board, &mut label, field)?;
-    }
-    Ok(label)
-}
-
-/// The name of a delayed response, and its status where that is none of success.
-fn delayed_label(alloc: Global, message: &Message) -> Result<Label, AllocError> {
-    let mut name = name_of(alloc, message.header.protocol, message.header.id)?;
-    match message.payload.as_slice() {
-        [status, ..] if *status != 0 => {
-            name.extend_from_slice(b" failed")?;
-            let mut label = name_label(alloc, name);
-            label.object = status_words(alloc, *status)?;
-            Ok(label)
-        }
-        _ => {
-            name.extend_from_slice(b" completed")?;
-            Ok(name_label(alloc, name))
-        }
-    }
-}
-
-/// The fields of a delayed response or a notification.
-fn posted_fields(message: &Message) -> [Field; 3] {
-    let header = message.header;
-    let none = Field::Attributes(0);
-    match (header.protocol, header.kind, message.payload.as_slice()) {
-        (POWER_PROTOCOL, 3, [agent, domain, state]) => {
-            [
-                Field::By(*agent),
-                Field::Domain(*domain),
-                Field::State(*state),
-            ]
-        }
-        (POWER_PROTOCOL, 2, [_, domain, state]) => {
-            [Field::Domain(*domain), Field::State(*state), none]
-        }
-        (CLOCK_PROTOCOL, 2, [_, clock, low, high]) => {
-            [
-                Field::Clock(*clock),
-                Field::Rate(rate_of(*low, *high)),
-                none,
-            ]
-        }
-        _ => [none, none, none],
-    }
+    Ok(words.into_bytes())
 }

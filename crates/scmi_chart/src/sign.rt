@@ -1,10 +1,11 @@
 //! What a step, and what came of it, say of a mark: its lane, token, outcome and words.
-ghost use Rattle.std.specs.Prelude.{◌≡◌};
-ghost use Rattle.scmi_chart.specs.Signs.{sign_of, lane, raw_token, reply_token, is_success, is_hardware_error, succeeds, posted_sign};
+ghost use Rattle.std.specs.Prelude.{◌≡◌, if◌then◌else◌};
+ghost use Rattle.scmi_svg.specs.declared.mark.Outcome.TheVariants as Outcome;
+ghost use Rattle.scmi_chart.specs.Signs.{sign_of, lane, raw_token, reply_token, is_hardware_error, outcome_of, posted_sign, sent};
+ghost use Rattle.scmi_chart.specs.Wording.{wording_of};
 
-use crate::parties::Outstanding;
 use scmi_codec::{Answer, Header, Status, is_success};
-use scmi_link::{Collected, PostError};
+use scmi_link::Collected;
 use scmi_svg::{Mark, Message, Outcome};
 use scmi_text::{AgentStep, Step};
 
@@ -51,40 +52,40 @@ pub(crate) fn is_hardware_error(collected: &Collected) -> bool
     }
 }
 
-/// How a command was answered.
-pub(crate) fn outcome_of(answer: &Answer, command: Option<Outstanding>) -> Outcome
-    ensures { succeeds result ≡ is_success answer.now }
+/// How a command was answered, which takes effect later or at once.
+pub(crate) fn outcome_of(answer: &Answer, is_later: bool) -> Outcome
+    ensures { result ≡ outcome_of answer.now is_later }
 {
     match answer {
-        Answer::Reply(message) if is_success(&message.payload) => match command {
-            Some(
-                Outstanding {
-                    sets_later: true,
-                    ..
-                },
-            ) => Outcome::Pending,
-            _ => Outcome::Success,
-        },
+        Answer::Reply(message) if is_success(&message.payload) => success_of(is_later),
         _ => Outcome::Refusal,
     }
 }
 
-/// The slot in which a command was answered.
-pub(crate) fn answered_slot(command: Option<Outstanding>, slot: u16) -> u16 {
-    match command {
-        Some(
-            Outstanding {
-                answered: Some(answered),
-                ..
-            },
-        ) => answered,
-        _ => slot,
+fn success_of(is_later: bool) -> Outcome
+    ensures { result ≡ (if is_later then Outcome.Pending else Outcome.Success) }
+{
+    if is_later {
+        Outcome::Pending
+    } else {
+        Outcome::Success
+    }
+}
+
+/// The mark of a command that an agent posted.
+pub(crate) fn command_mark(message: Message, token: Option<u16>, is_executed: bool) -> Mark
+    ensures { sign_of result ≡ sent is_executed message.agent token (wording_of message) }
+{
+    if is_executed {
+        Mark::Command { message, token }
+    } else {
+        Mark::Withdrawn { message, token }
     }
 }
 
 /// The mark of a message that the platform sent of its own accord.
 pub(crate) fn posted_mark(message: Message, header: &Header) -> Mark
-    ensures { sign_of result ≡ posted_sign message.agent header.now }
+    ensures { sign_of result ≡ posted_sign message.agent header.now (wording_of message) }
 {
     if header.kind == 3 {
         Mark::Notification { message }
@@ -93,14 +94,5 @@ pub(crate) fn posted_mark(message: Message, header: &Header) -> Mark
             message,
             token: header.token,
         }
-    }
-}
-
-pub(crate) fn refusal_words(refusal: PostError) -> &'static str {
-    match refusal {
-        PostError::Outstanding => "not posted: outstanding",
-        PostError::Closed => "not posted: closed",
-        PostError::Full => "not posted: full",
-        PostError::WellFormed => "not posted: well formed",
     }
 }

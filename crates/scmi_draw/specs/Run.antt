@@ -16,7 +16,8 @@ use Rattle.scmi_session.specs.SessionView.{SessionView}
 use Rattle.scmi_session.specs.Run.{Runs}
 use Rattle.scmi_svg.specs.Chart.{svg_text}
 use Rattle.scmi_svg.specs.declared.chart.Chart.{Chart}
-use Rattle.scmi_chart.specs.Signs.{sign_of, run_signs}
+use Rattle.scmi_chart.specs.Signs.{sign_of}
+use Rattle.scmi_chart.specs.Shown.{run_signs, none_later, head_of, heads_from}
 use Rattle.scmi_draw.specs.Mode.{kind_of}
 use Rattle.scmi_draw.specs.declared.kind.Kind.{Kind}
 use Rattle.scmi_draw.specs.declared.kind.Kind.TheVariants.{Rings, Words}
@@ -33,12 +34,13 @@ abbrev pub shows_close : Kind → CallerView → Result Closing CloseError → T
 shows_close Rings = ShowsClose ring_caller_view ring_close_shows
 shows_close Words = ShowsClose word_caller_view CloseShows
 
--- the chart's marks are those of a run of these steps on this board: of each line that they give what it says, in order, and nothing else
+-- the chart's marks are those of a run of these steps on this board: of each line that they give what it says, in order, with the words of its message, and nothing else; and its lifelines are those of the board's agents, in order, with their names
 pub record ShowsRun (full : Bool) (Shows : CallerView → Result Closing CloseError → Type 0) (board : Board) (steps : List Step) (chart : Chart) : Type 0 where
   pub lines : List StepLine
   pub last : SessionView
   pub made : Runs full Shows board steps lines last
-  pub marks : map sign_of chart.marks.items ≡ run_signs steps lines
+  pub marks : map sign_of chart.marks.items ≡ run_signs board none_later steps lines
+  pub lifelines : map head_of chart.lifelines.items ≡ heads_from 1 board.agents
 
 -- a script of this mode may have the step
 abbrev pub MayHave : Mode → Step → Type 0

@@ -2,6 +2,7 @@
 ghost use Rattle.std.specs.Prelude.{◌≡◌, length, IfOk, IfErr};
 ghost use Rattle.std.specs.List.{All};
 ghost use Rattle.scmi_ends.specs.Shut.{ShowsClose};
+ghost use Rattle.scmi_plan.specs.RawPlan.{asked_board};
 ghost use Rattle.scmi_text.specs.Step.{IsStepOf};
 ghost use Rattle.scmi_draw.specs.DrawError.{fault_of_plan, status_of};
 ghost use Rattle.scmi_draw.specs.Run.{MayHave, ShowsRun, ShowsScript};
@@ -81,7 +82,8 @@ fn step_through<C: Channel>(
     steps: &StepList,
     lines: &mut Lines<'_>,
 ) -> Result<Chart, DrawError>
-    requires { All (IsStepOf (length plan.agents)) steps.now }
+    requires agents { All (IsStepOf (length plan.agents)) steps.now }
+    requires board { asked_board board.now ≡ plan }
     ensures { IfOk result (ShowsRun C.FULL (ShowsClose C.caller_view C.close_shows) plan
         steps.now) }
 {

@@ -1,12 +1,11 @@
-use Rattle.std.proofs.Common.{◌∙◌, ◌<◌, ◌≤◌, [], length, sym, subst, arith}
-use Rattle.scmi_ends.specs.Shut.{ShowsClose}
-use Rattle.scmi_draw.proofs.SoFar.{SoFar, all_steps, no_step, step_more}
+use Rattle.std.proofs.Common.{◌<◌, ◌≤◌, length, arith}
+use Rattle.scmi_draw.proofs.SoFar.{all_steps, no_step, step_more}
 use Rattle.scmi_draw.proofs.run.step_through.Goals as goal
 
 pub steps-init : goal.steps-init
 steps-init g c = record {
   agents = c.in_ok-session.ensures.new.count;
-  so_far = subst (SoFar g.C.Channel.FULL (ShowsClose g.C.Channel.caller_view g.C.Channel.close_shows) c.args.plan [] c.in_ok-session.session) (sym c.in_ok-recorder.ensures) (no_step _ _ _ _ c.in_ok-session.ensures.new);
+  so_far = no_step _ _ _ _ _ _ c.in_ok-session.ensures.new c.in_ok-recorder.ensures c.requires.board;
 }
 
 pub steps-preserved : goal.steps-preserved
@@ -19,4 +18,4 @@ steps-preserved g c =
 pub returns : goal.returns
 returns g c =
     let all : length c.args.steps.now ≤ c.steps.i = omega (arith, c.steps-test.false, c.len-i-end.ensures) in
-    all_steps _ _ _ _ c.steps.i _ _ _ all c.steps.invariant.so_far c.in_ok-finish.ensures.marks
+    all_steps _ _ _ _ c.steps.i _ _ _ all c.steps.invariant.so_far c.in_ok-finish.ensures.marks c.in_ok-finish.ensures.lifelines

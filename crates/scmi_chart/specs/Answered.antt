@@ -1,0 +1,81 @@
+-- What the labels of the platform's messages say.
+use Rattle.std.specs.Prelude.{ℕ, ◌/◌, ◌%◌, ◌^◌, ◌==◌, Bool, true, false, if◌then◌else◌, List, [], ◌∷◌, ◌++◌, codes, decimal, Option, Some, None, Result, Ok, Err}
+use Rattle.scmi_codec.specs.Header.{HeaderFields}
+use Rattle.scmi_codec.specs.Status.{status_of, status_name}
+use Rattle.scmi_codec.specs.declared.frame.Answer.{Answer}
+use Rattle.scmi_codec.specs.declared.frame.Answer.TheVariants.{Reply, Released, ChannelError}
+use Rattle.scmi_codec.specs.declared.message.Message.{Message}
+use Rattle.scmi_codec.specs.declared.status.Status.{Status}
+use Rattle.scmi_codec.specs.declared.status.Status.TheVariants.{NotSupported}
+use Rattle.scmi_describe.specs.Names.{notification_text}
+use Rattle.scmi_describe.specs.Replies.{FieldList, delayed_fields, notification_fields, reply_fields}
+use Rattle.scmi_describe.specs.declared.field.Field.{Field}
+use Rattle.scmi_plan.specs.Board.{Board}
+use Rattle.scmi_svg.specs.declared.mark.Outcome.{Outcome}
+use Rattle.scmi_svg.specs.declared.mark.Outcome.TheVariants as outcome
+use Rattle.scmi_chart.specs.Words.{hex_text, payload_text}
+use Rattle.scmi_chart.specs.LabelWords.{LabelWords, message_text, name_alone}
+use Rattle.scmi_chart.specs.Fields.{with_fields}
+
+-- a status by its name, or else its word
+abbrev pub status_or_word : ℕ → Option Status → List ℕ
+status_or_word word (Some s) = status_name s
+status_or_word word None = hex_text word
+
+-- the status that stands in a payload word
+abbrev pub status_text : ℕ → List ℕ
+status_text word = status_or_word word (status_of word)
+
+-- the first word of a list of protocols or of rates: how many it has
+unfoldable pub list_text : ℕ → ℕ → List ℕ
+list_text protocol word =
+    if protocol == 0x14 then if word / 2 ^ 12 % 2 == 1 then codes "lowest, highest, step" else decimal (word % 2 ^ 12) ++ codes " rates, " ++ decimal (word / 2 ^ 16) ++ codes " left"
+    else decimal word ++ codes " protocols"
+
+-- how many protocols or rates a list has, if there is one
+abbrev pub with_list : ℕ → List ℕ → LabelWords → LabelWords
+with_list protocol [] w = w
+with_list protocol (word ∷ words) w = record w { object = list_text protocol word }
+
+-- what follows the status of a reply: its fields, a list, or other words
+abbrev pub with_reply : Board → ℕ → List ℕ → Result FieldList Status → LabelWords → LabelWords
+with_reply board protocol words (Ok fields) w = with_fields board fields.items w
+with_reply board protocol words (Err NotSupported) w = with_list protocol words w
+with_reply board protocol words (Err status) w = record w { object = payload_text words }
+
+-- a set that takes effect later has that as its remark
+abbrev pub with_outcome : Outcome → LabelWords → LabelWords
+with_outcome outcome.Pending w = record w { tag = codes "accepted, takes effect at an advance" }
+with_outcome _ w = w
+
+-- what a reply says: its status, and what follows it
+abbrev pub reply_words : Board → HeaderFields → Outcome → List ℕ → LabelWords
+reply_words board h outcome [] = name_alone (codes "no status")
+reply_words board h outcome (word ∷ words) =
+    with_outcome outcome (with_reply board h.protocol words (reply_fields h.protocol h.id words) (name_alone (status_text word)))
+
+-- what an answer says, which turned out so
+unfoldable pub answer_words : Board → Answer → Outcome → LabelWords
+answer_words board (Reply m) outcome = reply_words board m.header outcome m.payload.items
+answer_words board Released outcome = name_alone (codes "released, no reply")
+answer_words board ChannelError outcome = name_alone (codes "channel error")
+
+-- what the name of a delayed response says, by the status that it begins with: the set completed, or it failed with that status
+abbrev pub delayed_words : ℕ → ℕ → List ℕ → LabelWords
+delayed_words protocol id [] = name_alone (message_text protocol id ++ codes " completed")
+delayed_words protocol id (status ∷ words) =
+    if status == 0 then name_alone (message_text protocol id ++ codes " completed")
+    else record (name_alone (message_text protocol id ++ codes " failed")) { object = status_text status }
+
+-- the name of a notification, if it is one and has a name; else that of a delayed response
+abbrev pub notified_words : Message → Option (List ℕ) → Bool → LabelWords
+notified_words m (Some name) true = name_alone name
+notified_words m _ _ = delayed_words m.header.protocol m.header.id m.payload.items
+
+-- the fields of a notification, or of a delayed response behind its status
+abbrev pub posted_fields : Message → List Field
+posted_fields m = if m.header.kind == 3 then notification_fields m else if m.header.kind == 2 then delayed_fields m else []
+
+-- what a message of the platform's own accord says
+unfoldable pub posted_words : Board → Message → LabelWords
+posted_words board m = with_fields board (posted_fields m) (notified_words m (notification_text m.header.protocol m.header.id) (m.header.kind == 3))

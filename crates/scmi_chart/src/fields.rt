@@ -1,0 +1,187 @@
+//! What the fields of a message add to its label.
+ghost use Rattle.std.specs.Prelude.{◌≡◌, ◌++◌, OnOk, IfOk, codes};
+ghost use Rattle.scmi_plan.specs.RawPlan.{asked_board};
+ghost use Rattle.scmi_chart.specs.Words.{agent_text};
+ghost use Rattle.scmi_chart.specs.LabelWords.{with_remark, words_of};
+ghost use Rattle.scmi_chart.specs.Fields.{counts_text, version_text, with_bits, with_field, with_fields, with_permit_flags, with_power_flags, with_rate_flags, with_reset_flags, with_rounding, with_switch, with_timing, with_value};
+
+use crate::board_names::{agent_name, clock_name, domain_name};
+use crate::label::{add_behind, add_remark, add_remark_if, protocol_words};
+use crate::words::{
+    counted_words, hex_words, name_words, numbered_word, rate_words, state_words, switch_word,
+};
+use scmi_describe::Field;
+use scmi_plan::RawPlan;
+use scmi_svg::Label;
+use std::alloc::{AllocError, Global};
+
+/// Adds the fields of a message to its label, in order.
+pub(crate) fn add_fields(
+    alloc: Global,
+    board: &RawPlan,
+    label: &mut Label,
+    fields: &[Field],
+) -> Result<(), AllocError>
+    ensures { OnOk result (words_of label.new
+        ≡ with_fields (asked_board board.now) fields.now (words_of label.old)) }
+{
+    'fields: for field in fields {
+        add_field(alloc, board, label, field)?;
+    }
+    Ok(())
+}
+
+/// Adds a field of a message to its label.
+fn add_field(
+    alloc: Global,
+    board: &RawPlan,
+    label: &mut Label,
+    field: &Field,
+) -> Result<(), AllocError>
+    ensures { OnOk result (words_of label.new
+        ≡ with_field (asked_board board.now) field.now (words_of label.old)) }
+{
+    match field {
+        Field::Domain(domain) => label.object = domain_name(alloc, board, *domain)?,
+        Field::Clock(clock) => label.object = clock_name(alloc, board, *clock)?,
+        Field::Agent(agent) | Field::Subject(agent) => {
+            label.object = agent_name(alloc, board, *agent)?;
+        }
+        Field::Name(words) => label.object = name_words(alloc, words)?,
+        Field::Message(id) => label.object = hex_words(alloc, *id)?,
+        Field::Version(word) => label.object = version_words(alloc, *word)?,
+        Field::Counts(word) => label.object = counts_words(alloc, *word)?,
+        Field::State(state) => set_value(label, state_words(alloc, *state)?),
+        Field::Rate(hertz) => set_value(label, rate_words(alloc, *hertz)?),
+        Field::Enable(bits) | Field::ClockAttributes(bits) => add_switch(alloc, label, *bits)?,
+        Field::Device(device) => label.value = numbered_word(alloc, "device", *device)?,
+        Field::Protocol(protocol) => {
+            add_behind(&mut label.value, &protocol_words(alloc, *protocol)?)?;
+        }
+        Field::By(agent) => add_cause(alloc, board, label, *agent)?,
+        Field::Index(index) => add_remark(label, &numbered_word(alloc, "from", *index)?)?,
+        Field::Skip(count) => add_remark(label, &numbered_word(alloc, "skip", *count)?)?,
+        Field::PowerFlags(bits) => add_power_flags(alloc, label, *bits)?,
+        Field::PermitFlags(bits) => add_permit_flags(alloc, label, *bits)?,
+        Field::ResetFlags(bits) => add_reset_flags(alloc, label, *bits)?,
+        Field::RateFlags(bits) => add_rate_flags(alloc, label, *bits)?,
+        _ => {}
+    }
+    Ok(())
+}
+
+/// Sets a state or a rate: what an object gets, or what there is where the message names none.
+fn set_value(label: &mut Label, words: Vec<u8>)
+    ensures { words_of label.new ≡ with_value words.items (words_of label.old) }
+{
+    if label.object.is_empty() {
+        label.object = words;
+    } else {
+        label.value = words;
+    }
+}
+
+/// The version of a protocol.
+#[tactic(auto, unfolding(crate::specs::Fields::version_text))]
+fn version_words(alloc: Global, word: u32) -> Result<Vec<u8>, AllocError>
+    ensures { IfOk result (λ words. words.items ≡ version_text word) }
+{
+    let words = format!(in alloc; "version {}.{}", word >> 16, word % 65536)?;
+    Ok(words.into_bytes())
+}
+
+/// How many agents and protocols there are.
+fn counts_words(alloc: Global, word: u32) -> Result<Vec<u8>, AllocError>
+    ensures { IfOk result (λ words. words.items ≡ counts_text word) }
+{
+    let mut words = counted_words(alloc, word / 256 % 256, "agents")?;
+    add_behind(&mut words, &counted_words(alloc, word % 256, "protocols")?)?;
+    Ok(words)
+}
+
+/// Adds who caused a change, as a remark.
+fn add_cause(
+    alloc: Global,
+    board: &RawPlan,
+    label: &mut Label,
+    agent: u32,
+) -> Result<(), AllocError>
+    ensures { OnOk result (words_of label.new
+        ≡ with_remark (codes "by " ++ agent_text (asked_board board.now) agent)
+        (words_of label.old)) }
+{
+    let mut words = Vec::from_slice(alloc, b"by ")?;
+    words.extend_from_slice(&agent_name(alloc, board, agent)?)?;
+    add_remark(label, &words)
+}
+
+/// Adds what bit 0 of a word switches.
+fn add_switch(alloc: Global, label: &mut Label, bits: u32) -> Result<(), AllocError>
+    ensures { OnOk result (words_of label.new ≡ with_switch bits (words_of label.old)) }
+{
+    label.value = Vec::from_slice(alloc, switch_word(bits).as_bytes())?;
+    add_bits(alloc, label, 1, bits)
+}
+
+fn add_power_flags(alloc: Global, label: &mut Label, bits: u32) -> Result<(), AllocError>
+    ensures { OnOk result (words_of label.new ≡ with_power_flags bits (words_of label.old)) }
+{
+    add_remark_if(label, bits % 2 == 1, "async")?;
+    add_bits(alloc, label, 1, bits)
+}
+
+fn add_permit_flags(alloc: Global, label: &mut Label, bits: u32) -> Result<(), AllocError>
+    ensures { OnOk result (words_of label.new ≡ with_permit_flags bits (words_of label.old)) }
+{
+    let words = if bits % 2 == 1 { "allow" } else { "deny" };
+    add_remark(label, words.as_bytes())?;
+    add_bits(alloc, label, 1, bits)
+}
+
+fn add_reset_flags(alloc: Global, label: &mut Label, bits: u32) -> Result<(), AllocError>
+    ensures { OnOk result (words_of label.new ≡ with_reset_flags bits (words_of label.old)) }
+{
+    add_remark_if(label, bits % 2 == 1, "and permissions")?;
+    add_bits(alloc, label, 1, bits)
+}
+
+/// Adds when a rate set takes effect, whether it is announced, and how the rate is rounded.
+fn add_rate_flags(alloc: Global, label: &mut Label, bits: u32) -> Result<(), AllocError>
+    ensures { OnOk result (words_of label.new ≡ with_rate_flags bits (words_of label.old)) }
+{
+    add_timing(label, bits)?;
+    add_rounding(label, bits)?;
+    add_bits(alloc, label, 15, bits)
+}
+
+/// Adds when a rate set takes effect, and whether it is announced.
+#[tactic(auto, unfolding(crate::specs::Fields::with_timing))]
+fn add_timing(label: &mut Label, bits: u32) -> Result<(), AllocError>
+    ensures { OnOk result (words_of label.new ≡ with_timing bits (words_of label.old)) }
+{
+    add_remark_if(label, bits % 2 == 1, "async")?;
+    add_remark_if(label, bits / 2 % 2 == 1, "no response")
+}
+
+/// Adds how a rate is rounded.
+#[tactic(auto, unfolding(crate::specs::Fields::with_rounding))]
+fn add_rounding(label: &mut Label, bits: u32) -> Result<(), AllocError>
+    ensures { OnOk result (words_of label.new ≡ with_rounding bits (words_of label.old)) }
+{
+    if bits / 8 % 2 == 1 {
+        return add_remark(label, b"nearest");
+    }
+    add_remark_if(label, bits / 4 % 2 == 1, "up")
+}
+
+/// Adds all bits of a word to the remark, where another is set than the low ones that have a meaning.
+fn add_bits(alloc: Global, label: &mut Label, known: u32, bits: u32) -> Result<(), AllocError>
+    ensures { OnOk result (words_of label.new ≡ with_bits known bits (words_of label.old)) }
+{
+    if bits <= known {
+        return Ok(());
+    }
+    let mut words = Vec::from_slice(alloc, b"flags ")?;
+    words.extend_from_slice(&hex_words(alloc, bits)?)?;
+    add_remark(label, &words)
+}

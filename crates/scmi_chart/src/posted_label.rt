@@ -1,0 +1,127 @@
+//! What messages of the platform's own accord say, in words.
+ghost use Rattle.std.specs.Prelude.{◌≡◌, ◌==◌, IfOk, OnOk};
+ghost use Rattle.scmi_plan.specs.RawPlan.{asked_board};
+ghost use Rattle.scmi_chart.specs.LabelWords.{words_of};
+ghost use Rattle.scmi_chart.specs.Fields.{with_fields};
+ghost use Rattle.scmi_chart.specs.Answered.{delayed_words, notified_words, posted_fields, posted_words};
+ghost use Rattle.scmi_describe.specs.Names.{notification_text};
+ghost use Rattle.scmi_describe.specs.Replies.{delayed_fields, notification_fields};
+
+use crate::fields::add_fields;
+use crate::label::{name_label, name_of, plain_label};
+use crate::reply_label::status_words;
+use scmi_codec::{CLOCK_PROTOCOL, Message, POWER_PROTOCOL, rate_of};
+use scmi_describe::{Field, notification_name};
+use scmi_plan::RawPlan;
+use scmi_svg::Label;
+use std::alloc::{AllocError, Global};
+
+/// What a delayed response or a notification says.
+#[tactic(auto, unfolding(crate::specs::Answered::posted_words))]
+pub(crate) fn posted_label(
+    alloc: Global,
+    board: &RawPlan,
+    message: &Message,
+) -> Result<Label, AllocError>
+    ensures { IfOk result (λ label.
+        words_of label ≡ posted_words (asked_board board.now) message.now) }
+{
+    let mut label = posted_name(alloc, message)?;
+    add_posted_fields(alloc, board, &mut label, message)?;
+    Ok(label)
+}
+
+/// The name of a notification, or that of a delayed response.
+fn posted_name(alloc: Global, message: &Message) -> Result<Label, AllocError>
+    ensures { IfOk result (λ label. words_of label ≡ notified_words message.now
+        (notification_text message.now.header.protocol message.now.header.id)
+        (message.now.header.kind == 3)) }
+{
+    match notification_name(message.header.protocol, message.header.id) {
+        Some(name) if message.header.kind == 3 => plain_label(alloc, name),
+        _ => delayed_label(alloc, message),
+    }
+}
+
+/// The name of a delayed response, and its status where that is none of success.
+fn delayed_label(alloc: Global, message: &Message) -> Result<Label, AllocError>
+    ensures { IfOk result (λ label. words_of label ≡ delayed_words message.now.header.protocol
+        message.now.header.id message.now.payload.items) }
+{
+    let mut name = name_of(alloc, message.header.protocol, message.header.id)?;
+    match message.payload.as_slice() {
+        [status, ..] if *status != 0 => {
+            name.extend_from_slice(b" failed")?;
+            let mut label = name_label(alloc, name);
+            label.object = status_words(alloc, *status)?;
+            Ok(label)
+        }
+        _ => {
+            name.extend_from_slice(b" completed")?;
+            Ok(name_label(alloc, name))
+        }
+    }
+}
+
+/// Adds the fields of a notification, or of a delayed response behind its status.
+fn add_posted_fields(
+    alloc: Global,
+    board: &RawPlan,
+    label: &mut Label,
+    message: &Message,
+) -> Result<(), AllocError>
+    ensures { OnOk result (words_of label.new ≡ with_fields (asked_board board.now)
+        (posted_fields message.now) (words_of label.old)) }
+{
+    match message.header.kind {
+        3 => add_notification_fields(alloc, board, label, message),
+        2 => add_delayed_fields(alloc, board, label, message),
+        _ => Ok(()),
+    }
+}
+
+fn add_notification_fields(
+    alloc: Global,
+    board: &RawPlan,
+    label: &mut Label,
+    message: &Message,
+) -> Result<(), AllocError>
+    ensures { OnOk result (words_of label.new ≡ with_fields (asked_board board.now)
+        (notification_fields message.now) (words_of label.old)) }
+{
+    let header = message.header;
+    match message.payload.as_slice() {
+        [agent, domain, state] if header.protocol == POWER_PROTOCOL && header.id == 0x0 => {
+            let fields = [
+                Field::By(*agent),
+                Field::Domain(*domain),
+                Field::State(*state),
+            ];
+            add_fields(alloc, board, label, &fields)
+        }
+        _ => Ok(()),
+    }
+}
+
+fn add_delayed_fields(
+    alloc: Global,
+    board: &RawPlan,
+    label: &mut Label,
+    message: &Message,
+) -> Result<(), AllocError>
+    ensures { OnOk result (words_of label.new ≡ with_fields (asked_board board.now)
+        (delayed_fields message.now) (words_of label.old)) }
+{
+    let header = message.header;
+    match message.payload.as_slice() {
+        [_, domain, state] if header.protocol == POWER_PROTOCOL && header.id == 0x4 => {
+            let fields = [Field::Domain(*domain), Field::State(*state)];
+            add_fields(alloc, board, label, &fields)
+        }
+        [_, clock, low, high] if header.protocol == CLOCK_PROTOCOL && header.id == 0x5 => {
+            let fields = [Field::Clock(*clock), Field::Rate(rate_of(*low, *high))];
+            add_fields(alloc, board, label, &fields)
+        }
+        _ => Ok(()),
+    }
+}
