@@ -75,7 +75,7 @@ fn decode_digits(digits: &[u8], bytes: &mut [u8]) -> bool
 }
 
 /// Whether an item is a number, of which the lowest byte comes first: it has its mark, or eight digits.
-fn is_number(item: &[u8]) -> bool
+pub(crate) fn is_number(item: &[u8]) -> bool
     ensures { result ≡ is_number item.now }
 {
     has_mark(item) || item.len() == 8
