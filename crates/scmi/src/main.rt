@@ -8,6 +8,7 @@
 
 mod file;
 mod opened;
+mod read_as;
 mod refusal;
 mod report;
 mod request;
@@ -21,6 +22,7 @@ mod unknown_text;
 mod word;
 
 use crate::file::file_of;
+use crate::read_as::ReadAs;
 use crate::refusal::{WRONG_ARGUMENT, lack_board, refuse, refuse_file};
 use crate::report::{report_input, report_output};
 use crate::request::{Request, request_of};
@@ -97,7 +99,8 @@ fn serve_on<T: Threads + Wait + Sync + Eprint, R: Read + Drop, W: Write + Drop>(
 ) -> u8 {
     let mut input = Kept::new(alloc, reader);
     let mut output = LastLine::new(writer);
-    let status = run_request(rt, alloc, request, &mut input, &mut output);
+    let mut readings = ReadAs::new(rt, name);
+    let status = run_request(rt, alloc, request, &mut input, &mut output, &mut readings);
     let is_flushed = output.flush().is_ok();
     let unwritten = RunError::Write.status();
     if status == unwritten || !is_flushed {

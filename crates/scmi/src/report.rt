@@ -15,7 +15,7 @@ pub fn report_input<R: Read + Drop>(
     input: &Kept<R>,
     last_line: &[u8],
 ) {
-    let Some(fault) = Fault::of_line(last_line) else {
+    let Some(fault) = fault_of(request, last_line) else {
         return;
     };
     let found = explain(alloc, expected_of(request), input.bytes(), fault);
@@ -23,6 +23,14 @@ pub fn report_input<R: Read + Drop>(
         Some(error) if fault == Fault::Read => eprintln!(rt; "{name}{found}: {error}"),
         _ => eprintln!(rt; "{name}{found}"),
     };
+}
+
+/// Why a run failed, whose last line is this: of dumps that are all written none is an area.
+fn fault_of(request: Request, last_line: &[u8]) -> Option<Fault> {
+    match Fault::of_line(last_line) {
+        None if request == Request::Do(Task::Decode) => Some(Fault::Area),
+        fault => fault,
+    }
 }
 
 /// Says that the output could not be written, and why, where its writer says so; nothing where who read

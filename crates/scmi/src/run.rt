@@ -6,7 +6,7 @@ use crate::refusal::WRONG_ARGUMENT;
 use crate::request::Request;
 use crate::task::Task;
 use crate::texts::text_of;
-use scmi_decode::run_decode;
+use scmi_decode::{Readings, run_decode};
 use scmi_draw::run_draw;
 use scmi_modes::{Modes, RunError, run_program};
 use scmi_threads::OpenGate;
@@ -16,13 +16,14 @@ use std::sync::Wait;
 use std::thread::Threads;
 
 /// Does what is asked for, and gives the exit status: 0, or that of the error, which the last line
-/// names. A text that can't be written gives status 1.
-pub fn run_request<T: Threads + Wait + Sync, R: Read, W: Write>(
+/// names. A text that can't be written gives status 1. `readings` is notified of how the areas of dumps are read.
+pub fn run_request<T: Threads + Wait + Sync, R: Read, W: Write, N: Readings>(
     rt: &T,
     alloc: Global,
     request: Request,
     reader: &mut R,
     writer: &mut W,
+    readings: &mut N,
 ) -> u8
     ensures { result ≡ 0 →
         Answers request (R.remaining reader.old) (W.contents writer.old) (W.contents writer.new) }
@@ -36,7 +37,7 @@ pub fn run_request<T: Threads + Wait + Sync, R: Read, W: Write>(
             reader,
             writer,
         ),
-        Request::Do(Task::Decode) => run_decode(alloc, reader, writer),
+        Request::Do(Task::Decode) => run_decode(alloc, reader, writer, readings),
         Request::Do(Task::Chart) => run_draw(alloc, reader, writer),
         // Its board is read from a file.
         Request::Do(Task::Session) => WRONG_ARGUMENT,

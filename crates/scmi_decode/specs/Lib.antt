@@ -4,6 +4,7 @@ pub mod OpenDump
 pub mod MessageArea
 pub mod Event
 pub mod MessageLine
+pub mod Reading
 pub mod Decoded
 pub mod OneDump
 pub mod DecodeError

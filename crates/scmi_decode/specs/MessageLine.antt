@@ -39,6 +39,10 @@ abbrev pub event_or_own : Option (List (List ℕ)) → List (List ℕ) → Optio
 event_or_own (Some behind) items = event_area behind
 event_or_own None items = got_or_own (behind_got items) items
 
--- the bytes that a line stands for alone, where it is no row of a dump
+-- the bytes that the items of a line stand for alone, where it is no row of a dump
+abbrev pub items_alone : List (List ℕ) → Option (List ℕ)
+items_alone items = event_or_own (behind_event items) items
+
+-- the same of a line
 abbrev pub alone_bytes : List ℕ → Option (List ℕ)
-alone_bytes line = event_or_own (behind_event (slice_split is_gap line)) (slice_split is_gap line)
+alone_bytes line = items_alone (slice_split is_gap line)

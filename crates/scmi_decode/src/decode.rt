@@ -8,35 +8,43 @@ ghost use Rattle.scmi_decode.specs.OneDump.{WritesForms};
 
 use crate::decode_error::DecodeError;
 use crate::open_dump::OpenDump;
-use crate::step::{close, take_line};
+use crate::readings::Readings;
+use crate::step::{close_and_say, take_and_say};
 use scmi_input::{CountedRead, CountedReader, Input};
 use std::alloc::Global;
 use std::io::{Read, Write};
 
 /// Decodes an input, a line at a time, and gives the exit status: 0, or that of the error, whose text is
-/// written as the last line; `NoArea` has none. A fault that can't be written gives status 1.
-pub fn run_decode<R: Read, W: Write>(alloc: Global, reader: &mut R, writer: &mut W) -> u8
+/// written as the last line; `NoArea` has none. A fault that can't be written gives status 1. `readings`
+/// is told how each area is read, where that is another way than that of the area before.
+pub fn run_decode<R: Read, W: Write, N: Readings>(
+    alloc: Global,
+    reader: &mut R,
+    writer: &mut W,
+    readings: &mut N,
+) -> u8
     ensures text { result ≡ 0 →
         IsDecoded (R.remaining reader.old) (W.contents writer.old) (W.contents writer.new) }
     ensures area { result ≡ 0 →
         IfSome (R.remaining reader.old) (λ input. IsTrue (has_area input)) }
 {
     let mut input = Input::new(CountedReader::new(reader));
-    run_counted(alloc, &mut input, writer)
+    run_counted(alloc, &mut input, writer, readings)
 }
 
 /// The same of a reader that counts.
-pub fn run_counted<R: CountedRead + Drop, W: Write>(
+pub fn run_counted<R: CountedRead + Drop, W: Write, N: Readings>(
     alloc: Global,
     input: &mut Input<R>,
     writer: &mut W,
+    readings: &mut N,
 ) -> u8
     ensures text { result ≡ 0 →
         IsDecoded input.old.left (W.contents writer.old) (W.contents writer.new) }
     ensures area { result ≡ 0 → IfSome input.old.left (λ bytes. IsTrue (has_area bytes)) }
     ensures stops { input.old.since_failure ≡ 0 → input.new.since_failure ≤ 1 }
 {
-    match decode(alloc, input, writer) {
+    match decode(alloc, input, writer, readings) {
         Ok(()) => 0,
         Err(DecodeError::Write) => DecodeError::Write.status(),
         Err(DecodeError::NoArea) => DecodeError::NoArea.status(),
@@ -51,10 +59,11 @@ pub fn run_counted<R: CountedRead + Drop, W: Write>(
 /// first line, in words. `NoArea` where all was written and none of it is an area. `Size` at a line
 /// longer than `INPUT_BYTES`, `Read` at a read that fails, `Memory` where memory is refused and `Write`
 /// where the output fails: what stands before is then written.
-pub fn decode<R: CountedRead + Drop, W: Write>(
+pub fn decode<R: CountedRead + Drop, W: Write, N: Readings>(
     alloc: Global,
     input: &mut Input<R>,
     writer: &mut W,
+    readings: &mut N,
 ) -> Result<(), DecodeError>
     ensures text { OnOk result (
         IsDecoded input.old.left (W.contents writer.old) (W.contents writer.new)) }
@@ -68,7 +77,7 @@ pub fn decode<R: CountedRead + Drop, W: Write>(
     ensures stops { StopsWith DecodeError.Read result input.old.since_failure
         input.new.since_failure }
 {
-    if decode_lines(alloc, input, writer)? {
+    if decode_lines(alloc, input, writer, readings)? {
         Ok(())
     } else {
         Err(DecodeError::NoArea)
@@ -76,10 +85,11 @@ pub fn decode<R: CountedRead + Drop, W: Write>(
 }
 
 /// Writes what the dumps of an input are, and gives whether one is an area.
-fn decode_lines<R: CountedRead + Drop, W: Write>(
+fn decode_lines<R: CountedRead + Drop, W: Write, N: Readings>(
     alloc: Global,
     input: &mut Input<R>,
     writer: &mut W,
+    readings: &mut N,
 ) -> Result<bool, DecodeError>
     ensures text { OnOk result (
         IsDecoded input.old.left (W.contents writer.old) (W.contents writer.new)) }
@@ -94,9 +104,9 @@ fn decode_lines<R: CountedRead + Drop, W: Write>(
     let mut line = Vec::new(alloc);
     'lines: for number in 1..usize::MAX {
         let ended = input.read_line(&mut line)?;
-        take_line(alloc, writer, &mut dump, number, line.as_slice())?;
+        take_and_say(alloc, writer, readings, &mut dump, number, line.as_slice())?;
         if !ended {
-            close(writer, &mut dump)?;
+            close_and_say(writer, readings, &mut dump)?;
             return Ok(dump.found());
         }
     }

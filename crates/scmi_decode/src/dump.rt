@@ -3,7 +3,7 @@ ghost use Rattle.std.specs.Prelude.{◌≡◌, ◌≢◌, ◌/◌, [], IfOk, map
 ghost use Rattle.std.specs.Option.{option_map};
 ghost use Rattle.scmi_decode.specs.Dump.{Adds, bytes_of, digits_of, is_number, number_bytes, has_mark, item_bytes, items_bytes, line_bytes};
 
-use crate::lines::items_of;
+use crate::lines::is_gap;
 use crate::row::ROW_BYTES;
 use hex::FromHexError;
 use std::alloc::{AllocError, Global};
@@ -17,8 +17,13 @@ const SHORT_DIGITS: usize = 64;
 pub fn line_bytes(alloc: Global, line: &[u8]) -> Result<Option<Vec<u8>>, AllocError>
     ensures { IfOk result (λ found. option_map (λ bytes. bytes.items) found ≡ line_bytes line.now) }
 {
-    let items = items_of(alloc, line)?;
-    items_bytes(alloc, items.as_slice())
+    let mut all = Vec::with_capacity(alloc, ROW_BYTES)?;
+    for item in line.split(|byte| is_gap(*byte)) {
+        if !add_item(alloc, &mut all, item)? {
+            return Ok(None);
+        }
+    }
+    Ok(Some(all))
 }
 
 /// The bytes of items, one after the other.
@@ -75,7 +80,7 @@ fn decode_digits(digits: &[u8], bytes: &mut [u8]) -> bool
 }
 
 /// Whether an item is a number, of which the lowest byte comes first: it has its mark, or eight digits.
-fn is_number(item: &[u8]) -> bool
+pub(crate) fn is_number(item: &[u8]) -> bool
     ensures { result ≡ is_number item.now }
 {
     has_mark(item) || item.len() == 8

@@ -1,14 +1,18 @@
 //! What is written of a line, and of a dump.
-ghost use Rattle.std.specs.Prelude.{◌≡◌, ◌⊎◌, OnOk, IfOk, IfErr, codes};
-ghost use Rattle.std.specs.Option.{option_copied, option_map};
+ghost use Rattle.std.specs.Prelude.{◌≡◌, ◌⊎◌, OnOk, IfOk, IfErr, IfSome, codes};
+ghost use Rattle.std.specs.Option.{is_some, option_copied, option_map};
+ghost use Rattle.std.specs.List.{slice_split};
+ghost use Rattle.scmi_decode.specs.Dump.{is_gap};
+ghost use Rattle.scmi_decode.specs.Reading.{alone_reading};
 ghost use Rattle.std.specs.Io.KnownBytes.{Appends};
 ghost use Rattle.scmi_decode.specs.Decoded.{are_area, bytes_text, dump_text, found_text, line_is_area, line_text, numbered_text, other_size_text};
 
 use crate::decode_error::DecodeError;
 use crate::hint::write_hinted;
-use crate::lines::is_described;
+use crate::lines::{is_described, items_of};
 use crate::message_line::alone_bytes;
 use crate::open_dump::{OpenDump, is_area};
+use crate::reading::{Reading, alone_reading};
 use scmi_codec::{AREA_BYTES, LEAST_AREA_BYTES};
 use scmi_describe::describe_channel;
 use std::alloc::Global;
@@ -16,24 +20,30 @@ use std::io;
 use std::io::Write;
 
 /// Writes what a line is that is a dump of its own, behind its number: what its area is, or that it is
-/// none; nothing of a line that is empty or begins with `#`. Gives whether it is an area. `Memory` where
-/// memory is refused, `Write` where the output fails.
+/// none; nothing of a line that is empty or begins with `#`. Gives how it is read where it is an area.
+/// `Memory` where memory is refused, `Write` where the output fails.
 pub fn write_line<W: Write>(
     alloc: Global,
     writer: &mut W,
     number: usize,
     line: &[u8],
-) -> Result<bool, DecodeError>
+) -> Result<Option<Reading>, DecodeError>
     ensures text { OnOk result (Appends (W.contents writer.old) (W.contents writer.new) (
         line_text number line.now)) }
-    ensures area { IfOk result (λ area. area ≡ line_is_area line.now) }
+    ensures area { IfOk result (λ read. is_some read ≡ line_is_area line.now) }
+    ensures reading { IfOk result (λ read. IfSome read (λ reading.
+        reading ≡ alone_reading (slice_split is_gap line.now))) }
     ensures errors { IfErr result (λ e. (e ≡ DecodeError.Memory) ⊎ (e ≡ DecodeError.Write)) }
 {
     if !is_described(line) {
-        return Ok(false);
+        return Ok(None);
     }
-    let found = alone_bytes(alloc, line)?;
-    write_found_line(writer, number, &found)
+    let items = items_of(alloc, line)?;
+    let found = alone_bytes(alloc, items.as_slice())?;
+    if !write_found_line(writer, number, &found)? {
+        return Ok(None);
+    }
+    Ok(Some(alone_reading(items.as_slice())))
 }
 
 /// Writes what a line is, behind its number, and gives whether it is an area.

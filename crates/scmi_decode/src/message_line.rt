@@ -1,28 +1,27 @@
 //! Lines that tell a message: of Linux's event `scmi_msg_dump`, or of a script.
 ghost use Rattle.std.specs.Prelude.{◌≡◌, IfOk, map};
 ghost use Rattle.std.specs.Option.{option_map};
-ghost use Rattle.scmi_decode.specs.MessageLine.{alone_bytes, behind_event, behind_got, got_or_own, is_agent, is_got};
+ghost use Rattle.scmi_decode.specs.MessageLine.{behind_event, behind_got, got_or_own, is_agent, is_got, items_alone};
 
 use crate::dump::items_bytes;
 use crate::event::{digits_number, event_area, is_word};
-use crate::lines::items_of;
 use crate::message_area::message_area;
 use std::alloc::{AllocError, Global};
 
-/// The bytes that a line stands for alone: the area of the message that it tells, or else its own. The
-/// only error is want of memory.
-pub(crate) fn alone_bytes(alloc: Global, line: &[u8]) -> Result<Option<Vec<u8>>, AllocError>
-    ensures { IfOk result (λ found. option_map (λ bytes. bytes.items) found ≡ alone_bytes line.now) }
+/// The bytes that the items of a line stand for alone: the area of the message that they tell, or else
+/// their own. The only error is want of memory.
+pub(crate) fn alone_bytes(alloc: Global, items: &[&[u8]]) -> Result<Option<Vec<u8>>, AllocError>
+    ensures { IfOk result (λ found. option_map (λ bytes. bytes.items) found ≡
+        items_alone (map (λ item. item.now) items.now)) }
 {
-    let items = items_of(alloc, line)?;
-    match behind_event(items.as_slice()) {
+    match behind_event(items) {
         Some(behind) => event_area(alloc, behind),
-        None => got_or_own(alloc, items.as_slice()),
+        None => got_or_own(alloc, items),
     }
 }
 
 /// What stands behind the name of the event, if it is among the items.
-fn behind_event<'a, 'b>(items: &'b [&'a [u8]]) -> Option<&'b [&'a [u8]]>
+pub(crate) fn behind_event<'a, 'b>(items: &'b [&'a [u8]]) -> Option<&'b [&'a [u8]]>
     ensures { option_map (λ behind. map (λ item. item.now) behind.now) result
         ≡ behind_event (map (λ item. item.now) items.now) }
 {
@@ -51,7 +50,7 @@ fn got_or_own(alloc: Global, items: &[&[u8]]) -> Result<Option<Vec<u8>>, AllocEr
 }
 
 /// What stands behind an agent and the word that it has got a message.
-fn behind_got<'a, 'b>(items: &'b [&'a [u8]]) -> Option<&'b [&'a [u8]]>
+pub(crate) fn behind_got<'a, 'b>(items: &'b [&'a [u8]]) -> Option<&'b [&'a [u8]]>
     ensures { option_map (λ behind. map (λ item. item.now) behind.now) result
         ≡ behind_got (map (λ item. item.now) items.now) }
 {

@@ -1,15 +1,19 @@
 //! A dump over several lines.
 ghost use Rattle.std.specs.Prelude.{◌≡◌, ◌+◌, ◌%◌, ◌^◌, length, OnOk, IfOk};
+ghost use Rattle.std.specs.Option.{is_some};
 ghost use Rattle.scmi_decode.specs.OpenDump.{no_dump, is_open, is_area, same_form, reaches, is_even, goes_on, copies, rows_before, last_row, filled, extended, added, begun, closed, beside, repeated, has_one_item, is_star, end_at};
 
 use crate::form::Form;
+use crate::reading::Reading;
+use crate::readings::{Readings, Unsaid};
 use crate::row::{Row, address_of};
 use crate::scan::{after_gap, after_item, first_item};
 use scmi_codec::{AREA_BYTES, is_channel_size};
 use std::alloc::{AllocError, Global};
 use std::marker::Model;
 
-/// A dump over several lines, as far as it was read, and whether an area was found before it.
+/// A dump over several lines, as far as it was read, and whether an area was found before it. How it is
+/// read is beside what a contract sees.
 #[derive(Drop)]
 pub(crate) struct OpenDump {
     first: usize,
@@ -19,6 +23,8 @@ pub(crate) struct OpenDump {
     repeats: bool,
     bytes: Vec<u8>,
     found: bool,
+    reading: Reading,
+    unsaid: Unsaid,
 }
 
 impl Model for OpenDump {
@@ -50,6 +56,8 @@ impl OpenDump {
             repeats: false,
             bytes: Vec::new(alloc),
             found: false,
+            reading: Reading::Bytes,
+            unsaid: Unsaid::new(),
         }
     }
 
@@ -181,16 +189,36 @@ impl OpenDump {
     pub(crate) fn close(&mut self)
         ensures { self.new ≡ closed self.old }
     {
-        self.found = self.found || is_area(self.bytes.as_slice());
+        if is_area(self.bytes.as_slice()) {
+            self.unsaid.take_dump(self.first, self.reading);
+            self.found = true;
+        }
         self.bytes.clear();
     }
 
-    /// Notes whether an area was found beside the dump.
+    /// Notes how a line beside the dump was read, where it is an area.
     #[tactic(auto, unfolding(crate::specs::OpenDump::beside))]
-    pub(crate) fn note(&mut self, area: bool)
-        ensures { self.new ≡ beside self.old area }
+    pub(crate) fn note(&mut self, number: usize, read: Option<Reading>)
+        ensures { self.new ≡ beside self.old (is_some read) }
     {
-        self.found = self.found || area;
+        if let Some(reading) = read {
+            self.unsaid.take_line(number, reading);
+            self.found = true;
+        }
+    }
+
+    /// Notes how it is read.
+    pub(crate) fn read_as(&mut self, reading: Reading)
+        ensures { self.new ≡ self.old }
+    {
+        self.reading = reading;
+    }
+
+    /// Says how the areas that have ended are read, where that is another way than before.
+    pub(crate) fn say<N: Readings>(&mut self, readings: &mut N)
+        ensures { self.new ≡ self.old }
+    {
+        self.unsaid.say(readings);
     }
 
     /// Whether a line is `*`, by which the last row of a dump with addresses repeats.

@@ -4,7 +4,7 @@ ghost use Rattle.scmi_decode.specs.Row.{ends_in_colon, without_last, is_symbol, 
 
 use crate::dump::has_mark;
 use crate::form::Form;
-use crate::scan::{after_gap, after_item, bar_length, column_length, first_item};
+use crate::scan::{after_gap, bar_length, column_length, item_and_rest};
 
 /// The form of a row, the digits of its address, and where its bytes stand.
 #[derive(Drop)]
@@ -21,16 +21,15 @@ pub(crate) fn parts_of(line: &[u8]) -> Parts<'_>
     ensures digits { result.digits.now ≡ (parts_of line.now).digits }
     ensures bytes { result.bytes.now ≡ (parts_of line.now).bytes }
 {
-    let first = first_item(line);
-    let behind = after_item(line);
+    let (first, behind) = item_and_rest(line);
     if ends_in_colon(first) {
         return marked_parts(without_last(first), behind);
     }
-    let second = first_item(behind);
+    let (second, rest) = item_and_rest(behind);
     if is_symbol(second) {
-        return marked_parts(first, after_item(behind));
+        return marked_parts(first, rest);
     }
-    if is_pair(first, second, after_item(behind)) {
+    if is_pair(first, second, rest) {
         return marked_parts(first, behind);
     }
     if is_offset(first, second) {

@@ -57,6 +57,15 @@ pub(crate) fn after_item(line: &[u8]) -> &[u8]
     &line[item_length(line)..]
 }
 
+/// The first item of a line, and what stands behind it.
+pub(crate) fn item_and_rest(line: &[u8]) -> (&[u8], &[u8])
+    ensures item { result.0.now ≡ first_item line.now }
+    ensures rest { result.1.now ≡ after_item line.now }
+{
+    let line = after_gap(line);
+    line.split_at(item_length(line))
+}
+
 /// How many bytes stand before two spaces in a row.
 pub(crate) fn column_length(line: &[u8]) -> usize
     ensures value { result ≡ column_length line.now }

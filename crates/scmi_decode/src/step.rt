@@ -8,14 +8,51 @@ ghost use Rattle.scmi_decode.specs.Decoded.{dump_after, dump_after_row, dump_tex
 use crate::decode_error::DecodeError;
 use crate::line::{write_dump, write_line};
 use crate::open_dump::OpenDump;
+use crate::reading::row_reading;
+use crate::readings::Readings;
 use crate::row::{Row, row_of};
 use std::alloc::Global;
 use std::io::Write;
 
+/// Takes a line, and says how the areas that it ends are read.
+pub(crate) fn take_and_say<W: Write, N: Readings>(
+    alloc: Global,
+    writer: &mut W,
+    readings: &mut N,
+    dump: &mut OpenDump,
+    number: usize,
+    line: &[u8],
+) -> Result<(), DecodeError>
+    ensures text { OnOk result (Appends (W.contents writer.old) (W.contents writer.new) (
+        step_text dump.old number line.now)) }
+    ensures dump { OnOk result (dump.new ≡ dump_after dump.old number line.now) }
+    ensures errors { IfErr result (λ e. (e ≡ DecodeError.Memory) ⊎ (e ≡ DecodeError.Write)) }
+{
+    take_line(alloc, writer, dump, number, line)?;
+    dump.say(readings);
+    Ok(())
+}
+
+/// Ends the dump, writes what it was, and says how it is read.
+pub(crate) fn close_and_say<W: Write, N: Readings>(
+    writer: &mut W,
+    readings: &mut N,
+    dump: &mut OpenDump,
+) -> Result<(), DecodeError>
+    ensures text { OnOk result (Appends (W.contents writer.old) (W.contents writer.new) (
+        dump_text dump.old)) }
+    ensures dump { OnOk result (dump.new ≡ closed dump.old) }
+    ensures errors { IfErr result (λ e. e ≡ DecodeError.Write) }
+{
+    close(writer, dump)?;
+    dump.say(readings);
+    Ok(())
+}
+
 /// Takes a line: a row that goes on with the dump is added to it; any other line but a remark ends it,
 /// and what it was is written. `Memory` where memory is refused, `Write` where the output fails.
 #[tactic(auto, unfolding(crate::specs::Decoded::step_text, crate::specs::Decoded::dump_after))]
-pub(crate) fn take_line<W: Write>(
+fn take_line<W: Write>(
     alloc: Global,
     writer: &mut W,
     dump: &mut OpenDump,
@@ -85,6 +122,7 @@ fn add_row<W: Write>(
     }
     close(writer, dump)?;
     dump.begin(number, row)?;
+    dump.read_as(row_reading(line));
     Ok(())
 }
 
@@ -102,13 +140,13 @@ fn take_alone<W: Write>(
     ensures errors { IfErr result (λ e. (e ≡ DecodeError.Memory) ⊎ (e ≡ DecodeError.Write)) }
 {
     close(writer, dump)?;
-    let area = write_line(alloc, writer, number, line)?;
-    dump.note(area);
+    let read = write_line(alloc, writer, number, line)?;
+    dump.note(number, read);
     Ok(())
 }
 
 /// Ends the dump, and writes what it was.
-pub(crate) fn close<W: Write>(writer: &mut W, dump: &mut OpenDump) -> Result<(), DecodeError>
+fn close<W: Write>(writer: &mut W, dump: &mut OpenDump) -> Result<(), DecodeError>
     ensures text { OnOk result (Appends (W.contents writer.old) (W.contents writer.new) (
         dump_text dump.old)) }
     ensures dump { OnOk result (dump.new ≡ closed dump.old) }

@@ -4,15 +4,15 @@ ghost use Rattle.scmi_explain.specs.Explain.{line_of};
 
 use crate::area::area_explanation;
 use crate::board::board_cause;
+use crate::dumps::dumps_cause;
 use crate::expected::Expected;
 use crate::explanation::Explanation;
 use crate::fault::Fault;
-use crate::mode::{is_mode, mode_cause};
+use crate::mode::mode_cause;
 use crate::plan::plan_explanation;
 use crate::script::script_cause;
 use crate::size::size_cause;
 use crate::slip::Slip;
-use crate::text::first_line;
 use crate::what::What;
 use std::alloc::Global;
 
@@ -26,10 +26,7 @@ pub fn explain(alloc: Global, expected: Expected, input: &[u8], fault: Fault) ->
         Fault::Board(line) => at(Some(line), board_cause(alloc, input, line)),
         Fault::Script(line) => at(Some(line), script_cause(alloc, input, line)),
         Fault::Plan(rule) => plan_explanation(input, rule),
-        Fault::Area if expected == Expected::Dumps => at(
-            None,
-            (What::NoDump, slip_of_dumps(input)),
-        ),
+        Fault::Area if expected == Expected::Dumps => at(None, dumps_cause(input)),
         Fault::Area => area_explanation(input),
         Fault::Size => at(None, (size_cause(expected, input), None)),
         Fault::Read => at(None, (What::NotRead, None)),
@@ -43,9 +40,4 @@ fn at<'a>(line: Option<u32>, cause: (What<'a>, Option<Slip>)) -> Explanation<'a>
 {
     let (what, slip) = cause;
     Explanation { line, what, slip }
-}
-
-/// The slip behind an input without a dump.
-fn slip_of_dumps(input: &[u8]) -> Option<Slip> {
-    is_mode(first_line(input)).then_some(Slip::SessionFirst)
 }

@@ -10,6 +10,7 @@
 mod area;
 mod board;
 mod causes;
+mod dumps;
 mod expected;
 mod explanation;
 mod fault;

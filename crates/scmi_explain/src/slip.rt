@@ -39,6 +39,10 @@ pub enum Slip {
     SessionFirst,
     /// It is a step, and the line `end` may be missing before it.
     EndMissing(&'static str),
+    /// It is no text, where dumps are wanted.
+    NoText,
+    /// It has numbers of 16 bits.
+    Halfwords,
     /// The board has a line `board` already.
     SecondBoard,
     /// The mode stands a second time.
@@ -74,6 +78,10 @@ impl Slip {
             Slip::Picture => "it is a picture, or text with marks",
             Slip::OnlyRun => "that mode is run by scmi run, and not drawn",
             Slip::SessionFirst => "it is the mode of a session, which scmi run takes",
+            Slip::NoText => "it has a byte 0, so it is no text; xxd prints what stands in it",
+            Slip::Halfwords => {
+                "it has numbers of 16 bits, which are not read; hexdump -C and od -t x1 print bytes"
+            }
             Slip::SecondBoard => "a board has one line \"board\"",
             Slip::SecondMode => "the mode stands in line 1 alone",
             Slip::BoardEnded => "it is a row of the board, which ended before",
@@ -99,9 +107,14 @@ impl fmt::Display for Slip {
 /// The first bytes of a file that was saved with a byte order mark.
 const BYTE_ORDER_MARK: &[u8] = b"\xef\xbb\xbf";
 
+/// Whether a line begins with a byte order mark.
+pub(crate) fn begins_with_mark(line: &[u8]) -> bool {
+    line.starts_with(BYTE_ORDER_MARK)
+}
+
 /// The slip that the bytes of a line show.
 pub(crate) fn slip_of_bytes(line: &[u8]) -> Option<Slip> {
-    if line.starts_with(BYTE_ORDER_MARK) {
+    if begins_with_mark(line) {
         return Some(Slip::ByteOrderMark);
     }
     if line.contains(&b'\t') {

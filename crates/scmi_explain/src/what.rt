@@ -127,7 +127,7 @@ fn fmt_line<W: fmt::Write>(what: &What<'_>, f: &mut fmt::Formatter<W>) -> fmt::R
 fn write_wanted<W: fmt::Write>(f: &mut fmt::Formatter<W>, expected: Expected) -> fmt::Result {
     match expected {
         Expected::Drawing => f.write_str("a chart is drawn of a run on one thread, as steps words"),
-        Expected::Dumps => f.write_str("a line has the digits of an area"),
+        Expected::Dumps => f.write_str("dumps of areas are wanted, as xxd prints them"),
         Expected::Session => {
             f.write_str("line 1 is one of")?;
             let mut before = " ";

@@ -1,0 +1,53 @@
+-- How dumps are read.
+use Rattle.std.specs.Prelude.{ℕ, ◌==◌, ◌&&◌, nat_lt, Bool, true, false, if◌then◌else◌, List, [], ◌∷◌, get_or, length, map, is_some}
+use Rattle.scmi_decode.specs.Dump.{is_number}
+use Rattle.scmi_decode.specs.MessageLine.{behind_event, behind_got}
+use Rattle.scmi_decode.specs.Row.{first_item, parts_of}
+use Rattle.scmi_decode.specs.declared.form.Form.{Form}
+use Rattle.scmi_decode.specs.declared.form.Form.TheVariants.{Plain, Marked, Offset}
+use Rattle.scmi_decode.specs.declared.reading.Reading.{Reading}
+use Rattle.scmi_decode.specs.declared.reading.Reading.TheVariants.{Bytes, Words, MarkedBytes, MarkedWords, OffsetBytes, OffsetWords, Event, Run}
+use Rattle.scmi_decode.specs.declared.reading.TheConstants.{READINGS}
+
+-- the row of a reading in the table, counted from 0
+abbrev pub reading_place : Reading → ℕ
+reading_place Bytes = 0
+reading_place Words = 1
+reading_place MarkedBytes = 2
+reading_place MarkedWords = 3
+reading_place OffsetBytes = 4
+reading_place OffsetWords = 5
+reading_place Event = 6
+reading_place Run = 7
+
+-- what a reading is called
+abbrev pub reading_text : Reading → List ℕ
+reading_text r = get_or (map (λ row. row.text.now) READINGS) (reading_place r) []
+
+-- whether an item is a number of several bytes
+abbrev pub is_wide : List ℕ → Bool
+is_wide item = is_number item && nat_lt 4 (length item)
+
+-- how rows of a form are read, whose items are wide or not
+abbrev pub rows_reading : Form → Bool → Reading
+rows_reading Plain false = Bytes
+rows_reading Plain true = Words
+rows_reading Marked false = MarkedBytes
+rows_reading Marked true = MarkedWords
+rows_reading Offset false = OffsetBytes
+rows_reading Offset true = OffsetWords
+
+-- how a row of a dump is read, by its first item behind the address
+unfoldable pub row_reading : List ℕ → Reading
+row_reading line = rows_reading (parts_of line).form (is_wide (first_item (parts_of line).bytes))
+
+-- the first item that is not empty
+abbrev pub first_full : List (List ℕ) → List ℕ
+first_full [] = []
+first_full (item ∷ items) = if length item == 0 then first_full items else item
+
+-- how the items of a line that is an area alone are read
+abbrev pub alone_reading : List (List ℕ) → Reading
+alone_reading items =
+    if is_some (behind_event items) then Event else if is_some (behind_got items) then Run
+    else rows_reading Plain (is_wide (first_full items))
