@@ -1,6 +1,7 @@
 pub mod Alike
 pub mod Completing
 pub mod Examples
+pub mod Histories
 pub mod Laws
 pub mod Records
 pub mod Verdicts

@@ -14,7 +14,7 @@ use Rattle.scmi_judge.specs.declared.verdict.Verdict.TheVariants.{Same}
 use Rattle.scmi_judge.proofs.Verdicts.{same_says}
 
 -- each entry is what the definitions say, from a history on
-abbrev AreShown : Board → List Event → List Entry → Type 0
+abbrev pub AreShown : Board → List Event → List Entry → Type 0
 AreShown board h entries = (before after : List Entry) (entry : Entry) → entries ≡ before ++ entry ∷ after → IsShown board (history_from board h before) entry
 
 head-of : (v : Verdict) (vs : List Verdict) → All (λ x. x ≡ Same) (v ∷ vs) → v ≡ Same

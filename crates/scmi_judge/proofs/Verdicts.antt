@@ -67,11 +67,15 @@ pub message-verdict : (board : Board) (h : List Event) (a : ℕ) (m : Message) �
 unfolding verdict_of
 message-verdict board h a m here = ap (λ is. if is then verdict_on_message (outbox board a (shown_to board a h)) m else verdict.NoAgent) here
 
+pub taken-events : (board : Board) (h : List Event) (a : ℕ) (m : Message) → is_agent board a ≡ true
+    → events_of board h (Delivered a m) ≡ completions_shown board a h ++ taking a (outbox board a (shown_to board a h))
+unfolding events_of
+taken-events board h a m here = ap (λ is. if is then completions_shown board a h ++ taking a (outbox board a (shown_to board a h)) else []) here
+
 pub message-events : (board : Board) (h : List Event) (a : ℕ) (m : Message) → is_agent board a ≡ true
     → h ++ events_of board h (Delivered a m) ≡ shown_to board a h ++ taking a (outbox board a (shown_to board a h))
-unfolding events_of
 message-events board h a m here =
-    ap (λ is. h ++ (if is then completions_shown board a h ++ taking a (outbox board a (shown_to board a h)) else [])) here
+    ap (λ es. h ++ es) (taken-events board h a m here)
     ∙ sym (append_assoc h (completions_shown board a h) (taking a (outbox board a (shown_to board a h))))
 
 -- from two histories that show the same to an agent a message is judged alike, and leaves the same

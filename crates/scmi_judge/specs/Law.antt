@@ -1,13 +1,14 @@
 -- What a record and a history have in common.
-use Rattle.std.specs.Prelude.{◌≡◌, ℕ, ◌==◌, if◌then◌else◌, List, Option, Some, None}
+use Rattle.std.specs.Prelude.{◌≡◌, ℕ, ◌==◌, ◌<◌, ◌++◌, if◌then◌else◌, List, [], ◌∷◌, Option, Some, None, replicate, slice_get}
 use Rattle.std.specs.List.{filter_map}
 use Rattle.scmi_plan.specs.Board.{Board}
 use Rattle.scmi_codec.specs.declared.message.Message.{Message}
 use Rattle.scmi_codec.specs.declared.frame.Frame.{Frame}
 use Rattle.scmi_codec.specs.declared.frame.Answer.{Answer}
 use Rattle.scmi_core.specs.declared.event.Event.{Event}
+use Rattle.scmi_core.specs.declared.event.Event.TheVariants.{Command, Advance, Sent}
 use Rattle.scmi_core.specs.Agents.{answers_to, frames_of}
-use Rattle.scmi_core.specs.History.{delivered_messages}
+use Rattle.scmi_core.specs.History.{answer_to, delivered_messages, outbox}
 use Rattle.scmi_core.specs.Legal.{IsLegal}
 use Rattle.scmi_judge.specs.declared.entry.Entry.{Entry}
 use Rattle.scmi_judge.specs.declared.entry.Entry.TheVariants.{Answered, Delivered}
@@ -33,3 +34,42 @@ pub record IsHistoryOf (board : Board) (entries : List Entry) (h : List Event) :
   pub frames : (a : ℕ) → frames_of a h ≡ filter_map (frame_shown a) entries
   pub answers : (a : ℕ) → answers_to board a h ≡ filter_map (answer_shown a) entries
   pub messages : (a : ℕ) → delivered_messages board a h ≡ filter_map (message_shown a) entries
+
+-- after a history these events are a command, and the answer is the one at its place
+pub record IsExecuted (board : Board) (h : List Event) (a : ℕ) (frame : Frame) (answer : Answer) (events : List Event) : Type 0 where
+  pub are : events ≡ Command a frame ∷ []
+  pub due : answer ≡ answer_to board a frame h
+
+-- after a history these events are completions, before each of which no message waited for agent a, and then its taking of the first that waits
+pub record IsTaken (board : Board) (h : List Event) (a : ℕ) (message : Message) (events : List Event) : Type 0 where
+  pub completions : ℕ
+  pub are : events ≡ replicate completions Advance ++ Sent a ∷ []
+  pub nothing_waited : (k : ℕ) → k < completions → outbox board a (h ++ replicate k Advance) ≡ []
+  pub first : slice_get (outbox board a (h ++ replicate completions Advance)) 0 ≡ Some message
+
+-- an entry shows these events after a history
+abbrev pub IsPiece : Board → List Event → Entry → List Event → Type 0
+IsPiece board h (Answered a frame answer) events = IsExecuted board h a frame answer events
+IsPiece board h (Delivered a message) events = IsTaken board h a message events
+
+-- events are a piece that an entry shows after a history, and then others, of which more is said
+pub record BeginsWith (board : Board) (h : List Event) (entry : Entry) (events : List Event) (Goes : List Event → List Event → Type 0) : Type 0 where
+  pub piece : List Event
+  pub rest : List Event
+  pub are : events ≡ piece ++ rest
+  pub shown : IsPiece board h entry piece
+  pub on : Goes (h ++ piece) rest
+
+-- after a history these events split into one piece for each entry, in order
+abbrev pub ArePieces : Board → List Event → List Entry → List Event → Type 0
+ArePieces board h [] events = events ≡ []
+ArePieces board h (entry ∷ entries) events = BeginsWith board h entry events (λ k rest. ArePieces board k entries rest)
+
+-- a legal history of a board that splits into one piece for each entry of a record, in order
+pub record IsSplitBy (board : Board) (entries : List Entry) (h : List Event) : Type 0 where
+  pub legal : IsLegal board h
+  pub pieces : ArePieces board [] entries h
+
+-- a record has a legal history
+abbrev pub HasHistory : Board → List Entry → Type 0
+HasHistory board entries = (h : List Event) × IsSplitBy board entries h

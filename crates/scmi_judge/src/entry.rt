@@ -1,4 +1,5 @@
 //! What a record shows.
+ghost use Rattle.std.specs.Prelude.{◌≡◌};
 
 use scmi_codec::{Answer, Frame, Message};
 
@@ -16,4 +17,27 @@ pub enum Entry {
         agent: u32,
         message: Message,
     },
+}
+
+impl Entry {
+    /// The same entry again. It takes no memory.
+    pub fn copy(&self) -> Entry
+        ensures { result ≡ self.now }
+    {
+        match self {
+            Entry::Answered {
+                agent,
+                frame,
+                answer,
+            } => Entry::Answered {
+                agent: *agent,
+                frame: frame.copy(),
+                answer: answer.copy(),
+            },
+            Entry::Delivered { agent, message } => Entry::Delivered {
+                agent: *agent,
+                message: message.copy(),
+            },
+        }
+    }
 }

@@ -3,7 +3,8 @@
 //!
 //! The main type is `Judge`, which is given one entry after the other. The main theorem is the
 //! contract of `Judge::judge`: an entry is said to be the same exactly where it is what the
-//! definitions say after the history that the entries before it stand for (specs/Record.antt).
+//! definitions say after the history that the entries before it stand for (specs/Record.antt). By
+//! `judge_record` all are the same if and only if the record has a legal history (specs/Law.antt).
 #![tactic(auto)]
 
 mod completions;
@@ -19,4 +20,5 @@ pub use entry::Entry;
 pub use judge::Judge;
 pub use legal_record::every_record;
 pub use record::judge_record;
+pub use same::is_same_header;
 pub use verdict::Verdict;

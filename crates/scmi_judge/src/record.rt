@@ -1,6 +1,7 @@
 //! A whole record.
 ghost use Rattle.std.specs.Prelude.{◌≡◌, ◌↔◌, IfOk, IfErr};
 ghost use Rattle.std.specs.List.{All};
+ghost use Rattle.scmi_judge.specs.Law.{HasHistory};
 ghost use Rattle.scmi_judge.specs.Record.{IsRecordOf};
 ghost use Rattle.scmi_judge.specs.Verdict.{verdicts_of};
 ghost use Rattle.scmi_judge.specs.declared.verdict.Verdict.TheVariants.{Same};
@@ -13,12 +14,16 @@ use scmi_plan::Plan;
 use std::alloc::Global;
 
 /// Judges each entry of a record of a platform of a board, in order. All are the same exactly where
-/// each is what the definitions say after the history that those before it stand for. `Memory` is
-/// the only refusal.
+/// each is what the definitions say after the history that those before it stand for, and that is
+/// exactly where a legal history of the board splits into one piece for each entry: a command with the
+/// answer at its place, or the completions that a message shows, and the taking of that message.
+/// `Memory` is the only refusal.
 pub fn judge_record(alloc: Global, plan: Plan, entries: &[Entry]) -> Result<Vec<Verdict>, CoreError>
     ensures verdicts { IfOk result (λ verdicts. verdicts.items ≡ verdicts_of plan entries.now) }
     ensures theorem { IfOk result (λ verdicts.
         All (λ verdict. verdict ≡ Same) verdicts.items ↔ IsRecordOf plan entries.now) }
+    ensures history { IfOk result (λ verdicts.
+        All (λ verdict. verdict ≡ Same) verdicts.items ↔ HasHistory plan entries.now) }
     ensures errors { IfErr result (λ e. e ≡ CoreError.Memory) }
 {
     let mut judge = Judge::new(alloc, plan);

@@ -26,8 +26,8 @@ pub(crate) fn is_same_message(a: &Message, b: &Message) -> bool
     is_same_header(a.header, b.header) && a.payload.as_slice() == b.payload.as_slice()
 }
 
-/// Whether two headers are the same.
-fn is_same_header(a: Header, b: Header) -> bool
+/// Whether two headers are the same, in each field.
+pub fn is_same_header(a: Header, b: Header) -> bool
     ensures { result ≡ is_same_header a b }
 {
     a.reserved == b.reserved

@@ -1,5 +1,6 @@
+use Rattle.scmi_judge.proofs.Histories.{only}
 use Rattle.scmi_judge.proofs.Laws.{law}
 use Rattle.scmi_judge.proofs.legal_record.every_record.Goals as goal
 
 pub returns : goal.returns
-returns c = record { law = law }
+returns c = record { law = law; only = only }
