@@ -5,7 +5,7 @@
 //! input, in order and behind the number of its first line, and that text is what `scmi_describe` writes
 //! of the dump's area, or says that it is none. `decode` adds that the text of a dump is that of its
 //! bytes, in whatever form they stand (`forms`). A line that tells a message, of Linux's ftrace or of a
-//! run of a script, has the bytes of that message's area.
+//! run of a script, has the bytes of that message's area. `Readings` is told how each area was read.
 #![tactic(auto)]
 
 mod decode;

@@ -1,8 +1,6 @@
 //! How dumps are read.
-ghost use Rattle.std.specs.Prelude.{◌≡◌};
-ghost use Rattle.scmi_decode.specs.Dump.{is_number};
+ghost use Rattle.std.specs.Prelude.{◌≡◌, map};
 ghost use Rattle.scmi_decode.specs.Reading.{alone_reading, first_full, is_wide, reading_text, row_reading, rows_reading};
-ghost use Rattle.std.specs.Prelude.{map};
 
 use crate::dump::is_number;
 use crate::form::Form;
