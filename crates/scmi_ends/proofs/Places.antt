@@ -30,26 +30,26 @@ pub item_at : {D : Type 0} (ds : List D) (i : ℕ) (x d : D) → i < length ds �
 item_at ds i x d lt is = sym (get_or_read ds i x lt is d)
 
 -- the platform's side, field by field
-abbrev pub whole : Board → List Event → List CalleeView → List CallerView → List (Option ℕ) → List (List ℕ) → List (List ℕ) → ControllerView
-whole board h ds cs ps an pn = record { board = board; history = h; callees = ds; callers = cs; closed_at = ps; a2p_identities = an; p2a_identities = pn }
+abbrev pub whole : Board → List Event → ℕ → List CalleeView → List CallerView → List (Option ℕ) → List (List ℕ) → List (List ℕ) → ControllerView
+whole board h room ds cs ps an pn = record { board = board; history = h; room = room; callees = ds; callers = cs; closed_at = ps; a2p_identities = an; p2a_identities = pn }
 
-module _ {D : Type 0} (f : D → CalleeView) (ds : List D) (a : ℕ) (x d : D) (board board' : Board) (h h' : List Event) (cs : List CallerView) (ps : List (Option ℕ)) (an an' pn : List (List ℕ))
+module _ {D : Type 0} (f : D → CalleeView) (ds : List D) (a : ℕ) (x d : D) (board board' : Board) (h h' : List Event) (cs : List CallerView) (ps : List (Option ℕ)) (an an' pn : List (List ℕ)) (m m' : ℕ)
     (lt : a - 1 < length ds) (is : x ≡ get_or ds (a - 1) x) (eb : board' ≡ board) (ea : an' ≡ an) where
-  pub serves : (r : Served) → ServesOne board a h (f x) r h' (f d) → Serves a (whole board h (map f ds) cs ps an pn) r (whole board' h' (map f (set ds (a - 1) d)) cs ps an' pn)
+  pub serves : (r : Served) → ServesOne board a h (f x) r h' (f d) → Serves a (whole board h m (map f ds) cs ps an pn) r (whole board' h' m' (map f (set ds (a - 1) d)) cs ps an' pn)
   serves r s = rw (eb, ea, map_at_set f ds (a - 1) d) (record { callee = f d; step = rw (view_at f ds (a - 1) x new_callee lt is) s; same = refl })
 
-  pub serves_on : (applied applied' : Option (List Effect)) (r : Served) → ServesOneOn board a h applied (f x) r h' applied' (f d) → ServesOn a (whole board h (map f ds) cs ps an pn) applied r (whole board' h' (map f (set ds (a - 1) d)) cs ps an' pn) applied'
+  pub serves_on : (applied applied' : Option (List Effect)) (r : Served) → ServesOneOn board a h applied (f x) r h' applied' (f d) → ServesOn a (whole board h m (map f ds) cs ps an pn) applied r (whole board' h' m' (map f (set ds (a - 1) d)) cs ps an' pn) applied'
   serves_on applied applied' r s = rw (eb, ea, map_at_set f ds (a - 1) d) (record { callee = f d; step = rw (view_at f ds (a - 1) x new_callee lt is) s; same = refl })
 
-module _ {D : Type 0} (f : D → CallerView) (ds : List D) (a : ℕ) (x d : D) (board board' : Board) (h h' : List Event) (vs : List CalleeView) (ps : List (Option ℕ)) (an pn pn' : List (List ℕ))
+module _ {D : Type 0} (f : D → CallerView) (ds : List D) (a : ℕ) (x d : D) (board board' : Board) (h h' : List Event) (vs : List CalleeView) (ps : List (Option ℕ)) (an pn pn' : List (List ℕ)) (m m' : ℕ)
     (lt : a - 1 < length ds) (is : x ≡ get_or ds (a - 1) x) (eb : board' ≡ board) (ep : pn' ≡ pn) where
-  pub flushes : (full : Bool) (r : Flushed) → CollectsAndFlushes full board a h (f x) r h' (f d) → Flushes full a (whole board h vs (map f ds) ps an pn) r (whole board' h' vs (map f (set ds (a - 1) d)) ps an pn')
+  pub flushes : (full : Bool) (r : Flushed) → CollectsAndFlushes full board a h (f x) r h' (f d) → Flushes full a (whole board h m vs (map f ds) ps an pn) r (whole board' h' m' vs (map f (set ds (a - 1) d)) ps an pn')
   flushes full r s = rw (eb, ep, map_at_set f ds (a - 1) d) (record { caller = f d; step = rw (view_at f ds (a - 1) x new_caller lt is) s; same = refl })
 
-module _ {D E : Type 0} (f : D → CallerView) (k : E → CalleeView) (ds : List D) (es : List E) (a : ℕ) (x d : D) (y e : E) (board : Board) (h : List Event) (an an' pn pn' : List (List ℕ))
+module _ {D E : Type 0} (f : D → CallerView) (k : E → CalleeView) (ds : List D) (es : List E) (a : ℕ) (x d : D) (y e : E) (board : Board) (h : List Event) (an an' pn pn' : List (List ℕ)) (m : ℕ)
     (lt : a - 1 < length ds) (is : x ≡ get_or ds (a - 1) x) (ep : pn' ≡ pn) (lt' : a - 1 < length es) (is' : y ≡ get_or es (a - 1) y) (ea : an' ≡ an) (closed : k e ≡ record (k y) { closed = true })
     (ps : List (Option ℕ)) (p p' : Option ℕ) (lt'' : a - 1 < length ps) (is'' : p ≡ get_or ps (a - 1) p) (noted : p' ≡ option_or p (Some (length h))) where
-  pub shuts : (shows : CallerView → Result Closing CloseError → Type 0) (r : Result (Unit {0}) ShutError) → CollectsAndShuts shows (f x) r (f d) → Shuts shows a (whole board h (map k es) (map f ds) ps an pn) r (whole board h (map k (set es (a - 1) e)) (map f (set ds (a - 1) d)) (set ps (a - 1) p') an' pn')
+  pub shuts : (shows : CallerView → Result Closing CloseError → Type 0) (r : Result (Unit {0}) ShutError) → CollectsAndShuts shows (f x) r (f d) → Shuts shows a (whole board h m (map k es) (map f ds) ps an pn) r (whole board h m (map k (set es (a - 1) e)) (map f (set ds (a - 1) d)) (set ps (a - 1) p') an' pn')
   shuts shows r s = rw (ep, ea, map_at_set f ds (a - 1) d, map_at_set k es (a - 1) e, closed, noted) (record {
     caller = f d;
     step = rw (view_at f ds (a - 1) x new_caller lt is) s;

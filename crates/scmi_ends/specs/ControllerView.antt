@@ -4,10 +4,11 @@ use Rattle.scmi_link.specs.View.{CallerView, CalleeView, new_caller, new_callee}
 use Rattle.scmi_plan.specs.Board.{Board}
 use Rattle.scmi_core.specs.declared.event.Event.{Event}
 
--- the history of the platform, what it has done at its ends of each agent's channels, and their names
+-- the history of the platform, for how many more events there is room, what it has done at its ends of each agent's channels, and their names
 pub record ControllerView : Type 0 where
   pub board : Board
   pub history : List Event
+  pub room : ℕ  -- for how many more events its trace has memory
   pub callees : List CalleeView  -- its end of each agent's A2P
   pub callers : List CallerView  -- its end of each agent's P2A
   pub closed_at : List (Option ℕ)  -- after how many events it closed each agent's A2P, where it has

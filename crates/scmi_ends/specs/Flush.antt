@@ -35,8 +35,8 @@ pub record CollectsAndFlushes (full : Bool) (board : Board) (a : ℕ) (h : List 
   pub collects : Collects old answer collected
   pub step : FlushesOne full board a h collected result h' new
 
--- the same at the place of agent a, and nothing else changes
+-- the same at the place of agent a, and nothing else changes but the room
 pub record Flushes (full : Bool) (a : ℕ) (old : ControllerView) (result : Flushed) (new : ControllerView) : Type 0 where
   pub caller : CallerView
   pub step : CollectsAndFlushes full old.board a old.history (caller_of old a) result new.history caller
-  pub same : new ≡ record old { history = new.history; callers = slice_set old.callers (a - 1) caller }
+  pub same : new ≡ record old { history = new.history; room = new.room; callers = slice_set old.callers (a - 1) caller }

@@ -23,8 +23,8 @@ abbrev pub ServesOne : Board → ℕ → List Event → CalleeView → Served �
 ServesOne board a h old served.Nothing h' new = (h' ≡ h) × TakesNone old new
 ServesOne board a h old served.Done h' new = Executes board a h old h' new
 
--- the same at the place of agent a, and nothing else changes
+-- the same at the place of agent a, and nothing else changes but the room
 pub record Serves (a : ℕ) (old : ControllerView) (result : Served) (new : ControllerView) : Type 0 where
   pub callee : CalleeView
   pub step : ServesOne old.board a old.history (callee_of old a) result new.history callee
-  pub same : new ≡ record old { history = new.history; callees = slice_set old.callees (a - 1) callee }
+  pub same : new ≡ record old { history = new.history; room = new.room; callees = slice_set old.callees (a - 1) callee }

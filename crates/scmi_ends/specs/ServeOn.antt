@@ -25,8 +25,8 @@ abbrev pub ServesOneOn : Board → ℕ → List Event → Option (List Effect) �
 ServesOneOn board a h applied old served.Nothing h' applied' new = (h' ≡ h) × (applied' ≡ applied) × TakesNone old new
 ServesOneOn board a h applied old served.Done h' applied' new = TakesAndExecutes board a h applied old h' applied' new
 
--- the same at the place of agent a, and nothing else changes
+-- the same at the place of agent a, and nothing else changes but the room
 pub record ServesOn (a : ℕ) (old : ControllerView) (applied : Option (List Effect)) (result : Served) (new : ControllerView) (applied' : Option (List Effect)) : Type 0 where
   pub callee : CalleeView
   pub step : ServesOneOn old.board a old.history applied (callee_of old a) result new.history applied' callee
-  pub same : new ≡ record old { history = new.history; callees = slice_set old.callees (a - 1) callee }
+  pub same : new ≡ record old { history = new.history; room = new.room; callees = slice_set old.callees (a - 1) callee }

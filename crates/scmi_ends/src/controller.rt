@@ -48,6 +48,7 @@ impl<C: Channel> Model for Controller<C> {
         record {
           board = platform.core.board;
           history = platform.core.history;
+          room = platform.core.room;
           callees = map
               C.callee_view platform.callees.items;
           callers = map C.caller_view platform.callers.items;
@@ -97,6 +98,7 @@ impl<C: Channel> Controller<C> {
             result ≢ Ok Served.Done }
         ensures no_agent { (result ≡ Err ServeError.NoAgent) ↔
             IsNoAgent (length self.old.board.agents) agent }
+        ensures memory { result ≡ Err ServeError.Memory → self.old.room ≡ 0 }
         ensures err { OnErr result (self.new ≡ self.old) }
     {
         reserve_for(&mut self.core, agent)?;
@@ -135,6 +137,7 @@ impl<C: Channel> Controller<C> {
             result ≢ Ok Served.Done }
         ensures no_agent { (result ≡ Err ServeError.NoAgent) ↔
             IsNoAgent (length self.old.board.agents) agent }
+        ensures memory { result ≡ Err ServeError.Memory → self.old.room ≡ 0 }
         ensures err { OnErr result (self.new ≡ self.old) }
         ensures unasked { OnErr result (H.applied hardware.new ≡ H.applied hardware.old) }
     {
@@ -165,7 +168,8 @@ impl<C: Channel> Controller<C> {
             self.new.history (H.applied hardware.new)) }
         ensures obeyed { H.REFUSES ≡ false → IfOk result (λ did.
             IsTrue did → self.new.history ≡ self.old.history ++ event.Advance ∷ []) }
-        ensures rest { self.new ≡ record self.old { history = self.new.history } }
+        ensures rest { self.new ≡
+            record self.old { history = self.new.history; room = self.new.room } }
         ensures made { (before : List Effect)
             → HasMade before self.old.board self.old.history (H.applied hardware.old)
             → HasMade before self.new.board self.new.history (H.applied hardware.new) }
@@ -173,7 +177,7 @@ impl<C: Channel> Controller<C> {
         ensures err { OnErr result (self.new ≡ self.old) }
         ensures unasked { OnErr result (H.applied hardware.new ≡ H.applied hardware.old) }
         ensures memory { IfErr result (λ error.
-            (error ≡ ServeError.Memory) ×
+            (error ≡ ServeError.Memory) × (self.old.room ≡ 0) ×
             (pending_sets self.old.board (deeds self.old.board self.old.history) ≢ [])) }
     {
         match self.core.advance_on(hardware) {
@@ -193,11 +197,12 @@ impl<C: Channel> Controller<C> {
             (0 < length (pending_sets self.old.board (deeds self.old.board self.old.history)))) }
         ensures event { IfOk result (λ did.
             IsTrue did →
-            self.new ≡ record self.old { history = self.old.history ++ event.Advance ∷ [] }) }
+            self.new ≡ record self.old
+            { history = self.old.history ++ event.Advance ∷ []; room = self.new.room }) }
         ensures same { IfOk result (λ did. ¬ (IsTrue did) → self.new ≡ self.old) }
         ensures err { OnErr result (self.new ≡ self.old) }
         ensures memory { IfErr result (λ error.
-            (error ≡ ServeError.Memory) ×
+            (error ≡ ServeError.Memory) × (self.old.room ≡ 0) ×
             (pending_sets self.old.board (deeds self.old.board self.old.history) ≢ [])) }
     {
         match self.core.advance() {
@@ -222,6 +227,7 @@ impl<C: Channel> Controller<C> {
         ensures flushes { IfOk result (λ flushed. Flushes C.FULL agent self.old flushed self.new) }
         ensures no_agent { (result ≡ Err ServeError.NoAgent) ↔
             IsNoAgent (length self.old.board.agents) agent }
+        ensures memory { result ≡ Err ServeError.Memory → self.old.room ≡ 0 }
         ensures err { OnErr result (self.new ≡ self.old) }
     {
         reserve_for(&mut self.core, agent)?;
@@ -283,6 +289,7 @@ fn reserve_for(core: &mut Core, agent: u32) -> Result<(), ServeError>
     ensures history { core.new.history ≡ core.old.history }
     ensures no_agent { (result ≡ Err ServeError.NoAgent) ↔
         IsNoAgent (length core.old.board.agents) agent }
+    ensures memory { result ≡ Err ServeError.Memory → core.old.room ≡ 0 }
     ensures err { OnErr result (core.new ≡ core.old) }
 {
     if is_no_agent(core, agent) {

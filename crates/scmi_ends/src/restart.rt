@@ -23,7 +23,9 @@ impl<C: Channel> Controller<C> {
         ensures board { self.new.board ≡ self.old.board }
         ensures event { OnOk result (self.new ≡ record self.old {
             history = self.old.history ++ Restarted agent ∷ [];
+            room = self.new.room;
         }) }
+        ensures memory { result ≡ Err ServeError.Memory → self.old.room ≡ 0 }
         ensures no_agent { (result ≡ Err ServeError.NoAgent) ↔
             IsNoAgent (length self.old.board.agents) agent }
         ensures err { OnErr result (self.new ≡ self.old) }

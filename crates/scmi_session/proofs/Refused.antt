@@ -50,12 +50,12 @@ no_truth is = cc
 pub advance_refused : (old new : ControllerView) (more : Bool)
     → (IsTrue more ↔ (0 < length (pending_sets old.board (deeds old.board old.history))))
     → (IsTrue more → HappensOn old.board IsEnd old.history (Some []) new.history (Some []))
-    → new ≡ record old { history = new.history }
+    → new ≡ record old { history = new.history; room = new.room }
     → (¬ (IsTrue more) → new ≡ old)
     → AdvancesRefused old more new
 advance_refused old new true pending happens rest same =
     let some = pending.0 refl in
-    (some, rest ∙ ap (λ h. record old { history = h }) (ends_failed old.board old.history new.history some (happens refl)))
+    (some, rest ∙ ap (λ h. record old { history = h; room = new.room }) (ends_failed old.board old.history new.history some (happens refl)))
 advance_refused old new false pending happens rest same =
     (none_left (pending_sets old.board (deeds old.board old.history)) (λ some. no_truth (pending.1 some)), same no_truth)
 

@@ -87,12 +87,12 @@ pub record AtPlatform (Makes : ControllerView → ControllerView → Type 0) (ol
 
 -- one pending set is completed, if there is one
 abbrev pub Advances : ControllerView → Bool → ControllerView → Type 0
-Advances old true new = (0 < length (pending_sets old.board (deeds old.board old.history))) × (new ≡ record old { history = old.history ++ event.Advance ∷ [] })
+Advances old true new = (0 < length (pending_sets old.board (deeds old.board old.history))) × (new ≡ record old { history = old.history ++ event.Advance ∷ []; room = new.room })
 Advances old false new = (pending_sets old.board (deeds old.board old.history) ≡ []) × (new ≡ old)
 
 -- one pending set is ended as failed, if there is one: the hardware refused its change
 abbrev pub AdvancesRefused : ControllerView → Bool → ControllerView → Type 0
-AdvancesRefused old true new = (0 < length (pending_sets old.board (deeds old.board old.history))) × (new ≡ record old { history = old.history ++ event.AdvanceFailed ∷ [] })
+AdvancesRefused old true new = (0 < length (pending_sets old.board (deeds old.board old.history))) × (new ≡ record old { history = old.history ++ event.AdvanceFailed ∷ []; room = new.room })
 AdvancesRefused old false new = (pending_sets old.board (deeds old.board old.history) ≡ []) × (new ≡ old)
 
 -- agent a is served beside hardware that has made no change: a command that is then in the history was to make none, and one that failed was to make one

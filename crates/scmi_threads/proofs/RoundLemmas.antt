@@ -38,10 +38,10 @@ module _ {C Caller Callee Rest : Type 0} (identity : C → List ℕ) (links : Li
     made = λ before made. makes before (so_far.made before made);
   }
 
-  pub and_advanced : (b' : Option (List Effect)) → GoesOn identity links old applied c b → c' ≡ record c { history = c'.history }
+  pub and_advanced : (b' : Option (List Effect)) → GoesOn identity links old applied c b → c' ≡ record c { history = c'.history; room = c'.room }
       → ((before : List Effect) → HasMade before c.board c.history b → HasMade before c'.board c'.history b') → GoesOn identity links old applied c' b'
   and_advanced b' so_far same makes =
-      let moved : GoesOn identity links old applied (record c { history = c'.history }) b' = record {
+      let moved : GoesOn identity links old applied (record c { history = c'.history; room = c'.room }) b' = record {
         has_links = record { of_a2p = so_far.has_links.of_a2p; of_p2a = so_far.has_links.of_p2a };
         board = so_far.board;
         open_ends = so_far.open_ends;

@@ -65,7 +65,7 @@ returns-clause-links g c = let at = (goal.at.returns-clause-links g c).After-ind
 pub returns-clause-shuts : goal.returns-clause-shuts
 returns-clause-shuts g c = λ other. let at = (goal.at.returns-clause-shuts g c).After-index_mut-2 in
     rw (← c.self.view_is) (shuts g.C.Channel.caller_view g.C.Channel.callee_view c.self.inside.callers.items c.self.inside.callees.items c.args.agent c.index_mut-2.result.now c.shut_one.new.caller c.index_mut.result.now c.shut_one.new.callee c.self.inside.core.board c.self.inside.core.history
-    _ _ _ _
+    _ _ _ _ _
     (within_p2a g at) c.index_mut-2.ensures.value
     (map_same g.C.Channel.caller_identity c.self.inside.callers.items (c.args.agent - 1) c.index_mut-2.result.now c.shut_one.new.caller (within_p2a g at) c.index_mut-2.ensures.value c.shut_one.ensures.p2a)
     (within g at) c.index_mut.ensures.value

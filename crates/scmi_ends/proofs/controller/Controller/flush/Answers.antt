@@ -42,6 +42,6 @@ returns-clause-links g c = let at = (goal.at.returns-clause-links g c).After-ind
 pub returns-clause-flushes : goal.returns-clause-flushes
 returns-clause-flushes g c = let at = (goal.at.returns-clause-flushes g c).After-index_mut in
     rw (← c.self.view_is) (flushes g.C.Channel.caller_view c.self.inside.callers.items c.args.agent c.index_mut.result.now c.flush_one.new.caller c.self.inside.core.board c.flush_one.new.core.board c.self.inside.core.history c.flush_one.new.core.history
-    _ _ _ _ _ (within g at) c.index_mut.ensures.value (board g (goal.at.returns-clause-flushes g c).After-flush_one)
+    _ _ _ _ _ _ _ (within g at) c.index_mut.ensures.value (board g (goal.at.returns-clause-flushes g c).After-flush_one)
     (map_same g.C.Channel.caller_identity c.self.inside.callers.items (c.args.agent - 1) c.index_mut.result.now c.flush_one.new.caller (within g at) c.index_mut.ensures.value c.flush_one.ensures.identity)
     g.C.Channel.FULL c.flush_one.result (step g (goal.at.returns-clause-flushes g c).After-flush_one))

@@ -41,6 +41,6 @@ returns-clause-links g c = record {
 
 pub returns-clause-serves : goal.returns-clause-serves
 returns-clause-serves g c = rw (← c.self.view_is) (serves g.C.Channel.callee_view c.self.inside.callees.items c.args.agent c.index_mut.result.now c.serve_one.new.callee c.self.inside.core.board c.serve_one.new.core.board c.self.inside.core.history c.serve_one.new.core.history
-    _ _ _ _ _ (within g (goal.at.returns-clause-serves g c).After-index_mut) c.index_mut.ensures.value (board g (goal.at.returns-clause-serves g c).After-serve_one)
+    _ _ _ _ _ _ _ (within g (goal.at.returns-clause-serves g c).After-index_mut) c.index_mut.ensures.value (board g (goal.at.returns-clause-serves g c).After-serve_one)
     (map_same g.C.Channel.callee_identity c.self.inside.callees.items (c.args.agent - 1) c.index_mut.result.now c.serve_one.new.callee (within g (goal.at.returns-clause-serves g c).After-index_mut) c.index_mut.ensures.value c.serve_one.ensures.identity)
     c.serve_one.result (step g (goal.at.returns-clause-serves g c).After-serve_one))

@@ -43,7 +43,7 @@ returns-clause-links g c = record {
 
 pub returns-clause-serves : goal.returns-clause-serves
 returns-clause-serves g c = rw (← c.self.view_is) (serves_on g.C.Channel.callee_view c.self.inside.callees.items c.args.agent c.index_mut.result.now c.serve_one_on.new.callee c.self.inside.core.board c.serve_one_on.new.core.board c.self.inside.core.history c.serve_one_on.new.core.history
-    _ _ _ _ _ (within g (goal.at.returns-clause-serves g c).After-index_mut) c.index_mut.ensures.value (board g (goal.at.returns-clause-serves g c).After-serve_one_on)
+    _ _ _ _ _ _ _ (within g (goal.at.returns-clause-serves g c).After-index_mut) c.index_mut.ensures.value (board g (goal.at.returns-clause-serves g c).After-serve_one_on)
     (map_same g.C.Channel.callee_identity c.self.inside.callees.items (c.args.agent - 1) c.index_mut.result.now c.serve_one_on.new.callee (within g (goal.at.returns-clause-serves g c).After-index_mut) c.index_mut.ensures.value c.serve_one_on.ensures.identity)
     (g.H.Hardware.applied c.args.hardware.now) (g.H.Hardware.applied c.serve_one_on.new.hardware) c.serve_one_on.result (step g (goal.at.returns-clause-serves g c).After-serve_one_on))
 
@@ -51,7 +51,7 @@ pub returns-clause-obeyed : goal.returns-clause-obeyed
 returns-clause-obeyed g c = let at = (goal.at.returns-clause-obeyed g c).After-serve_one_on in
     let before = (goal.at.returns-clause-obeyed g c).After-index_mut in
     λ obeys. rw (← c.self.view_is) (serves g.C.Channel.callee_view c.self.inside.callees.items c.args.agent c.index_mut.result.now c.serve_one_on.new.callee c.self.inside.core.board c.serve_one_on.new.core.board c.self.inside.core.history c.serve_one_on.new.core.history
-    _ _ _ _ _ (within g before) c.index_mut.ensures.value (board g at)
+    _ _ _ _ _ _ _ (within g before) c.index_mut.ensures.value (board g at)
     (map_same g.C.Channel.callee_identity c.self.inside.callees.items (c.args.agent - 1) c.index_mut.result.now c.serve_one_on.new.callee (within g before) c.index_mut.ensures.value c.serve_one_on.ensures.identity)
     c.serve_one_on.result (rw (c.reserve_for.ensures.board, c.reserve_for.ensures.history) at (c.serve_one_on.ensures.obeyed obeys)))
 
