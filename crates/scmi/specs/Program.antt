@@ -13,6 +13,6 @@ use Rattle.scmi.specs.declared.task.Task.TheVariants.{Run, Decode, Chart, Sessio
 abbrev pub Answers : Request → Option (List ℕ) → Option (List ℕ) → Option (List ℕ) → Type 0
 Answers (Do Run) input old new = AnswersOnce input old new × RunsThreads input old new × RunsSteps input old new × RunsHardware input old new
 Answers (Do Decode) input old new = IsDecoded input old new
-Answers (Do Chart) input old new = IsPicture old new
+Answers (Do Chart) input old new = IsPicture input old new
 Answers (Do Session) input old new = ⊥
 Answers asked input old new = Appends old new (text_of asked)

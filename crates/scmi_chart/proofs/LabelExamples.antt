@@ -1,6 +1,6 @@
 -- Labels of messages, which the prover works out by the definitions.
 use Rattle.std.proofs.Common.{◌≡◌, List, [], ◌∷◌, codes, refl}
-use Rattle.std.specs.Prelude.{ℕ, true, false}
+use Rattle.std.specs.Prelude.{ℕ, true}
 use Rattle.scmi_codec.specs.Area.{message_of}
 use Rattle.std.specs.Fmt.{digits}
 use Rattle.scmi_codec.specs.Listing.{rows_of}

@@ -1,5 +1,5 @@
 -- What the labels of the platform's messages say.
-use Rattle.std.specs.Prelude.{ℕ, ◌/◌, ◌%◌, ◌^◌, ◌==◌, Bool, true, false, if◌then◌else◌, List, [], ◌∷◌, ◌++◌, codes, decimal, Option, Some, None, Result, Ok, Err}
+use Rattle.std.specs.Prelude.{ℕ, ◌/◌, ◌%◌, ◌^◌, ◌==◌, Bool, true, if◌then◌else◌, List, [], ◌∷◌, ◌++◌, codes, decimal, Option, Some, None, Result, Ok, Err}
 use Rattle.scmi_codec.specs.Header.{HeaderFields}
 use Rattle.scmi_codec.specs.Status.{status_of, status_name}
 use Rattle.scmi_codec.specs.declared.frame.Answer.{Answer}

@@ -1,5 +1,5 @@
 -- Words, numbers and names, as a chart has them.
-use Rattle.std.specs.Prelude.{ℕ, ◌-◌, ◌/◌, ◌%◌, ◌^◌, ◌==◌, nat_le, nat_lt, false, if◌then◌else◌, Bool, List, [], ◌∷◌, ◌++◌, codes, decimal, flat_map, get_or, map, take, length}
+use Rattle.std.specs.Prelude.{ℕ, ◌-◌, ◌/◌, ◌%◌, ◌^◌, ◌==◌, nat_le, nat_lt, false, if◌then◌else◌, List, [], ◌∷◌, ◌++◌, codes, decimal, flat_map, get_or, map, take, length}
 use Rattle.std.specs.Fmt.{digits}
 use Rattle.scmi_plan.specs.Board.{Board}
 use Rattle.scmi_chart.specs.declared.words.TheConstants.{SHOWN_WORDS}

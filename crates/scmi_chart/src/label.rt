@@ -1,5 +1,5 @@
 //! What messages are about, in words.
-ghost use Rattle.std.specs.Prelude.{◌≡◌, ◌++◌, ◌∷◌, [], IfOk, OnOk, codes};
+ghost use Rattle.std.specs.Prelude.{◌≡◌, IfOk, OnOk};
 ghost use Rattle.scmi_describe.specs.Names.{protocol_text};
 ghost use Rattle.scmi_chart.specs.LabelWords.{behind, message_text, name_alone, protocol_or_number, with_remark, with_remark_if, words_of};
 

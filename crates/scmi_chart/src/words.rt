@@ -1,5 +1,5 @@
 //! Words of a chart, as bytes.
-ghost use Rattle.std.specs.Prelude.{◌≡◌, ◌<◌, ◌++◌, ◌%◌, ◌==◌, if◌then◌else◌, IfOk, OnOk, codes};
+ghost use Rattle.std.specs.Prelude.{◌≡◌, ◌<◌, ◌++◌, IfOk, OnOk};
 ghost use Rattle.scmi_svg.specs.Rate.{rate_text};
 ghost use Rattle.scmi_chart.specs.Words.{counted_text, hex_text, letter, letters, letters_text, more_text, numbered_text, payload_text, spaced_text, state_text, switch_text, words_text};
 

@@ -1,2 +1,3 @@
+mod Inputs
 mod Signs
 pub mod SoFar

@@ -5,7 +5,6 @@ use Rattle.std.proofs.lemmas.List.{append-nil, map-append}
 use Rattle.scmi_plan.specs.Board.{Board}
 use Rattle.scmi_codec.specs.declared.frame.Frame.TheVariants.{Good, Malformed}
 use Rattle.scmi_svg.specs.declared.mark.Outcome.{Outcome}
-use Rattle.scmi_link.specs.declared.collected.Collected.{Collected}
 use Rattle.scmi_link.specs.declared.collected.Collected.TheVariants as collected
 use Rattle.scmi_ends.specs.declared.served.Served.TheVariants as served
 use Rattle.scmi_ends.specs.declared.flushed.Flushed.TheVariants as flushed

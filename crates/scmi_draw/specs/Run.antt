@@ -1,5 +1,5 @@
 -- The chart of a run.
-use Rattle.std.specs.Prelude.{◌≡◌, ◌≤◌, ℕ, Bool, true, false, List, [], ◌∷◌, Option, Result, length, map}
+use Rattle.std.specs.Prelude.{◌≡◌, ◌≤◌, ℕ, Bool, true, false, List, Option, IfSome, Result, Ok, length, map}
 use Rattle.std.specs.List.{All}
 use Rattle.std.specs.Io.KnownBytes.{Appends}
 use Rattle.scmi_link.specs.View.{CallerView}
@@ -8,8 +8,12 @@ use Rattle.scmi_link.specs.declared.closing.Closing.{Closing}
 use Rattle.scmi_link.specs.declared.close_error.CloseError.{CloseError}
 use Rattle.scmi_words.specs.WordCaller.{word_caller_view, CloseShows}
 use Rattle.scmi_plan.specs.Board.{Board}
+use Rattle.scmi_board.specs.BoardText.{board_left}
+use Rattle.scmi_board.specs.Lines.{Line}
+use Rattle.scmi_input.specs.Lines.{after_line, first_line}
 use Rattle.scmi_ends.specs.Shut.{ShowsClose}
 use Rattle.scmi_text.specs.Step.{IsWithoutHardware}
+use Rattle.scmi_text.specs.StepText.{hardware_steps_of_lines, steps_of_lines}
 use Rattle.scmi_text.specs.declared.step.Step.{Step}
 use Rattle.scmi_text.specs.declared.step_line.StepLine.{StepLine}
 use Rattle.scmi_session.specs.SessionView.{SessionView}
@@ -18,7 +22,7 @@ use Rattle.scmi_svg.specs.Chart.{svg_text}
 use Rattle.scmi_svg.specs.declared.chart.Chart.{Chart}
 use Rattle.scmi_chart.specs.Signs.{sign_of}
 use Rattle.scmi_chart.specs.Shown.{run_signs, none_later, head_of, heads_from}
-use Rattle.scmi_draw.specs.Mode.{kind_of}
+use Rattle.scmi_draw.specs.Mode.{kind_of, line_of}
 use Rattle.scmi_draw.specs.declared.kind.Kind.{Kind}
 use Rattle.scmi_draw.specs.declared.kind.Kind.TheVariants.{Rings, Words}
 use Rattle.scmi_draw.specs.declared.mode.Mode.{Mode}
@@ -47,17 +51,32 @@ abbrev pub MayHave : Mode → Step → Type 0
 MayHave (Steps kind) step = IsWithoutHardware step
 MayHave (Hardware kind) step = Unit {0}
 
--- the chart shows a run of at most 2,000 steps on some board, each of which a script of this mode may have, over its kind of channel
-pub record ShowsScript (mode : Mode) (chart : Chart) : Type 0 where
+-- the steps of the lines of a script in this mode; else the number of the first line that is none
+abbrev pub script_of_lines : Mode → ℕ → List Line → Result (List Step) ℕ
+script_of_lines (Steps kind) agents lines = steps_of_lines agents lines
+script_of_lines (Hardware kind) agents lines = hardware_steps_of_lines agents lines
+
+-- what stands behind the first line of an input is this board and these steps, in this mode
+pub record StandsFor (mode : Mode) (input : List ℕ) (board : Board) (steps : List Step) : Type 0 where
+  pub script : List Line
+  pub is_board : board_left (record { rest = input; number = 1 }) ≡ Ok (board, script)
+  pub are_steps : script_of_lines mode (length board.agents) script ≡ Ok steps
+
+-- the chart shows the run of what stands behind the first line of an input: its board, and its steps, of which there are 2,000 at most, and each of which a script of this mode may have, over its kind of channel
+pub record ShowsScript (mode : Mode) (input : List ℕ) (chart : Chart) : Type 0 where
   pub board : Board
   pub steps : List Step
+  pub of_input : StandsFor mode input board steps
   pub few : length steps ≤ 2000
   pub allowed : All (MayHave mode) steps
   pub shown : ShowsRun (may_be_full (kind_of mode)) (shows_close (kind_of mode)) board steps chart
 
--- what is written is the picture of a run
-pub record IsPicture (old new : Option (List ℕ)) : Type 0 where
+-- what is written is the picture of the run of an input, which is this one where it is known
+pub record IsPicture (known old new : Option (List ℕ)) : Type 0 where
   pub mode : Mode
+  pub rest : List ℕ
   pub chart : Chart
-  pub shown : ShowsScript mode chart
+  pub named : IfSome known (λ input. first_line input ≡ line_of mode)
+  pub behind : IfSome known (λ input. after_line input ≡ rest)
+  pub shown : ShowsScript mode rest chart
   pub text : Appends old new (svg_text chart)

@@ -15,7 +15,8 @@ use std::io::{Read, Write};
 /// Draws the run of an input and gives the exit status: 0, or that of the error, whose text is written
 /// as the last line. A fault that can't be written gives status 1.
 pub fn run_draw<R: Read, W: Write>(alloc: Global, reader: &mut R, writer: &mut W) -> u8
-    ensures picture { result ≡ 0 → IsPicture (W.contents writer.old) (W.contents writer.new) }
+    ensures picture { result ≡ 0 →
+        IsPicture (R.remaining reader.old) (W.contents writer.old) (W.contents writer.new) }
 {
     let mut input = Input::new(CountedReader::new(reader));
     draw_input(alloc, &mut input, writer)
@@ -28,7 +29,8 @@ pub fn draw_input<R: CountedRead + Drop, W: Write>(
     input: &mut Input<R>,
     writer: &mut W,
 ) -> u8
-    ensures picture { result ≡ 0 → IsPicture (W.contents writer.old) (W.contents writer.new) }
+    ensures picture { result ≡ 0 →
+        IsPicture input.old.left (W.contents writer.old) (W.contents writer.new) }
     ensures reads { input.new.reads ≤ input.old.reads + 2 * (INPUT_BYTES + 1) }
     ensures stops { input.old.since_failure ≡ 0 → input.new.since_failure ≤ 1 }
 {
@@ -50,7 +52,8 @@ pub fn draw<R: CountedRead + Drop, W: Write>(
     input: &mut Input<R>,
     writer: &mut W,
 ) -> Result<(), DrawError>
-    ensures picture { OnOk result (IsPicture (W.contents writer.old) (W.contents writer.new)) }
+    ensures picture { OnOk result
+        (IsPicture input.old.left (W.contents writer.old) (W.contents writer.new)) }
     ensures kept { IfErr result (λ e. e ≢ DrawError.Write → writer.new ≡ writer.old) }
     ensures reads { input.new.reads ≤ input.old.reads + 2 * (INPUT_BYTES + 1) }
     ensures stops { StopsAtFailure result input.old.since_failure input.new.since_failure }

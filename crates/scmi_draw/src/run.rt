@@ -3,9 +3,11 @@ ghost use Rattle.std.specs.Prelude.{◌≡◌, length, IfOk, IfErr};
 ghost use Rattle.std.specs.List.{All};
 ghost use Rattle.scmi_ends.specs.Shut.{ShowsClose};
 ghost use Rattle.scmi_plan.specs.RawPlan.{asked_board};
+ghost use Rattle.scmi_board.specs.Lines.{lines_left};
 ghost use Rattle.scmi_text.specs.Step.{IsStepOf};
+ghost use Rattle.scmi_text.specs.TextLines.{GivesScript};
 ghost use Rattle.scmi_draw.specs.DrawError.{fault_of_plan, status_of};
-ghost use Rattle.scmi_draw.specs.Run.{MayHave, ShowsRun, ShowsScript};
+ghost use Rattle.scmi_draw.specs.Run.{MayHave, ShowsRun, ShowsScript, StandsFor, script_of_lines};
 
 use crate::draw_error::DrawError;
 use crate::kind::Kind;
@@ -26,11 +28,9 @@ pub const STEPS: usize = 2_000;
 /// The chart of the run of a board and a script in this mode. `Board`, `Script`, `Size` and `Plan`, in
 /// this order, where the input is refused; `Memory` where memory is refused.
 pub fn chart_of(alloc: Global, mode: Mode, bytes: &[u8]) -> Result<Chart, DrawError>
-    ensures shown { IfOk result (ShowsScript mode) }
+    ensures shown { IfOk result (ShowsScript mode bytes.now) }
 {
-    let mut lines = Lines::new(bytes);
-    let board = read_board(alloc, &mut lines)?;
-    let steps = read_script(alloc, mode, &mut lines, board.agent_count()?)?;
+    let (board, steps) = read_input(alloc, mode, bytes)?;
     if steps.len() > STEPS {
         return Err(DrawError::Size);
     }
@@ -46,6 +46,19 @@ pub fn chart_of(alloc: Global, mode: Mode, bytes: &[u8]) -> Result<Chart, DrawEr
     }
 }
 
+/// The board and the steps that stand behind the first line, in a script of this mode.
+fn read_input(alloc: Global, mode: Mode, bytes: &[u8]) -> Result<(RawPlan, StepList), DrawError>
+    ensures agents { IfOk result (λ read.
+        All (IsStepOf (length (asked_board read.0).agents)) read.1) }
+    ensures kinds { IfOk result (λ read. All (MayHave mode) read.1) }
+    ensures input { IfOk result (λ read. StandsFor mode bytes.now (asked_board read.0) read.1) }
+{
+    let mut lines = Lines::new(bytes);
+    let board = read_board(alloc, &mut lines)?;
+    let steps = read_script(alloc, mode, &mut lines, board.agent_count()?)?;
+    Ok((board, steps))
+}
+
 /// The steps of all lines that are left, in a script of this mode.
 fn read_script(
     alloc: Global,
@@ -55,6 +68,8 @@ fn read_script(
 ) -> Result<StepList, TextError>
     ensures agents { IfOk result (λ steps. All (IsStepOf agents) steps) }
     ensures kinds { IfOk result (λ steps. All (MayHave mode) steps) }
+    ensures steps { GivesScript (λ steps. steps) result
+        (script_of_lines mode agents (lines_left lines.old)) }
 {
     match mode {
         Mode::Steps(_) => read_steps(alloc, lines, agents),

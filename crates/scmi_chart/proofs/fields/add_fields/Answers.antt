@@ -1,4 +1,4 @@
-use Rattle.std.proofs.Common.{◌∙◌, get_or}
+use Rattle.std.proofs.Common.{◌∙◌}
 use Rattle.scmi_plan.specs.RawPlan.{asked_board}
 use Rattle.scmi_chart.specs.LabelWords.{words_of}
 use Rattle.scmi_chart.proofs.WithFields.{with_fields_step}

@@ -1,4 +1,4 @@
-use Rattle.std.proofs.Common.{◌<◌, ◌≤◌, length, arith}
+use Rattle.std.proofs.Common.{◌<◌, ◌≤◌, ◌∙◌, length, arith}
 use Rattle.scmi_draw.proofs.SoFar.{all_steps, no_step, step_more}
 use Rattle.scmi_draw.proofs.run.step_through.Goals as goal
 

@@ -1,0 +1,41 @@
+-- The first line of an input, and the lines behind it.
+use Rattle.std.proofs.Common.{◌≡◌, ℕ, ◌≤◌, ◌<◌, List, take, length, Option, None, Some, IfSome, sym, ap, ◌∙◌, subst, arith}
+use Rattle.std.proofs.lemmas.List.{length-take, take_all}
+use Rattle.scmi_board.specs.Lines.{LinesView}
+use Rattle.scmi_input.specs.Lines.{after_line, first_line}
+use Rattle.scmi_input.specs.declared.input.TheConstants.{KEPT_BYTES}
+use Rattle.scmi_draw.specs.Mode.{line_of}
+use Rattle.scmi_draw.specs.declared.kind.Kind.TheVariants.{Rings, Words}
+use Rattle.scmi_draw.specs.declared.mode.Mode.{Mode}
+use Rattle.scmi_draw.specs.declared.mode.Mode.TheVariants.{Steps, Hardware}
+
+-- the lines of an input that no one has read yet
+pub lines_same : (lines : LinesView) (bytes : List ℕ) → lines.rest ≡ bytes → lines.number ≡ 1 → lines ≡ record { rest = bytes; number = 1 }
+lines_same lines bytes rest first = ap (λ (r : List ℕ). record { rest = r; number = lines.number }) rest ∙ ap (λ (n : ℕ). record { rest = bytes; number = n }) first
+
+short : (m : Mode) → length (line_of m) < KEPT_BYTES
+short (Steps Rings) = omega arith
+short (Steps Words) = omega arith
+short (Hardware Rings) = omega arith
+short (Hardware Words) = omega arith
+
+-- a line whose first bytes are fewer than were to be kept is no longer
+whole : (line kept : List ℕ) → kept ≡ take KEPT_BYTES line → length kept < KEPT_BYTES → kept ≡ line
+whole line kept is few =
+    let all : length line ≤ KEPT_BYTES = omega (arith, few, ap length is ∙ length-take KEPT_BYTES line) in
+    is ∙ take_all KEPT_BYTES line all
+
+named : (line kept : List ℕ) (m : Mode) → kept ≡ take KEPT_BYTES line → kept ≡ line_of m → line ≡ line_of m
+named line kept m is mode =
+    let few : length kept < KEPT_BYTES = omega (arith, short m, ap length mode) in
+    sym (whole line kept is few) ∙ mode
+
+-- the first line of an input, where it is known, is that of the mode that its first bytes name
+pub named_line : (known : Option (List ℕ)) (kept : List ℕ) (m : Mode) → IfSome known (λ input. kept ≡ take KEPT_BYTES (first_line input)) → kept ≡ line_of m → IfSome known (λ input. first_line input ≡ line_of m)
+named_line None kept m is mode = tt
+named_line (Some input) kept m is mode = named (first_line input) kept m is mode
+
+-- what is left behind the first line, and read to its end
+pub behind_line : (known left : Option (List ℕ)) (all : List ℕ) → IfSome known (λ input. left ≡ Some (after_line input)) → IfSome left (λ rest. all ≡ rest) → IfSome known (λ input. after_line input ≡ all)
+behind_line None left all is read = tt
+behind_line (Some input) left all is read = sym (subst (λ (l : Option (List ℕ)). IfSome l (λ rest. all ≡ rest)) is read)
