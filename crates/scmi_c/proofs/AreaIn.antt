@@ -27,7 +27,7 @@ use Rattle.scmi_core.specs.declared.answered.Answered.{Answered}
 use Rattle.scmi_core.specs.declared.answered.Answered.TheVariants as answered
 use Rattle.scmi_core.specs.declared.event.Event.{Event}
 use Rattle.scmi_core.proofs.Channels.{channels}
-use Rattle.scmi_core.proofs.Room.{lawful_channel, reply-within}
+use Rattle.scmi_core.proofs.Room.{reply-within}
 use Rattle.scmi_c.proofs.Answering.{reply-header}
 
 -- AREAS OF A CHANNEL

@@ -44,6 +44,7 @@ impl Model for Desk {
 
 impl Desk {
     /// A platform that was given no frame yet.
+    #[inline(always)]
     pub fn new(held: Held) -> Desk
         ensures held { result.held ≡ held }
         ensures unasked { IsUnasked result }

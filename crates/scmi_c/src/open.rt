@@ -13,6 +13,7 @@ use crate::handle::Handle;
 use crate::held::Held;
 use crate::unrecorded::Unrecorded;
 use scmi_core::Core;
+use scmi_plan::Plan;
 use std::alloc::Global;
 
 /// Makes a platform of a board's text, which keeps no history and takes no memory from then on. `DONE`;
@@ -35,7 +36,7 @@ pub extern "C" fn scmi_platform_new(alloc: Global, platform: &mut Handle, board:
         return IN_USE;
     }
     match read_plan(alloc, board) {
-        Ok(plan) => hold(alloc, platform, Held::Endless(Unrecorded::new(plan))),
+        Ok(plan) => hold_endless(alloc, platform, plan),
         Err(fault) => fault,
     }
 }
@@ -62,12 +63,40 @@ pub extern "C" fn scmi_platform_new_recorded(
         return IN_USE;
     }
     match read_plan(alloc, board) {
-        Ok(plan) => hold(alloc, platform, Held::Recorded(Core::new(alloc, plan))),
+        Ok(plan) => hold_recorded(alloc, platform, plan),
         Err(fault) => fault,
     }
 }
 
+/// Makes a platform that keeps no history. What it is made of is no local of the caller's, which reads
+/// the text.
+#[inline(never)]
+fn hold_endless(alloc: Global, platform: &mut Handle, plan: Plan) -> u32
+    requires { platform.old.value ≡ None }
+    ensures done { result ≡ DONE →
+        IsSomeAnd platform.new.value (λ p. IsUnasked p × (board_of p.held ≡ plan)
+        × StandsAt p.held [] × (¬ (IsRecorded p.held))) }
+    ensures errors { (result ≡ DONE) ⊎ (result ≡ MEMORY) }
+    ensures kept { result ≢ DONE → platform.new.value ≡ platform.old.value }
+{
+    hold(alloc, platform, Held::Endless(Unrecorded::new(plan)))
+}
+
+/// As `hold_endless`, of a platform that keeps its history.
+#[inline(never)]
+fn hold_recorded(alloc: Global, platform: &mut Handle, plan: Plan) -> u32
+    requires { platform.old.value ≡ None }
+    ensures done { result ≡ DONE →
+        IsSomeAnd platform.new.value (λ p. IsUnasked p × (board_of p.held ≡ plan)
+        × StandsAt p.held [] × IsRecorded p.held) }
+    ensures errors { (result ≡ DONE) ⊎ (result ≡ MEMORY) }
+    ensures kept { result ≢ DONE → platform.new.value ≡ platform.old.value }
+{
+    hold(alloc, platform, Held::Recorded(Core::new(alloc, plan)))
+}
+
 /// Puts a platform into the heap and its handle.
+#[inline(always)]
 fn hold(alloc: Global, platform: &mut Handle, held: Held) -> u32
     requires { platform.old.value ≡ None }
     ensures done { result ≡ DONE →

@@ -67,7 +67,8 @@ pub fn fail(desk: &mut Desk, area: &mut [u8]) -> Result<(), Refusal>
 }
 
 /// Writes what a frame was answered with: of a reply its length, header and words, and last the status
-/// word.
+/// word. What it is made of is none of the locals of its callers, which execute the command.
+#[inline(never)]
 fn write_whole(area: &mut [u8], answered: Answered, reply: &Message)
     requires size { is_channel_size (length area.old) ≡ true }
     ensures reply { answered ≡ answered_by.Reply →
@@ -76,14 +77,13 @@ fn write_whole(area: &mut [u8], answered: Answered, reply: &Message)
     ensures error { answered ≡ answered_by.ChannelError →
         area.new ≡ area_after_answer frame_answer.ChannelError area.old }
 {
-    match answered {
+    let last = match answered {
         Answered::Reply => {
             // As posted, and then the channel is free.
             let _ = write_channel_message(area, reply);
-            let _ = write_channel_answer(area, &Answer::Released);
+            Answer::Released
         }
-        Answered::ChannelError => {
-            let _ = write_channel_answer(area, &Answer::ChannelError);
-        }
-    }
+        Answered::ChannelError => Answer::ChannelError,
+    };
+    let _ = write_channel_answer(area, &last);
 }

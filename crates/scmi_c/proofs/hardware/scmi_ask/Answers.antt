@@ -1,4 +1,4 @@
-use Rattle.std.proofs.Common.{rules, ◌≡◌, ◌≢◌, None, refl}
+use Rattle.std.proofs.Common.{rules, ◌≢◌, None, refl}
 use Rattle.scmi_codec.specs.Area.{frame_waiting}
 use Rattle.scmi_core.proofs.Room.{lawful_channel}
 use Rattle.scmi_c.specs.Calls.{IsAskedAbout}
