@@ -82,6 +82,13 @@ void controller_answer(uint32_t agent, scmi_area *area)
 {
     scmi_answer(&platform, agent, area->bytes);
 }
+
+void controller_ask(uint32_t agent, scmi_area *area)
+{
+    scmi_effect effect;
+
+    scmi_ask(&platform, agent, area->bytes, &effect);
+}
 #endif
 
 void controller_advance(void)

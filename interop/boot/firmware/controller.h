@@ -12,8 +12,9 @@ bool controller_start(void);
 /* Executes the frame in the copy of an agent's area on the hardware, and answers it there, if it is one. */
 bool controller_serve(uint32_t agent, scmi_area *area);
 
-/* The library's answer alone, to measure. */
+/* The library's two calls alone, to measure. */
 void controller_answer(uint32_t agent, scmi_area *area);
+void controller_ask(uint32_t agent, scmi_area *area);
 
 /* Completes the first pending set on the hardware, if there is one. */
 void controller_advance(void);

@@ -21,7 +21,7 @@ static scmi_mailbox outbox;
 
 static void say_words(const scmi_area *area)
 {
-    for (uint32_t i = 0; i + 1 < area->length / 4 && i < SCMI_PAYLOAD_WORDS; i++)
+    for (uint32_t i = 0; i + 1 < area->length / 4; i++)
         printf(" 0x%08x", area->payload[i]);
 }
 
@@ -29,7 +29,10 @@ static void say_answer(uint32_t agent, const scmi_area *command, const scmi_area
 {
     printf("SCMI: core %u, token %u: agent %u: 0x%05x", plat_my_core_pos(), command->header >> TOKEN, agent,
            command->header & KIND);
-    say_words(command);
+    if (answer->status == SCMI_MAILBOX_FREE)
+        say_words(command);
+    else
+        printf(" of %u bytes", command->length);
     printf("  ->  %u:", answer->status);
     if (answer->status == SCMI_MAILBOX_FREE)
         say_words(answer);
@@ -106,8 +109,10 @@ bool server_start(void)
 }
 
 #if SCMI_MEASURED
-/* With a copy of the frame before each call, which the ticks of the copies alone are taken from. */
-static uint64_t ticks(uint32_t agent, const scmi_area *frame, uint32_t rounds, bool answers)
+typedef void measured_call(uint32_t agent, scmi_area *area);
+
+/* With a copy of the frame before each call, if there is one: the ticks of the copies alone are taken off. */
+static uint64_t ticks(uint32_t agent, const scmi_area *frame, uint32_t rounds, measured_call *call)
 {
     scmi_area area;
     uint64_t from;
@@ -117,19 +122,19 @@ static uint64_t ticks(uint32_t agent, const scmi_area *frame, uint32_t rounds, b
     for (uint32_t i = 0; i < rounds; i++) {
         memcpy(&area, frame, sizeof(area));
         __asm__ volatile("" : : "r"(&area) : "memory");
-        if (answers)
-            controller_answer(agent, &area);
+        if (call)
+            call(agent, &area);
     }
     isb();
     return read_cntpct_el0() - from;
 }
 
-uint64_t server_measure(uint32_t agent, uint32_t rounds)
+uint64_t server_measure(uint32_t agent, uint32_t rounds, bool asks)
 {
     scmi_area frame;
 
     if (scmi_mailbox_take(&boxes[agent], &frame) != SCMI_DONE)
         return 0;
-    return ticks(agent, &frame, rounds, true) - ticks(agent, &frame, rounds, false);
+    return ticks(agent, &frame, rounds, asks ? controller_ask : controller_answer) - ticks(agent, &frame, rounds, NULL);
 }
 #endif

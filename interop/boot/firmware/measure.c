@@ -39,8 +39,9 @@ uint64_t measure(uint32_t id, uint64_t first, uint64_t second)
         return paint_stack();
     case STACK_WRITTEN:
         return stack_written();
-    case BARE_CALLS:
-        return server_measure((uint32_t)first, (uint32_t)second);
+    case ANSWERS:
+    case ASKS:
+        return server_measure((uint32_t)first, (uint32_t)second, id == ASKS);
     default:
         return 0;
     }

@@ -3,8 +3,8 @@
 #define MEASURE_H
 #include <stdint.h>
 
-/* Functions for who measures: paint this core's stack; how much of it was written; the server's bare call. */
-enum { MEASURE_SMC_ID = 0x8200fff0, PAINT_STACK = MEASURE_SMC_ID, STACK_WRITTEN, BARE_CALLS };
+/* Functions for who measures: paint this core's stack; how much of it was written; the server's bare calls. */
+enum { MEASURE_SMC_ID = 0x8200fff0, PAINT_STACK = MEASURE_SMC_ID, STACK_WRITTEN, ANSWERS, ASKS };
 
 uint64_t measure(uint32_t id, uint64_t first, uint64_t second);
 #endif

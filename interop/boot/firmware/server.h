@@ -9,6 +9,9 @@ bool server_start(void);
 /* Serves the command that stands in an agent's area. Whether there was one; and then, whether it wants an interrupt. */
 bool server_serve(uint32_t agent, bool *interrupts);
 
-/* The bare call of the server, so many times, for a copy of the frame that stands in an agent's area: in ticks. */
-uint64_t server_measure(uint32_t agent, uint32_t rounds);
+/*
+ * The bare call of the server that answers, or of the library the one that asks what is to change, so many times, for a
+ * copy of the frame that stands in an agent's area: in ticks.
+ */
+uint64_t server_measure(uint32_t agent, uint32_t rounds, bool asks);
 #endif

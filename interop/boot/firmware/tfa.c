@@ -164,7 +164,7 @@ int32_t plat_scmi_clock_set_state(unsigned int agent_id, unsigned int scmi_id, b
 }
 
 /* The server's call for a message that was copied, without its areas. */
-uint64_t server_measure(uint32_t agent, uint32_t rounds)
+uint64_t server_measure(uint32_t agent, uint32_t rounds, bool asks)
 {
     const volatile uint32_t *words = (const volatile uint32_t *)area_of(agent);
     uint32_t header = words[HEADER / 4], in[24] = { 0 }, out[24];
@@ -173,7 +173,7 @@ uint64_t server_measure(uint32_t agent, uint32_t rounds)
                             .out_size = sizeof(out) };
     uint64_t from;
 
-    if (msg.in_size > sizeof(in))
+    if (asks || msg.in_size > sizeof(in))
         return 0;
     for (size_t i = 0; i < msg.in_size / 4; i++)
         in[i] = words[PAYLOAD / 4 + i];

@@ -1,7 +1,8 @@
 // SPDX-License-Identifier: GPL-2.0
 /*
- * Calls the firmware for agent 2, on the processor that loads it: again and again commands that would take away from
- * agent 1 what it has, while a program on another processor writes anything over the same area.
+ * Calls the firmware for agent 2, on the processor that loads it, while a program on another processor writes anything
+ * over the same area: every other time a command is posted before, most of which would take away from agent 1 what it
+ * has, and every other time what stands there is left as it is.
  */
 #include <linux/arm-smccc.h>
 #include <linux/io.h>
@@ -54,7 +55,8 @@ static int __init start(void)
 	if (!area)
 		return -ENOMEM;
 	for (call = 0; call < calls; call++) {
-		post(area, &frames[call % ARRAY_SIZE(frames)], call);
+		if (call % 2)
+			post(area, &frames[call / 2 % ARRAY_SIZE(frames)], call);
 		arm_smccc_smc(FUNCTION, 0, 0, 0, 0, 0, 0, 0, &res);
 		returned += res.a0 == 0;
 		cond_resched();

@@ -2,7 +2,7 @@
 /*
  * What SMCs of agent 1 cost, in instructions: QEMU counts them for its clock, sixteen to a tick of the counter. Each
  * command is posted and called so many times with interrupts off, and the posting alone is taken off; then the server's
- * bare call is asked of the firmware, and how much of its stack one call wrote.
+ * bare calls are asked of the firmware, and how much of its stack one call wrote.
  */
 #include <linux/arm-smccc.h>
 #include <linux/io.h>
@@ -10,7 +10,7 @@
 #include <asm/arch_timer.h>
 
 enum { AREA = 0x50000000, BYTES = 0x1000 };
-enum { FUNCTION = 0x82000010, NONE = 0x8200fff8, PAINT_STACK = 0x8200fff0, STACK_WRITTEN, BARE_CALLS };
+enum { FUNCTION = 0x82000010, NONE = 0x8200fff8, PAINT_STACK = 0x8200fff0, STACK_WRITTEN, ANSWERS, ASKS };
 enum { STATUS = 0x04, LENGTH = 0x14, HEADER = 0x18, PAYLOAD = 0x1c };
 enum { ROUNDS = 256, BATCHES = 8, PER_TICK = 16 };
 
@@ -77,7 +77,7 @@ static u64 batch(const struct frame *frame, u32 function)
 
 static void say(const struct frame *frame)
 {
-	u64 call = batch(frame, FUNCTION) - batch(frame, 0), stack, bare;
+	u64 call = batch(frame, FUNCTION) - batch(frame, 0), stack, answers, asks;
 	s32 status;
 
 	post(frame);
@@ -86,10 +86,11 @@ static void say(const struct frame *frame)
 	stack = smc(STACK_WRITTEN, 0, 0);
 	status = (s32)readl(area + PAYLOAD);
 	post(frame);
-	bare = smc(BARE_CALLS, 1, ROUNDS);
+	answers = smc(ANSWERS, 1, ROUNDS);
+	asks = smc(ASKS, 1, ROUNDS);
 	writel(1, area + STATUS);
-	pr_info("measured: %s: status %d: SMC %llu, of it the server's call %llu, stack %llu\n", frame->name, status,
-		call * PER_TICK / ROUNDS, bare * PER_TICK / ROUNDS, stack);
+	pr_info("measured: %s: status %d: SMC %llu, of it to ask %llu, to answer %llu; stack %llu\n", frame->name, status,
+		call * PER_TICK / ROUNDS, asks * PER_TICK / ROUNDS, answers * PER_TICK / ROUNDS, stack);
 }
 
 static int __init start(void)
@@ -101,7 +102,7 @@ static int __init start(void)
 		return -ENOMEM;
 	smc(PAINT_STACK, 0, 0);
 	smc(NONE, 0, 0);
-	pr_info("measured: nothing: SMC %llu, stack %llu\n", batch(NULL, NONE) * PER_TICK / ROUNDS, smc(STACK_WRITTEN, 0, 0));
+	pr_info("measured: nothing: SMC %llu; stack %llu\n", batch(NULL, NONE) * PER_TICK / ROUNDS, smc(STACK_WRITTEN, 0, 0));
 	for (i = 0; i < ARRAY_SIZE(frames); i++)
 		say(&frames[i]);
 	iounmap(area);
