@@ -2,22 +2,23 @@
 
 #include <stdio.h>
 
-#include "area.h"
+#include "agents.h"
 #include "hardware.h"
 #include "make.h"
 
 /* A header without its token. */
 enum { SET_DEVICE_PERMISSIONS = 0x04009 };
+/* The devices of board.txt: the gpu, and what agents 1 and 3 have beside it. */
+enum { GPU = 0, REST = 1 };
 
 static scmi_platform platform;
 
-/* A command of the firmware's own, and whether it succeeded. */
-static bool succeeds(uint32_t header, unsigned int count, const uint32_t *words)
+/* A command of the firmware's own: an agent may not use a device. */
+static bool deny(uint32_t agent, uint32_t device)
 {
-    uint8_t area[SCMI_AREA_BYTES] = { 0 };
+    scmi_area area = { .length = 16, .header = SET_DEVICE_PERMISSIONS, .payload = { agent, device, 0 } };
 
-    area_post(area, header, count, words);
-    return scmi_answer(&platform, FIRMWARE, area) == SCMI_DONE && area_word(area, SCMI_AREA_PAYLOAD) == 0;
+    return scmi_answer(&platform, FIRMWARE, area.bytes) == SCMI_DONE && area.payload[0] == 0;
 }
 
 /* The state of the platform. */
@@ -44,6 +45,8 @@ static void say_states(void)
 {
     hardware_state said, set;
 
+    if (!SCMI_SAYS)
+        return;
     if (!read_state(&said))
         printf("SCMI: the platform gives no state\n");
     hardware_read(&set);
@@ -52,34 +55,68 @@ static void say_states(void)
     printf("\n");
 }
 
-bool controller_serve(uint32_t agent, uint8_t *area)
+static void say_change(uint32_t agent, const scmi_effect *effect, bool made)
 {
-    scmi_channel_numbers channel = { 0 };
+    if (SCMI_SAYS)
+        hardware_say_change(agent, effect, made);
+    say_states();
+}
+
+bool controller_serve(uint32_t agent, scmi_area *area)
+{
     scmi_effect effect;
-    uint32_t given = scmi_channel(&platform, agent, &channel) == SCMI_DONE
-                         ? scmi_ask_in(&platform, agent, area, channel.bytes, &effect)
-                         : SCMI_NO_AGENT;
+    uint32_t given = scmi_ask(&platform, agent, area->bytes, &effect);
     bool changes = given == SCMI_EFFECT;
     bool made = changes && hardware_make(&effect);
 
     if (changes)
-        given = made ? scmi_commit_in(&platform, area, channel.bytes) : scmi_fail_in(&platform, area, channel.bytes);
+        given = made ? scmi_commit(&platform, area->bytes) : scmi_fail(&platform, area->bytes);
     if (given != SCMI_DONE)
         return false;
-    if (changes) {
-        hardware_say_change(agent, &effect, made);
-        say_states();
-    }
+    if (changes)
+        say_change(agent, &effect, made);
     return true;
+}
+
+#if SCMI_MEASURED
+void controller_answer(uint32_t agent, scmi_area *area)
+{
+    scmi_answer(&platform, agent, area->bytes);
+}
+
+void controller_ask(uint32_t agent, scmi_area *area)
+{
+    scmi_effect effect;
+
+    scmi_ask(&platform, agent, area->bytes, &effect);
+}
+#endif
+
+void controller_advance(void)
+{
+    scmi_effect effect;
+    uint32_t agent = 0;
+    bool made;
+
+    if (scmi_pending(&platform, 0, &agent, &effect) != SCMI_DONE)
+        return;
+    made = hardware_make(&effect);
+    if ((made ? scmi_advance(&platform) : scmi_fail_advance(&platform)) == SCMI_DONE)
+        say_change(agent, &effect, made);
+}
+
+bool controller_tell(uint32_t agent, const scmi_mailbox *box, scmi_area *message)
+{
+    message->status = SCMI_MAILBOX_FREE;
+    return scmi_next(&platform, agent, message->bytes) == SCMI_DONE &&
+           scmi_mailbox_tell(box, &platform, agent) == SCMI_DONE;
 }
 
 bool controller_start(void)
 {
-    const uint32_t denied[] = { MODEM, 0, 0 };
     hardware_state state;
 
-    if (!make(&platform) || !succeeds(SET_DEVICE_PERMISSIONS, 3, denied) || !read_state(&state) ||
-        !hardware_start(&state))
+    if (!make(&platform) || !deny(MODEM, GPU) || !deny(MODEM, REST) || !read_state(&state) || !hardware_start(&state))
         return false;
     say_states();
     return true;

@@ -4,12 +4,21 @@
 #include <stdbool.h>
 #include <stdint.h>
 
-/* The agents of board.txt. The last is the firmware's own, and the trusted one; it has no area that anyone else sees. */
-enum { LINUX = 1, MODEM = 2, FIRMWARE = 3 };
+#include "scmi_mailbox.h"
 
-/* Makes the platform, brings the hardware to its state, and denies agent 2 the domain and the clock of the gpu. */
+/* Makes the platform, brings the hardware to its state, and denies agent 2 all but the domain of the modem. */
 bool controller_start(void);
 
-/* Executes the frame in the area of an agent of Linux on the hardware, and answers it in place, if it is one. */
-bool controller_serve(uint32_t agent, uint8_t *area);
+/* Executes the frame in the copy of an agent's area on the hardware, and answers it there, if it is one. */
+bool controller_serve(uint32_t agent, scmi_area *area);
+
+/* The library's two calls alone, to measure. */
+void controller_answer(uint32_t agent, scmi_area *area);
+void controller_ask(uint32_t agent, scmi_area *area);
+
+/* Completes the first pending set on the hardware, if there is one. */
+void controller_advance(void);
+
+/* Posts the first message to an agent on its channel, if there is one and the channel is free, and gives a copy. */
+bool controller_tell(uint32_t agent, const scmi_mailbox *box, scmi_area *message);
 #endif

@@ -12,12 +12,21 @@
 #undef MAX_XLAT_TABLES
 #define MAX_XLAT_TABLES 8
 
-/* As in the device tree (tree.dtsi): agent 1 has the first function and the first page, agent 2 the second. */
+/*
+ * As in the device tree (tree.dtsi): agent 1 has the first function and the first page, agent 2 the second. Agent 3
+ * has the third page and, for the platform's messages, the fourth; the fifth is its mailbox.
+ */
 #define SCMI_SMC_ID U(0x82000010)
 #define SCMI_SHARED_BASE ULL(0x50000000)
 #define SCMI_SHARED_EACH ULL(0x1000)
-/* The interrupt that announces an answer to agent 2. */
+#define SCMI_OUTBOX_BASE (SCMI_SHARED_BASE + 3 * SCMI_SHARED_EACH)
+#define SCMI_MAILBOX_BASE (SCMI_SHARED_BASE + 4 * SCMI_SHARED_EACH)
+#define SCMI_SHARED_BYTES (5 * SCMI_SHARED_EACH)
+/* As board.txt says. */
+#define SCMI_CHANNEL_BYTES 156
+/* The interrupt that announces an answer to agent 2, and the first of those of the mailbox. */
 #define SCMI_INTERRUPT 132
+#define SCMI_MAILBOX_INTERRUPT 133
 
 /* Secure memory that BL31 has mapped and nothing else uses, as there is no BL32. */
 #define SCMI_STACK_BASE SEC_DRAM_BASE
