@@ -14,8 +14,8 @@ pub struct TextLine<'a> {
     pub text: &'a [u8],
 }
 
-/// What is left of an input behind its first line, which is the mode. A contract sees the bytes that
-/// are left and the number of the line that was read last.
+/// What is left of an input behind its first line, which is the mode, or of a text that has none. A
+/// contract sees the bytes that are left and the number of the line that was read last.
 #[derive(Drop)]
 pub struct Lines<'a> {
     rest: &'a [u8],
@@ -40,6 +40,17 @@ impl<'a> Lines<'a> {
         Lines {
             rest: input,
             number: 1,
+        }
+    }
+
+    /// The lines of a text that has no mode. They are numbered from 1.
+    pub fn of_text(text: &'a [u8]) -> Lines<'a>
+        ensures rest { result.rest ≡ text.now }
+        ensures number { result.number ≡ 0 }
+    {
+        Lines {
+            rest: text,
+            number: 0,
         }
     }
 

@@ -7,7 +7,7 @@ use Rattle.scmi_board.specs.Number.{number_of}
 use Rattle.scmi_text.specs.Fields.{first_agent, first_message, payload_behind, with_word}
 use Rattle.scmi_text.specs.PackedStep.{call_with, raw_with}
 use Rattle.scmi_text.specs.StepText.{advance_head, agent_head, command_head, first_head, head_of, payload_of, step_of_line, steps_left, with_step}
-use Rattle.scmi_text.specs.TextLines.{after_lines}
+use Rattle.scmi_text.specs.TextLines.{after_each_line}
 use Rattle.scmi_text.specs.declared.step.AgentStep.TheVariants as agent
 use Rattle.scmi_text.specs.declared.step.PlatformStep.TheVariants.{Serve, Flush, Shut}
 use Rattle.scmi_text.specs.declared.step.Step.{Step}
@@ -42,9 +42,9 @@ beside_hardware = refl
 
 -- a script from line 9 on, whose remarks and blank lines are counted
 whole_script : steps_left WithoutHardware 2 (record { rest = codes "\n# served\nserve 2\n\ncollect  2"; number = 8 }) ≡ Ok (Platform 2 Serve ∷ Agent 2 agent.Collect ∷ [])
-unfolding behind_spaces first_number item_at items_up_to number_of first_agent first_message payload_behind with_word agent_head command_head first_head head_of payload_of step_of_line with_step after_lines lines_of lines_behind
+unfolding behind_spaces first_number item_at items_up_to number_of first_agent first_message payload_behind with_word agent_head command_head first_head head_of payload_of step_of_line with_step after_each_line lines_of lines_behind
 whole_script = refl
 
 first_fault : steps_left WithoutHardware 2 (record { rest = codes "serve 2\n#\nserve\nserve 9\n"; number = 8 }) ≡ Err 11
-unfolding behind_spaces first_number item_at items_up_to number_of first_agent first_message payload_behind with_word agent_head command_head first_head head_of payload_of step_of_line with_step after_lines lines_of lines_behind
+unfolding behind_spaces first_number item_at items_up_to number_of first_agent first_message payload_behind with_word agent_head command_head first_head head_of payload_of step_of_line with_step after_each_line lines_of lines_behind
 first_fault = refl

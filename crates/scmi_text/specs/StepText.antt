@@ -101,6 +101,10 @@ step_of_line kinds agents text = do
   words ← payload_of head.0 head.1
   Some (step_with head.0 words)
 
+-- the step of a line, which is none beside hardware
+abbrev pub plain_step_of_line : ℕ → List ℕ → Option Step
+plain_step_of_line agents text = step_of_line WithoutHardware agents text
+
 -- steps with that of a line behind them
 unfoldable pub with_step : StepKinds → ℕ → List Step → List ℕ → Option (List Step)
 with_step kinds agents steps text = do

@@ -11,9 +11,10 @@ use arrayvec::ArrayVec;
 use scmi_board::{Items, LineError};
 use scmi_codec::{PAYLOAD_WORDS, Payload};
 
-/// The next item as the number of an agent of a board that has this many, numbered from 1.
+/// The next item as the number of an agent of a board that has this many, numbered from 1. `Form` where
+/// it is none.
 #[tactic(auto, unfolding(crate::specs::Fields::first_agent))]
-pub(crate) fn read_agent(items: &mut Items<'_>, agents: u32) -> Result<u32, LineError>
+pub fn read_agent(items: &mut Items<'_>, agents: u32) -> Result<u32, LineError>
     ensures within { IfOk result (IsAgent agents) }
     ensures agent { Gives (λ agent. (agent, items_left items.new)) result
         (first_agent agents (items_left items.old)) }
@@ -38,7 +39,7 @@ pub(crate) fn read_message(items: &mut Items<'_>) -> Result<(u8, u8), LineError>
 
 /// All items that are left, as payload words. `Form` where there are more than `PAYLOAD_WORDS`, or one
 /// is no word.
-pub(crate) fn read_payload(items: &mut Items<'_>) -> Result<Payload, LineError>
+pub fn read_payload(items: &mut Items<'_>) -> Result<Payload, LineError>
     ensures { Gives (λ payload. payload.items) result (payload_left (items_left items.old)) }
 {
     let mut payload = ArrayVec::new();

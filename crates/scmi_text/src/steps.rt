@@ -7,12 +7,13 @@ ghost use Rattle.scmi_board.specs.TextError.{IsOfScript};
 ghost use Rattle.scmi_codec.specs.declared.payload.TheConstants.{PAYLOAD_WORDS};
 ghost use Rattle.scmi_text.specs.PackedStep.{IsPacked, IsStartOf, step_of};
 ghost use Rattle.scmi_text.specs.Step.{Allows, IsStepOf, IsWithoutHardware};
-ghost use Rattle.scmi_text.specs.StepText.{payload_of, step_of_line, steps_left};
+ghost use Rattle.scmi_text.specs.StepText.{payload_of, plain_step_of_line, step_of_line, steps_left};
 ghost use Rattle.scmi_text.specs.TextLines.{GivesScript};
 
 use crate::fields::read_words;
 use crate::head::read_head;
-use crate::packed_step::{Head, PackedStep, has_payload};
+use crate::packed_step::{Head, PackedStep, has_payload, set_step};
+use crate::step::Step;
 use crate::step_kinds::StepKinds;
 use crate::step_list::StepList;
 use scmi_board::{Items, LineError, Lines, TextError};
@@ -46,6 +47,21 @@ pub fn read_hardware_steps(
         (steps_left StepKinds.All agents lines.old) }
 {
     read_steps_of(alloc, lines, agents, StepKinds::All)
+}
+
+/// The step of one line, of a board that has this many agents (own). `Form` where the line is none, has
+/// more payload words than `PAYLOAD_WORDS`, or is one beside hardware; `Memory` where memory is refused.
+pub fn read_one_step(alloc: Global, text: &[u8], agents: u32) -> Result<Step, LineError>
+    ensures agent { IfOk result (IsStepOf agents) }
+    ensures step { GivesUnless (λ step. step) result
+        (plain_step_of_line agents text.now) }
+{
+    let mut words = Vec::new(alloc);
+    let packed = read_step(text, agents, StepKinds::WithoutHardware, &mut words)?;
+    let payload = &words[packed.first..packed.first + packed.count];
+    let mut step = Step::Advance;
+    set_step(&mut step, packed.head, payload);
+    Ok(step)
 }
 
 /// The steps of all lines that are left, of these kinds.

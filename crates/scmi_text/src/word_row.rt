@@ -10,16 +10,16 @@ use scmi_board::LineError;
 /// It is generic because a constant has a name in definitions only where its struct holds no reference
 /// of its own.
 #[derive(Clone, Copy)]
-pub(crate) struct WordRow<W, F> {
+pub struct WordRow<W, F> {
     pub word: W,
     pub form: F,
 }
 
 /// A row of a table.
-pub(crate) type HeldRow<F> = WordRow<&'static [u8], F>;
+pub type HeldRow<F> = WordRow<&'static [u8], F>;
 
 /// The form of a line that begins with this word. `Form` where no row has it.
-pub(crate) fn form_in<F: Copy>(mut rows: &[HeldRow<F>], word: &[u8]) -> Result<F, LineError>
+pub fn form_in<F: Copy>(mut rows: &[HeldRow<F>], word: &[u8]) -> Result<F, LineError>
     ensures { Gives (λ form. form) result (form_in word.now (map said rows.entry.now)) }
 {
     while let [row, rest @ ..] = rows {

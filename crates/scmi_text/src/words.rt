@@ -8,8 +8,9 @@ use scmi_codec::Message;
 use std::io;
 use std::io::Write;
 
-/// Writes the header word and the payload words, each behind a space.
-pub(crate) fn write_message<W: Write>(writer: &mut W, message: &Message) -> io::Result<()>
+/// Writes the header word and the payload words, each behind a space (own). The error is the writer's;
+/// some words may then be written.
+pub fn write_message<W: Write>(writer: &mut W, message: &Message) -> io::Result<()>
     ensures { OnOk result
         (Appends (W.contents writer.old) (W.contents writer.new) (message_text message.now)) }
 {

@@ -1,0 +1,18 @@
+-- A record's lines, read one after the other.
+use Rattle.std.proofs.Common.{◌≡◌, ℕ, List, Result, Ok, sym, ap, subst}
+use Rattle.scmi_board.specs.declared.text_error.TextError.{TextError}
+use Rattle.scmi_board.specs.declared.text_error.TextError.TheVariants as errors
+use Rattle.scmi_text.specs.TextLines.{FailsScript, GivesScript}
+use Rattle.scmi_check.specs.RecordText.{Shows, all_answered}
+use Rattle.scmi_check.specs.declared.placed.Placed.{Placed}
+
+-- a line that is none of the record is none of its entries
+pub fails_all : (error : TextError) (total : Result Shows ℕ) → FailsScript error total → FailsScript error (all_answered total)
+fails_all (errors.Board line) total fails = fails
+fails_all (errors.Script line) total fails = ap all_answered fails
+fails_all errors.Memory total fails = tt
+
+-- the entries once no line is left
+pub gives_all : {X : Type 0} (view : X → List Placed) (result : Result X TextError) (shows : Shows) (total : Result Shows ℕ) → total ≡ Ok shows
+    → GivesScript view result (all_answered (Ok shows)) → GivesScript view result (all_answered total)
+gives_all view result shows total is gives = subst (λ there. GivesScript view result (all_answered there)) (sym is) gives

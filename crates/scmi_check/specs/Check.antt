@@ -1,0 +1,79 @@
+-- A check of a record, from the bytes that are read to the status.
+use Rattle.std.specs.Prelude.{◌≡◌, ◌↔◌, ◌⊎◌, ℕ, ◌<◌, ⊤, List, length, Option, None, IfSome, Ok, Err}
+use Rattle.std.specs.Io.KnownBytes.{Appends}
+use Rattle.scmi_board.specs.BoardText.{board_left}
+use Rattle.scmi_board.specs.Lines.{Line, LinesView}
+use Rattle.scmi_input.specs.declared.input.TheConstants.{INPUT_BYTES}
+use Rattle.scmi_plan.specs.Board.{Board}
+use Rattle.scmi_plan.specs.PlanError.{first_fault, number}
+use Rattle.scmi_check.specs.CheckError.{fault_line, status_of}
+use Rattle.scmi_check.specs.Counts.{counts_of}
+use Rattle.scmi_check.specs.Judged.{judged_of}
+use Rattle.scmi_check.specs.RecordText.{record_left}
+use Rattle.scmi_check.specs.Report.{report_text}
+use Rattle.scmi_check.specs.declared.check_error.CheckError.{CheckError}
+use Rattle.scmi_check.specs.declared.check_error.CheckError.TheVariants.{Size, Read, Board as BoardLine, Plan as PlanRule, Record, Memory, Write}
+use Rattle.scmi_check.specs.declared.placed.Placed.{Placed}
+use Rattle.scmi_check.specs.declared.style.Style.{Style}
+
+-- the lines of a text, numbered from 1
+abbrev pub whole : List ℕ → LinesView
+whole text = record { rest = text; number = 0 }
+
+-- a text begins with a board that keeps every rule
+pub record IsBoardText (text : List ℕ) (board : Board) : Type 0 where
+  pub behind : List Line
+  pub board_is : board_left (whole text) ≡ Ok (board, behind)
+  pub lawful : first_fault board ≡ None
+
+-- a text stands for a record of a platform of a board
+abbrev pub IsRecordText : Board → List ℕ → List Placed → Type 0
+IsRecordText board text placed = record_left (length board.agents) (whole text) ≡ Ok placed
+
+-- what is written is the report of a record of a platform of a board, of which so many entries differ; where the texts are known, they stand for that board and that record
+pub record WritesReport (style : Style) (board_known record_known : Option (List ℕ)) (differ : ℕ) (old new : Option (List ℕ)) : Type 0 where
+  pub board : Board
+  pub placed : List Placed
+  pub of_board : IfSome board_known (λ text. IsBoardText text board)
+  pub of_record : IfSome record_known (λ text. IsRecordText board text placed)
+  pub text : Appends old new (report_text style (judged_of board placed))
+  pub differ_is : differ ≡ (counts_of (judged_of board placed)).differ
+
+-- the report is written, and a status is 0 if and only if no entry differs but by rules of the profile's own
+pub record IsChecked (style : Style) (board_known record_known : Option (List ℕ)) (status : ℕ) (old new : Option (List ℕ)) : Type 0 where
+  pub differ : ℕ
+  pub report : WritesReport style board_known record_known differ old new
+  pub zero : (status ≡ 0) ↔ (differ ≡ 0)
+
+-- a fault of a board's text: its length, its first line that is none, or the first rule that the board breaks. That a read failed or that memory was refused says nothing of it
+abbrev pub IsFaultOfBoard : List ℕ → CheckError → Type 0
+IsFaultOfBoard text Size = INPUT_BYTES < length text
+IsFaultOfBoard text (BoardLine line) = board_left (whole text) ≡ Err line
+IsFaultOfBoard text (PlanRule rule) = (board : Board) × (behind : List Line) × (board_left (whole text) ≡ Ok (board, behind)) × IfSome (first_fault board) (λ broken. rule ≡ number broken)
+IsFaultOfBoard text Read = ⊤
+IsFaultOfBoard text Memory = ⊤
+IsFaultOfBoard text _ = ⊥
+
+-- a fault of a record's text, where the platform is of this board: its length, or its first line that is none
+abbrev pub IsFaultOfRecord : Board → List ℕ → CheckError → Type 0
+IsFaultOfRecord board text Size = INPUT_BYTES < length text
+IsFaultOfRecord board text (Record line) = record_left (length board.agents) (whole text) ≡ Err line
+IsFaultOfRecord board text Read = ⊤
+IsFaultOfRecord board text Memory = ⊤
+IsFaultOfRecord board text Write = ⊤
+IsFaultOfRecord board text _ = ⊥
+
+-- a fault of the board's text, or else of the record's
+abbrev pub IsFaultOf : Option (List ℕ) → Option (List ℕ) → CheckError → Type 0
+IsFaultOf board_known record_known fault =
+    IfSome board_known (λ text. IsFaultOfBoard text fault)
+    ⊎ ((board : Board) × IfSome board_known (λ text. IsBoardText text board) × IfSome record_known (λ text. IsFaultOfRecord board text fault))
+
+-- a check ends with this status and the line of a fault, which has that status and is one of the texts, where they are known. Where a text is refused nothing else is written
+pub record EndsWithFault (board_known record_known : Option (List ℕ)) (status : ℕ) (old new : Option (List ℕ)) : Type 0 where
+  pub fault : CheckError
+  pub status_is : status ≡ status_of fault
+  pub of_texts : IsFaultOf board_known record_known fault
+  pub before : Option (List ℕ)
+  pub refused : status_of fault ≡ 2 → before ≡ old
+  pub text : Appends before new (fault_line fault)

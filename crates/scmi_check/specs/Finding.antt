@@ -1,0 +1,32 @@
+-- What is found of an entry, by the verdict on it.
+use Rattle.std.specs.Prelude.{if◌then◌else◌, Some, None}
+use Rattle.scmi_codec.specs.Command.{command_of}
+use Rattle.scmi_codec.specs.declared.frame.Answer.TheVariants.{Reply}
+use Rattle.scmi_codec.specs.declared.frame.Frame.TheVariants.{Good}
+use Rattle.scmi_codec.specs.declared.message.Message.{Message}
+use Rattle.scmi_judge.specs.Same.{is_same_header}
+use Rattle.scmi_judge.specs.declared.entry.Entry.{Entry}
+use Rattle.scmi_judge.specs.declared.entry.Entry.TheVariants.{Answered}
+use Rattle.scmi_judge.specs.declared.verdict.Verdict.{Verdict}
+use Rattle.scmi_judge.specs.declared.verdict.Verdict.TheVariants as verdict
+use Rattle.scmi_check.specs.Own.{own_rule}
+use Rattle.scmi_check.specs.declared.finding.Finding.{Finding}
+use Rattle.scmi_check.specs.declared.finding.Finding.TheVariants.{Same, Own, Differs}
+
+-- another reply to a command than was due: own where the headers are the same and a rule of the profile's own decides
+abbrev pub reply_finding : Message → Message → Message → Finding
+reply_finding command due seen =
+    if is_same_header due.header seen.header then
+    elim (own_rule (command_of command) due.payload.items seen.payload.items) [ None ↦ Differs | Some rule ↦ Own rule ]
+    else Differs
+
+-- another answer than the reply that was due
+abbrev pub answer_finding : Entry → Message → Finding
+answer_finding (Answered a (Good command) (Reply seen)) due = reply_finding command due seen
+answer_finding _ due = Differs
+
+-- what is found of an entry with a verdict
+abbrev pub finding_of : Entry → Verdict → Finding
+finding_of entry verdict.Same = Same
+finding_of entry (verdict.Answer (Reply due)) = answer_finding entry due
+finding_of entry _ = Differs

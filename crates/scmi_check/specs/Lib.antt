@@ -1,0 +1,10 @@
+pub mod Check
+pub mod CheckError
+pub mod Counts
+pub mod Finding
+pub mod Judged
+pub mod Own
+pub mod Reasons
+pub mod RecordText
+pub mod Report
+pub mod Shown

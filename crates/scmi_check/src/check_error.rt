@@ -1,0 +1,107 @@
+//! Why a record is not checked.
+ghost use Rattle.std.specs.Prelude.{◌≡◌};
+ghost use Rattle.scmi_check.specs.CheckError.{error_of_input, error_of_plan, error_of_text, status_of};
+ghost use Rattle.scmi_check.specs.declared.check_error.CheckError.TheVariants.{Memory};
+
+use scmi_board::TextError;
+use scmi_core::CoreError;
+use scmi_input::InputError;
+use scmi_plan::PlanError;
+use std::error::Error;
+use std::fmt;
+
+/// Why a record is not checked. Its text is what follows the word `fault`.
+#[derive(Clone, Copy, Debug, PartialEq, Eq)]
+pub enum CheckError {
+    /// The board's text or the record is longer than `INPUT_BYTES`.
+    Size,
+    /// A read failed, or reads were interrupted too often.
+    Read,
+    /// This line of the board's text is no line of a board.
+    Board(u32),
+    /// The board breaks this rule.
+    Plan(u8),
+    /// This line of the record is no line of one there, or is a command that has no answer.
+    Record(u32),
+    /// Memory was refused.
+    Memory,
+    /// The output failed.
+    Write,
+}
+
+impl CheckError {
+    /// The exit status: 1 for a failed output, 2 for a refused input, 4 where memory was refused.
+    pub fn status(&self) -> u8
+        ensures { result ≡ status_of self.now }
+    {
+        match self {
+            CheckError::Write => 1,
+            CheckError::Memory => 4,
+            _ => 2,
+        }
+    }
+}
+
+impl Error for CheckError {}
+
+impl fmt::Display for CheckError {
+    ghost use Rattle.std.specs.Prelude.{Some};
+    ghost use Rattle.scmi_check.specs.CheckError.{fault_text};
+
+    ghost output = { λ fault. Some (fault_text fault) };
+
+    fn fmt<W: fmt::Write>(&self, f: &mut fmt::Formatter<W>) -> fmt::Result {
+        match self {
+            CheckError::Size => write!(f, "size"),
+            CheckError::Read => write!(f, "read"),
+            CheckError::Board(line) => write!(f, "board {line}"),
+            CheckError::Plan(rule) => write!(f, "plan {rule}"),
+            CheckError::Record(line) => write!(f, "record {line}"),
+            CheckError::Memory => write!(f, "memory"),
+            CheckError::Write => write!(f, "write"),
+        }
+    }
+}
+
+impl From<InputError> for CheckError {
+    ghost from_gives = { λ error fault. fault ≡ error_of_input error };
+
+    fn from(error: InputError) -> CheckError {
+        match error {
+            InputError::Size => CheckError::Size,
+            InputError::Read => CheckError::Read,
+            InputError::Memory => CheckError::Memory,
+        }
+    }
+}
+
+impl From<TextError> for CheckError {
+    ghost from_gives = { λ error fault. fault ≡ error_of_text error };
+
+    fn from(error: TextError) -> CheckError {
+        match error {
+            TextError::Board(line) => CheckError::Board(line),
+            TextError::Script(line) => CheckError::Record(line),
+            TextError::Memory => CheckError::Memory,
+        }
+    }
+}
+
+impl From<PlanError> for CheckError {
+    ghost from_gives = { λ error fault. fault ≡ error_of_plan error };
+
+    fn from(error: PlanError) -> CheckError {
+        match error {
+            PlanError::Memory => CheckError::Memory,
+            rule => CheckError::Plan(rule.number()),
+        }
+    }
+}
+
+impl From<CoreError> for CheckError {
+    ghost from_gives = { λ _ fault. fault ≡ Memory };
+
+    fn from(_error: CoreError) -> CheckError {
+        CheckError::Memory
+    }
+}

@@ -1,0 +1,36 @@
+//! Records of what went over another platform's channels, checked against the definitions of SCMI.
+//!
+//! The main type is `Judged`, an entry of a record with the verdict on it. The main theorems are the
+//! contracts of `read_record`, which gives exactly the entries that a text stands for, and of
+//! `run_check`: where the status is 0, what was written is a line for each entry, whose verdicts are the
+//! definitions', and no entry differs. All are the same if and only if the record has a legal history.
+#![tactic(auto)]
+
+mod check;
+mod check_error;
+mod command_shown;
+mod counts;
+mod finding;
+mod judged;
+mod own_rule;
+mod own_test;
+mod placed;
+mod reasons;
+mod record;
+mod report;
+mod run;
+mod seen;
+mod shown;
+mod so_far;
+mod style;
+
+pub use check_error::CheckError;
+pub use counts::Counts;
+pub use finding::Finding;
+pub use judged::{Judged, judge_all};
+pub use own_rule::{OWN_RULES, OwnRule};
+pub use placed::Placed;
+pub use record::read_record;
+pub use report::write_report;
+pub use run::{DIFFERS, run_check};
+pub use style::Style;

@@ -1,0 +1,85 @@
+//! What was due and what was seen, as a line of a report has it.
+ghost use Rattle.std.specs.Prelude.{OnOk};
+ghost use Rattle.std.specs.Io.KnownBytes.{Appends};
+ghost use Rattle.scmi_check.specs.Reasons.{answer_text, lack_text, reasons_text, seen_text, status_text};
+
+use scmi_codec::{Answer, Status};
+use scmi_judge::{Entry, Verdict};
+use scmi_text::write_message;
+use std::io;
+use std::io::Write;
+
+/// Writes what was due and what was seen, where they are not the same.
+pub(crate) fn write_reasons<W: Write>(
+    writer: &mut W,
+    entry: &Entry,
+    verdict: &Verdict,
+) -> io::Result<()>
+    ensures { OnOk result (Appends (W.contents writer.old) (W.contents writer.new)
+        (reasons_text entry.now verdict.now)) }
+{
+    match verdict {
+        Verdict::Same => Ok(()),
+        Verdict::NoAgent => write_lack(writer, "agent", entry),
+        Verdict::Answer(due) => {
+            write!(writer, " due")?;
+            write_answer(writer, due)?;
+            write!(writer, ", seen")?;
+            write_seen(writer, entry)
+        }
+        Verdict::Message(due) => {
+            write!(writer, " due")?;
+            write_message(writer, due)?;
+            write!(writer, ", seen")?;
+            write_seen(writer, entry)
+        }
+        Verdict::NoMessage => write_lack(writer, "message", entry),
+    }
+}
+
+/// Writes that nothing of a kind was due, and what was seen.
+fn write_lack<W: Write>(writer: &mut W, kind: &str, entry: &Entry) -> io::Result<()>
+    ensures { OnOk result (Appends (W.contents writer.old) (W.contents writer.new)
+        (lack_text kind.now entry.now)) }
+{
+    write!(writer, " due no {kind}, seen")?;
+    write_seen(writer, entry)
+}
+
+fn write_seen<W: Write>(writer: &mut W, entry: &Entry) -> io::Result<()>
+    ensures { OnOk result (Appends (W.contents writer.old) (W.contents writer.new)
+        (seen_text entry.now)) }
+{
+    match entry {
+        Entry::Answered { answer, .. } => write_answer(writer, answer),
+        Entry::Delivered { message, .. } => write_message(writer, message),
+    }
+}
+
+fn write_answer<W: Write>(writer: &mut W, answer: &Answer) -> io::Result<()>
+    ensures { OnOk result (Appends (W.contents writer.old) (W.contents writer.new)
+        (answer_text answer.now)) }
+{
+    match answer {
+        Answer::Reply(message) => {
+            write_status(writer, message.payload.as_slice())?;
+            write_message(writer, message)
+        }
+        Answer::Released => write!(writer, " released"),
+        Answer::ChannelError => write!(writer, " error"),
+    }
+}
+
+/// Writes the name of the status that a payload begins with, if it begins with one.
+fn write_status<W: Write>(writer: &mut W, payload: &[u32]) -> io::Result<()>
+    ensures { OnOk result (Appends (W.contents writer.old) (W.contents writer.new)
+        (status_text payload.now)) }
+{
+    match payload {
+        [word, ..] => match Status::of_word(*word) {
+            Some(status) => write!(writer, " {}", status.name()),
+            None => Ok(()),
+        },
+        [] => Ok(()),
+    }
+}

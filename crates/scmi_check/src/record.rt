@@ -1,0 +1,52 @@
+//! A record, as it is read.
+ghost use Rattle.std.specs.Prelude.{IfErr};
+ghost use Rattle.scmi_board.specs.LineError.{GivesUnless};
+ghost use Rattle.scmi_board.specs.Lines.{line_of};
+ghost use Rattle.scmi_board.specs.TextError.{IsOfScript};
+ghost use Rattle.scmi_text.specs.TextLines.{GivesScript};
+ghost use Rattle.scmi_check.specs.RecordText.{record_left, shows_of, with_line};
+
+use crate::placed::Placed;
+use crate::shown::read_shown;
+use crate::so_far::SoFar;
+use scmi_board::{LineError, Lines, TextError, TextLine};
+use std::alloc::Global;
+
+/// The entries that all lines that are left stand for, in the order in which they were seen (own). A
+/// command is the line of a script that posts it, `do`, `raw` or `bad`; its answer, and a message of the
+/// platform, is the line of a run's output. The agents are those of the board, which has this many.
+///
+/// `Script` gives the number of the first line that is no line of a record there: of another form, of an
+/// agent that the board lacks, a command before the one that waits has its answer, an answer to no
+/// command of its agent; else that of a command that has no answer. `Memory` where memory is refused.
+pub fn read_record(
+    alloc: Global,
+    lines: &mut Lines<'_>,
+    agents: u32,
+) -> Result<Vec<Placed>, TextError>
+    ensures errors { IfErr result IsOfScript }
+    ensures record { GivesScript (λ placed. placed.items) result (record_left agents lines.old) }
+{
+    let mut so_far = SoFar::new(alloc);
+    while let Some(line) = lines.next_line() {
+        if let Err(error) = add_line(alloc, &mut so_far, line, agents) {
+            return Err(error.in_script(line.number));
+        }
+    }
+    so_far.finish()
+}
+
+/// One line more.
+#[tactic(auto, unfolding(crate::specs::RecordText::with_line))]
+fn add_line(
+    alloc: Global,
+    so_far: &mut SoFar,
+    line: TextLine<'_>,
+    agents: u32,
+) -> Result<(), LineError>
+    ensures { GivesUnless (λ _. shows_of so_far.new) result
+        (with_line agents (shows_of so_far.old) (line_of line.entry)) }
+{
+    let shown = read_shown(alloc, line.text, agents)?;
+    so_far.add(line.number, shown)
+}

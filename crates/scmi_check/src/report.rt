@@ -1,0 +1,92 @@
+//! A report, as it is written.
+ghost use Rattle.std.specs.Prelude.{◌≡◌, OnOk};
+ghost use Rattle.std.specs.Io.KnownBytes.{Appends};
+ghost use Rattle.scmi_check.specs.Report.{finding_text, heading_text, line_text, lines_text, mark_text, report_text, summary_text};
+
+use crate::counts::Counts;
+use crate::finding::Finding;
+use crate::judged::Judged;
+use crate::reasons::write_reasons;
+use crate::style::Style;
+use std::io;
+use std::io::Write;
+
+/// Writes a line for each entry, and how many are the same, differ by a rule of the profile's own, and
+/// differ (own). The error is the writer's; some parts may then be written.
+pub fn write_report<W: Write>(writer: &mut W, style: Style, judged: &[Judged]) -> io::Result<()>
+    ensures { OnOk result (Appends (W.contents writer.old) (W.contents writer.new)
+        (report_text style judged.now)) }
+{
+    write_heading(writer, style, judged)?;
+    write_lines(writer, style, judged)?;
+    write_summary(writer, style, Counts::of(judged))
+}
+
+/// Writes what a test system reads first: how many tests there are.
+fn write_heading<W: Write>(writer: &mut W, style: Style, judged: &[Judged]) -> io::Result<()>
+    ensures { OnOk result (Appends (W.contents writer.old) (W.contents writer.new)
+        (heading_text style judged.now)) }
+{
+    match style {
+        Style::Plain => Ok(()),
+        Style::Tap => {
+            let count = judged.len();
+            writeln!(writer, "1..{count}")
+        }
+    }
+}
+
+fn write_lines<W: Write>(writer: &mut W, style: Style, judged: &[Judged]) -> io::Result<()>
+    ensures { OnOk result (Appends (W.contents writer.old) (W.contents writer.new)
+        (lines_text style judged.now)) }
+{
+    'each: for one in judged {
+        write_line(writer, style, one)?;
+    }
+    Ok(())
+}
+
+fn write_line<W: Write>(writer: &mut W, style: Style, one: &Judged) -> io::Result<()>
+    ensures { OnOk result (Appends (W.contents writer.old) (W.contents writer.new)
+        (line_text style one.now)) }
+{
+    let finding = one.finding();
+    write!(writer, "{}{}", mark(style, finding), one.line)?;
+    write_finding(writer, finding)?;
+    write_reasons(writer, &one.entry, &one.verdict)?;
+    writeln!(writer)
+}
+
+/// Writes what was found, with the rule where it is one of the profile's own.
+fn write_finding<W: Write>(writer: &mut W, finding: Finding) -> io::Result<()>
+    ensures { OnOk result (Appends (W.contents writer.old) (W.contents writer.new)
+        (finding_text finding)) }
+{
+    match finding {
+        Finding::Same => write!(writer, " same"),
+        Finding::Own(rule) => write!(writer, " own {}", rule.name()),
+        Finding::Differs => write!(writer, " differs"),
+    }
+}
+
+/// What stands before the number of the line.
+fn mark(style: Style, finding: Finding) -> &'static str
+    ensures { result.now ≡ mark_text style finding }
+{
+    match (style, finding) {
+        (Style::Plain, _) => "",
+        (Style::Tap, Finding::Differs) => "not ok - line ",
+        (Style::Tap, _) => "ok - line ",
+    }
+}
+
+fn write_summary<W: Write>(writer: &mut W, style: Style, counts: Counts) -> io::Result<()>
+    ensures { OnOk result (Appends (W.contents writer.old) (W.contents writer.new)
+        (summary_text style counts)) }
+{
+    let Counts { same, own, differ } = counts;
+    match style {
+        Style::Plain => writeln!(writer, "{same} same, {own} own, {differ} differ"),
+        Style::Tap => writeln!(writer, "# {same} same, {own} own, {differ} differ"),
+    }
+}

@@ -1,0 +1,54 @@
+//! A check from its inputs to its exit status.
+ghost use Rattle.std.specs.Prelude.{◌≡◌, ◌≢◌, ◌⊎◌};
+ghost use Rattle.std.specs.Io.KnownBytes.{Appends};
+ghost use Rattle.scmi_check.specs.Check.{EndsWithFault, IsChecked};
+ghost use Rattle.scmi_check.specs.CheckError.{fault_line, status_of};
+ghost use Rattle.scmi_check.specs.declared.run.TheConstants.{DIFFERS};
+
+use crate::check::check;
+use crate::check_error::CheckError;
+use crate::style::Style;
+use std::alloc::Global;
+use std::io::{Read, Write};
+
+/// The exit status where an entry differs.
+pub const DIFFERS: u8 = 5;
+
+/// Checks a record of a platform of a board, and gives the exit status: 0 where no entry differs but by
+/// rules of the profile's own, `DIFFERS` where one does, else that of the error, whose text is written as
+/// the last line. A fault that can't be written gives status 1.
+///
+/// The board's text is that from its line `board` to its line `end`; what stands behind is not looked at.
+pub fn run_check<B: Read, R: Read, W: Write>(
+    alloc: Global,
+    board: &mut B,
+    record: &mut R,
+    writer: &mut W,
+    style: Style,
+) -> u8
+    ensures checked { (result ≡ 0) ⊎ (result ≡ DIFFERS) → IsChecked style
+        (B.remaining board.old) (R.remaining record.old) result
+        (W.contents writer.old) (W.contents writer.new) }
+    ensures fault { result ≢ 0 → result ≢ DIFFERS → result ≢ 1 → EndsWithFault
+        (B.remaining board.old) (R.remaining record.old) result
+        (W.contents writer.old) (W.contents writer.new) }
+{
+    match check(alloc, board, record, writer, style) {
+        Ok(0) => 0,
+        Ok(_) => DIFFERS,
+        Err(CheckError::Write) => CheckError::Write.status(),
+        Err(fault) => write_fault(writer, fault),
+    }
+}
+
+/// Writes the line of a fault, and gives its exit status, or that of a failed output.
+fn write_fault<W: Write>(writer: &mut W, fault: CheckError) -> u8
+    ensures not_checked { (result ≢ 0) × (result ≢ DIFFERS) }
+    ensures fault { result ≢ 1 → (result ≡ status_of fault) × Appends (W.contents writer.old)
+        (W.contents writer.new) (fault_line fault) }
+{
+    match writeln!(writer, "fault {fault}") {
+        Ok(()) => fault.status(),
+        Err(_) => CheckError::Write.status(),
+    }
+}

@@ -1,0 +1,158 @@
+//! What the lines of a record show so far.
+ghost use Rattle.std.specs.Prelude.{◌≡◌, ◌<◌, IfErr, IfOk, Ok, Some};
+ghost use Rattle.scmi_codec.specs.declared.header.TheConstants.{TOKENS};
+ghost use Rattle.scmi_board.specs.LineError.{Gives, GivesUnless};
+ghost use Rattle.scmi_board.specs.TextError.{IsOfScript};
+ghost use Rattle.scmi_text.specs.TextLines.{GivesScript};
+ghost use Rattle.scmi_check.specs.RecordText.{all_answered, nothing_shown, shows_of, token_taken, with_answer, with_called, with_entry, with_posted, with_shown};
+
+use crate::placed::Placed;
+use crate::shown::Shown;
+use scmi_board::{LineError, TextError};
+use scmi_codec::{Answer, Frame, Header, Message, TOKENS};
+use scmi_judge::Entry;
+use scmi_plan::AGENTS;
+use scmi_text::Call;
+use std::alloc::Global;
+
+/// A command whose answer is still to come, and the number of its line.
+#[derive(PartialEq, Eq, Debug, Drop)]
+pub(crate) struct Waiting {
+    pub line: u32,
+    pub agent: u32,
+    pub frame: Frame,
+}
+
+/// What the lines of a record show so far. After an error it is of no use.
+#[derive(Drop)]
+pub(crate) struct SoFar {
+    entries: Vec<Placed>,
+    // The command whose answer is still to come.
+    waiting: Option<Waiting>,
+    // The next token of each agent, from agent 1 on.
+    tokens: [u16; AGENTS],
+}
+
+impl SoFar {
+    /// Nothing is shown. It takes no memory.
+    pub fn new(alloc: Global) -> SoFar
+        ensures { shows_of result ≡ nothing_shown }
+    {
+        SoFar {
+            entries: Vec::new(alloc),
+            waiting: None,
+            tokens: [0; AGENTS],
+        }
+    }
+
+    /// What the line of this number shows. `Form` where it can't follow what is shown.
+    #[tactic(auto, unfolding(crate::specs::RecordText::with_shown))]
+    pub fn add(&mut self, line: u32, shown: Shown) -> Result<(), LineError>
+        ensures { GivesUnless (λ _. shows_of self.new) result
+            (with_shown (shows_of self.old) line shown) }
+    {
+        match shown {
+            Shown::Called { agent, call } => self.call(line, agent, call),
+            Shown::Posted { agent, frame } => self.post(line, agent, frame),
+            Shown::Got { agent, answer } => self.answer(line, agent, answer),
+            Shown::Took { agent, message } => self.push(line, Entry::Delivered { agent, message }),
+        }
+    }
+
+    /// The entries, once no line is left. `Script` gives the line of a command without an answer.
+    pub fn finish(self) -> Result<Vec<Placed>, TextError>
+        ensures errors { IfErr result IsOfScript }
+        ensures record { GivesScript (λ placed. placed.items) result
+            (all_answered (Ok (shows_of self))) }
+    {
+        let SoFar {
+            entries,
+            waiting,
+            tokens: _,
+        } = self;
+        match waiting {
+            None => Ok(entries),
+            Some(waiting) => Err(TextError::Script(waiting.line)),
+        }
+    }
+
+    /// A command with the next token of its agent.
+    #[tactic(auto, unfolding(crate::specs::RecordText::with_called))]
+    fn call(&mut self, line: u32, agent: u32, call: Call) -> Result<(), LineError>
+        ensures { GivesUnless (λ _. shows_of self.new) result
+            (with_called (shows_of self.old) line agent call) }
+    {
+        let token = self.take_token(agent)?;
+        let header = Header {
+            reserved: 0,
+            token,
+            protocol: call.protocol,
+            kind: 0,
+            id: call.message,
+        };
+        let payload = call.payload;
+        self.post(line, agent, Frame::Good(Message { header, payload }))
+    }
+
+    /// The next token of an agent. `Form` where no board has the agent.
+    #[tactic(auto, unfolding(crate::specs::RecordText::token_taken))]
+    fn take_token(&mut self, agent: u32) -> Result<u16, LineError>
+        ensures fits { IfOk result (λ token. token < TOKENS) }
+        ensures token { Gives (λ token. (token, shows_of self.new)) result
+            (token_taken (shows_of self.old) agent) }
+    {
+        if agent == 0 || agent as usize > AGENTS {
+            return Err(LineError::Form);
+        }
+        let place = agent as usize - 1;
+        let token = self.tokens[place] % TOKENS;
+        self.tokens[place] = token + 1;
+        Ok(token)
+    }
+
+    /// A command. `Form` where another waits for its answer.
+    #[tactic(auto, unfolding(crate::specs::RecordText::with_posted))]
+    fn post(&mut self, line: u32, agent: u32, frame: Frame) -> Result<(), LineError>
+        ensures { GivesUnless (λ _. shows_of self.new) result
+            (with_posted (shows_of self.old) line agent frame) }
+    {
+        if self.waiting.is_some() {
+            return Err(LineError::Form);
+        }
+        self.waiting = Some(Waiting { line, agent, frame });
+        Ok(())
+    }
+
+    /// The answer to the command that waits. `Form` where none of the agent does.
+    #[tactic(auto, unfolding(crate::specs::RecordText::with_answer))]
+    fn answer(&mut self, line: u32, agent: u32, answer: Answer) -> Result<(), LineError>
+        ensures { GivesUnless (λ _. shows_of self.new) result
+            (with_answer (shows_of self.old) line agent answer) }
+    {
+        let Some(waiting) = self.waiting.take() else {
+            return Err(LineError::Form);
+        };
+        if waiting.agent != agent {
+            return Err(LineError::Form);
+        }
+        let frame = waiting.frame;
+        self.push(
+            line,
+            Entry::Answered {
+                agent,
+                frame,
+                answer,
+            },
+        )
+    }
+
+    fn push(&mut self, line: u32, entry: Entry) -> Result<(), LineError>
+        ensures { GivesUnless (λ _. shows_of self.new) result
+            (Some (with_entry (shows_of self.old) line entry)) }
+    {
+        let Ok(()) = self.entries.push(Placed { line, entry }) else {
+            return Err(LineError::Memory);
+        };
+        Ok(())
+    }
+}
