@@ -1,3 +1,4 @@
+pub mod Counting
 pub mod Faults
 pub mod Judging
 pub mod RecordLines

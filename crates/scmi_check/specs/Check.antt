@@ -8,7 +8,8 @@ use Rattle.scmi_plan.specs.Board.{Board}
 use Rattle.scmi_plan.specs.PlanError.{first_fault, number}
 use Rattle.scmi_check.specs.CheckError.{fault_line, status_of}
 use Rattle.scmi_check.specs.Counts.{counts_of}
-use Rattle.scmi_check.specs.Judged.{judged_of}
+use Rattle.scmi_judge.specs.Law.{HasHistory}
+use Rattle.scmi_check.specs.Judged.{entries_of, judged_of}
 use Rattle.scmi_check.specs.RecordText.{record_left}
 use Rattle.scmi_check.specs.Report.{report_text}
 use Rattle.scmi_check.specs.declared.check_error.CheckError.{CheckError}
@@ -30,7 +31,7 @@ pub record IsBoardText (text : List ℕ) (board : Board) : Type 0 where
 abbrev pub IsRecordText : Board → List ℕ → List Placed → Type 0
 IsRecordText board text placed = record_left (length board.agents) (whole text) ≡ Ok placed
 
--- what is written is the report of a record of a platform of a board, of which so many entries differ; where the texts are known, they stand for that board and that record
+-- what is written is the report of a record of a platform of a board, of which so many entries differ; where the texts are known, they stand for that board and that record. As many are the same as there are if and only if the record has a legal history
 pub record WritesReport (style : Style) (board_known record_known : Option (List ℕ)) (differ : ℕ) (old new : Option (List ℕ)) : Type 0 where
   pub board : Board
   pub placed : List Placed
@@ -38,6 +39,7 @@ pub record WritesReport (style : Style) (board_known record_known : Option (List
   pub of_record : IfSome record_known (λ text. IsRecordText board text placed)
   pub text : Appends old new (report_text style (judged_of board placed))
   pub differ_is : differ ≡ (counts_of (judged_of board placed)).differ
+  pub all_same : ((counts_of (judged_of board placed)).same ≡ length (judged_of board placed)) ↔ HasHistory board (entries_of placed)
 
 -- the report is written, and a status is 0 if and only if no entry differs but by rules of the profile's own
 pub record IsChecked (style : Style) (board_known record_known : Option (List ℕ)) (status : ℕ) (old new : Option (List ℕ)) : Type 0 where

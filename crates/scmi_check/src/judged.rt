@@ -1,9 +1,10 @@
 //! The entries of a record with the verdicts on them.
-ghost use Rattle.std.specs.Prelude.{◌≡◌, ◌↔◌, IfOk, IfErr};
+ghost use Rattle.std.specs.Prelude.{◌≡◌, ◌↔◌, length, IfOk, IfErr};
 ghost use Rattle.std.specs.List.{All};
 ghost use Rattle.scmi_core.specs.declared.core_error.CoreError.TheVariants.{Memory};
 ghost use Rattle.scmi_judge.specs.Law.{HasHistory};
 ghost use Rattle.scmi_judge.specs.declared.verdict.Verdict.TheVariants.{Same};
+ghost use Rattle.scmi_check.specs.Counts.{counts_of};
 ghost use Rattle.scmi_check.specs.Finding.{finding_of};
 ghost use Rattle.scmi_check.specs.Judged.{entries_of, judged_of};
 
@@ -32,10 +33,13 @@ impl Judged {
 }
 
 /// Judges the entries of a record of a platform of a board, in order, each after what those before it
-/// stand for, also after a difference. `Memory` is the only refusal.
+/// stand for, also after a difference. As many are the same as there are if and only if the record has a
+/// legal history. `Memory` is the only refusal.
 pub fn judge_all(alloc: Global, plan: Plan, placed: &[Placed]) -> Result<Vec<Judged>, CoreError>
     ensures judged { IfOk result (λ judged. judged.items ≡ judged_of plan placed.now) }
     ensures history { IfOk result (λ judged. All (λ one. one.verdict ≡ Same) judged.items
+        ↔ HasHistory plan (entries_of placed.now)) }
+    ensures counted { IfOk result (λ judged. ((counts_of judged.items).same ≡ length judged.items)
         ↔ HasHistory plan (entries_of placed.now)) }
     ensures errors { IfErr result (λ e. e ≡ Memory) }
 {
