@@ -1,5 +1,5 @@
 -- As many entries are the same as there are, if and only if each is.
-use Rattle.std.proofs.Common.{◌≡◌, ◌↔◌, ℕ, zero, suc, ◌+◌, ◌≤◌, ◌⊎◌, inl, inr, Bool, true, false, cond, List, [], ◌∷◌, length, Option, Some, None, refl, sym, ap, ◌∙◌, subst, arith, if◌then◌else◌}
+use Rattle.std.proofs.Common.{◌≡◌, ◌↔◌, ℕ, suc, ◌+◌, ◌≤◌, ◌⊎◌, inl, inr, Bool, true, false, cond, List, [], ◌∷◌, length, Option, Some, None, refl, sym, ap, ◌∙◌, arith, if◌then◌else◌}
 use Rattle.std.specs.Prelude.{count_by}
 use Rattle.std.specs.List.{All}
 use Rattle.std.proofs.lemmas.Bool.{cases_Bool}
@@ -17,7 +17,6 @@ use Rattle.scmi_judge.specs.declared.verdict.Verdict.TheVariants as verdict
 use Rattle.scmi_check.specs.Counts.{found, is_same}
 use Rattle.scmi_check.specs.Finding.{answer_finding, finding_of, reply_finding}
 use Rattle.scmi_check.specs.Own.{own_rule}
-use Rattle.scmi_check.specs.declared.finding.Finding.{Finding}
 use Rattle.scmi_check.specs.declared.finding.Finding.TheVariants.{Own, Differs}
 use Rattle.scmi_check.specs.declared.judged.Judged.{Judged}
 use Rattle.scmi_check.specs.declared.own_rule.OwnRule.{OwnRule}
