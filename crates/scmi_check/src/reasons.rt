@@ -5,7 +5,7 @@ ghost use Rattle.scmi_check.specs.Reasons.{answer_text, lack_text, reasons_text,
 
 use scmi_codec::{Answer, Status};
 use scmi_judge::{Entry, Verdict};
-use scmi_text::write_message;
+use scmi_text::write_message_text;
 use std::io;
 use std::io::Write;
 
@@ -29,7 +29,7 @@ pub(crate) fn write_reasons<W: Write>(
         }
         Verdict::Message(due) => {
             write!(writer, " due")?;
-            write_message(writer, due)?;
+            write_message_text(writer, due)?;
             write!(writer, ", seen")?;
             write_seen(writer, entry)
         }
@@ -52,7 +52,7 @@ fn write_seen<W: Write>(writer: &mut W, entry: &Entry) -> io::Result<()>
 {
     match entry {
         Entry::Answered { answer, .. } => write_answer(writer, answer),
-        Entry::Delivered { message, .. } => write_message(writer, message),
+        Entry::Delivered { message, .. } => write_message_text(writer, message),
     }
 }
 
@@ -63,7 +63,7 @@ fn write_answer<W: Write>(writer: &mut W, answer: &Answer) -> io::Result<()>
     match answer {
         Answer::Reply(message) => {
             write_status(writer, message.payload.as_slice())?;
-            write_message(writer, message)
+            write_message_text(writer, message)
         }
         Answer::Released => write!(writer, " released"),
         Answer::ChannelError => write!(writer, " error"),

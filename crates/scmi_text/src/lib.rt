@@ -32,4 +32,4 @@ pub use step_line::{StepLine, write_step_line};
 pub use step_list::StepList;
 pub use steps::{read_hardware_steps, read_one_step, read_steps};
 pub use word_row::{HeldRow, WordRow, form_in};
-pub use words::write_message;
+pub use words::write_message_text;

@@ -6,7 +6,7 @@ ghost use Rattle.scmi_text.specs.StepLine.{step_text, collected_text, frame_text
 use crate::names::{
     advanced_name, close_name, failed_name, flushed_name, refusal_name, served_name, shut_name,
 };
-use crate::words::write_message;
+use crate::words::write_message_text;
 use scmi_codec::{Answer, Frame};
 use scmi_ends::{Flushed, Served, ShutError};
 use scmi_link::{CloseError, Closing, Collected, PostError};
@@ -117,7 +117,7 @@ fn write_collected<W: Write>(writer: &mut W, agent: u32, collected: &Collected) 
         Collected::Nothing => writeln!(writer, "{agent} nothing"),
         Collected::Got(Answer::Reply(message)) => {
             write!(writer, "{agent} reply")?;
-            write_message(writer, message)?;
+            write_message_text(writer, message)?;
             writeln!(writer)
         }
         Collected::Got(Answer::Released) => writeln!(writer, "{agent} released"),
@@ -146,7 +146,7 @@ pub(crate) fn write_frame<W: Write>(writer: &mut W, agent: u32, frame: &Frame) -
     match frame {
         Frame::Good(message) => {
             write!(writer, "{agent} p2a")?;
-            write_message(writer, message)?;
+            write_message_text(writer, message)?;
             writeln!(writer)
         }
         Frame::Malformed { .. } => writeln!(writer, "{agent} p2a error"),

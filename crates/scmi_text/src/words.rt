@@ -10,7 +10,7 @@ use std::io::Write;
 
 /// Writes the header word and the payload words, each behind a space (own). The error is the writer's;
 /// some words may then be written.
-pub fn write_message<W: Write>(writer: &mut W, message: &Message) -> io::Result<()>
+pub fn write_message_text<W: Write>(writer: &mut W, message: &Message) -> io::Result<()>
     ensures { OnOk result
         (Appends (W.contents writer.old) (W.contents writer.new) (message_text message.now)) }
 {
