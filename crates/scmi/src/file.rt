@@ -21,7 +21,8 @@ pub fn file_of(arguments: &[String]) -> Option<(Task, &str)>
     }
 }
 
-fn begins_with_dash(name: &[u8]) -> bool
+/// Whether a name begins with a dash, as no file's may.
+pub fn begins_with_dash(name: &[u8]) -> bool
     ensures { result ≡ begins_with_dash name.now }
 {
     match name {

@@ -1,11 +1,12 @@
-//! The program for people: it runs sessions, describes areas of shared memory, draws sessions, and
-//! answers the lines of a session one by one.
+//! The program for people: it runs sessions, describes areas of shared memory, draws sessions, answers
+//! the lines of a session one by one, and checks records of other platforms.
 //!
 //! The main type is `Request`, what the arguments ask for. The main theorem is the contract of
 //! `run_request` with those of `request_of` and `file_of`, and that of `run_session`: where the status is
 //! 0, what was written is what the asked task writes of the input, or the asked text, to the last byte.
 #![tactic(auto)]
 
+mod asked_check;
 mod file;
 mod opened;
 mod read_as;
@@ -13,6 +14,7 @@ mod refusal;
 mod report;
 mod request;
 mod run;
+mod serve_check;
 mod serve_session;
 mod session;
 mod task;
@@ -21,12 +23,14 @@ mod texts;
 mod unknown_text;
 mod word;
 
+use crate::asked_check::check_of;
 use crate::file::file_of;
 use crate::read_as::ReadAs;
 use crate::refusal::{WRONG_ARGUMENT, lack_board, refuse, refuse_file};
 use crate::report::{report_input, report_output};
 use crate::request::{Request, request_of};
 use crate::run::run_request;
+use crate::serve_check::serve_check;
 use crate::serve_session::serve_session;
 use crate::task::Task;
 use scmi_explain::{Kept, LastLine};
@@ -56,6 +60,9 @@ fn main(rt: HostRuntime) -> ExitCode {
     let Ok(arguments) = arguments.collect::<Vec<String>>(alloc) else {
         return lacks_memory(&rt);
     };
+    if let Some(asked) = check_of(arguments.as_slice()) {
+        return ExitCode::from(serve_check(&rt, alloc, asked));
+    }
     if let Some((task, name)) = file_of(arguments.as_slice()) {
         return ExitCode::from(match fs::open(&rt, name) {
             Ok(file) if task == Task::Session => {
@@ -66,7 +73,8 @@ fn main(rt: HostRuntime) -> ExitCode {
         });
     }
     ExitCode::from(match request_of(arguments.as_slice()) {
-        Some(Request::Do(Task::Session)) => lack_board(&rt),
+        Some(Request::Do(Task::Session)) => lack_board(&rt, "session"),
+        Some(Request::Do(Task::Check)) => lack_board(&rt, "check"),
         Some(request) => serve(&rt, alloc, request, STANDARD_INPUT, rt.reader()),
         None => refuse(&rt, alloc, arguments.as_slice()),
     })

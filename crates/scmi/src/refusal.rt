@@ -26,9 +26,9 @@ pub fn refuse(rt: &impl Eprint, alloc: Global, arguments: &[String]) -> u8 {
     WRONG_ARGUMENT
 }
 
-/// Says on standard error that a session needs the file of its board, and gives the exit status.
-pub fn lack_board(rt: &impl Eprint) -> u8 {
-    let _ = eprintln!(rt; "scmi: session needs the file of its board; see scmi session --help");
+/// Says on standard error that this task needs the file of its board, and gives the exit status.
+pub fn lack_board(rt: &impl Eprint, task: &str) -> u8 {
+    let _ = eprintln!(rt; "scmi: {task} needs the file of its board; see scmi {task} --help");
     WRONG_ARGUMENT
 }
 

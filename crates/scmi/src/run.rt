@@ -39,8 +39,8 @@ pub fn run_request<T: Threads + Wait + Sync, R: Read, W: Write, N: Readings>(
         ),
         Request::Do(Task::Decode) => run_decode(alloc, reader, writer, readings),
         Request::Do(Task::Chart) => run_draw(alloc, reader, writer),
-        // Its board is read from a file.
-        Request::Do(Task::Session) => WRONG_ARGUMENT,
+        // Their boards are read from files.
+        Request::Do(Task::Session | Task::Check) => WRONG_ARGUMENT,
         _ => match writer.write_all(text_of(request).as_bytes()) {
             Ok(()) => 0,
             Err(_) => RunError::Write.status(),

@@ -11,4 +11,6 @@ pub enum Task {
     Chart,
     /// Answers the lines of a session one by one.
     Session,
+    /// Checks a record of a platform.
+    Check,
 }

@@ -21,6 +21,8 @@ pub struct Texts<T> {
     pub chart: T,
     /// How to give the lines of a session one by one.
     pub session: T,
+    /// How to check a record.
+    pub check: T,
     /// Which program this is.
     pub version: T,
 }
@@ -32,17 +34,20 @@ Both sides of Arm's System Control and Management Interface (SCMI, DEN0056B).
 
 Usage: scmi [run | decode | chart] [FILE]
        scmi session BOARD
-       scmi help [run | decode | chart | session]
+       scmi check [--tap] BOARD [RECORD]
+       scmi help [run | decode | chart | session | check]
        scmi --version
 
   run      runs a session of a platform and its agents; so it does without a word
   decode   tells what areas of shared memory are
   chart    draws a session as a picture (SVG)
   session  answers the lines of a session one by one, with names in place of numbers
+  check    says where the answers of another platform, in a record, are not SCMI's
 
 It reads FILE or standard input, and writes to standard output.
 Status: 0 done; 1 the output failed; 2 the input is refused, and the last line says why;
-3 a limit was met; 4 there was no memory; 64 a wrong argument; 66 FILE can't be opened.
+3 a limit was met; 4 there was no memory; 5 a record differs; 64 a wrong argument;
+66 FILE can't be opened.
 After a refusal standard error says which line is wrong, what is wanted, and the likely slip.
 
 Example: scmi run examples/two_agents.in
@@ -93,6 +98,20 @@ notification that is dropped. docs/SCRIPTS.md has more.
 
 Example: echo 'do ap POWER_STATE_SET cpu on' | scmi session examples/phone.board
 ",
+    check: "\
+Checks a record of what went over the channels of a platform against the definitions of SCMI.
+
+Usage: scmi check [--tap] BOARD [RECORD]
+
+BOARD has the lines of the platform's board, from board to end. RECORD, or standard input, has
+the commands, each before its answer, and the messages, in the order in which they were seen.
+A line is written for each answer and each message: same, own and the rule of this project's
+own by which it may be another, or differs and what was due; and in the end how many there are
+of each. --tap writes TAP, for a test system. docs/CHECK.md has the lines and the rules.
+Status: 0 where nothing differs, 5 where something does.
+
+Example: scmi check phone.board phone.record
+",
     version: "Tolbjir scmi 0.9.0-dev: SCMI 2.0 (DEN0056B), proved in Rattle where the build says so\n",
 };
 
@@ -106,6 +125,7 @@ pub fn text_of(request: Request) -> &'static str
         Request::HelpOn(Task::Decode) => TEXTS.decode,
         Request::HelpOn(Task::Chart) => TEXTS.chart,
         Request::HelpOn(Task::Session) => TEXTS.session,
+        Request::HelpOn(Task::Check) => TEXTS.check,
         Request::Version => TEXTS.version,
         Request::Do(_) => "",
     }

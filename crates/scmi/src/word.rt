@@ -31,7 +31,7 @@ pub struct Spelling<T> {
 pub type HeldSpelling = Spelling<&'static str>;
 
 /// All words that the program knows.
-pub const WORDS: [HeldSpelling; 9] = [
+pub const WORDS: [HeldSpelling; 10] = [
     Spelling {
         text: "run",
         word: Word::Task(Task::Run),
@@ -47,6 +47,10 @@ pub const WORDS: [HeldSpelling; 9] = [
     Spelling {
         text: "session",
         word: Word::Task(Task::Session),
+    },
+    Spelling {
+        text: "check",
+        word: Word::Task(Task::Check),
     },
     Spelling {
         text: "help",

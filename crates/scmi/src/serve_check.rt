@@ -1,0 +1,109 @@
+//! A check of the program: its board from a file, and its record from another or standard input.
+
+use crate::STANDARD_INPUT;
+use crate::asked_check::AskedCheck;
+use crate::refusal::refuse_file;
+use crate::opened::Opened;
+use crate::report::report_output;
+use scmi_board::Items;
+use scmi_check::{DIFFERS, run_check};
+use scmi_explain::{Kept, LastLine};
+use scmi_modes::RunError;
+use std::alloc::Global;
+use std::fs::{self, Files};
+use std::io::{self, BufWriter, Eprint, Input, Print, Read, Write};
+
+/// Opens the files of a check, makes it, and gives the exit status.
+pub fn serve_check<T: Files + Print + Eprint + Input>(
+    rt: &T,
+    alloc: Global,
+    asked: AskedCheck<'_>,
+) -> u8 {
+    let board = match fs::open(rt, asked.board) {
+        Ok(file) => file,
+        Err(error) => return refuse_file(rt, asked.board, &error),
+    };
+    let Some(name) = asked.record else {
+        return check(rt, alloc, asked, board, rt.reader());
+    };
+    match fs::open(rt, name) {
+        Ok(record) => check(rt, alloc, asked, board, record),
+        Err(error) => refuse_file(rt, name, &error),
+    }
+}
+
+/// Makes a check of these files. What is wrong with one of them is said on standard error.
+fn check<T: Print + Eprint, B: Read + Drop, R: Read + Drop>(
+    rt: &T,
+    alloc: Global,
+    asked: AskedCheck<'_>,
+    board: B,
+    record: R,
+) -> u8 {
+    // Where there is no memory for a buffer the output goes straight out.
+    match BufWriter::new(alloc, io::writer(rt)) {
+        Ok(writer) => check_to(rt, alloc, asked, board, record, writer),
+        Err(_) => check_to(rt, alloc, asked, board, record, io::writer(rt)),
+    }
+}
+
+/// The same with this output.
+fn check_to<T: Eprint, B: Read + Drop, R: Read + Drop, W: Write + Drop>(
+    rt: &T,
+    alloc: Global,
+    asked: AskedCheck<'_>,
+    board: B,
+    record: R,
+    writer: W,
+) -> u8 {
+    let mut board = Kept::new(alloc, board);
+    let mut record = Kept::new(alloc, record);
+    let mut output = LastLine::new(writer);
+    let status = run_check(alloc, &mut board, &mut record, &mut output, asked.style);
+    let is_flushed = output.flush().is_ok();
+    let unwritten = RunError::Write.status();
+    if status == unwritten || !is_flushed {
+        report_output(rt, output.error());
+        return unwritten;
+    }
+    if status != 0 && status != DIFFERS {
+        report(rt, alloc, asked, &board, &record, output.line());
+    }
+    status
+}
+
+/// Says what is wrong with a file, where the last line is a fault.
+fn report<B: Read + Drop, R: Read + Drop>(
+    rt: &impl Eprint,
+    alloc: Global,
+    asked: AskedCheck<'_>,
+    board: &Kept<B>,
+    record: &Kept<R>,
+    last_line: &[u8],
+) {
+    let name = asked.record.unwrap_or(STANDARD_INPUT);
+    if let Some(line) = line_of_record(last_line) {
+        let _ = eprintln!(rt;
+            "{name}:{line}: this is no line of a record, or a command that has no answer; docs/CHECK.md has the lines"
+        );
+    } else if let Some(error) = record.error() {
+        let _ = eprintln!(rt; "{name}: the record can't be read: {error}");
+    } else {
+        let mut text = board.bytes();
+        if let Err(refused) = Opened::read(alloc, &mut text) {
+            refused.report(rt, alloc, asked.board, board.error());
+        }
+    }
+}
+
+/// The line of a record that a fault names.
+fn line_of_record(fault: &[u8]) -> Option<u32> {
+    let mut items = Items::new(fault);
+    let is_of_record = items.next_item().ok()? == b"fault".as_slice()
+        && items.next_item().ok()? == b"record".as_slice();
+    if is_of_record {
+        items.next_word().ok()
+    } else {
+        None
+    }
+}
