@@ -2,8 +2,8 @@
 
 use crate::STANDARD_INPUT;
 use crate::asked_check::AskedCheck;
-use crate::refusal::refuse_file;
 use crate::opened::Opened;
+use crate::refusal::refuse_file;
 use crate::report::report_output;
 use scmi_board::Items;
 use scmi_check::{DIFFERS, run_check};

@@ -22,8 +22,8 @@ impl<C: Channel> Controller<C> {
         ensures agrees { IsInStep self.new }
         ensures board { self.new.board ≡ self.old.board }
         ensures event { OnOk result (self.new ≡ record self.old {
-            history = self.old.history ++ Restarted agent ∷ [];
-            room = self.new.room;
+          history = self.old.history ++ Restarted agent ∷ [];
+          room = self.new.room;
         }) }
         ensures memory { result ≡ Err ServeError.Memory → self.old.room ≡ 0 }
         ensures no_agent { (result ≡ Err ServeError.NoAgent) ↔
