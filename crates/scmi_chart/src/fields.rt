@@ -3,13 +3,14 @@ ghost use Rattle.std.specs.Prelude.{◌≡◌, ◌++◌, OnOk, IfOk, codes};
 ghost use Rattle.scmi_plan.specs.RawPlan.{asked_board};
 ghost use Rattle.scmi_chart.specs.Words.{agent_text};
 ghost use Rattle.scmi_chart.specs.LabelWords.{with_remark, words_of};
-ghost use Rattle.scmi_chart.specs.Fields.{counts_text, version_text, with_bits, with_field, with_fields, with_permit_flags, with_power_flags, with_rate_flags, with_reset_flags, with_rounding, with_switch, with_timing, with_value};
+ghost use Rattle.scmi_chart.specs.Fields.{counts_text, version_text, with_field, with_fields, with_value};
 
 use crate::board_names::{agent_name, clock_name, domain_name};
-use crate::label::{add_behind, add_remark, add_remark_if, protocol_words};
-use crate::words::{
-    counted_words, hex_words, name_words, numbered_word, rate_words, state_words, switch_word,
+use crate::flags::{
+    add_permit_flags, add_power_flags, add_rate_flags, add_reset_flags, add_switch,
 };
+use crate::label::{add_behind, add_remark, protocol_words};
+use crate::words::{counted_words, hex_words, name_words, numbered_word, rate_words, state_words};
 use scmi_describe::Field;
 use scmi_plan::RawPlan;
 use scmi_svg::Label;
@@ -112,76 +113,5 @@ fn add_cause(
 {
     let mut words = Vec::from_slice(alloc, b"by ")?;
     words.extend_from_slice(&agent_name(alloc, board, agent)?)?;
-    add_remark(label, &words)
-}
-
-/// Adds what bit 0 of a word switches.
-fn add_switch(alloc: Global, label: &mut Label, bits: u32) -> Result<(), AllocError>
-    ensures { OnOk result (words_of label.new ≡ with_switch bits (words_of label.old)) }
-{
-    label.value = Vec::from_slice(alloc, switch_word(bits).as_bytes())?;
-    add_bits(alloc, label, 1, bits)
-}
-
-fn add_power_flags(alloc: Global, label: &mut Label, bits: u32) -> Result<(), AllocError>
-    ensures { OnOk result (words_of label.new ≡ with_power_flags bits (words_of label.old)) }
-{
-    add_remark_if(label, bits % 2 == 1, "async")?;
-    add_bits(alloc, label, 1, bits)
-}
-
-fn add_permit_flags(alloc: Global, label: &mut Label, bits: u32) -> Result<(), AllocError>
-    ensures { OnOk result (words_of label.new ≡ with_permit_flags bits (words_of label.old)) }
-{
-    let words = if bits % 2 == 1 { "allow" } else { "deny" };
-    add_remark(label, words.as_bytes())?;
-    add_bits(alloc, label, 1, bits)
-}
-
-fn add_reset_flags(alloc: Global, label: &mut Label, bits: u32) -> Result<(), AllocError>
-    ensures { OnOk result (words_of label.new ≡ with_reset_flags bits (words_of label.old)) }
-{
-    add_remark_if(label, bits % 2 == 1, "and permissions")?;
-    add_bits(alloc, label, 1, bits)
-}
-
-/// Adds when a rate set takes effect, whether it is announced, and how the rate is rounded.
-fn add_rate_flags(alloc: Global, label: &mut Label, bits: u32) -> Result<(), AllocError>
-    ensures { OnOk result (words_of label.new ≡ with_rate_flags bits (words_of label.old)) }
-{
-    add_timing(label, bits)?;
-    add_rounding(label, bits)?;
-    add_bits(alloc, label, 15, bits)
-}
-
-/// Adds when a rate set takes effect, and whether it is announced.
-#[tactic(auto, unfolding(crate::specs::Fields::with_timing))]
-fn add_timing(label: &mut Label, bits: u32) -> Result<(), AllocError>
-    ensures { OnOk result (words_of label.new ≡ with_timing bits (words_of label.old)) }
-{
-    add_remark_if(label, bits % 2 == 1, "async")?;
-    add_remark_if(label, bits / 2 % 2 == 1, "no response")
-}
-
-/// Adds how a rate is rounded.
-#[tactic(auto, unfolding(crate::specs::Fields::with_rounding))]
-fn add_rounding(label: &mut Label, bits: u32) -> Result<(), AllocError>
-    ensures { OnOk result (words_of label.new ≡ with_rounding bits (words_of label.old)) }
-{
-    if bits / 8 % 2 == 1 {
-        return add_remark(label, b"nearest");
-    }
-    add_remark_if(label, bits / 4 % 2 == 1, "up")
-}
-
-/// Adds all bits of a word to the remark, where another is set than the low ones that have a meaning.
-fn add_bits(alloc: Global, label: &mut Label, known: u32, bits: u32) -> Result<(), AllocError>
-    ensures { OnOk result (words_of label.new ≡ with_bits known bits (words_of label.old)) }
-{
-    if bits <= known {
-        return Ok(());
-    }
-    let mut words = Vec::from_slice(alloc, b"flags ")?;
-    words.extend_from_slice(&hex_words(alloc, bits)?)?;
     add_remark(label, &words)
 }

@@ -18,6 +18,7 @@ mod detail;
 mod exchange_marks;
 mod execution_marks;
 mod fields;
+mod flags;
 mod label;
 mod level;
 mod levels;
