@@ -13,6 +13,8 @@
 
 /* A header is a token of ten bits over the kind of the message. */
 enum { TOKEN = 18, KIND = 0x3ffff };
+/* Of the flags of an area. */
+enum { WANTS_INTERRUPT = 1 };
 
 static spinlock_t lock;
 static scmi_mailbox boxes[FIRMWARE];
@@ -47,7 +49,7 @@ static bool serve(uint32_t agent, bool *interrupts)
         return false;
     if (SCMI_SAYS)
         command = area;
-    *interrupts = agent == MODEM || (area.flags & 1);
+    *interrupts = (area.flags & WANTS_INTERRUPT) != 0;
     if (!controller_serve(agent, &area))
         return false;
     if (SCMI_SAYS)

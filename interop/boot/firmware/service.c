@@ -29,7 +29,8 @@ static uintptr_t handle(uint32_t id, u_register_t x1, u_register_t x2, u_registe
         SMC_RET1(context, measure(id, x1, x2));
     if (id < SCMI_SMC_ID || id >= SCMI_SMC_ID + MAILBOX - LINUX)
         SMC_RET1(context, SMC_UNK);
-    if (server_serve(id - SCMI_SMC_ID + LINUX, &interrupts) && interrupts)
+    /* Agent 1 has no interrupt to be told by, whatever its flags say. */
+    if (server_serve(id - SCMI_SMC_ID + LINUX, &interrupts) && interrupts && id == SCMI_SMC_ID + MODEM - LINUX)
         plat_ic_set_interrupt_pending(SCMI_INTERRUPT);
     SMC_RET1(context, 0);
 }
