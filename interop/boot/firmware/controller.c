@@ -88,7 +88,8 @@ void controller_ask(uint32_t agent, scmi_area *area)
 {
     scmi_effect effect;
 
-    scmi_ask(&platform, agent, area->bytes, &effect);
+    if (scmi_ask(&platform, agent, area->bytes, &effect) == SCMI_EFFECT)
+        scmi_commit(&platform, area->bytes);
 }
 #endif
 
