@@ -9,7 +9,7 @@ use Rattle.scmi_core.specs.BoardB.{board_b}
 use Rattle.scmi_text.specs.Fields.{first_agent, first_message, payload_behind, with_word}
 use Rattle.scmi_text.specs.PackedStep.{call_with, raw_with}
 use Rattle.scmi_text.specs.StepText.{advance_head, agent_head, command_head, first_head, head_of, payload_of, step_of_line, with_step}
-use Rattle.scmi_text.specs.TextLines.{after_lines}
+use Rattle.scmi_text.specs.TextLines.{after_each_line}
 use Rattle.scmi_text.specs.declared.step.AgentStep.TheVariants as agent
 use Rattle.scmi_text.specs.declared.step.PlatformStep.TheVariants.{Serve}
 use Rattle.scmi_text.specs.declared.step.Step.{Step}
@@ -23,20 +23,20 @@ meant text = step_meant board_b 2 text
 names : map meant (codes "do ap POWER_STATE_SET cpu on" ∷ codes "do modem POWER_STATE_SET 1 usb off" ∷ codes "call ap CLOCK_RATE_SET bus 4294967296" ∷ codes "collect modem" ∷ codes "serve ap" ∷ [])
     ≡ Some (Do 1 (call_with 0x11 4 (0 ∷ 0 ∷ 0 ∷ []))) ∷ Some (Do 2 (call_with 0x11 4 (1 ∷ 2 ∷ 0x40000000 ∷ [])))
     ∷ Some (Agent 1 (agent.Call (call_with 0x14 5 (0 ∷ 1 ∷ 0 ∷ 1 ∷ [])))) ∷ Some (Agent 2 agent.Collect) ∷ Some (Platform 1 Serve) ∷ []
-unfolding behind_spaces first_number item_at items_up_to number_of first_agent first_message payload_behind with_word advance_head agent_head command_head first_head head_of payload_of step_of_line with_step after_lines lines_of lines_behind rows_of
+unfolding behind_spaces first_number item_at items_up_to number_of first_agent first_message payload_behind with_word advance_head agent_head command_head first_head head_of payload_of step_of_line with_step after_each_line lines_of lines_behind rows_of
 names = refl
 
 protocols : map meant (codes "do ap power PROTOCOL_VERSION" ∷ codes "do ap 0x14 CLOCK_CONFIG_SET pix on" ∷ codes "do 1 base 7 modem" ∷ codes "do ap power PROTOCOL_MESSAGE_ATTRIBUTES POWER_STATE_GET" ∷ [])
     ≡ Some (Do 1 (call_with 0x11 0 [])) ∷ Some (Do 1 (call_with 0x14 7 (2 ∷ 1 ∷ []))) ∷ Some (Do 1 (call_with 0x10 7 (2 ∷ []))) ∷ Some (Do 1 (call_with 0x11 2 (5 ∷ []))) ∷ []
-unfolding behind_spaces first_number item_at items_up_to number_of first_agent first_message payload_behind with_word advance_head agent_head command_head first_head head_of payload_of step_of_line with_step after_lines lines_of lines_behind rows_of
+unfolding behind_spaces first_number item_at items_up_to number_of first_agent first_message payload_behind with_word advance_head agent_head command_head first_head head_of payload_of step_of_line with_step after_each_line lines_of lines_behind rows_of
 protocols = refl
 
 -- numbers, also such as no message of a name could have
 in_numbers : map meant (codes "do 1 0x11 4 9" ∷ codes "raw modem 0x4404 7" ∷ codes "advance" ∷ []) ≡ Some (Do 1 (call_with 0x11 4 (9 ∷ []))) ∷ Some (Agent 2 (agent.Raw (raw_with 0x4404 (7 ∷ [])))) ∷ Some Advance ∷ []
-unfolding behind_spaces first_number item_at items_up_to number_of first_agent first_message payload_behind with_word advance_head agent_head command_head first_head head_of payload_of step_of_line with_step after_lines lines_of lines_behind rows_of
+unfolding behind_spaces first_number item_at items_up_to number_of first_agent first_message payload_behind with_word advance_head agent_head command_head first_head head_of payload_of step_of_line with_step after_each_line lines_of lines_behind rows_of
 in_numbers = refl
 
 -- a message that each protocol has, an agent, a domain and a message that are none, an item too few and one too many
 refused : map meant (codes "do ap PROTOCOL_VERSION" ∷ codes "do app POWER_STATE_GET cpu" ∷ codes "do ap POWER_STATE_GET core" ∷ codes "do ap POWER_STATE cpu" ∷ codes "do ap POWER_STATE_SET cpu" ∷ codes "do ap POWER_STATE_GET cpu on" ∷ []) ≡ replicate 6 None
-unfolding behind_spaces first_number item_at items_up_to number_of first_agent first_message payload_behind with_word advance_head agent_head command_head first_head head_of payload_of step_of_line with_step after_lines lines_of lines_behind rows_of
+unfolding behind_spaces first_number item_at items_up_to number_of first_agent first_message payload_behind with_word advance_head agent_head command_head first_head head_of payload_of step_of_line with_step after_each_line lines_of lines_behind rows_of
 refused = refl
