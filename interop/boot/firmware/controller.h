@@ -12,7 +12,7 @@ bool controller_start(void);
 /* Executes the frame in the copy of an agent's area on the hardware, and answers it there, if it is one. */
 bool controller_serve(uint32_t agent, scmi_area *area);
 
-/* The library's two calls alone, to measure. */
+/* The library's calls alone, to measure: scmi_answer; scmi_ask, and scmi_commit where hardware is to change. */
 void controller_answer(uint32_t agent, scmi_area *area);
 void controller_ask(uint32_t agent, scmi_area *area);
 

@@ -10,8 +10,8 @@ bool server_start(void);
 bool server_serve(uint32_t agent, bool *interrupts);
 
 /*
- * The bare call of the server that answers, or of the library the one that asks what is to change, so many times, for a
- * copy of the frame that stands in an agent's area: in ticks.
+ * The bare call of the server that answers, or of the library the one that asks, with the one that commits where
+ * hardware is to change, for `rounds` copies of the frame that stands in an agent's area: in ticks.
  */
 uint64_t server_measure(uint32_t agent, uint32_t rounds, bool asks);
 #endif

@@ -89,7 +89,7 @@ static void say(const struct frame *frame)
 	answers = smc(ANSWERS, 1, ROUNDS);
 	asks = smc(ASKS, 1, ROUNDS);
 	writel(1, area + STATUS);
-	pr_info("measured: %s: status %d: SMC %llu, of it to ask %llu, to answer %llu; stack %llu\n", frame->name, status,
+	pr_info("measured: %s: status %d: SMC %llu, asked and committed %llu, answered %llu; stack %llu\n", frame->name, status,
 		call * PER_TICK / ROUNDS, asks * PER_TICK / ROUNDS, answers * PER_TICK / ROUNDS, stack);
 }
 
