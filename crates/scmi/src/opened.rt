@@ -43,11 +43,11 @@ impl Opened {
         let mut text = Vec::new(alloc);
         match fill(alloc, &mut text, file) {
             Ok(()) => {}
-            Err(error) => return Err(refused(Why::Fault(RunError::from(error)), text)),
+            Err(error) => return Err(refusal_for(Why::Fault(RunError::from(error)), text)),
         }
         match board_of(alloc, &text) {
             Ok(board) => Ok(Opened { board, text }),
-            Err(why) => Err(refused(why, text)),
+            Err(why) => Err(refusal_for(why, text)),
         }
     }
 
@@ -120,7 +120,7 @@ impl Refused {
     }
 }
 
-fn refused(why: Why, text: Vec<u8>) -> Refused {
+fn refusal_for(why: Why, text: Vec<u8>) -> Refused {
     Refused { why, text }
 }
 
