@@ -1,19 +1,36 @@
 /*
  * The memory that a platform of a board takes, and the stack of the calls on it, measured: sizes FILE, of a board's
- * text. The stack is painted, the call made on it, and what it has written over counted.
+ * text; or, where it is built with TABLE, the name of a file in C that `scmi table` wrote, of that board's tables. The
+ * stack is painted, the call made on it, and what it has written over counted.
  */
 #include <pthread.h>
 #include <stdio.h>
 #include <string.h>
 
 #include "scmi_memory.h"
+#ifdef TABLE
+#include TABLE
+#endif
 
 enum { STACK = 256 * 1024, PAINT = 0xa5, BLOCK = 4 * 1024 * 1024, AGENTS = 8 };
 
 static uint8_t stack[STACK] __attribute__((aligned(4096))), block[BLOCK];
+static scmi_platform platform;
+
+#ifdef TABLE
+static uint32_t make(size_t bytes)
+{
+    return scmi_platform_new_of_in(&platform, block, bytes, &board);
+}
+#else
 static uint8_t board[65536];
 static size_t length;
-static scmi_platform platform;
+
+static uint32_t make(size_t bytes)
+{
+    return scmi_platform_new_in(&platform, block, bytes, board, length);
+}
+#endif
 
 static void *do_nothing(void *of)
 {
@@ -22,7 +39,7 @@ static void *do_nothing(void *of)
 
 static void *do_new(void *of)
 {
-    *(uint32_t *)of = scmi_platform_new_in(&platform, block, sizeof(block), board, length);
+    *(uint32_t *)of = make(sizeof(block));
     return NULL;
 }
 
@@ -77,13 +94,18 @@ static size_t stack_of(void *(*act)(void *), void *of)
 
 int main(int count, char **words)
 {
-    FILE *file = count == 2 ? fopen(words[1], "r") : NULL;
     size_t low = 0, high = sizeof(block), least, made, calls, requests;
     uint32_t given = 0;
+
+#ifdef TABLE
+    (void)count, (void)words;
+#else
+    FILE *file = count == 2 ? fopen(words[1], "r") : NULL;
 
     if (!file)
         return 2;
     length = fread(board, 1, sizeof(board), file);
+#endif
     /* What a thread takes by itself. */
     least = stack_of(do_nothing, NULL);
     requests = scmi_memory_requests();
@@ -96,7 +118,7 @@ int main(int count, char **words)
     while (high - low > 1) {
         size_t middle = (low + high) / 2;
 
-        given = scmi_platform_new_in(&platform, block, middle, board, length);
+        given = make(middle);
         scmi_platform_free(&platform);
         if (given == SCMI_DONE)
             high = middle;

@@ -3,16 +3,16 @@
  *
  * An area is the shared memory of a channel as the standard lays it out: SCMI_AREA_BYTES bytes, words
  * little-endian, at the places listed below. A free area has status word 1; one of zeros holds a malformed frame
- * of length 0. Where the board's text gives an agent's channels another size, 28 + 4k bytes with k from 8 to 64
+ * of length 0. If the board's text gives an agent's channels another size, 28 + 4k bytes with k from 8 to 64
  * payload words, the calls whose names end in _in take an area of that size, and the number of its bytes.
  *
  * Every call gives a number from the list below; after any but SCMI_DONE nothing has changed, neither the
- * platform, nor an area, nor what else it was given, but after SCMI_EFFECT, which scmi_ask alone gives. No call waits,
- * keeps a pointer that it was given, or reads or writes but what it was given and the platform's own block.
+ * platform, nor an area, nor what else it was given, except after SCMI_EFFECT, which scmi_ask alone gives. No call
+ * waits, keeps a pointer that it was given, or reads or writes but what it was given and the platform's own block.
  *
  * Calls on one platform may come from any thread and from any core, one at a time, each seeing what the call before
  * it wrote: a lock around each call is enough, with its acquire and its release. Nothing is kept by thread or by
- * core. Calls on two platforms may run at the same time, but for those that take or give back memory, where the
+ * core. Calls on two platforms may run at the same time, except those that take or give back memory, if the
  * program's three calls for memory do not allow it. No call may interrupt another on the same platform, so none may
  * come from a signal handler or an interrupt while the lock is not taken.
  *
@@ -21,8 +21,8 @@
  *
  * The library needs memcpy, memmove and memset, and three calls for memory: rattle_alloc, rattle_realloc and
  * rattle_dealloc: scmi_memory.c beside this header has them over blocks that the program gives, scmi_heap.c over
- * the heap. They are called by scmi_platform_new, scmi_platform_new_recorded and scmi_platform_free, and where a
- * platform that keeps its history adds to it, and by nothing else.
+ * the heap. They are called by the calls that make a platform, by scmi_platform_free, and when a platform
+ * that keeps its history adds to it, and by nothing else.
  */
 #ifndef SCMI_H
 #define SCMI_H
@@ -76,7 +76,7 @@ typedef union scmi_area {
 enum {
     SCMI_DONE = 0,
     SCMI_NOTHING = 1,     /* no frame to answer, no command asked about, no set pending, or no message to post */
-    SCMI_MEMORY = 2,      /* memory was refused */
+    SCMI_MEMORY = 2,      /* out of memory */
     SCMI_NO_AGENT = 3,    /* the board has no agent of this number */
     SCMI_NOT_FREE = 4,    /* the area still holds a message */
     SCMI_NO_PLATFORM = 5, /* the handle holds no platform */
@@ -87,6 +87,7 @@ enum {
     SCMI_NO_RESOURCE = 11, /* the board has no domain or clock of this number */
     SCMI_ASKED = 12,      /* a command was asked about, and is neither committed nor failed */
     SCMI_EFFECT = 13,     /* of scmi_ask: make this change, then scmi_commit or scmi_fail */
+    SCMI_TABLE = 14,      /* the board's tables are not well formed */
     SCMI_RULE = 16,       /* + N, from 1 to 5: the first rule that the board breaks */
     SCMI_LINE = 256       /* + L: line L of the board's text, from 1, has another form */
 };
@@ -111,17 +112,17 @@ typedef struct scmi_effect {
     uint32_t high; /* the rate's upper word; of a state or a bit 0 */
 } scmi_effect;
 
-/* An agent's channels, as the board's text says them. */
+/* An agent's channels, as the board's text gives them. */
 typedef struct scmi_channel_numbers {
     uint32_t bytes;   /* of each of its areas, 28 + 4k with k payload words */
     uint32_t one_way; /* 1: the platform can't send to the agent; 0: it can */
 } scmi_channel_numbers;
 
 /*
- * Makes a platform of a board's text (docs/SCRIPTS.md, "Boards"), which is `length` bytes; lines `channel` may say
- * what channels its agents have, and where none does they are whole, SCMI_AREA_BYTES, both ways. It keeps no history
+ * Makes a platform of a board's text (docs/SCRIPTS.md, "Boards"), which is `length` bytes; lines `channel` may
+ * give the channels of its agents, and if none does, they are whole, SCMI_AREA_BYTES, both ways. It keeps no history
  * and takes no memory from then on. SCMI_DONE, SCMI_IN_USE, SCMI_MEMORY, SCMI_RULE + N or SCMI_LINE + L; L is
- * the last line where `end` is missing, and 0 where there is no line. The rules: 1 counts, 2 names, 3 rates,
+ * the last line if `end` is missing, and 0 if there is no line. The rules: 1 counts, 2 names, 3 rates,
  * 4 devices, 5 the trusted agent.
  */
 uint32_t scmi_platform_new(scmi_platform *platform, const uint8_t *board, size_t length);
@@ -130,7 +131,116 @@ uint32_t scmi_platform_new(scmi_platform *platform, const uint8_t *board, size_t
 uint32_t scmi_platform_new_recorded(scmi_platform *platform, const uint8_t *board, size_t length);
 
 /*
- * Executes the frame that stands in an agent's area, and answers it in place: the reply and status word 1, or
+ * A board as data: constant tables, which a person writes, or which `scmi table` makes of a board's text. A name has 1
+ * to 15 bytes, each 0x21 to 0x7e, and zeros after them, as a string in C has. Agents are numbered from 1 in the order
+ * of their rows, all else from 0. What a row does not give is 0.
+ */
+#define SCMI_NAME_ROOM 16
+
+/* The board's vendor and sub-vendor, the version of its firmware, and the number of its trusted agent. */
+typedef struct scmi_board_heading {
+    char vendor[SCMI_NAME_ROOM];
+    char sub_vendor[SCMI_NAME_ROOM];
+    uint32_t version;
+    uint32_t trusted;
+} scmi_board_heading;
+
+typedef struct scmi_board_agent {
+    char name[SCMI_NAME_ROOM];
+    uint32_t bytes;   /* of each area of its channels, 28 + 4k, k from 8 to 64; 0: SCMI_AREA_BYTES */
+    uint32_t one_way; /* not 0: the platform can't send to the agent */
+} scmi_board_agent;
+
+/* What is not 0 is so: ON at the start, and which sets and notifications the domain has. */
+typedef struct scmi_board_domain {
+    char name[SCMI_NAME_ROOM];
+    uint32_t on;
+    uint32_t synchronous;
+    uint32_t asynchronous;
+    uint32_t notify;
+} scmi_board_domain;
+
+/*
+ * Rates are in Hz. If `count` is not 0, the clock has `count` rows of the board's table of rates, from the row `first`
+ * on; else every `step` from `low` to `high`.
+ */
+typedef struct scmi_board_clock {
+    char name[SCMI_NAME_ROOM];
+    uint64_t rate; /* at the start */
+    uint64_t low;
+    uint64_t high;
+    uint64_t step;
+    uint32_t first;
+    uint32_t count;
+    uint32_t enabled; /* at the start */
+    uint32_t reserved;
+} scmi_board_clock;
+
+/* The domains and the clocks that a device holds: bit i is for domain or clock i. */
+typedef struct scmi_board_device {
+    uint32_t domains;
+    uint32_t clocks;
+} scmi_board_device;
+
+typedef struct scmi_board {
+    scmi_board_heading heading;
+    const scmi_board_agent *agents;
+    size_t agent_count;
+    const scmi_board_domain *domains;
+    size_t domain_count;
+    const scmi_board_clock *clocks;
+    size_t clock_count;
+    const uint64_t *rates;
+    size_t rate_count;
+    const scmi_board_device *devices;
+    size_t device_count;
+} scmi_board;
+
+/* As scmi_platform_new_of, of each table by itself; if a table has no rows, its pointer may be any but null. */
+uint32_t scmi_platform_new_of_tables(scmi_platform *platform, const scmi_board_heading *heading,
+                                     const scmi_board_agent *agents, size_t agent_count,
+                                     const scmi_board_domain *domains, size_t domain_count,
+                                     const scmi_board_clock *clocks, size_t clock_count,
+                                     const uint64_t *rates, size_t rate_count,
+                                     const scmi_board_device *devices, size_t device_count);
+
+/*
+ * As scmi_platform_new, of a board's tables: a program that calls no other making has no reader of texts in it. A table
+ * without rows may be null. Nothing of the tables is needed once it has returned. SCMI_DONE, SCMI_IN_USE, SCMI_TABLE
+ * (a name without its zero or with a byte that is not ASCII, a list of rates beyond the table, or a size that no channel
+ * has), SCMI_MEMORY or SCMI_RULE + N.
+ */
+static inline uint32_t scmi_platform_new_of(scmi_platform *platform, const scmi_board *board)
+{
+    /* For a table without rows: some address. */
+    const void *no = board;
+
+    return scmi_platform_new_of_tables(
+        platform, &board->heading,
+        (const scmi_board_agent *)(board->agent_count ? board->agents : no), board->agent_count,
+        (const scmi_board_domain *)(board->domain_count ? board->domains : no), board->domain_count,
+        (const scmi_board_clock *)(board->clock_count ? board->clocks : no), board->clock_count,
+        (const uint64_t *)(board->rate_count ? board->rates : no), board->rate_count,
+        (const scmi_board_device *)(board->device_count ? board->devices : no), board->device_count);
+}
+
+/*
+ * The most bytes of memory that the making of such a platform takes, and the platform then keeps, by the numbers of its
+ * agents, domains, clocks, rates and devices: a constant, for a block of its own.
+ */
+#define SCMI_PLATFORM_BYTES(agents, domains, clocks, rates, devices) \
+    (SCMI_PLATFORM_ALONE + 64 * (size_t)(agents) + 80 * (size_t)(domains) + 160 * (size_t)(clocks) + \
+     16 * (size_t)(rates) + 16 * (size_t)(devices))
+#define SCMI_PLATFORM_ALONE ((size_t)8448)
+
+static inline size_t scmi_platform_bytes(const scmi_board *board)
+{
+    return SCMI_PLATFORM_BYTES(board->agent_count, board->domain_count, board->clock_count, board->rate_count,
+                               board->device_count);
+}
+
+/*
+ * Executes the frame in an agent's area, and answers it in place: the reply and status word 1, or
  * status word 3 to a malformed frame. SCMI_DONE, SCMI_NO_PLATFORM, SCMI_ASKED, SCMI_NOTHING (the channel is free),
  * SCMI_NO_AGENT, or SCMI_MEMORY of a platform that keeps its history. Agents are numbered from 1.
  */
@@ -138,9 +248,9 @@ uint32_t scmi_answer(scmi_platform *platform, uint32_t agent, uint8_t area[SCMI_
 
 /*
  * The same beside hardware, which is changed before the command is executed. A frame that changes none of it is
- * executed and answered in place, as by scmi_answer: SCMI_DONE. Else SCMI_EFFECT: `effect` says what it is to change,
+ * executed and answered in place, as by scmi_answer: SCMI_DONE. Else SCMI_EFFECT: `effect` is what it is to change,
  * the platform keeps the frame as it was read, and the area stays as it was. The program makes the change, and calls
- * scmi_commit, or scmi_fail where the hardware refused; until then every call that would change the platform gives
+ * scmi_commit, or scmi_fail if the hardware refused; until then every call that would change the platform gives
  * SCMI_ASKED and changes nothing, and the calls that read it go on. SCMI_NO_PLATFORM, SCMI_ASKED, SCMI_NO_FRAME (the
  * channel is free), SCMI_NO_AGENT, or SCMI_MEMORY of a platform that keeps its history; after SCMI_EFFECT there is
  * room for the event.
@@ -151,18 +261,18 @@ uint32_t scmi_ask(scmi_platform *platform, uint32_t agent, uint8_t area[SCMI_ARE
  * The hardware has made what scmi_ask gave: the command is executed as it was kept, and its answer written into the
  * area whole, status, length, header and payload. Nothing of the area is read, so what an agent does to it after
  * scmi_ask changes neither what is executed nor the answer. SCMI_DONE, SCMI_NO_PLATFORM, SCMI_NOTHING (no command was
- * asked about), or SCMI_WRONG_SIZE (it stood in an area of another size), and never SCMI_MEMORY.
+ * asked about), or SCMI_WRONG_SIZE (it was in an area of another size), and never SCMI_MEMORY.
  */
 uint32_t scmi_commit(scmi_platform *platform, uint8_t area[SCMI_AREA_BYTES]);
 
-/* The same where the hardware refused: the answer is HARDWARE_ERROR, and every value stays as it was. */
+/* The same if the hardware refused: the answer is HARDWARE_ERROR, and every value stays as it was. */
 uint32_t scmi_fail(scmi_platform *platform, uint8_t area[SCMI_AREA_BYTES]);
 
 /*
  * The same in an area that has the size of the agent's channel, as scmi_channel gives it: `bytes` bytes. A frame
  * that is longer than the channel is malformed, and no reply is longer. SCMI_NO_PLATFORM, SCMI_ASKED, SCMI_NO_AGENT
- * and SCMI_WRONG_SIZE (`bytes` is another size) come before all else, in this order; the other numbers as above. Where
- * the channel is whole they do what the calls above do. A command that was asked about by scmi_ask_in is committed or
+ * and SCMI_WRONG_SIZE (`bytes` is another size) come before all else, in this order; the other numbers as above. If
+ * the channel is whole, they do what the calls above do. A command that was asked about by scmi_ask_in is committed or
  * fails in as many bytes.
  */
 uint32_t scmi_answer_in(scmi_platform *platform, uint32_t agent, uint8_t *area, size_t bytes);
@@ -187,7 +297,7 @@ uint32_t scmi_advance(scmi_platform *platform);
 uint32_t scmi_ask_advance(scmi_platform *platform, scmi_effect *effect);
 
 /*
- * Takes the first pending set off, whose change the hardware refused: its delayed response, if one is wanted, is
+ * Takes the first pending set off, whose change the hardware refused: its delayed response, if one was asked for, is
  * HARDWARE_ERROR, and every value stays as it was. SCMI_DONE, SCMI_NO_PLATFORM, SCMI_ASKED, SCMI_NOTHING (none is
  * pending), or SCMI_MEMORY of a platform that keeps its history.
  */
@@ -200,7 +310,7 @@ uint32_t scmi_fail_advance(scmi_platform *platform);
  */
 uint32_t scmi_next(scmi_platform *platform, uint32_t agent, uint8_t area[SCMI_AREA_BYTES]);
 
-/* The same into an area that has the size of the agent's channel; SCMI_WRONG_SIZE comes behind SCMI_NO_AGENT. */
+/* The same into an area that has the size of the agent's channel; SCMI_WRONG_SIZE comes after SCMI_NO_AGENT. */
 uint32_t scmi_next_in(scmi_platform *platform, uint32_t agent, uint8_t *area, size_t bytes);
 
 /*
@@ -212,14 +322,14 @@ uint32_t scmi_sent(scmi_platform *platform, uint32_t agent);
 /*
  * Ends what an agent asked for that restarted while the platform went on: its requests for notifications, the
  * messages in its outbox, and the delayed responses to its pending sets. Permissions, values and the pending sets
- * themselves stay; so does a message that stands in its channel already, which the program makes free
+ * themselves stay; so does a message that is in its channel already, which the program makes free
  * (scmi_mailbox_start). SCMI_DONE, SCMI_NO_PLATFORM, SCMI_ASKED, SCMI_NO_AGENT, or SCMI_MEMORY of a platform that
  * keeps its history.
  */
 uint32_t scmi_restart(scmi_platform *platform, uint32_t agent);
 
 /*
- * Where the platform stands; it stays as it was. At the start they give what the hardware is to be brought to. A
+ * The state of the platform, which stays as it was. At the start they give what the hardware is to be brought to. A
  * domain's state is 0 ON or 0x40000000 OFF; a clock's rate is in Hz, by its lower and upper word; `enabled` is 1
  * or 0. SCMI_DONE, SCMI_NO_PLATFORM, or SCMI_NO_RESOURCE (the board has no such domain or clock).
  */
@@ -239,7 +349,7 @@ uint32_t scmi_outbox_length(scmi_platform *platform, uint32_t agent, uint64_t *m
 /* Gives the number of events of the history. SCMI_DONE, SCMI_NO_PLATFORM or SCMI_NO_HISTORY. */
 uint32_t scmi_history_length(scmi_platform *platform, uint64_t *events);
 
-/* Frees a platform. The handle then holds none; where it held none nothing is done. */
+/* Frees a platform. The handle then holds none; if it held none, nothing is done. */
 void scmi_platform_free(scmi_platform *platform);
 
 /* What the compiler can see of them: an area is 28 bytes and the payload, each word at its place, a handle one pointer. */
@@ -258,6 +368,12 @@ SCMI_HOLDS(offsetof(scmi_area, header) == SCMI_AREA_HEADER, "the place of the he
 SCMI_HOLDS(offsetof(scmi_area, payload) == SCMI_AREA_PAYLOAD, "the place of the payload");
 SCMI_HOLDS(sizeof(scmi_platform) == sizeof(void *), "the size of a handle");
 SCMI_HOLDS(sizeof(scmi_channel_numbers) == 8, "the size of a channel's numbers");
+SCMI_HOLDS(sizeof(scmi_board_heading) == 40, "the size of a heading");
+SCMI_HOLDS(sizeof(scmi_board_agent) == 24, "the size of an agent's row");
+SCMI_HOLDS(sizeof(scmi_board_domain) == 32, "the size of a domain's row");
+SCMI_HOLDS(sizeof(scmi_board_clock) == 64, "the size of a clock's row");
+SCMI_HOLDS(offsetof(scmi_board_clock, enabled) == 56, "the place of a clock's bit");
+SCMI_HOLDS(sizeof(scmi_board_device) == 8, "the size of a device's row");
 #undef SCMI_HOLDS
 #endif
 
@@ -265,7 +381,7 @@ SCMI_HOLDS(sizeof(scmi_channel_numbers) == 8, "the size of a channel's numbers")
 typedef struct scmi_library {
     uint32_t area_bytes, payload_words;
     uint32_t done, nothing, memory, no_agent, not_free, no_platform, in_use, no_history, no_frame;
-    uint32_t wrong_size, no_resource, asked, effect, rule, line;
+    uint32_t wrong_size, no_resource, asked, effect, table, rule, line;
     uint32_t effect_state, effect_rate, effect_enabled;
 } scmi_library;
 
@@ -304,7 +420,7 @@ static inline int scmi_header_fits(void)
            of.not_free == SCMI_NOT_FREE && of.no_platform == SCMI_NO_PLATFORM && of.in_use == SCMI_IN_USE &&
            of.no_history == SCMI_NO_HISTORY && of.no_frame == SCMI_NO_FRAME &&
            of.wrong_size == SCMI_WRONG_SIZE && of.no_resource == SCMI_NO_RESOURCE && of.asked == SCMI_ASKED &&
-           of.effect == SCMI_EFFECT && of.rule == SCMI_RULE && of.line == SCMI_LINE &&
+           of.effect == SCMI_EFFECT && of.table == SCMI_TABLE && of.rule == SCMI_RULE && of.line == SCMI_LINE &&
            of.effect_state == SCMI_EFFECT_STATE && of.effect_rate == SCMI_EFFECT_RATE &&
            of.effect_enabled == SCMI_EFFECT_ENABLED && scmi_version() == scmi_header_version();
 }

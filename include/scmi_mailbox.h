@@ -1,15 +1,15 @@
 /*
- * The areas of shared memory between a platform and its agents, for either side: a frame is copied in, each word
- * once, and an answer out, and the status word alone hands them over.
+ * How do frames get into the shared memory between a platform and its agents, and out of it? These calls are for
+ * either side: a frame is copied in, each word once, and an answer out, and only the status word hands them over.
  *
- * The other processor may be hostile, and write what it likes into the area whenever it likes. So what the calls
- * below do is the same whatever it writes: no word of the area is read twice in one call, a length is bounded before
- * it is used, no word outside the channel is touched, and what the program works on is a copy that it alone has. The
- * status word is read with acquire and written with release, last; every other word of the area is a relaxed atomic
- * access of 32 bits, once. No call waits.
+ * The other processor may be hostile, and write anything into the area at any time. So the calls below do the same
+ * whatever it writes: no word of the area is read twice in one call, a length is bounded before it is used, no word
+ * outside the channel is accessed, and the program works on a private copy. The status word is read with acquire and
+ * written with release, last. Every other word of the area is accessed once, by a relaxed atomic access of 32 bits.
+ * No call waits.
  *
- * One side of a channel is used by one thread at a time. The memory is coherent between the two processors, and the
- * doorbell, where there is one, is the program's, after the call. It needs no C library.
+ * Only one thread at a time may use one side of a channel. The memory has to be coherent between the two processors.
+ * If there is a doorbell, the program rings it after the call. No C library is needed.
  */
 #ifndef SCMI_MAILBOX_H
 #define SCMI_MAILBOX_H
@@ -24,20 +24,20 @@
 extern "C" {
 #endif
 
-/* Fewest payload words of a channel. */
+/* The fewest payload words of a channel. */
 #define SCMI_MAILBOX_LEAST_WORDS 8
 
-/* Numbers of the calls below beside those of scmi.h. */
+/* Numbers that the calls below return in addition to those of scmi.h. */
 enum {
-    SCMI_MAILBOX_LENGTH = 32, /* a length that the channel has no room for, or that is none */
-    SCMI_MAILBOX_REFUSED = 33 /* the answer is a channel error: the platform could not read the frame */
+    SCMI_MAILBOX_LENGTH = 32, /* a length that is invalid, or that the channel has no room for */
+    SCMI_MAILBOX_REFUSED = 33 /* the answer is a channel error: the platform could not parse the frame */
 };
 
 /* The status word. */
 enum {
     SCMI_MAILBOX_BUSY = 0,
-    SCMI_MAILBOX_FREE = 1,       /* bit 0, which alone says whether the channel is free */
-    SCMI_MAILBOX_FREE_ERROR = 3, /* bit 1 beside it */
+    SCMI_MAILBOX_FREE = 1,       /* bit 0; it alone decides whether the channel is free */
+    SCMI_MAILBOX_FREE_ERROR = 3, /* with bit 1 */
     SCMI_MAILBOX_ERROR_BIT = 2
 };
 
@@ -50,7 +50,7 @@ typedef struct scmi_mailbox {
     uint32_t payload_words; /* SCMI_MAILBOX_LEAST_WORDS to SCMI_PAYLOAD_WORDS */
 } scmi_mailbox;
 
-/* ---- What the calls are made of. */
+/* ---- Helpers of the calls. */
 
 /* The numbers of the words of an area. */
 enum {
@@ -71,13 +71,13 @@ static inline void scmi_shared_store(const scmi_mailbox *box, uint32_t at, uint3
     __atomic_store_n(&box->words[at], word, __ATOMIC_RELAXED);
 }
 
-/* What the other side wrote before it handed over is seen by what follows. */
+/* Later reads see what the other side wrote before it handed over. */
 static inline uint32_t scmi_shared_status(const scmi_mailbox *box)
 {
     return __atomic_load_n(&box->words[SCMI_AT_STATUS], __ATOMIC_ACQUIRE);
 }
 
-/* All that was read and written before is done when the other side sees the status. */
+/* All earlier reads and writes are complete when the other side sees the status. */
 static inline void scmi_shared_hand_over(const scmi_mailbox *box, uint32_t status)
 {
     __atomic_store_n(&box->words[SCMI_AT_STATUS], status, __ATOMIC_RELEASE);
@@ -90,9 +90,9 @@ static inline int scmi_length_fits(uint32_t length, uint32_t payload_words)
 }
 
 /*
- * Copies flags and frame of a channel, each word once; what the length does not name is zeros. SCMI_DONE, or
- * SCMI_MAILBOX_LENGTH where the length does not fit the channel: then it is all that the copy has beside the flags,
- * and where the library would take it for well formed it is 0 there, so that the frame is malformed to all.
+ * Copies flags and frame of a channel, each word once; words beyond the length are zeros. SCMI_DONE, or
+ * SCMI_MAILBOX_LENGTH if the length does not fit the channel. Then the copy has only the flags and the length, or 0 in
+ * place of a length that the library would take as well formed, so that the frame is malformed to all.
  */
 static inline uint32_t scmi_mailbox_copy(const scmi_mailbox *box, uint32_t status, scmi_area *area)
 {
@@ -130,9 +130,9 @@ static inline void scmi_mailbox_write(const scmi_mailbox *box, const scmi_area *
 /* ---- Either side. */
 
 /*
- * A mailbox over `bytes` bytes of shared memory, which it does not touch. SCMI_DONE; SCMI_MAILBOX_LENGTH where they
- * are too few for SCMI_MAILBOX_LEAST_WORDS payload words or do not begin at a word. Of more than SCMI_AREA_BYTES the
- * first are used.
+ * Makes a mailbox over `bytes` bytes of shared memory, which it does not access. SCMI_DONE; SCMI_MAILBOX_LENGTH if
+ * they are too few for SCMI_MAILBOX_LEAST_WORDS payload words or are not aligned to a word. Only the first
+ * SCMI_AREA_BYTES are used.
  */
 static inline uint32_t scmi_mailbox_over(scmi_mailbox *box, void *at, size_t bytes)
 {
@@ -145,7 +145,7 @@ static inline uint32_t scmi_mailbox_over(scmi_mailbox *box, void *at, size_t byt
     return SCMI_DONE;
 }
 
-/* Makes a channel free, at the start, by the side that sets the memory up. */
+/* Makes a channel free at the start; the side that sets up the memory calls it. */
 static inline void scmi_mailbox_start(const scmi_mailbox *box)
 {
     scmi_shared_hand_over(box, SCMI_MAILBOX_FREE);
@@ -159,8 +159,8 @@ static inline int scmi_mailbox_is_free(const scmi_mailbox *box)
 /* ---- The platform's side. */
 
 /*
- * Copies the command that stands in a channel (A2P), for scmi_ask or scmi_answer; the channel stays busy. SCMI_DONE,
- * of a malformed frame too, which they answer; SCMI_NOTHING where the channel is free, and then the copy is as it was.
+ * Copies the command of a channel (A2P), for scmi_ask or scmi_answer; the channel stays busy. SCMI_DONE, also for a
+ * malformed frame, which they answer; SCMI_NOTHING if the channel is free, and then the copy is as it was.
  */
 static inline uint32_t scmi_mailbox_take(const scmi_mailbox *box, scmi_area *area)
 {
@@ -171,9 +171,9 @@ static inline uint32_t scmi_mailbox_take(const scmi_mailbox *box, scmi_area *are
 }
 
 /*
- * Writes the answer that scmi_ask, scmi_answer, scmi_commit or scmi_fail left in a copy into its channel, which is free then. SCMI_DONE;
- * SCMI_NOTHING where the copy holds no answer, and then nothing is written; SCMI_MAILBOX_LENGTH where the channel
- * has fewer words than the reply, and then the agent has a channel error.
+ * Writes the answer that scmi_ask, scmi_answer, scmi_commit or scmi_fail left in a copy into its channel, which is
+ * then free. SCMI_DONE; SCMI_NOTHING if the copy holds no answer, and then nothing is written; SCMI_MAILBOX_LENGTH if
+ * the channel has fewer words than the reply, and then the agent gets a channel error.
  */
 static inline uint32_t scmi_mailbox_answer(const scmi_mailbox *box, const scmi_area *area)
 {
@@ -192,10 +192,10 @@ static inline uint32_t scmi_mailbox_answer(const scmi_mailbox *box, const scmi_a
 }
 
 /*
- * Looks for a command of an agent, and has it executed and answered. SCMI_DONE; SCMI_NOTHING where the channel is
- * free; SCMI_MAILBOX_LENGTH where the channel has fewer words than the reply, which was a channel error then; or
+ * Polls for a command of an agent, and has it executed and answered. SCMI_DONE; SCMI_NOTHING if the channel is free;
+ * SCMI_MAILBOX_LENGTH if the channel has fewer words than the reply, and then the agent gets a channel error; or
  * another number of scmi_answer, and then nothing has changed and the channel is busy: after SCMI_MEMORY the call may
- * be made again.
+ * be repeated.
  */
 static inline uint32_t scmi_mailbox_serve(const scmi_mailbox *box, scmi_platform *platform, uint32_t agent)
 {
@@ -208,9 +208,9 @@ static inline uint32_t scmi_mailbox_serve(const scmi_mailbox *box, scmi_platform
 }
 
 /*
- * Posts the first message of an agent's outbox on its channel (P2A), and takes it off. SCMI_DONE; SCMI_NOT_FREE
- * where the agent has not taken the message before; SCMI_MAILBOX_LENGTH where the channel has fewer words than the
- * message; or another number of scmi_next or scmi_sent. After any but SCMI_DONE nothing has changed.
+ * Posts the first message of an agent's outbox on its channel (P2A), and takes it off the outbox. SCMI_DONE;
+ * SCMI_NOT_FREE if the agent has not taken the previous message; SCMI_MAILBOX_LENGTH if the channel has fewer words
+ * than the message; or another number of scmi_next or scmi_sent. After any but SCMI_DONE nothing has changed.
  */
 static inline uint32_t scmi_mailbox_tell(const scmi_mailbox *box, scmi_platform *platform, uint32_t agent)
 {
@@ -231,9 +231,9 @@ static inline uint32_t scmi_mailbox_tell(const scmi_mailbox *box, scmi_platform 
 /* ---- The agent's side. */
 
 /*
- * Posts flags, length, header and payload of a copy as a command (A2P). SCMI_DONE; SCMI_MAILBOX_LENGTH where the
- * channel has no room for the length; SCMI_NOT_FREE where the command before has no answer yet. After these nothing
- * is written.
+ * Posts flags, length, header and payload of a copy as a command (A2P). SCMI_DONE; SCMI_MAILBOX_LENGTH if the channel
+ * has no room for the length; SCMI_NOT_FREE if the previous command has no answer yet. After the last two nothing is
+ * written.
  */
 static inline uint32_t scmi_mailbox_post(const scmi_mailbox *box, const scmi_area *area)
 {
@@ -247,10 +247,10 @@ static inline uint32_t scmi_mailbox_post(const scmi_mailbox *box, const scmi_are
 }
 
 /*
- * Copies the reply to the command that was posted (A2P): to be called until there is one, and once then; the header
- * is the command's, if the platform keeps its side. SCMI_DONE; SCMI_NOTHING where there is no answer yet;
- * SCMI_MAILBOX_REFUSED where it is a channel error; SCMI_MAILBOX_LENGTH where its length fits no channel of this size.
- * After SCMI_NOTHING and SCMI_MAILBOX_REFUSED the copy is as it was.
+ * Copies the reply to the posted command (A2P). Call it until there is one, and then no more; the header is the
+ * command's, if the platform behaves. SCMI_DONE; SCMI_NOTHING if there is no answer yet; SCMI_MAILBOX_REFUSED if the
+ * answer is a channel error; SCMI_MAILBOX_LENGTH if the length fits no channel of this size. After SCMI_NOTHING and
+ * SCMI_MAILBOX_REFUSED the copy is as it was.
  */
 static inline uint32_t scmi_mailbox_collect(const scmi_mailbox *box, scmi_area *area)
 {
@@ -264,8 +264,8 @@ static inline uint32_t scmi_mailbox_collect(const scmi_mailbox *box, scmi_area *
 }
 
 /*
- * Takes a message of the platform (P2A), whose channel is free then. SCMI_DONE; SCMI_NOTHING where there is none, and
- * then the copy is as it was; SCMI_MAILBOX_LENGTH where its length fits no channel of this size.
+ * Takes a message of the platform (P2A), whose channel is then free. SCMI_DONE; SCMI_NOTHING if there is none, and
+ * then the copy is as it was; SCMI_MAILBOX_LENGTH if its length fits no channel of this size.
  */
 static inline uint32_t scmi_mailbox_receive(const scmi_mailbox *box, scmi_area *area)
 {

@@ -1,6 +1,6 @@
 /*
- * Memory for the library from blocks that the program gives, where it has no heap. Link scmi_memory.c, or
- * scmi_heap.c where there is a heap, or give the three calls for memory otherwise.
+ * How does a program without a heap give the library memory? From blocks of its own, by these calls: link
+ * scmi_memory.c. With a heap, link scmi_heap.c instead, or write the three calls for memory yourself (scmi.h).
  */
 #ifndef SCMI_MEMORY_H
 #define SCMI_MEMORY_H
@@ -14,21 +14,29 @@
 extern "C" {
 #endif
 
-/* Gives the library a block: memory is taken from it until the next is given, and none is given back. */
+/* Gives the library a block: memory is taken from it until the next block is given, and none is given back. */
 void scmi_memory_give(void *block, size_t bytes);
 
-/* How many requests for memory the library has made. */
+/* The number of requests for memory that the library has made. */
 size_t scmi_memory_requests(void);
 
 /*
- * As scmi_platform_new, in a block of the program's, which is the platform's until it is freed. SCMI_MEMORY where
- * the block is too small. Each platform may have its own. Of two threads only one may make platforms so.
+ * As scmi_platform_new, in a block of the program, which belongs to the platform until that is freed. SCMI_MEMORY if
+ * the block is too small. Each platform may have its own block. Of two threads only one may make platforms this way.
  */
 static inline uint32_t scmi_platform_new_in(scmi_platform *platform, void *block, size_t bytes, const uint8_t *board,
                                             size_t length)
 {
     scmi_memory_give(block, bytes);
     return scmi_platform_new(platform, board, length);
+}
+
+/* The same of a board's tables: scmi_platform_bytes says how many bytes are enough. */
+static inline uint32_t scmi_platform_new_of_in(scmi_platform *platform, void *block, size_t bytes,
+                                               const scmi_board *board)
+{
+    scmi_memory_give(block, bytes);
+    return scmi_platform_new_of(platform, board);
 }
 
 #ifdef __cplusplus

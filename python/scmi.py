@@ -1,8 +1,8 @@
-"""The platform controller of SCMI for simulators: the calls of scmi.h, by ctypes over libscmi.so.
+"""How does a simulator in Python run an SCMI platform? By the calls of scmi.h, through ctypes and libscmi.so.
 
     import scmi
 
-    platform = scmi.Platform(BOARD)                  # the text of a board, as docs/SCRIPTS.md has it
+    platform = scmi.Platform(BOARD)                  # the text of a board (docs/SCRIPTS.md)
     status, words = platform.call(1, 0x11, 0x4, 0, 0, 0)    # agent 1 sets domain 0 ON
     while platform.advance():                        # pending sets complete
         pass
@@ -10,12 +10,15 @@
         ..
 
 The calls of scmi.h have their names here: answer, ask, commit, fail, advance, ask_advance, fail_advance, next, sent,
-channel, domain_state, clock_rate, clock_enabled, pending, outbox_length, history_length, version. An area is a
-bytearray of the size of its agent's channel, AREA_BYTES bytes where the board says nothing else, changed in place:
-answer, ask, commit, fail and next are the calls of C that are told its bytes. A call gives True where C gives
-SCMI_DONE and False where it gives SCMI_NOTHING or SCMI_NO_FRAME (those that give a value give it, or None); any
-other number is raised as Refused, and then nothing has changed. ask gives the Effect that is to be made, and then
-commit or fail answers; it gives None where the command was answered, or there was none. One thread at a time calls a platform.
+restart, channel, domain_state, clock_rate, clock_enabled, pending, outbox_length, history_length, version.
+
+An area is a bytearray of the size of its agent's channel, AREA_BYTES bytes unless the board sets another size. It is
+changed in place: answer, ask, commit, fail and next are the calls of C that take its size (scmi_answer_in and so on).
+
+A call returns True for SCMI_DONE and False for SCMI_NOTHING or SCMI_NO_FRAME. Calls for a value return it, or None.
+Any other number raises Refused, and then nothing has changed. ask returns the Effect to be made, and then commit or
+fail replies; it returns None if the command was answered, or there was none. Only one thread at a time may call a
+platform.
 
 The library is the file that SCMI_LIBRARY names, else libscmi.so beside this file or where ./install puts it.
 """
@@ -28,7 +31,7 @@ from pathlib import Path
 __version__ = "0.9.0-dev"
 
 DONE, NOTHING, MEMORY, NO_AGENT, NOT_FREE, NO_PLATFORM, IN_USE, NO_HISTORY, NO_FRAME = range(9)
-WRONG_SIZE, NO_RESOURCE, ASKED, EFFECT = 10, 11, 12, 13
+WRONG_SIZE, NO_RESOURCE, ASKED, EFFECT, TABLE = 10, 11, 12, 13, 14
 RULE, LINE = 16, 256
 STATE, RATE, ENABLED = 1, 2, 3
 AREA_BYTES, PAYLOAD_WORDS = 284, 64
@@ -47,7 +50,7 @@ Pending = namedtuple("Pending", "agent effect")
 
 
 class Refused(Exception):
-    """A call gave another number than those that its answer says: `number` is that of scmi.h."""
+    """A call failed: `number` is what it returned, one of scmi.h."""
 
     NAMES = ("done", "nothing to do", "memory was refused", "the board has no such agent",
              "the area holds a message", "there is no platform", "there is a platform already",
@@ -67,7 +70,7 @@ class Refused(Exception):
 
 
 class ChannelError(Exception):
-    """The frame was malformed: the answer is status word 3."""
+    """The frame was malformed: the status word of the answer is 3."""
 
 
 class _Handle(ctypes.Structure):
@@ -86,8 +89,8 @@ class _Numbers(ctypes.Structure):
     WANTED = dict(
         area_bytes=AREA_BYTES, payload_words=PAYLOAD_WORDS, done=DONE, nothing=NOTHING, memory=MEMORY,
         no_agent=NO_AGENT, not_free=NOT_FREE, no_platform=NO_PLATFORM, in_use=IN_USE, no_history=NO_HISTORY,
-        no_frame=NO_FRAME, wrong_size=WRONG_SIZE, no_resource=NO_RESOURCE, asked=ASKED, effect=EFFECT, rule=RULE,
-        line=LINE, effect_state=STATE, effect_rate=RATE, effect_enabled=ENABLED)
+        no_frame=NO_FRAME, wrong_size=WRONG_SIZE, no_resource=NO_RESOURCE, asked=ASKED, effect=EFFECT, table=TABLE,
+        rule=RULE, line=LINE, effect_state=STATE, effect_rate=RATE, effect_enabled=ENABLED)
     _fields_ = [(name, ctypes.c_uint32) for name in WANTED]
 
 
@@ -101,7 +104,7 @@ def _library_file():
 
 
 def load(file=None):
-    """The library as a file, or where it is by itself; its numbers have to be those of this module."""
+    """Loads the library from a file, or from its usual place; its numbers have to be those of this module."""
     library = ctypes.CDLL(file or _library_file())
     handle, number, area = ctypes.POINTER(_Handle), ctypes.c_uint32, (ctypes.c_void_p, ctypes.c_size_t)
     effect, word, count = ctypes.POINTER(_Effect), ctypes.POINTER(number), ctypes.POINTER(ctypes.c_uint64)
@@ -130,12 +133,12 @@ def load(file=None):
 
 
 def header_of(protocol, message, token=0, kind=0):
-    """A header word: message id, kind (0 command, 2 delayed response, 3 notification), protocol, token."""
+    """A header word: message id, type (0 command, 2 delayed response, 3 notification), protocol, token."""
     return message | kind << 8 | protocol << 10 | token % 1024 << 18
 
 
 def command(header, *words, size=AREA_BYTES):
-    """An area with a command as an agent posts it."""
+    """An area with a command, as an agent posts it."""
     area = bytearray(size)
     struct.pack_into(f"<2I{len(words)}I", area, AREA_LENGTH, 4 + 4 * len(words), header, *words)
     return area
@@ -149,12 +152,12 @@ def free_area(size=AREA_BYTES):
 
 
 def word(area, at):
-    """The word of an area at a place of it, in bytes."""
+    """The word of an area at an offset, in bytes."""
     return struct.unpack_from("<I", area, at)[0]
 
 
 def words_of(area):
-    """The payload words of the message that stands in an area."""
+    """The payload words of the message in an area."""
     return struct.unpack_from(f"<{(word(area, AREA_LENGTH) - 4) // 4}I", area, AREA_PAYLOAD)
 
 
@@ -241,7 +244,7 @@ class Platform:
         return bool(self._read(self._library.scmi_clock_enabled, clock))
 
     def pending(self):
-        """The pending sets, the first first: of which agent, and what each is to change."""
+        """The pending sets, in the order in which they complete: the agent of each, and what it is to change."""
         sets, agent, effect = [], ctypes.c_uint32(), _Effect()
         while self._give(self._library.scmi_pending(self._handle, len(sets), agent, effect)):
             sets.append(Pending(agent.value, self._effect(True, effect)))
@@ -259,9 +262,9 @@ class Platform:
         return number >> 16, number >> 8 & 0xFF, number & 0xFF
 
     def call(self, agent, protocol, message, *words, drive=None):
-        """A command of an agent, at its next token, executed and answered: its status by name, and the words behind.
+        """Executes a command of an agent, at its next token: its status by name, and the words after it.
 
-        With `drive` the platform stands beside hardware: drive(effect) makes the change, and says whether it did.
+        With `drive` the platform is beside hardware: drive(effect) makes the change, and returns whether it did.
         """
         token = self._tokens.get(agent, 0)
         area = command(header_of(protocol, message, token), *words, size=self.channel(agent).bytes)
@@ -276,14 +279,14 @@ class Platform:
         return Reply(STATUSES[-status & 0xFFFFFFFF], tuple(words))
 
     def complete(self, drive):
-        """Completes the first pending set beside hardware; False where none is pending."""
+        """Completes the first pending set beside hardware; False if none is pending."""
         effect = self.ask_advance()
         if effect and not drive(effect):
             return self.fail_advance()
         return self.advance()
 
     def messages(self, agent):
-        """Takes each message of an agent's outbox, the first first."""
+        """Takes each message of an agent's outbox, in order."""
         size = self.channel(agent).bytes
         area = free_area(size)
         while self.next(agent, area):

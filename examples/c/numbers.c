@@ -26,6 +26,7 @@ int main(void)
     FITS("SCMI_NO_RESOURCE", of.no_resource);
     FITS("SCMI_ASKED", of.asked);
     FITS("SCMI_EFFECT", of.effect);
+    FITS("SCMI_TABLE", of.table);
     FITS("SCMI_RULE", of.rule);
     FITS("SCMI_LINE", of.line);
     FITS("SCMI_EFFECT_STATE", of.effect_state);

@@ -1,6 +1,8 @@
-pub mod Word
+pub mod Form
+pub mod Command
+pub mod Asked
 pub mod Request
+pub mod Way
 pub mod Texts
 pub mod Program
-pub mod File
 pub mod Session

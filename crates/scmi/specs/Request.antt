@@ -1,28 +1,23 @@
 -- What the arguments of the program ask for.
-use Rattle.std.specs.Prelude.{ℕ, List, [], ◌∷◌, Option, Some, None, option_and_then}
-use Rattle.scmi.specs.Word.{word_of}
-use Rattle.scmi.specs.declared.request.Request.{Request}
-use Rattle.scmi.specs.declared.request.Request.TheVariants as request
-use Rattle.scmi.specs.declared.task.Task.TheVariants as task
-use Rattle.scmi.specs.declared.word.Word.{Word}
-use Rattle.scmi.specs.declared.word.Word.TheVariants as word
+use Rattle.std.specs.Prelude.{◌≡◌, ℕ, List, Option, None}
+use Rattle.clap.specs.Faults.{fault_of}
+use Rattle.clap.specs.Kinds.{HasKind, Kinds}
+use Rattle.clap.specs.Simple.{matches_of, subcommand_of}
+use Rattle.scmi.specs.Asked.{asked_by}
+use Rattle.scmi.specs.Command.{program}
+use Rattle.scmi.specs.declared.arguments.ArgumentError.{ArgumentError}
+use Rattle.scmi.specs.declared.arguments.ArgumentError.TheVariants.{Clap, Unread}
+use Rattle.scmi.specs.declared.asked.Asked.{Asked}
 
--- what one word asks for
-abbrev pub alone : Word → Option Request
-alone (word.Task t) = Some (request.Do t)
-alone word.Help = Some request.Help
-alone word.HelpFlag = Some request.Help
-alone word.Version = Some request.Version
+-- what arguments ask for, by the matches that clap has of them
+abbrev pub request_of : List (List ℕ) → Option (Asked (List ℕ))
+request_of words = asked_by (matches_of program words) (subcommand_of program words)
 
--- what two words ask for: help on a task, in either order
-abbrev pub together : Word → Word → Option Request
-together word.Help (word.Task t) = Some (request.HelpOn t)
-together (word.Task t) word.HelpFlag = Some (request.HelpOn t)
-together _ _ = None
+-- the kinds of error that clap has of arguments, none if it takes them
+abbrev pub faults_of : List (List ℕ) → Kinds
+faults_of words = fault_of program words
 
--- what arguments ask for: to run a session where there are none
-abbrev pub request_of : List (List ℕ) → Option Request
-request_of [] = Some (request.Do task.Run)
-request_of (only ∷ []) = option_and_then alone (word_of only)
-request_of (first ∷ second ∷ []) = option_and_then (λ a. option_and_then (λ b. together a b) (word_of second)) (word_of first)
-request_of (first ∷ second ∷ third ∷ more) = None
+-- arguments are refused: by clap with an error of one of these kinds, or out of memory, or they ask for nothing
+abbrev pub IsRefusal : List (List ℕ) → ArgumentError → Type 0
+IsRefusal words (Clap error) = HasKind (faults_of words) error
+IsRefusal words (Unread why) = request_of words ≡ None

@@ -11,26 +11,26 @@ use std::io::{Eprint, Error, Read};
 /// The line of a mode before a board, with which its text is explained as an input of that mode.
 const MODE_LINE: &[u8] = b"steps words\n";
 
-/// A board as its file has it, and its text behind the line of a mode.
+/// A board as its file has it, and its text after the line of a mode.
 #[derive(Drop)]
 pub struct Opened {
     board: RawPlan,
     text: Vec<u8>,
 }
 
-/// Why a file is refused, and its text behind the line of a mode.
+/// Why a file is rejected, and its text after the line of a mode.
 #[derive(Drop)]
 pub struct Refused {
     why: Why,
     text: Vec<u8>,
 }
 
-/// Why a file is refused.
+/// Why a file is rejected.
 #[derive(Clone, Copy, PartialEq, Eq)]
 enum Why {
-    /// It is refused as an input of a mode would be.
+    /// It is rejected as an input of a mode would be.
     Fault(RunError),
-    /// The line of this number stands behind the board.
+    /// The line of this number follows the board.
     Behind(u32),
 }
 
@@ -58,7 +58,7 @@ impl Opened {
         &self.board
     }
 
-    /// The text of the board behind the line of a mode; it ends with a line feed.
+    /// The text of the board after the line of a mode; it ends with a line feed.
     pub fn text(&self) -> &[u8] {
         &self.text
     }
@@ -85,7 +85,8 @@ impl Refused {
         }
     }
 
-    /// Says on standard error what is wrong with the file of this name; the error is that of its reads.
+    /// Reports on standard error what is wrong with the file of this name; the error is that of its
+    /// reads.
     pub fn report(&self, rt: &impl Eprint, alloc: Global, name: &str, error: Option<Error>) {
         let fault = match self.why {
             Why::Behind(line) => {
@@ -124,7 +125,7 @@ fn refusal_for(why: Why, text: Vec<u8>) -> Refused {
     Refused { why, text }
 }
 
-/// Reads a file behind the line of a mode; the last line gets the line feed that it may lack.
+/// Reads a file after the line of a mode; the last line gets the line feed that it may lack.
 fn fill<B: Read>(alloc: Global, text: &mut Vec<u8>, file: &mut B) -> Result<(), InputError> {
     let file = read_rest(alloc, &mut CountedReader::new(file))?;
     let is_kept = text.extend_from_slice(MODE_LINE).is_ok()
@@ -137,7 +138,7 @@ fn fill<B: Read>(alloc: Global, text: &mut Vec<u8>, file: &mut B) -> Result<(), 
     }
 }
 
-/// The board of a text, which keeps every rule, and behind which nothing stands.
+/// The board of a text, which keeps every rule, and which nothing follows.
 fn board_of(alloc: Global, text: &[u8]) -> Result<RawPlan, Why> {
     let mut lines = Lines::new(&text[MODE_LINE.len().min(text.len())..]);
     let board = match read_board(alloc, &mut lines) {

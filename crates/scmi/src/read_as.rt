@@ -1,9 +1,9 @@
-//! What is said on standard error of how areas are read.
+//! What is reported on standard error of how areas are read.
 
 use scmi_decode::{Reading, Readings};
 use std::io::Eprint;
 
-/// Says how the areas of an input of this name are read.
+/// Reports how the areas of an input of this name are read.
 #[derive(Clone, Copy)]
 pub struct ReadAs<'a, T: Eprint> {
     rt: &'a T,

@@ -1,49 +1,72 @@
-//! What is said of arguments that are not known, and of files that can't be opened.
+//! What is reported of arguments that are refused, and of files that can't be opened.
 
-use crate::word::{WORDS, word_of};
+use crate::asked::Unread;
+use crate::form::form_of;
+use crate::forms::FORMS;
+use crate::task::Task;
+use clap::Error as ClapError;
 use scmi_explain::nearest;
 use std::alloc::Global;
+use std::fs::{self, Files};
 use std::io::{Eprint, Error};
 
 /// The exit status after a wrong argument.
 pub const WRONG_ARGUMENT: u8 = 64;
 
-/// The exit status where a file can't be opened.
+/// The exit status if a file can't be opened.
 pub const NO_FILE: u8 = 66;
 
-/// Says on standard error which argument is not known, and which word is near it, and gives the exit
-/// status.
-pub fn refuse(rt: &impl Eprint, alloc: Global, arguments: &[String]) -> u8 {
-    let _ = match unknown(arguments) {
-        None => eprintln!(rt; "scmi: too many words; see scmi --help"),
-        Some(text) => match nearest(alloc, &WORDS.map(|row| row.text), text) {
-            Some(word) => eprintln!(rt;
-                "scmi: nothing is known of '{text}'; did you mean '{word}'? See scmi --help"
-            ),
-            None => eprintln!(rt; "scmi: nothing is known of '{text}'; see scmi --help"),
-        },
+/// Reports on standard error why clap refuses arguments, or that they are a file alone, and gives
+/// the exit status.
+pub fn refuse<T: Eprint + Files>(rt: &T, words: &[String], error: &ClapError) -> u8 {
+    let _ = match file_alone(rt, words) {
+        Some(name) => eprintln!(rt; "scmi: '{name}' is a file; did you mean 'scmi run {name}'?"),
+        None => eprintln!(rt; "{error}\nFor more information, try 'scmi --help'."),
     };
     WRONG_ARGUMENT
 }
 
-/// Says on standard error that this task needs the file of its board, and gives the exit status.
-pub fn lack_board(rt: &impl Eprint, task: &str) -> u8 {
-    let _ = eprintln!(rt; "scmi: {task} needs the file of its board; see scmi {task} --help");
+/// Reports on standard error why arguments ask for nothing, and gives the exit status.
+pub fn refuse_unread(rt: &impl Eprint, alloc: Global, why: Unread<'_>) -> u8 {
+    let _ = match why {
+        Unread::Task(word) => match nearest(alloc, &FORMS.map(|form| form.word), word) {
+            Some(near) => eprintln!(rt;
+                "scmi: nothing is known of '{word}'; did you mean '{near}'? See scmi --help"
+            ),
+            None => eprintln!(rt; "scmi: nothing is known of '{word}'; see scmi --help"),
+        },
+        Unread::Dash(name) => eprintln!(rt;
+            "scmi: '{name}' begins with a dash, as no file's name does here; write ./{name}"
+        ),
+    };
     WRONG_ARGUMENT
 }
 
-/// Says on standard error why a file can't be opened, and gives the exit status.
+/// Reports on standard error that this task needs the file of its board, and gives the exit status.
+pub fn lack_board(rt: &impl Eprint, task: Task) -> u8 {
+    let word = form_of(task).word;
+    let _ = eprintln!(rt; "scmi: {word} needs the file of its board; see scmi {word} --help");
+    WRONG_ARGUMENT
+}
+
+/// Reports on standard error why a file can't be opened, and gives the exit status.
 pub fn refuse_file(rt: &impl Eprint, name: &str, error: &Error) -> u8 {
     let _ = eprintln!(rt; "scmi: {name} can't be opened: {error}");
     NO_FILE
 }
 
-/// The first argument that is no word of the program's.
-fn unknown(arguments: &[String]) -> Option<&str> {
-    for argument in arguments {
-        if word_of(argument.as_str()).is_none() {
-            return Some(argument.as_str());
+/// The only word, if it looks like a file and can be opened.
+fn file_alone<'w, T: Files>(rt: &T, words: &'w [String]) -> Option<&'w str> {
+    match words {
+        [only] => {
+            let name = only.as_str();
+            let looks_so = name.contains('/') || name.contains('.');
+            if looks_so && fs::open(rt, name).is_ok() {
+                Some(name)
+            } else {
+                None
+            }
         }
+        _ => None,
     }
-    None
 }

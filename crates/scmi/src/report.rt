@@ -1,4 +1,4 @@
-//! What is said on standard error of a run that failed.
+//! What is reported on standard error of a run that failed.
 
 use crate::request::Request;
 use crate::task::Task;
@@ -6,7 +6,7 @@ use scmi_explain::{Expected, Fault, Kept, explain};
 use std::alloc::Global;
 use std::io::{Eprint, Error, ErrorKind, Read};
 
-/// Says what is wrong with the input of this name, where a run's last line is a fault.
+/// Reports what is wrong with the input of this name, if a run's last line is a fault.
 pub fn report_input<R: Read + Drop>(
     rt: &impl Eprint,
     alloc: Global,
@@ -33,8 +33,8 @@ fn fault_of(request: Request, last_line: &[u8]) -> Option<Fault> {
     }
 }
 
-/// Says that the output could not be written, and why, where its writer says so; nothing where who read
-/// it went away.
+/// Reports that the output could not be written, and why, if its writer reports that; nothing if
+/// its reader went away.
 pub fn report_output(rt: &impl Eprint, error: Option<Error>) {
     let _ = match error {
         Some(error) if error.kind() == ErrorKind::BrokenPipe => Ok(()),

@@ -5,7 +5,7 @@ ghost use Rattle.scmi.specs.Program.{Answers};
 use crate::refusal::WRONG_ARGUMENT;
 use crate::request::Request;
 use crate::task::Task;
-use crate::texts::text_of;
+use crate::texts::write_text;
 use scmi_decode::{Readings, run_decode};
 use scmi_draw::run_draw;
 use scmi_modes::{Modes, RunError, run_program};
@@ -41,7 +41,7 @@ pub fn run_request<T: Threads + Wait + Sync, R: Read, W: Write, N: Readings>(
         Request::Do(Task::Chart) => run_draw(alloc, reader, writer),
         // Their boards are read from files.
         Request::Do(Task::Session | Task::Check) => WRONG_ARGUMENT,
-        _ => match writer.write_all(text_of(request).as_bytes()) {
+        _ => match write_text(writer, request) {
             Ok(()) => 0,
             Err(_) => RunError::Write.status(),
         },

@@ -1,17 +1,25 @@
 //! A check of the program: its board from a file, and its record from another or standard input.
 
 use crate::STANDARD_INPUT;
-use crate::asked_check::AskedCheck;
 use crate::opened::Opened;
 use crate::refusal::refuse_file;
 use crate::report::report_output;
 use scmi_board::Items;
-use scmi_check::{DIFFERS, run_check};
+use scmi_check::{DIFFERS, Style, run_check};
 use scmi_explain::{Kept, LastLine};
 use scmi_modes::RunError;
 use std::alloc::Global;
 use std::fs::{self, Files};
 use std::io::{self, BufWriter, Eprint, Input, Print, Read, Write};
+
+/// A check of a record, by the names of its files.
+#[derive(Clone, Copy)]
+pub struct AskedCheck<'a> {
+    pub style: Style,
+    pub board: &'a str,
+    /// `None` if the record is standard input.
+    pub record: Option<&'a str>,
+}
 
 /// Opens the files of a check, makes it, and gives the exit status.
 pub fn serve_check<T: Files + Print + Eprint + Input>(
@@ -32,7 +40,7 @@ pub fn serve_check<T: Files + Print + Eprint + Input>(
     }
 }
 
-/// Makes a check of these files. What is wrong with one of them is said on standard error.
+/// Makes a check of these files. What is wrong with one of them is reported on standard error.
 fn check<T: Print + Eprint, B: Read + Drop, R: Read + Drop>(
     rt: &T,
     alloc: Global,
@@ -40,7 +48,7 @@ fn check<T: Print + Eprint, B: Read + Drop, R: Read + Drop>(
     board: B,
     record: R,
 ) -> u8 {
-    // Where there is no memory for a buffer the output goes straight out.
+    // If there is no memory for a buffer, the output goes straight out.
     match BufWriter::new(alloc, io::writer(rt)) {
         Ok(writer) => check_to(rt, alloc, asked, board, record, writer),
         Err(_) => check_to(rt, alloc, asked, board, record, io::writer(rt)),
@@ -72,7 +80,7 @@ fn check_to<T: Eprint, B: Read + Drop, R: Read + Drop, W: Write + Drop>(
     status
 }
 
-/// Says what is wrong with a file, where the last line is a fault.
+/// Reports what is wrong with a file, if the last line is a fault.
 fn report<B: Read + Drop, R: Read + Drop>(
     rt: &impl Eprint,
     alloc: Global,

@@ -64,7 +64,7 @@ fn answer<T: Eprint, R: Read + Drop, W: Write + Drop>(
     status
 }
 
-/// Says why the lines were not read to their end.
+/// Reports why the lines were not read to their end.
 fn report_lines(rt: &impl Eprint, alloc: Global, fault: Fault, error: Option<io::Error>) {
     let found = explain(alloc, Expected::Session, &[], fault);
     let _ = match (fault, error) {

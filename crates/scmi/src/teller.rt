@@ -1,4 +1,4 @@
-//! What is said on standard error while a session runs.
+//! What is reported on standard error while a session runs.
 
 use crate::opened::Opened;
 use crate::serve_session::LINES;
@@ -8,7 +8,7 @@ use scmi_live::{Listener, unknown_in};
 use std::alloc::Global;
 use std::io::Eprint;
 
-/// Says on standard error what a session says beside its answers.
+/// Reports on standard error what a session reports beside its answers.
 #[derive(Drop)]
 pub struct Teller<'a, T: Eprint> {
     rt: &'a T,
@@ -17,12 +17,12 @@ pub struct Teller<'a, T: Eprint> {
 }
 
 impl<'a, T: Eprint> Teller<'a, T> {
-    /// Speaks of a session on this board.
+    /// Reports on a session on this board.
     pub fn new(rt: &'a T, alloc: Global, opened: &'a Opened) -> Teller<'a, T> {
         Teller { rt, alloc, opened }
     }
 
-    /// Explains a line as one of a script behind the board.
+    /// Explains a line as one of a script after the board.
     fn explain_numbers(&self, number: usize, text: &[u8]) {
         let board = self.opened.text();
         let mut whole = Vec::new(self.alloc);

@@ -1,4 +1,4 @@
-//! Why a line with names stands for no step, in words.
+//! Why a line with names encodes no step, in words.
 
 use scmi_codec::{BASE_MESSAGES, CLOCK_MESSAGES, POWER_MESSAGES, Part};
 use scmi_explain::nearest;
@@ -8,7 +8,7 @@ use std::alloc::Global;
 use std::fmt;
 use std::str::from_utf8;
 
-/// Why a line stands for no step on a board, as a person reads it.
+/// Why a line encodes no step on a board, as a person reads it.
 #[derive(Clone, Copy)]
 pub struct UnknownText<'a, 'b> {
     pub unknown: Unknown<'a>,
@@ -63,7 +63,7 @@ fn near_message(alloc: Global, text: &str) -> Option<&'static str> {
         .or(nearest(alloc, &CLOCK_MESSAGES.map(|row| row.name), text))
 }
 
-/// What a message has where this part stands.
+/// What a message has in the place of this part.
 fn text_of(part: Part) -> &'static str {
     match part {
         Part::Agent => "agent",

@@ -1,4 +1,4 @@
--- The frame that stands in an area, read once its status word is 0.
+-- The frame that is in an area, read once its status word is 0.
 use Rattle.std.proofs.Common.{◌≡◌, ℕ, List, length, Some, ◌∙◌, arith}
 use Rattle.scmi_codec.specs.Area.{frame_waiting, frame_of}
 use Rattle.scmi_codec.specs.Word.{put_word}

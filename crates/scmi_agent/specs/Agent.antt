@@ -25,7 +25,7 @@ next_message a c = message_at c (a.next % TOKENS)
 abbrev pub agent_after_post : Agent → Command → Agent
 agent_after_post a c = record { next = (a.next % TOKENS + 1) % TOKENS; posted = Some (command_header c (a.next % TOKENS)) }
 
--- an area of a free channel, with no error bit, holds a message of just this header, and its words say this
+-- an area of a free channel, with no error bit, holds a message of exactly this header, and its words say this
 pub record IsReplyOf (header : HeaderFields) (area : List ℕ) (reply : Reply) : Type 0 where
   pub words : List ℕ
   pub free : status_at area % 4 ≡ 1

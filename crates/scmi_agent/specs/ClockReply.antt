@@ -7,7 +7,7 @@ use Rattle.scmi_agent.specs.Reading.{exactly, read_among, name_at}
 use Rattle.scmi_agent.specs.declared.clock_reply.ClockReply.{ClockReply}
 use Rattle.scmi_agent.specs.declared.clock_reply.ClockReply.TheVariants as clock
 
--- whether a flags word says that it has rates of so many words, one rate at least
+-- whether a flags word says that it has rates of this many words, one rate at least
 abbrev pub has_rates : ℕ → ℕ → Bool
 has_rates flags words = nat_lt 0 (flags % 2 ^ 12) && (words == 2 * (flags % 2 ^ 12))
 

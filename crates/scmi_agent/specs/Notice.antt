@@ -16,7 +16,7 @@ use Rattle.scmi_agent.specs.declared.error.ReadError.TheVariants.{Nothing, Forei
 use Rattle.scmi_agent.specs.declared.notice.Notice.{Notice}
 use Rattle.scmi_agent.specs.declared.notice.Notice.TheVariants.{StateSet, StateSetRefused, RateSet, RateSetRefused, StateChanged}
 
--- the parts of the delayed response to a message behind its status
+-- the parts of the delayed response to a message after its status
 abbrev pub later_parts : ℕ → ℕ → List Part
 later_parts protocol id = option_map_or (λ row. row.later) (listed_row protocol id) []
 
@@ -60,6 +60,6 @@ abbrev pub notice_waiting : Option Frame → Result Notice ReadError
 notice_waiting None = Err Nothing
 notice_waiting (Some frame) = notice_read (message_in frame)
 
--- what stands in an agent's P2A channel
+-- what is in an agent's P2A channel
 abbrev pub notice_in : List ℕ → Result Notice ReadError
 notice_in area = notice_waiting (frame_waiting area)

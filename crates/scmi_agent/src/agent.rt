@@ -34,9 +34,9 @@ impl Agent {
         }
     }
 
-    /// Writes a command into the area of the agent's channel, at its next token, as a caller posts it: the
-    /// channel is then busy. Gives the token. `Outstanding` where the reply to the command before it was
-    /// not read, and `NotFree` where a message stands in the area; then nothing changed.
+    /// Writes a command into the area of the agent's channel, at its next token, as a caller posts
+    /// it: the channel is then busy. Gives the token. `Outstanding` if the reply to the previous
+    /// command was not read, and `NotFree` if a message is in the area; then nothing changed.
     pub fn post(&mut self, area: &mut [u8; AREA_BYTES], command: &Command) -> Result<u16, PostError>
         ensures token { IfOk result (λ token. token ≡ self.old.next % TOKENS) }
         ensures area { OnOk result
@@ -66,9 +66,9 @@ impl Agent {
         Ok(token)
     }
 
-    /// Reads the reply to the command that was posted, from the area as the platform left it; then the
-    /// agent may post again. `NotPosted` where none was posted, `Nothing` while the channel is not
-    /// free, `ChannelError`, `Malformed`, `Foreign` where the message has another header than the
+    /// Reads the reply to the command that was posted, from the area as the platform left it; then
+    /// the agent may post again. `NotPosted` if none was posted, `Nothing` while the channel is not
+    /// free, `ChannelError`, `Malformed`, `Foreign` if the message has another header than the
     /// command that was posted, `WrongWords` and `UnknownStatus`; then the agent is as it was.
     pub fn reply(&mut self, area: &[u8; AREA_BYTES]) -> Result<Reply, ReadError>
         ensures own { IfOk result (λ reply.

@@ -11,9 +11,9 @@ use scmi_codec::{AREA_BYTES, Frame, Message, read_area, write_word};
 // The place of the status word, in bytes (DEN0056B, shared memory transport).
 const STATUS_AT: usize = 4;
 
-/// The message that a platform left in a channel as its answer. `Nothing` while the channel is not free,
-/// `ChannelError` where it is free with the error bit, and `Malformed` for a length that is not well
-/// formed.
+/// The message that a platform left in a channel as its answer. `Nothing` while the channel is not
+/// free, `ChannelError` if it is free with the error bit, and `Malformed` for a length that is not
+/// well formed.
 pub(crate) fn answer_in(area: &[u8; AREA_BYTES]) -> Result<Message, ReadError>
     ensures value { result ≡ answer_in area.now }
     ensures free { OnOk result (status_at area.now % 4 ≡ 1) }
@@ -29,7 +29,7 @@ pub(crate) fn answer_in(area: &[u8; AREA_BYTES]) -> Result<Message, ReadError>
     message_in(standing_frame(area))
 }
 
-/// The message of a frame; `Malformed` where its length is not well formed.
+/// The message of a frame; `Malformed` if its length is not well formed.
 pub(crate) fn message_in(frame: Frame) -> Result<Message, ReadError>
     ensures value { result ≡ message_in frame }
     ensures message { IfOk result (λ message. frame ≡ Good message) }
@@ -40,7 +40,7 @@ pub(crate) fn message_in(frame: Frame) -> Result<Message, ReadError>
     }
 }
 
-/// The frame that stands in an area, whatever its status word.
+/// The frame that is in an area, whatever its status word.
 fn standing_frame(area: &[u8; AREA_BYTES]) -> Frame
     ensures { result ≡ frame_of area.now }
 {

@@ -5,8 +5,8 @@ ghost use Rattle.scmi_agent.specs.BaseReply.{base_reply, protocols_of};
 
 use scmi_codec::{Payload, payload_of};
 
-/// What a reply of the base protocol with status SUCCESS gives: the parts behind its status. A name is
-/// its four words, the first byte lowest.
+/// What a reply of the base protocol with status SUCCESS gives: the parts after its status. A name
+/// is its four words, the first byte lowest.
 #[derive(Clone, PartialEq, Eq, Debug, Drop)]
 pub enum BaseReply {
     Version { version: u32 },
@@ -16,7 +16,7 @@ pub enum BaseReply {
     Vendor { name: [u32; 4] },
     SubVendor { name: [u32; 4] },
     Implementation { version: u32 },
-    /// So many ids of protocols, four to a word, the lowest byte first.
+    /// That many ids of protocols, four to a word, the lowest byte first.
     Protocols { count: u32, ids: Payload },
     Agent { agent: u32, name: [u32; 4] },
     Permit,
@@ -25,8 +25,8 @@ pub enum BaseReply {
 }
 
 impl BaseReply {
-    /// What words behind the status SUCCESS give as the reply to a message of this id; `None` where
-    /// its reply has another number of words, or the protocol has no such message.
+    /// What words after the status SUCCESS give as the reply to a message of this id; `None` if its
+    /// reply has another number of words, or the protocol has no such message.
     #[tactic(auto, unfolding(scmi_codec::specs::Listing::rows_of))]
     pub(crate) fn read(id: u8, words: &[u32]) -> Option<BaseReply>
         requires { length words.now ≤ PAYLOAD_WORDS }
@@ -56,7 +56,7 @@ impl BaseReply {
     }
 }
 
-/// A number, and so many ids of protocols; `None` where these are not as many words as that takes.
+/// A number, and that many protocol ids; `None` if the number of words does not match.
 fn protocols_of(words: &[u32]) -> Option<BaseReply>
     requires { length words.now ≤ PAYLOAD_WORDS }
     ensures { result ≡ protocols_of words.now }

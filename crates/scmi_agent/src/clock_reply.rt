@@ -5,8 +5,8 @@ ghost use Rattle.scmi_agent.specs.ClockReply.{clock_reply, rates_of, has_rates};
 
 use scmi_codec::{Payload, payload_of, rate_of};
 
-/// What a reply of the clock protocol with status SUCCESS gives: the parts behind its status. A name is
-/// its four words, the first byte lowest. Rates are in Hz.
+/// What a reply of the clock protocol with status SUCCESS gives: the parts after its status. A name
+/// is its four words, the first byte lowest. Rates are in Hz.
 #[derive(Clone, PartialEq, Eq, Debug, Drop)]
 pub enum ClockReply {
     Version { version: u32 },
@@ -24,8 +24,8 @@ pub enum ClockReply {
 }
 
 impl ClockReply {
-    /// What words behind the status SUCCESS give as the reply to a message of this id; `None` where
-    /// its reply has another number of words, or the protocol has no such message.
+    /// What words after the status SUCCESS give as the reply to a message of this id; `None` if its
+    /// reply has another number of words, or the protocol has no such message.
     #[tactic(auto, unfolding(scmi_codec::specs::Listing::rows_of))]
     pub(crate) fn read(id: u8, words: &[u32]) -> Option<ClockReply>
         requires { length words.now ≤ PAYLOAD_WORDS }
@@ -50,7 +50,8 @@ impl ClockReply {
     }
 }
 
-/// A flags word and as many rates as it says, one at least; `None` where these are not as many words.
+/// A flags word and as many rates as it gives, at least one; `None` if the number of words does
+/// not match.
 fn rates_of(words: &[u32]) -> Option<ClockReply>
     requires { length words.now ≤ PAYLOAD_WORDS }
     ensures { result ≡ rates_of words.now }
@@ -64,7 +65,7 @@ fn rates_of(words: &[u32]) -> Option<ClockReply>
     }
 }
 
-/// Whether a flags word says that it has rates of so many words.
+/// Whether a flags word encodes rates of this many words.
 fn has_rates(flags: u32, words: usize) -> bool
     ensures { result ≡ has_rates flags words }
 {

@@ -5,15 +5,15 @@ use thiserror::Error;
 /// Why a command was not posted.
 #[derive(Clone, Copy, PartialEq, Eq, Debug, Error)]
 pub enum PostError {
-    /// The reply to the command before it was not read.
+    /// The reply to the previous command was not read.
     #[error("a command is outstanding")]
     Outstanding = 1,
-    /// A message stands in the area.
+    /// A message is in the area.
     #[error("the channel is not free")]
     NotFree = 2,
 }
 
-/// Why nothing was read. Nothing is lost: the agent may look again.
+/// Why nothing was read. Nothing is lost: the agent may poll again.
 #[derive(Clone, Copy, PartialEq, Eq, Debug, Error)]
 pub enum ReadError {
     /// The agent has no command outstanding.
@@ -28,14 +28,14 @@ pub enum ReadError {
     /// The length of header and payload is not well formed.
     #[error("the length is not well formed")]
     Malformed = 4,
-    /// The message is not the one that is looked for: it answers another command, or is of no kind
-    /// that is known.
+    /// The message is not the expected one: it answers another command, or is of no kind that is
+    /// known.
     #[error("the message is another")]
     Foreign = 5,
     /// The message has another number of payload words.
     #[error("the message has another number of words")]
     WrongWords = 6,
-    /// The status of the message is no code of DEN0056B.
+    /// The status of the message is not a code of DEN0056B.
     #[error("the status is unknown")]
     UnknownStatus = 7,
 }

@@ -27,10 +27,10 @@ pub enum Notice {
     StateChanged { agent: u32, domain: u32, state: u32 },
 }
 
-/// Reads the message that the platform has posted in an agent's P2A channel; it stays there. `Nothing`
-/// where the channel is free, `Malformed` for a length that is not well formed, `Foreign` where it is no
-/// delayed response and no notification of the profile, `WrongWords` where it has another number of
-/// words, and `UnknownStatus` where a delayed response begins with no status.
+/// Reads the message that the platform has posted in an agent's P2A channel; it stays there.
+/// `Nothing` if the channel is free, `Malformed` for a length that is not well formed, `Foreign` if
+/// it is neither a delayed response nor a notification of the profile, `WrongWords` if it has
+/// another number of words, and `UnknownStatus` if a delayed response begins with no status.
 pub fn read_notice(area: &[u8; AREA_BYTES]) -> Result<Notice, ReadError>
     ensures { result ≡ notice_in area.now }
 {
@@ -47,7 +47,7 @@ pub fn release(area: &mut [u8; AREA_BYTES])
     let _ = write_answer(area, &Answer::Released);
 }
 
-/// What a message says as a delayed response, type 2, or as a notification, type 3.
+/// What a message decodes to as a delayed response, type 2, or as a notification, type 3.
 fn notice_of(message: &Message) -> Result<Notice, ReadError>
     ensures { result ≡ notice_of message.now }
 {
@@ -59,7 +59,7 @@ fn notice_of(message: &Message) -> Result<Notice, ReadError>
     }
 }
 
-/// What payload words say as the delayed response of this header.
+/// What payload words decode to as the delayed response of this header.
 fn delayed_of(header: &Header, words: &[u32]) -> Result<Notice, ReadError>
     ensures { result ≡ delayed_of header.now words.now }
 {
@@ -70,7 +70,7 @@ fn delayed_of(header: &Header, words: &[u32]) -> Result<Notice, ReadError>
     }
 }
 
-/// What payload words say as the delayed response to the state set of this token.
+/// What payload words decode to as the delayed response to the state set of this token.
 #[tactic(auto, unfolding(scmi_codec::specs::Listing::rows_of))]
 fn state_set_of(token: u16, words: &[u32]) -> Result<Notice, ReadError>
     ensures { result ≡ state_set_of token words.now }
@@ -93,7 +93,7 @@ fn state_set_of(token: u16, words: &[u32]) -> Result<Notice, ReadError>
     }
 }
 
-/// What payload words say as the delayed response to the rate set of this token.
+/// What payload words decode to as the delayed response to the rate set of this token.
 #[tactic(auto, unfolding(scmi_codec::specs::Listing::rows_of))]
 fn rate_set_of(token: u16, words: &[u32]) -> Result<Notice, ReadError>
     ensures { result ≡ rate_set_of token words.now }
@@ -116,7 +116,7 @@ fn rate_set_of(token: u16, words: &[u32]) -> Result<Notice, ReadError>
     }
 }
 
-/// What payload words say as the notification of this header.
+/// What payload words decode to as the notification of this header.
 fn change_of(header: &Header, words: &[u32]) -> Result<Notice, ReadError>
     ensures { result ≡ change_of header.now words.now }
 {

@@ -2,8 +2,8 @@
 ghost use Rattle.std.specs.Prelude.{◌≡◌};
 ghost use Rattle.scmi_agent.specs.PowerReply.{power_reply};
 
-/// What a reply of the power domain protocol with status SUCCESS gives: the parts behind its status. A
-/// name is its four words, the first byte lowest.
+/// What a reply of the power domain protocol with status SUCCESS gives: the parts after its status.
+/// A name is its four words, the first byte lowest.
 #[derive(Clone, Copy, PartialEq, Eq, Debug)]
 pub enum PowerReply {
     Version { version: u32 },
@@ -18,8 +18,8 @@ pub enum PowerReply {
 }
 
 impl PowerReply {
-    /// What words behind the status SUCCESS give as the reply to a message of this id; `None` where
-    /// its reply has another number of words, or the protocol has no such message.
+    /// What words after the status SUCCESS give as the reply to a message of this id; `None` if its
+    /// reply has another number of words, or the protocol has no such message.
     #[tactic(auto, unfolding(scmi_codec::specs::Listing::rows_of))]
     pub(crate) fn read(id: u8, words: &[u32]) -> Option<PowerReply>
         ensures { result ≡ power_reply id words.now }

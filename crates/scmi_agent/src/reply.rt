@@ -9,7 +9,7 @@ use crate::error::ReadError;
 use crate::power_reply::PowerReply;
 use scmi_codec::{BASE_PROTOCOL, CLOCK_PROTOCOL, Header, POWER_PROTOCOL, Status};
 
-/// What a reply says: what the command gives, with status SUCCESS, or another status alone.
+/// What a reply contains: what the command gives, with status SUCCESS, or another status alone.
 #[derive(Clone, PartialEq, Eq, Debug, Drop)]
 pub enum Reply {
     Base(BaseReply),
@@ -20,8 +20,8 @@ pub enum Reply {
 }
 
 impl Reply {
-    /// What payload words say as the reply to a command of this header. `WrongWords` where its reply
-    /// has another number of words, and `UnknownStatus` where the first is no status.
+    /// What payload words decode to as the reply to a command of this header. `WrongWords` if its
+    /// reply has another number of words, and `UnknownStatus` if the first is not a status.
     pub(crate) fn read(header: &Header, words: &[u32]) -> Result<Reply, ReadError>
         requires { length words.now ≤ PAYLOAD_WORDS }
         ensures value { result ≡ reply_of header.now words.now }
@@ -41,7 +41,7 @@ impl Reply {
     }
 }
 
-/// What words behind the status SUCCESS give as the reply to a message.
+/// What words after the status SUCCESS give as the reply to a message.
 fn given_by(protocol: u8, id: u8, words: &[u32]) -> Option<Reply>
     requires { length words.now ≤ PAYLOAD_WORDS }
     ensures { result ≡ given_by protocol id words.now }

@@ -5,7 +5,7 @@ use Rattle.scmi_codec.specs.declared.header.TheConstants.{TOKENS}
 use Rattle.scmi_agent.specs.declared.agent.Agent.{Agent}
 use Rattle.scmi_agent_c.specs.declared.state.State.{State}
 
--- the agent that a state stands for
+-- the agent that a state encodes
 abbrev pub agent_of : State → Agent
 agent_of s = record { next = s.next % TOKENS; posted = if s.posted == 0 then None else Some (header_of s.header) }
 

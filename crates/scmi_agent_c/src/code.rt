@@ -6,13 +6,13 @@ pub const DONE: u32 = 0;
 /// The reply to the command before it was not read.
 pub const OUTSTANDING: u32 = 1;
 
-/// A message stands in the area.
+/// A message is in the area.
 pub const NOT_FREE: u32 = 2;
 
 /// No command is outstanding.
 pub const NOT_POSTED: u32 = 3;
 
-/// Nothing stands in the area yet.
+/// Nothing is in the area yet.
 pub const NOTHING: u32 = 4;
 
 /// The platform marked the channel free with the error bit.

@@ -21,7 +21,7 @@ pub const RATE_SET: u32 = 2;
 /// The notification that a domain has another state.
 pub const STATE_CHANGED: u32 = 3;
 
-/// A message of the platform. What it does not say is 0.
+/// A message of the platform. What it does not contain is 0.
 #[repr(C)]
 #[derive(Drop)]
 pub struct Message {
@@ -42,8 +42,8 @@ pub struct Message {
 }
 
 /// Reads the message that the platform posted in an agent's P2A channel; it stays there. `DONE`;
-/// `NOTHING` where the channel is free, `MALFORMED`, `FOREIGN` where it is no delayed response and no
-/// notification of the profile, `WRONG_WORDS` and `UNKNOWN_STATUS`; then `message` is as it was.
+/// `NOTHING` if the channel is free, `MALFORMED`, `FOREIGN` if it is neither a delayed response nor
+/// a notification of the profile, `WRONG_WORDS` and `UNKNOWN_STATUS`; then `message` is as it was.
 #[unsafe(no_mangle)]
 pub extern "C" fn scmi_agent_message(area: &[u8; AREA_BYTES], message: &mut Message) -> u32
     ensures code { result ≡ read_code (notice_in area.now) }

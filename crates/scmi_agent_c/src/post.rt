@@ -6,8 +6,8 @@ use crate::state::State;
 use scmi_agent::PostError;
 use scmi_codec::{AREA_BYTES, Command};
 
-/// Writes a command into an area at the agent's next token. `DONE`; `OUTSTANDING` where the reply to the
-/// command before it was not read; `NOT_FREE` where a message stands in the area. After another number
+/// Writes a command into an area at the agent's next token. `DONE`; `OUTSTANDING` if the reply to
+/// the command before it was not read; `NOT_FREE` if a message is in the area. After another number
 /// than `DONE` nothing changed.
 pub fn post(agent: &mut State, area: &mut [u8; AREA_BYTES], command: &Command) -> u32
     ensures { Posts command.now agent.old agent.new area.old area.new result }

@@ -13,11 +13,11 @@ use crate::state::State;
 use scmi_agent::ReadError;
 use scmi_codec::AREA_BYTES;
 
-/// Reads the area as the platform left it. `DONE` where the channel is free and the area holds the reply
-/// to the command that was posted, with as many words as it has; then the agent may post again. After
-/// another number the agent is as it was: `NOT_POSTED` where no command is outstanding, `NOTHING` while
-/// the channel is busy, `CHANNEL_ERROR`, `MALFORMED`, `FOREIGN` where the message has another header
-/// than that command, `WRONG_WORDS` and `UNKNOWN_STATUS`.
+/// Reads the area as the platform left it. `DONE` if the channel is free and the area holds the
+/// reply to the command that was posted, with as many words as it has; then the agent may post
+/// again. After another number the agent is as it was: `NOT_POSTED` if no command is outstanding,
+/// `NOTHING` while the channel is busy, `CHANNEL_ERROR`, `MALFORMED`, `FOREIGN` if the message has
+/// another header than that command, `WRONG_WORDS` and `UNKNOWN_STATUS`.
 #[unsafe(no_mangle)]
 pub extern "C" fn scmi_agent_reply(agent: &mut State, area: &[u8; AREA_BYTES]) -> u32
     ensures own { IfSome (agent_of agent.old).posted (λ header.

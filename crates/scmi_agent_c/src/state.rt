@@ -11,14 +11,14 @@ use scmi_codec::{Header, TOKENS};
 pub struct State {
     /// The token of the next command, modulo 1024.
     pub next: u32,
-    /// 0 where no command is outstanding.
+    /// 0 if no command is outstanding.
     pub posted: u32,
     /// The header of the command that is outstanding, or 0.
     pub header: u32,
 }
 
 impl State {
-    /// The agent that a state stands for.
+    /// The agent that a state encodes.
     pub fn agent(&self) -> Agent
         ensures { result ≡ agent_of self.now }
     {

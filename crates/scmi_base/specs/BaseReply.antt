@@ -13,7 +13,7 @@ use Rattle.scmi_codec.specs.Reply.{Check, reply_unless, other_bits}
 abbrev pub protocols : List ℕ
 protocols = 0x11 ∷ 0x14 ∷ []
 
--- up to four bytes in one word, and no word where there is none
+-- up to four bytes in one word, and no word if there is none
 abbrev pub packed_words : List ℕ → List ℕ
 packed_words bytes = if length bytes == 0 then [] else little_number 4 bytes ∷ []
 

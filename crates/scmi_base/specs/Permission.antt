@@ -39,11 +39,11 @@ is_scope scope.Power scope.Power = true
 is_scope scope.Clock scope.Clock = true
 is_scope _ _ = false
 
--- the protocol whose id stands in the low eight bits of a word: 0x11 is that of power domains, 0x14 that of clocks (own)
+-- the protocol whose id is in the low eight bits of a word: 0x11 is that of power domains, 0x14 that of clocks (own)
 abbrev pub protocol_named : ℕ → Scope
 protocol_named word = if word % 0x100 == 0x11 then scope.Power else scope.Clock
 
--- what a successful command says of an agent on a device: a permission, or a reset that allows everything (own)
+-- what a successful command says about an agent on a device: a permission, or a reset that allows everything (own)
 abbrev pub permission : ℕ → ℕ → Scope → BaseCommand → Option Bool
 permission a d s (base.Permit agent device flags) = if agent == a && device == d && is_scope scope.Device s then Some (bit_0 flags) else None
 permission a d s (base.PermitProtocol agent device protocol flags) =

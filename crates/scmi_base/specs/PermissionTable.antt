@@ -2,7 +2,7 @@
 use Rattle.std.specs.Prelude.{◌≡◌, ◌<◌, ℕ, ◌-◌, Bool, true, List, [], length, get_or}
 use Rattle.scmi_plan.specs.declared.limits.TheConstants.{AGENTS, DEVICES}
 
--- what a table says of an agent, numbered from 1, and a device, numbered from 0
+-- what a table says about an agent, numbered from 1, and a device, numbered from 0
 abbrev pub entry : List (List Bool) → ℕ → ℕ → Bool
 entry table agent device = get_or (get_or table (agent - 1) []) device true
 

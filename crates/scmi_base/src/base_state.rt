@@ -51,8 +51,8 @@ impl BaseState {
     /// agent that it reset, whose notification requests end. The reply begins with a status:
     /// NOT_FOUND for an unknown message, agent, device or protocol, then INVALID_PARAMETERS for a
     /// skip past the protocols, for a protocol's word with more than its id, or for flag bits
-    /// besides bit 0, then DENIED where a caller that is not trusted would change permissions or
-    /// reset an agent (own). A command that is refused changes nothing.
+    /// besides bit 0, then DENIED if a caller that is not trusted would change permissions or reset
+    /// an agent (own). A command that is refused changes nothing.
     #[tactic(auto, unfolding(crate::specs::BaseReply::base_reply))]
     pub fn execute(
         &mut self,
@@ -175,7 +175,7 @@ impl BaseState {
         }
     }
 
-    /// 0xB: resets an agent, its permissions too where the flags say so.
+    /// 0xB: resets an agent, its permissions too if the flags ask for it.
     fn reset_agent(
         &mut self,
         plan: &Plan,

@@ -13,8 +13,8 @@ use crate::scope::Scope;
 use scmi_codec::{CLOCK_PROTOCOL, POWER_PROTOCOL, Status, single_flag};
 use scmi_plan::Plan;
 
-/// The checks of 0x9 (DEN0056B, base protocol): agent, device, flags, caller. Answers
-/// whether the agent is to be allowed on the device.
+/// The checks of 0x9 (DEN0056B, base protocol): agent, device, flags, caller. Returns whether the
+/// agent is to be allowed on the device.
 #[tactic(auto, unfolding(crate::specs::BaseReply::base_reply))]
 pub(crate) fn check_permit(
     plan: &Plan,
@@ -39,7 +39,7 @@ pub(crate) fn check_permit(
 }
 
 /// The checks of 0xA (own): agent, device, protocol, the bits of its word besides the id, flags,
-/// caller. Answers the protocol, and whether it is to be allowed on the device.
+/// caller. Returns the protocol, and whether it is to be allowed on the device.
 #[tactic(auto, unfolding(crate::specs::BaseReply::base_reply))]
 pub(crate) fn check_permit_protocol(
     plan: &Plan,
@@ -69,8 +69,8 @@ pub(crate) fn check_permit_protocol(
     Ok((scope, allow))
 }
 
-/// The checks of 0xB (DEN0056B, base protocol): agent, flags, caller. Answers
-/// whether permissions are to be reset too.
+/// The checks of 0xB (DEN0056B, base protocol): agent, flags, caller. Returns whether permissions
+/// are to be reset too.
 #[tactic(auto, unfolding(crate::specs::BaseReply::base_reply))]
 pub(crate) fn check_reset(plan: &Plan, caller: u32, agent: u32, flags: u32) -> Result<bool, Status>
     ensures ok { OnOk result (base_reply plan.now caller (ResetAgent agent flags) ≡ 0 ∷ []) }
@@ -86,7 +86,7 @@ pub(crate) fn check_reset(plan: &Plan, caller: u32, agent: u32, flags: u32) -> R
     Ok(permissions)
 }
 
-/// NOT_FOUND where the board has no such agent.
+/// NOT_FOUND if the board has no such agent.
 fn check_agent(plan: &Plan, agent: u32) -> Result<(), Status>
     ensures first { result ≡ (if no_agent plan.now agent then Err NotFound else Ok tt) }
     ensures agent { IfOk result (λ u. IsAgent AGENTS agent) }
@@ -97,7 +97,7 @@ fn check_agent(plan: &Plan, agent: u32) -> Result<(), Status>
     Ok(())
 }
 
-/// NOT_FOUND where the board has no such device.
+/// NOT_FOUND if the board has no such device.
 fn check_device(plan: &Plan, device: u32) -> Result<(), Status>
     ensures first { result ≡ (if no_device plan.now device then Err NotFound else Ok tt) }
     ensures device { IfOk result (λ u. device < DEVICES) }
@@ -108,7 +108,7 @@ fn check_device(plan: &Plan, device: u32) -> Result<(), Status>
     Ok(())
 }
 
-/// NOT_FOUND where the low eight bits of a word are the id of no protocol with resources.
+/// NOT_FOUND if the low eight bits of a word are not the id of a protocol with resources.
 fn check_protocol(word: u32) -> Result<Scope, Status>
     ensures { result ≡ (if no_protocol word then Err NotFound else Ok (protocol_named word)) }
 {
@@ -122,7 +122,7 @@ fn check_protocol(word: u32) -> Result<Scope, Status>
     }
 }
 
-/// INVALID_PARAMETERS where a word has more than a protocol's id in its low eight bits.
+/// INVALID_PARAMETERS if a word has more than a protocol's id in its low eight bits.
 fn check_id_alone(word: u32) -> Result<(), Status>
     ensures { result ≡ (if nat_lt 0xFF word then Err InvalidParameters else Ok tt) }
 {
@@ -132,7 +132,7 @@ fn check_id_alone(word: u32) -> Result<(), Status>
     Ok(())
 }
 
-/// DENIED where the caller is not the trusted agent.
+/// DENIED if the caller is not the trusted agent.
 fn check_trusted(plan: &Plan, caller: u32) -> Result<(), Status>
     ensures { result ≡ (if caller == plan.now.trusted then Ok tt else Err Denied) }
 {

@@ -70,8 +70,8 @@ pub(crate) fn implementation(plan: &Plan, reply: &mut Payload)
     set_payload(reply, &[SUCCESS, plan.version()]);
 }
 
-/// 0x6: the number of protocols after the first `skip`, and their ids in one word, of which there is
-/// none where the number is 0; INVALID_PARAMETERS where there are fewer to skip.
+/// 0x6: the number of protocols after the first `skip`, and their ids in one word, left out if the
+/// number is 0; INVALID_PARAMETERS if there are fewer to skip.
 pub(crate) fn protocols(skip: u32, reply: &mut Payload)
     ensures { reply.new.items ≡ protocols_reply skip }
 {
@@ -95,8 +95,8 @@ fn packed_word(bytes: &[u8]) -> u32
     LittleEndian::read_u32(&word)
 }
 
-/// 0x7: the id and name of an agent, of the platform, or of the caller where it asks for itself
-/// (own); NOT_FOUND for another id.
+/// 0x7: the id and name of an agent, of the platform, or of the caller if it asks for itself (own);
+/// NOT_FOUND for another id.
 pub(crate) fn agent_of(plan: &Plan, caller: u32, asked: u32, reply: &mut Payload)
     ensures { reply.new.items ≡ agent_reply plan.now caller asked }
 {

@@ -24,7 +24,7 @@ impl Model for PermissionTable {
 }
 
 impl PermissionTable {
-    /// A table that says yes everywhere.
+    /// A table with yes everywhere.
     pub(crate) fn new() -> PermissionTable
         ensures { (a d : ℕ) → entry result a d ≡ true }
     {
@@ -52,7 +52,7 @@ impl PermissionTable {
         self.rows[agent as usize - 1][device as usize] = allow;
     }
 
-    /// Says yes to an agent on every device.
+    /// Sets yes for an agent on every device.
     pub(crate) fn allow(&mut self, agent: u32)
         requires first { 1 ≤ agent }
         requires last { agent ≤ AGENTS }

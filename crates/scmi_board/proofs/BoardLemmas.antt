@@ -45,7 +45,7 @@ module _ {A : Type 0} (step : A → List ℕ → Option A) where
   lines_stop last a all line lines total Form parts other is so_far = sym so_far ∙ line_is last a all line lines None parts other is
   lines_stop last a all line lines total Memory parts other is so_far = tt
 
-  -- what stands behind a heading
+  -- what follows a heading
   pub heading_fails : (start : Board → A) (last : ℕ) (error : TextError) (there : Result (Board × List Line) ℕ) → FailsBoard error there → FailsBoard error (behind_heading start step last there)
   heading_fails start last (errors.Board line) there fails = ap (behind_heading start step last) fails
   heading_fails start last (errors.Script line) there fails = fails

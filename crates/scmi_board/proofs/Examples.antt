@@ -1,4 +1,4 @@
--- Texts and what they stand for, computed.
+-- Texts and what they encode, computed.
 use Rattle.std.proofs.Common.{◌≡◌, true, [], ◌∷◌, Some, None, refl}
 use Rattle.std.specs.Prelude.{codes}
 use Rattle.scmi_board.specs.Channels.{first_channel, first_way}

@@ -31,7 +31,7 @@ IsCutAt text place = lines_of text ≡ take place text ∷ lines_of (drop 1 (dro
 cut_at_feed : (byte : ℕ) (rest : List ℕ) → eqb byte 10 ≡ true → IsCutAt (byte ∷ rest) (feed_place (byte ∷ rest))
 cut_at_feed byte rest feed = subst (λ (k : ℕ). IsCutAt (byte ∷ rest) k) (sym (place_at_feed byte rest feed)) (at_feed byte rest feed)
 
--- the first line, and those behind its line feed
+-- the first line, and those after its line feed
 pub cut_line : (text : List ℕ) → 0 < length text → IsCutAt text (feed_place text)
 cut_line [] some = absurd (omega (arith, some))
 cut_line (byte ∷ []) some =

@@ -33,6 +33,6 @@ pub of_fewer : {E : Type 0} (bits : ℕ) (text : List ℕ) (n : ℕ) (r : Result
 of_fewer bits text n (Err e) number is gives = λ few. gives (rw is few.fits)
 of_fewer bits text n (Ok m) number is gives = (record { digits = number.digits; form = number.form; fits = rw is at gives.0 }, rw is at gives.1)
 
--- all that stands behind `0x`
+-- all that follows `0x`
 pub behind_mark : (text : List ℕ) → take (length text - 2) (drop 2 text) ≡ drop 2 text
 behind_mark text = rw (← (length-drop 2 text)) (take-length (drop 2 text))

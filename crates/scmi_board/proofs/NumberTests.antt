@@ -1,4 +1,4 @@
--- The test of a number, and the number that a text stands for.
+-- The test of a number, and the number that a text encodes.
 use Rattle.std.proofs.Common.{ℕ, ◌<◌, ◌≤◌, ◌^◌, ◌≡◌, ◌≢◌, Bool, true, false, ◌&&◌, not, cond, ltb, leb, eqb, List, [], ◌∷◌, length, Option, Some, None, SomeIff, slice_index, refl}
 use Rattle.std.specs.Bool.{MatchBool}
 use Rattle.std.specs.Char.{is_digit}
@@ -43,7 +43,7 @@ passes_number bits text e =
       fits = ltb-true _ _ outer.1;
     }
 
--- what is a value only for a number is the number that the text stands for
+-- what is a value only for a number is the number that the text encodes
 pub number_is : (bits : ℕ) (text : List ℕ) (r : Option ℕ) → SomeIff r (IsNumber bits text) (number_value text) → r ≡ number_of bits text
 unfolding number_of
 number_is bits text None none =

@@ -38,7 +38,7 @@ first_channel view = do
       then Some (record { agent = agent.0; channel = record { words = (bytes.0 - 0x1C) / 4; one_way = way.0 } }, way.1)
       else None
 
--- the agent of the last of these lines, 0 where there is none
+-- the agent of the last of these lines, 0 if there is none
 abbrev pub last_agent : List ChannelLine → ℕ
 last_agent channels = option_map_or (λ line. line.agent) (slice_get channels (length channels - 1)) 0
 

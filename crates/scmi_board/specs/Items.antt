@@ -11,14 +11,14 @@ o >>= f = option_and_then f o
 abbrev pub is_space : ℕ → Bool
 is_space byte = byte == 32
 
--- what stands behind the spaces that a text begins with; none where nothing but spaces stands there
+-- what follows the spaces that a text begins with; none if only spaces are left
 unfoldable pub behind_spaces : List ℕ → Option (List ℕ)
 behind_spaces text =
     let rest = drop (position_or_len (λ byte. not (is_space byte)) text) text in
     if (length rest == 0) && not (length text == 0) then None else Some rest
 
--- the first item of a text, and what is left behind it and its spaces; none where the text is empty, a space
--- stands first, or nothing but spaces stands behind the item
+-- the first item of a text, and what is left after it and its spaces; none where the text is empty, a space
+-- is first, or only spaces follow the item
 unfoldable pub item_at : List ℕ → Option (List ℕ × List ℕ)
 item_at text =
     let item = before_first is_space text in
@@ -34,7 +34,7 @@ pub record ItemsView : Type 0 where
 abbrev pub onto_items : List ℕ → ItemsView → ItemsView
 onto_items item view = record { items = item ∷ view.items; whole = view.whole }
 
--- so many items at most
+-- this many items at most
 unfoldable pub items_up_to : ℕ → List ℕ → ItemsView
 items_up_to zero text = record { items = []; whole = length text == 0 }
 items_up_to (suc most) text = elim (item_at text) [

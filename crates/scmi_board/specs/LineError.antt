@@ -15,12 +15,12 @@ abbrev pub script_refusal : LineError → ℕ → TextError
 script_refusal Form number = Script number
 script_refusal Memory number = NoMemory
 
--- a reader of a line that takes no memory fails so, where nothing stands there
+-- a reader of a line that takes no memory fails so, if nothing is there
 abbrev pub Fails : {Y : Type 0} → LineError → Option Y → Type 0
 Fails Form there = there ≡ None
 Fails Memory there = ⊥
 
--- what it gives, seen by view, is what stands there
+-- what it gives, seen by view, is what is there
 abbrev pub Gives : {X Y : Type 0} → (X → Y) → Result X LineError → Option Y → Type 0
 Gives view (Ok value) there = there ≡ Some (view value)
 Gives view (Err error) there = Fails error there

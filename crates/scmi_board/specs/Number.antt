@@ -8,7 +8,7 @@ use Rattle.std.specs.Str.Parse.{IsNumeral, digits_value}
 abbrev pub has_hexadecimal_mark : List ℕ → Bool
 has_hexadecimal_mark text = nat_lt 1 (length text) && (slice_index text 0 == 48) && (slice_index text 1 == 120)
 
--- the digits of a text: what stands behind `0x`, or all of it
+-- the digits of a text: what follows `0x`, or all of it
 abbrev pub number_digits : List ℕ → List ℕ
 number_digits text = if has_hexadecimal_mark text then drop 2 text else text
 
@@ -42,6 +42,6 @@ has_number_form text = if has_hexadecimal_mark text then nat_le (length text) 18
 abbrev pub is_number : ℕ → List ℕ → Bool
 is_number bits text = is_numeral (number_base text) (number_digits text) && has_number_form text && nat_lt (number_value text) (2 ^ bits)
 
--- the number of at most that many bits that a text stands for
+-- the number of at most that many bits that a text encodes
 unfoldable pub number_of : ℕ → List ℕ → Option ℕ
 number_of bits text = if is_number bits text then Some (number_value text) else None

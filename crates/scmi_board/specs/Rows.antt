@@ -62,7 +62,7 @@ first_domain view = do
   domain ← with_kinds (record { name = name.0; on = on.0; synchronous = false; asynchronous = false; notify = false }) kinds.0
   Some (domain, kinds.1)
 
--- a rate behind others
+-- a rate after others
 unfoldable pub with_rate : List ℕ → List ℕ → Option (List ℕ)
 with_rate list part = do
   rate ← number_of 64 part
@@ -117,7 +117,7 @@ first_device view = do
   second ← set_of clocks.0
   Some (record { domains = first; clocks = second }, clocks.1)
 
--- the rows, each behind its word
+-- the rows, each after its word
 unfoldable pub with_agent : Board → ItemsView → Option (Board × ItemsView)
 with_agent board view = do
   agent ← first_name view

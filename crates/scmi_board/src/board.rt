@@ -18,12 +18,12 @@ use crate::words::{BOARD, END};
 use scmi_plan::RawPlan;
 use std::alloc::Global;
 
-/// The board from its line `board` to its line `end`; the lines behind it are left. No rule of a lawful
-/// board is looked at (own).
+/// The board from its line `board` to its line `end`; the lines after it are left. No rule of a
+/// valid board is checked (own).
 ///
-/// `Board` gives the number of the first line of another form, or, where `end` is missing, of the last
-/// line of the input. `Memory` where memory is refused. After an error it is not said how many lines
-/// were read.
+/// `Board` gives the number of the first line of another form, or, if `end` is missing, of the last
+/// line of the input. `Memory` if memory is refused. After an error it is not specified how many
+/// lines were read.
 pub fn read_board(alloc: Global, lines: &mut Lines<'_>) -> Result<RawPlan, TextError>
     ensures errors { IfErr result IsOfBoard }
     ensures board { GivesBoard (λ raw. (asked_board raw, lines_left lines.new)) result

@@ -1,4 +1,4 @@
-//! Boards whose texts say what channels their agents have.
+//! Boards whose texts contain what channels their agents have.
 ghost use Rattle.std.specs.Prelude.{◌≡◌, IfErr};
 ghost use Rattle.std.specs.List.{last_or};
 ghost use Rattle.scmi_board.specs.BoardText.{GivesBoard, lines_by};
@@ -19,8 +19,8 @@ use crate::words::{CHANNEL, END};
 use scmi_plan::RawPlan;
 use std::alloc::{AllocError, Global};
 
-/// A board, and the channels of those of its agents of which its text says them, each once, with
-/// rising numbers (own).
+/// A board, and the channels of those of its agents whose channels its text contains, each once,
+/// with rising numbers (own).
 #[derive(Debug, Drop)]
 pub struct BoardWithChannels {
     pub board: RawPlan,
@@ -32,9 +32,9 @@ pub struct BoardWithChannels {
 /// their areas in bytes, and whether the platform can't send to the agent (own). AGENT is an agent of the
 /// rows, and above that of the line before.
 ///
-/// `Board` gives the number of the first line of another form, or, where `end` is missing, of the last
-/// line of the input. `Memory` where memory is refused. After an error it is not said how many lines
-/// were read.
+/// `Board` gives the number of the first line of another form, or, if `end` is missing, of the last
+/// line of the input. `Memory` if memory is refused. After an error it is not specified how many
+/// lines were read.
 pub fn read_board_with_channels(
     alloc: Global,
     lines: &mut Lines<'_>,
@@ -97,7 +97,7 @@ fn add_row(alloc: Global, board: &mut BoardWithChannels, text: &[u8]) -> Result<
     }
 }
 
-/// What follows `channel`, of an agent of the board behind those of the lines before.
+/// What follows `channel`, of an agent of the board after those of the lines before.
 #[tactic(auto, unfolding(crate::specs::Channels::with_channel_line))]
 fn add_channel(board: &mut BoardWithChannels, items: &mut Items<'_>) -> Result<(), LineError>
     ensures { GivesUnless (λ _. described board.new) result
@@ -113,7 +113,7 @@ fn add_channel(board: &mut BoardWithChannels, items: &mut Items<'_>) -> Result<(
     Ok(())
 }
 
-/// The agent of the last line, and 0 where there is none.
+/// The agent of the last line, and 0 if there is none.
 fn last_agent(channels: &[ChannelLine]) -> u32
     ensures { result ≡ last_agent channels.now }
 {

@@ -9,7 +9,7 @@ use crate::words::ONE_WAY;
 use scmi_codec::{channel_words, is_channel_size};
 use scmi_plan::AgentChannel;
 
-/// What a line `channel` says: an agent's number, and what its channels are.
+/// What a line `channel` contains: an agent's number, and what its channels are.
 #[derive(Clone, Copy, Debug, PartialEq, Eq, Drop)]
 pub struct ChannelLine {
     pub agent: u32,

@@ -77,7 +77,7 @@ fn read_parts(alloc: Global, text: &[u8]) -> Result<RateList, LineError>
     Ok(RateList::new(rates))
 }
 
-/// Adds a rate behind others.
+/// Adds a rate after others.
 #[tactic(auto, unfolding(crate::specs::Rows::with_rate))]
 fn add_rate(rates: &mut Vec<u64>, part: &[u8]) -> Result<(), LineError>
     ensures { GivesUnless (λ _. rates.new.items) result (with_rate rates.old.items part.now) }

@@ -21,8 +21,8 @@ pub(crate) fn read_device(items: &mut Items<'_>) -> Result<Device, LineError>
     })
 }
 
-/// Numbers 0 to 31, each at most once, with single commas between them, or `-` for none: bit i of the
-/// result stands for number i.
+/// Numbers 0 to 31, each at most once, with single commas between them, or `-` for none: bit i of
+/// the result encodes number i.
 #[tactic(auto, unfolding(crate::specs::Rows::set_of))]
 fn read_set(text: &[u8]) -> Result<u32, LineError>
     ensures { Gives (λ set. set) result (set_of text.now) }

@@ -12,9 +12,9 @@ use scmi_codec::Payload;
 use std::marker::Model;
 
 /// What is left of a line, as items with one or more spaces between them, and none before the first
-/// or behind the last (own). A contract sees the bytes.
+/// or after the last (own). A contract sees the bytes.
 ///
-/// Each reader gives `Form` where no item is left, or it is of another kind; then the line is of
+/// Each reader gives `Form` if no item is left, or it is of another kind; then the line is of
 /// another form, and what is left of it is of no use.
 #[derive(Drop)]
 pub struct Items<'a> {
@@ -44,7 +44,7 @@ impl<'a> Items<'a> {
         self.rest.is_empty()
     }
 
-    /// `Form` where an item is left.
+    /// `Form` if an item is left.
     pub fn finish(&self) -> Result<(), LineError>
         ensures ok { is_ok result ≡ (length self.now == 0) }
         ensures items { Gives (λ _. tt) result (no_item (items_left self.now)) }
@@ -56,7 +56,7 @@ impl<'a> Items<'a> {
         }
     }
 
-    /// The next item. `Form` where a space stands before it, or only spaces behind it.
+    /// The next item. `Form` if a space precedes it, or only spaces follow it.
     pub fn next_item(&mut self) -> Result<&'a [u8], LineError>
         ensures smaller { OnOk result (length self.new < length self.old) }
         ensures item { Gives (λ item. (item.now, self.new)) result (item_at self.old) }
@@ -120,7 +120,7 @@ impl<'a> Items<'a> {
         Ok(agent)
     }
 
-    /// All items that are left, as words of 32 bits. `Form` where there are more than `PAYLOAD_WORDS`.
+    /// All items that are left, as words of 32 bits. `Form` if there are more than `PAYLOAD_WORDS`.
     pub fn payload(&mut self) -> Result<Payload, LineError>
         ensures { OnOk result (length self.new ≡ 0) }
     {
@@ -135,7 +135,7 @@ impl<'a> Items<'a> {
     }
 }
 
-/// What stands behind the spaces that a text begins with. `Form` where nothing else stands there.
+/// What follows the spaces that a text begins with. `Form` if nothing else is there.
 #[tactic(auto, unfolding(crate::specs::Items::behind_spaces))]
 fn behind_spaces(text: &[u8]) -> Result<&[u8], LineError>
     ensures { Gives (λ rest. rest.now) result (behind_spaces text.now) }

@@ -1,9 +1,9 @@
 //! Boards as texts: lines, their items and numbers, and the board that they describe.
 //!
-//! The main types are `Lines`, what is left of an input, and `Items`, what is left of a line. The main
-//! theorem is the contract of `read_board`: it gives the board that the lines stand for, row by row,
-//! and else the number of the first line that is none of it, unless memory is refused.
-//! `read_board_with_channels` is the same of a text that says what channels the agents have.
+//! The main types are `Lines`, what is left of an input, and `Items`, what is left of a line. The
+//! main theorem is the contract of `read_board`: it gives the board that the lines encode, row by
+//! row, or else the number of the first invalid line, unless memory is refused.
+//! `read_board_with_channels` is the same of a text that contains what channels the agents have.
 #![tactic(auto)]
 
 mod board;

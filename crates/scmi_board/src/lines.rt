@@ -14,7 +14,7 @@ pub struct TextLine<'a> {
     pub text: &'a [u8],
 }
 
-/// What is left of an input behind its first line, which is the mode, or of a text that has none. A
+/// What is left of an input after its first line, which is the mode, or of a text that has none. A
 /// contract sees the bytes that are left and the number of the line that was read last.
 #[derive(Drop)]
 pub struct Lines<'a> {
@@ -32,7 +32,7 @@ impl<'a> Model for Lines<'a> {
 }
 
 impl<'a> Lines<'a> {
-    /// The lines of the input behind the first line. They are numbered from 2.
+    /// The lines of the input after the first line. They are numbered from 2.
     pub fn new(input: &'a [u8]) -> Lines<'a>
         ensures rest { result.rest ≡ input.now }
         ensures number { result.number ≡ 1 }
@@ -54,8 +54,8 @@ impl<'a> Lines<'a> {
         }
     }
 
-    /// The number of the line that was read last, be it skipped or not; once no line is left, of the
-    /// last line of the input, and 1 where there is none behind the first.
+    /// The number of the line that was read last, whether it is skipped or not; once no line is
+    /// left, of the last line of the input, and 1 if there is none after the first.
     pub fn last_number(&self) -> u32
         ensures { result ≡ self.now.number }
     {

@@ -45,7 +45,7 @@ fn has_hexadecimal_mark(text: &[u8]) -> bool
     text.len() > 1 && text[0] == b'0' && text[1] == b'x'
 }
 
-/// The value of digits, where there is one at least, each is one, and the value fits 64 bits.
+/// The value of digits, if there is one at least, each is one, and the value fits 64 bits.
 fn digits_value(digits: &[u8], radix: u32) -> Option<u64>
     requires low { 2 ≤ radix }
     requires high { radix ≤ 16 }

@@ -15,10 +15,10 @@ pub(crate) const DEVICE: &[u8] = b"device";
 /// The first word of what an agent's channels are.
 pub(crate) const CHANNEL: &[u8] = b"channel";
 
-/// Where the platform can't send to the agent.
+/// Written if the platform can't send to the agent.
 pub(crate) const ONE_WAY: &[u8] = b"one-way";
 
-/// The line behind the last row.
+/// The line after the last row.
 pub(crate) const END: &[u8] = b"end";
 
 /// Whether a domain or a clock is on.
@@ -31,5 +31,5 @@ pub(crate) const LIST: &[u8] = b"list";
 
 pub(crate) const STEPS: &[u8] = b"steps";
 
-/// In place of kinds or numbers, where there are none.
+/// In place of kinds or numbers, if there are none.
 pub(crate) const NONE: &[u8] = b"-";

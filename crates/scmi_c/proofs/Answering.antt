@@ -1,4 +1,4 @@
--- The header of a reply, which stands in the area already.
+-- The header of a reply, which is in the area already.
 use Rattle.std.proofs.Common.{rules, ◌≡◌, ℕ, ◌-◌, ◌/◌, ◌%◌, ◌==◌, Bool, true, false, if◌then◌else◌, List, Option, Some, None, IsSomeAnd, sym, subst, ap, refl, ◌∙◌}
 use Rattle.scmi_codec.specs.Area.{area_after_answer, frame_waiting, header_at, length_at, message_of, status_at, is_well_formed}
 use Rattle.scmi_codec.specs.Header.{header_of}
@@ -45,7 +45,7 @@ pub answer-header : (board : Board) (a : ℕ) (area : List ℕ) (frame : Frame) 
 answer-header board a area (Good m) reply s waits is = reply-header board a m reply s is ∙ waiting-header area m waits
 answer-header board a area (Malformed len header) reply s waits is = search rules
 
--- an area in which a reply was written behind the header that stood there is the answer to the frame that waited
+-- an area in which a reply was written after the header that was there is the answer to the frame that waited
 pub answered-area : (board : Board) (a : ℕ) (h : List Event) (area new : List ℕ) (frame : Frame) (reply : Message)
     → frame_waiting area ≡ Some frame → Reply reply ≡ answer_to board a frame h
     → new ≡ area_after_answer (Reply (message_of (header_at area) reply.payload.items)) area

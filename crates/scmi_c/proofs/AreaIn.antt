@@ -32,7 +32,7 @@ use Rattle.scmi_c.proofs.Answering.{reply-header}
 
 -- AREAS OF A CHANNEL
 
--- so many words are a channel's area, and there is room for them
+-- this many words are a channel's area, and there is room for them
 pub sized : (words bytes : ℕ) → 8 ≤ words → words ≤ 64 → bytes ≡ channel_bytes words → (is_channel_size bytes ≡ true) × (channel_words bytes ≡ words)
 sized words bytes least most is = (
   and_from (nat_le 60 bytes) (nat_le bytes 284 && (bytes % 4 == 0)) (le-leb 60 bytes (omega (arith, least, is)))
@@ -46,7 +46,7 @@ size_of_words bytes words is least most = (sized words bytes least most is).0
 pub words_of_size : (bytes words : ℕ) → bytes ≡ channel_bytes words → 8 ≤ words → words ≤ 64 → channel_words bytes ≡ words
 words_of_size bytes words is least most = (sized words bytes least most is).1
 
--- so many words are written there
+-- this many words are written there
 pub room-is : (words : ℕ) (area : List ℕ) → is_channel_size (length area) ≡ true → words ≤ capacity area → room_for words area ≡ Ok tt
 room-is words area size few =
     ap (λ (b : Bool). if b then (if nat_le words (capacity area) then Ok tt else Err TooLong) else Err WrongSize) size
@@ -55,7 +55,7 @@ room-is words area size few =
 pub was-written : (r : Result ⊤ ChannelAreaError) (P : Type 0) → r ≡ Ok tt → OnOk r P → P
 was-written r P is p = subst (λ (r : Result ⊤ ChannelAreaError). OnOk r P) is p
 
--- a channel of which a reader says that it is free holds nothing
+-- a channel that a reader finds free holds nothing
 pub free-is : (o : Option Frame) (r : Result Bool ChannelAreaError) (b : Bool) → r ≡ Ok (is_none o) → r ≡ Ok b → b ≡ true → o ≡ None
 free-is None r b said is free = refl
 free-is (Some frame) r b said is free =

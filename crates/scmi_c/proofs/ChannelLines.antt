@@ -1,4 +1,4 @@
--- What a text says of channels is of agents of its board, and of channels that they may have.
+-- The channels in a text are of agents of its board, and are channels that they may have.
 use Rattle.std.proofs.Common.{◌≡◌, ℕ, ◌-◌, ◌/◌, ◌≤◌, ◌&&◌, ◌%◌, ◌==◌, Bool, true, false, List, [], ◌∷◌, length, Option, Some, None, Result, Ok, Err, IfSome, IfOk, refl, subst, arith, if◌then◌else◌, nat_le, nat_lt}
 use Rattle.std.specs.List.{All}
 use Rattle.std.proofs.lemmas.Bool.{and_parts, leb-true, ltb-true}
@@ -44,7 +44,7 @@ channel-is view =
     each (first_number 32 view) _ _ (λ agent. each (first_number 32 agent.1) _ _ (λ bytes. each (first_way bytes.1) _ _ (λ way.
     if-so (is_channel_size bytes.0) _ _ (λ is. size-words bytes.0 is))))
 
--- an agent behind another is one of the board
+-- an agent after another is one of the board
 agent-is : (last agent agents : ℕ) → nat_lt last agent && nat_le agent agents ≡ true → (1 ≤ agent) × (agent ≤ agents)
 agent-is last agent agents is =
     let parts = and_parts (nat_lt last agent) (nat_le agent agents) is in

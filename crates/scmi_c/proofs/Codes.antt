@@ -1,4 +1,4 @@
--- What a code says of why a call did nothing.
+-- What a code shows about why a call did nothing.
 use Rattle.std.proofs.Common.{rules, ◌≡◌, ◌↔◌, ℕ, Option, Some, Result, Err, IsSomeAnd, sym, subst, ap, ◌∙◌}
 use Rattle.std.specs.Prelude.{⊤}
 use Rattle.scmi_c.specs.declared.held.Held.{Held}

@@ -23,12 +23,12 @@ use Rattle.scmi_c.specs.declared.desk.Asker.{Asker}
 use Rattle.scmi_c.specs.declared.held.Held.{Held}
 use Rattle.scmi_c.specs.declared.held.Held.TheVariants.{Endless, Recorded}
 
--- where nothing was asked nobody asked
+-- if nothing was asked, nobody asked
 pub nobody : (frame : Frame) (o : Option Asker) → asked_by frame o ≡ None → o ≡ None
 nobody frame None is = refl
 nobody frame (Some asker) is = absurd (cc)
 
--- so another frame may stand there
+-- so another frame may be there
 pub still-unasked : (frame other : Frame) (o : Option Asker) → asked_by frame o ≡ None → asked_by other o ≡ None
 still-unasked frame other o is = ap (asked_by other) (nobody frame o is)
 
@@ -36,7 +36,7 @@ still-unasked frame other o is = ap (asked_by other) (nobody frame o is)
 pub nothing-kept : (frame other : Frame) (o : Option Asker) (P : Asked → Type 0) → asked_by frame o ≡ None → IfSome (asked_by other o) P
 nothing-kept frame other o P is = subst (λ (a : Option Asked). IfSome a P) (sym (still-unasked frame other o is)) tt
 
--- where a platform has room for one more event memory is not refused
+-- if a platform has room for one more event, it is not out of memory
 pub has-room : (p : Held) → HasRoom p → HasNoRoom p → ⊥
 has-room (Endless p) room none = none
 has-room (Recorded c) room none = none room
@@ -53,7 +53,7 @@ written-over word other (a ∷ b ∷ c ∷ d ∷ e ∷ []) long = absurd (omega 
 written-over word other (a ∷ b ∷ c ∷ d ∷ e ∷ f ∷ []) long = absurd (omega (arith, long))
 written-over word other (a ∷ b ∷ c ∷ d ∷ e ∷ f ∷ g ∷ []) long = absurd (omega (arith, long))
 
--- an area of a channel has 60 bytes at least, and as many behind the first 28 as its words take
+-- an area of a channel has 60 bytes at least, and as many after the first 28 as its words take
 sized-room : (bytes words : ℕ) → is_channel_size bytes ≡ true → words ≤ channel_words bytes → (60 ≤ bytes) × (0x1C + 4 * words ≤ bytes)
 sized-room bytes words size few =
     let least : nat_le 60 bytes ≡ true = (and_parts (nat_le 60 bytes) (nat_le bytes 284 && (bytes % 4 == 0)) size).0 in

@@ -5,3 +5,5 @@ mod Codes
 mod ChannelLines
 mod AreaIn
 mod Keeping
+pub mod TableLemmas
+mod TableExamples

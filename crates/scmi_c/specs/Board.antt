@@ -10,16 +10,16 @@ use Rattle.scmi_board.specs.Lines.{Line}
 use Rattle.scmi_board.specs.declared.channel_line.ChannelLine.{ChannelLine}
 use Rattle.scmi_c.specs.declared.code.TheConstants.{MEMORY, RULE, LINE}
 
--- want of memory, a rule of boards (1 to 5), or a line
+-- out of memory, a rule of boards (1 to 5), or a line
 abbrev pub IsFault : ℕ → Type 0
 IsFault n = (n ≡ MEMORY) ⊎ ((RULE < n) × (n ≤ RULE + 5)) ⊎ (LINE ≤ n)
 
--- a line says a channel that an agent of the board may have
+-- a line gives a channel that an agent of the board may have
 pub record IsLineOf (board : Board) (line : ChannelLine) : Type 0 where
   pub agent : IsAgent (length board.agents) line.agent
   pub channel : IsChannel line.channel
 
--- a board whose agents have the channels that these lines say
+-- a board whose agents have the channels that these lines give
 abbrev pub with_channels : Board → List ChannelLine → Board
 with_channels board lines = fold (λ so_far line. with_channel so_far line.agent line.channel) board lines
 

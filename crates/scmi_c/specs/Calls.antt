@@ -24,7 +24,7 @@ pub record HasAnswered (p k : Held) (agent : ℕ) (frame : Frame) (before after 
   pub answer : (h : List Event) → StandsAt p h → after ≡ area_after_answer (answer_to (board_of p) agent frame h) before
   pub event : HasHappened p k (Called agent frame)
 
--- a command of an agent of the board waits to be committed or to fail: the platform stands where it stood, and there is room for one more event
+-- a command of an agent of the board waits to be committed or to fail: the platform's state is as before, and there is room for one more event
 pub record IsAskedAbout (p k : Held) (agent : ℕ) : Type 0 where
   pub is_agent : IsAgent (length (board_of p).agents) agent
   pub stands : StandsAsBefore p k
@@ -36,7 +36,7 @@ pub record HasFailed (p k : Held) (agent : ℕ) (frame : Frame) (before after : 
   pub answer : after ≡ area_after_answer (failed_answer frame) before
   pub event : HasHappened p k (CommandFailed agent frame)
 
--- the first message of an agent's outbox stands in the area as posted, which held none before
+-- the first message of an agent's outbox is in the area as posted, which held none before
 pub record HasPosted (p : Held) (agent : ℕ) (before after : List ℕ) : Type 0 where
   pub message : Message
   pub first : (h : List Event) → StandsAt p h → slice_get (outbox (board_of p) agent h) 0 ≡ Some message

@@ -17,11 +17,11 @@ use Rattle.scmi_c.specs.Standing.{board_of, StandsAt}
 abbrev pub bytes_of : ℕ → Held → ℕ
 bytes_of agent p = channel_bytes (channel_of (board_of p) agent).words
 
--- an agent of the board, and so many bytes are the size of its areas
+-- an agent of the board, and this many bytes are the size of its areas
 abbrev pub HasSize : ℕ → ℕ → Held → Type 0
 HasSize agent bytes p = IsAgent (length (board_of p).agents) agent × (bytes ≡ bytes_of agent p)
 
--- an agent of the board, and so many bytes are not the size of its areas
+-- an agent of the board, and this many bytes are not the size of its areas
 abbrev pub HasAnotherSize : ℕ → ℕ → Held → Type 0
 HasAnotherSize agent bytes p = IsAgent (length (board_of p).agents) agent × (bytes ≢ bytes_of agent p)
 
@@ -29,7 +29,7 @@ HasAnotherSize agent bytes p = IsAgent (length (board_of p).agents) agent × (by
 abbrev pub IsFreeOf : ℕ → List ℕ → Held → Type 0
 IsFreeOf agent area p = HasSize agent (length area) p × (channel_waiting area ≡ None)
 
--- the first message of an agent's outbox stands in the area as posted, whose channel was free before
+-- the first message of an agent's outbox is in the area as posted, whose channel was free before
 pub record HasPostedIn (p : Held) (agent : ℕ) (before after : List ℕ) : Type 0 where
   pub message : Message
   pub first : (h : List Event) → StandsAt p h → slice_get (outbox (board_of p) agent h) 0 ≡ Some message

@@ -45,7 +45,7 @@ pub record IsAskable (held : Held) (asked : Asked) : Type 0 where
   pub size : is_channel_size asked.bytes ≡ true
   pub words : (channel_of (board_of held) asked.agent).words ≤ channel_words asked.bytes
 
--- a platform was asked about a frame that stands in an area of so many bytes, and it stands where it stood
+-- a platform was asked about a frame in an area of this many bytes, and its state is as before
 pub record HasAsked (p : Held) (k : Kept) (agent : ℕ) (frame : Frame) (bytes : ℕ) : Type 0 where
   pub asked : k.asked ≡ Some (record { agent = agent; frame = frame; bytes = bytes })
   pub stands : StandsAsBefore p k.held

@@ -5,5 +5,6 @@ pub mod Channel
 pub mod Calls
 pub mod Refusal
 pub mod Board
+pub mod Tables
 pub mod Effect
 pub mod Numbers

@@ -21,6 +21,7 @@ numbers_of_library =
       no_resource = 11;
       asked = 12;
       effect = 13;
+      table = 14;
       rule = 16;
       line = 256;
       effect_state = 1;

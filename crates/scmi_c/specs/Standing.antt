@@ -1,4 +1,4 @@
--- What a handle stands for, and after which histories.
+-- What a handle holds, and after which histories.
 use Rattle.std.specs.Prelude.{◌≡◌, ◌↔◌, ℕ, ◌<◌, List, length, ⊤}
 use Rattle.scmi_plan.specs.Agent.{IsNoAgent}
 use Rattle.scmi_plan.specs.Board.{Board}
@@ -12,7 +12,7 @@ abbrev pub board_of : Held → Board
 board_of (Endless p) = p.board
 board_of (Recorded c) = c.board
 
--- a platform stands where this history leaves it; one that records it has just this history
+-- a platform is in the state after this history; one that records it has exactly this history
 abbrev pub StandsAt : Held → List Event → Type 0
 StandsAt (Endless p) h = StandsAfter p h
 StandsAt (Recorded c) h = c.history ≡ h

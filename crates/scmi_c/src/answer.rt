@@ -16,10 +16,10 @@ use crate::handle::Handle;
 use scmi_codec::AREA_BYTES;
 use std::alloc::Global;
 
-/// Executes the frame that stands in an agent's area, and answers it in place. `DONE`; `NO_PLATFORM`;
-/// `ASKED` where a command waits to be committed or to fail; `NOTHING` where the channel is free;
-/// `NO_AGENT`; `MEMORY`, of a platform that keeps its history alone. After another number than `DONE`
-/// nothing changed.
+/// Executes the frame in an agent's area, and answers it in place. `DONE`; `NO_PLATFORM`; `ASKED`
+/// if a command waits to be committed or to fail; `NOTHING` if the channel is free; `NO_AGENT`;
+/// `MEMORY`, of a platform that keeps its history alone. After another number than `DONE` nothing
+/// changed.
 #[unsafe(no_mangle)]
 pub extern "C" fn scmi_answer(
     alloc: Global,
@@ -54,9 +54,9 @@ pub extern "C" fn scmi_answer(
     code(given)
 }
 
-/// Completes the first pending set. `DONE`; `NO_PLATFORM`; `ASKED` where a command waits to be committed
-/// or to fail; `NOTHING` where none is pending; `MEMORY`, of a platform that keeps its history alone.
-/// After another number than `DONE` nothing changed.
+/// Completes the first pending set. `DONE`; `NO_PLATFORM`; `ASKED` if a command waits to be
+/// committed or to fail; `NOTHING` if none is pending; `MEMORY`, of a platform that keeps its
+/// history alone. After another number than `DONE` nothing changed.
 #[unsafe(no_mangle)]
 pub extern "C" fn scmi_advance(alloc: Global, platform: &mut Handle) -> u32
     ensures done { result ≡ DONE →

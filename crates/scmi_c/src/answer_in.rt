@@ -15,7 +15,7 @@ use crate::handle::Handle;
 use std::alloc::Global;
 
 /// As `scmi_answer`, in an area of the size of its agent's channel. `NO_PLATFORM`, `ASKED`, `NO_AGENT`
-/// and `WRONG_SIZE`, where the area has another size, come before all else, in this order.
+/// and `WRONG_SIZE`, if the area has another size, come before all else, in this order.
 #[unsafe(no_mangle)]
 pub extern "C" fn scmi_answer_in(
     alloc: Global,
@@ -53,7 +53,7 @@ pub extern "C" fn scmi_answer_in(
 }
 
 /// As `scmi_next`, into an area of the size of its agent's channel. `NO_PLATFORM`, `NO_AGENT` and
-/// `WRONG_SIZE`, where the area has another size, come before all else, in this order.
+/// `WRONG_SIZE`, if the area has another size, come before all else, in this order.
 #[unsafe(no_mangle)]
 pub extern "C" fn scmi_next_in(
     alloc: Global,

@@ -18,9 +18,9 @@ use scmi_codec::{
 };
 use scmi_core::{Answered, Effect};
 
-/// Executes the frame that stands in an agent's area, and answers it in place. `Nothing` where the
-/// channel is free; else `NoAgent` where the board lacks the agent, and `Memory` where the history could
-/// not grow. Then nothing changed.
+/// Executes the frame in an agent's area, and answers it in place. `Nothing` if the channel is
+/// free; else `NoAgent` if the board lacks the agent, and `Memory` if the history could not grow.
+/// Then nothing changed.
 pub fn answer(
     held: &mut Held,
     exchange: &mut Exchange,
@@ -48,8 +48,7 @@ pub fn answer(
     Ok(())
 }
 
-/// Writes what a frame was answered with over it: the reply's header is the frame's, which stands in
-/// the area.
+/// Writes the answer to a frame over it: the reply's header is the frame's, which is in the area.
 fn put_answer(area: &mut [u8; AREA_BYTES], answered: Answered, payload: &Payload)
     ensures reply { answered ≡ answered_by.Reply → area.new ≡ area_after_answer
         (frame_answer.Reply (message_of (header_at area.old) payload.now.items)) area.old }
@@ -62,9 +61,9 @@ fn put_answer(area: &mut [u8; AREA_BYTES], answered: Answered, payload: &Payload
     };
 }
 
-/// Executes the frame that stands in an agent's area and answers it in place, if it changes no hardware.
-/// Else gives what it is to change, and keeps the frame, and there is room for its event. `NoFrame` where
-/// the channel is free; else `NoAgent` where the board lacks the agent, and `Memory` where the history
+/// Executes the frame in an agent's area and answers it in place, if it changes no hardware. Else
+/// gives what it is to change, and keeps the frame, and there is room for its event. `NoFrame` if
+/// the channel is free; else `NoAgent` if the board lacks the agent, and `Memory` if the history
 /// could not grow. Then nothing changed.
 pub fn ask(
     held: &mut Held,
@@ -100,8 +99,8 @@ pub fn ask(
     Ok(effect)
 }
 
-/// Writes the first message of an agent's outbox into an area, as a caller posts it. `NoAgent` where the
-/// board lacks the agent, `Nothing` where its outbox is empty, and `NotFree` where the channel still
+/// Writes the first message of an agent's outbox into an area, as a caller posts it. `NoAgent` if
+/// the board lacks the agent, `Nothing` if its outbox is empty, and `NotFree` if the channel still
 /// holds a message. Then nothing changed.
 pub fn post_next(held: &Held, agent: u32, area: &mut [u8; AREA_BYTES]) -> Result<(), Refusal>
     ensures ok { OnOk result (HasPosted held.now agent area.old area.new) }

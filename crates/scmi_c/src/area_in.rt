@@ -50,8 +50,7 @@ pub fn answer(
     Ok(())
 }
 
-/// Writes what a frame was answered with over it: the reply's header is the frame's, which stands in
-/// the area.
+/// Writes the answer to a frame over it: the reply's header is the frame's, which is in the area.
 fn put_answer(area: &mut [u8], answered: Answered, payload: &Payload)
     requires size { is_channel_size (length area.old) ≡ true }
     ensures reply { answered ≡ answered_by.Reply → length payload.now.items ≤ capacity area.old →

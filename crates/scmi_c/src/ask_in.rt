@@ -19,7 +19,7 @@ use crate::handle::Handle;
 use std::alloc::Global;
 
 /// As `scmi_ask`, of a frame in an area of the size of its agent's channel. `NO_PLATFORM`, `ASKED`,
-/// `NO_AGENT` and `WRONG_SIZE`, where the area has another size, come before all else, in this order.
+/// `NO_AGENT` and `WRONG_SIZE`, if the area has another size, come before all else, in this order.
 #[unsafe(no_mangle)]
 pub extern "C" fn scmi_ask_in(
     alloc: Global,

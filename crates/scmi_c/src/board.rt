@@ -15,10 +15,10 @@ use scmi_board::{ChannelLine, Lines, TextError, read_board_with_channels};
 use scmi_plan::{Plan, PlanError};
 use std::alloc::Global;
 
-/// The plan of a board's text, which may say what channels its agents have, or the number of its fault
-/// for C: `LINE` and the number of the first line of another form, from 1 (the last line where `end` is
-/// missing, 0 where there is none); `RULE` and the number of the first rule that the board breaks;
-/// `MEMORY` where memory is refused.
+/// The plan of a board's text, which may give the channels of its agents, or the number of its
+/// fault for C: `LINE` and the number of the first line of another form, from 1 (the last line if
+/// `end` is missing, 0 if there is no line); `RULE` and the number of the first rule that the board
+/// breaks; `MEMORY` when out of memory.
 pub fn read_plan(alloc: Global, text: &[u8]) -> Result<Plan, u32>
     ensures board { IfOk result (λ plan. board_of_text text.now ≡ Ok plan) }
     ensures fault { IfErr result (λ n. n ≢ MEMORY → board_of_text text.now ≡ Err n) }
@@ -38,7 +38,7 @@ pub fn read_plan(alloc: Global, text: &[u8]) -> Result<Plan, u32>
     Ok(plan)
 }
 
-/// Gives the agents of a plan the channels that lines say.
+/// Gives the agents of a plan the channels that lines give.
 fn set_channels(plan: &mut Plan, lines: &[ChannelLine])
     requires lines { All (IsLineOf plan.old) lines.now }
     ensures channels { plan.new ≡ with_channels plan.old lines.now }
@@ -64,7 +64,7 @@ fn line_code(error: TextError) -> u32
 }
 
 /// The number of a board's fault.
-fn rule_code(error: PlanError) -> u32
+pub fn rule_code(error: PlanError) -> u32
     ensures rule { error ≢ plan_error.Memory → result ≡ RULE + number error }
     ensures memory { error ≡ plan_error.Memory → result ≡ MEMORY }
     ensures faults { IsFault result }

@@ -18,7 +18,8 @@ use scmi_codec::channel_bytes;
 use scmi_plan::{AgentChannel, Plan};
 use std::alloc::Global;
 
-/// An agent's channels: the bytes of an area, and 1 where the platform can't send to the agent, else 0.
+/// An agent's channels: the bytes of an area, and 1 if the platform can't send to the agent, else
+/// 0.
 #[repr(C)]
 #[derive(Clone, Copy)]
 pub struct ChannelNumbers {
@@ -44,7 +45,7 @@ impl Held {
         plan
     }
 
-    /// What an agent's channels are. `NoAgent` where the board lacks the agent.
+    /// What an agent's channels are. `NoAgent` if the board lacks the agent.
     pub fn channel(&self, agent: u32) -> Result<AgentChannel, Refusal>
         ensures channel { IfOk result (λ channel. channel ≡ channel_of (board_of self.now) agent) }
         ensures agent { OnOk result (IsAgent (length (board_of self.now).agents) agent) }
@@ -61,7 +62,7 @@ impl Held {
         Ok(plan.channel(agent))
     }
 
-    /// What an agent's channels are, as numbers for C. `NoAgent` where the board lacks the agent.
+    /// What an agent's channels are, as numbers for C. `NoAgent` if the board lacks the agent.
     fn channel_numbers(&self, agent: u32) -> Result<ChannelNumbers, Refusal>
         ensures ok { IfOk result (λ numbers.
             numbers ≡ numbers_of_channel (channel_of (board_of self.now) agent)) }
@@ -75,8 +76,8 @@ impl Held {
         })
     }
 
-    /// Refuses a number that is no agent's, and so many bytes where an area of the agent's channel has
-    /// another size.
+    /// Refuses a number that is no agent's, and a number of bytes that is not the size of an area
+    /// of the agent's channel.
     #[tactic(auto, using(crate::proofs::AreaIn::size_of_words, crate::proofs::AreaIn::words_of_size))]
     pub fn check_size(&self, agent: u32, bytes: usize) -> Result<(), Refusal>
         ensures ok { OnOk result (HasSize agent bytes self.now) }

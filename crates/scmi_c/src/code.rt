@@ -10,7 +10,7 @@ pub const DONE: u32 = 0;
 /// No frame to answer, no command that was asked about, no set pending, or no message to post.
 pub const NOTHING: u32 = 1;
 
-/// Memory was refused.
+/// Out of memory.
 pub const MEMORY: u32 = 2;
 
 /// The board lacks the agent.
@@ -42,6 +42,9 @@ pub const ASKED: u32 = 12;
 
 /// The hardware is to be changed, and then the command committed or failed.
 pub const EFFECT: u32 = 13;
+
+/// The board's tables are not well formed.
+pub const TABLE: u32 = 14;
 
 /// What a rule's number is added to.
 pub const RULE: u32 = 16;

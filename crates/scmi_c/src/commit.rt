@@ -11,10 +11,10 @@ use crate::settle::{commit, fail};
 use scmi_codec::AREA_BYTES;
 use std::alloc::Global;
 
-/// Executes the command that `scmi_ask` gave a change of, which the hardware has made, and writes its
-/// answer whole: nothing of the area is read. `DONE`; `NO_PLATFORM`; `NOTHING` where no command was asked
-/// about; `WRONG_SIZE` where it stood in an area of another size. After another number than `DONE`
-/// nothing changed.
+/// Executes the command that `scmi_ask` gave a change of, which the hardware has made, and writes
+/// its answer whole: nothing of the area is read. `DONE`; `NO_PLATFORM`; `NOTHING` if no command
+/// was asked about; `WRONG_SIZE` if it was in an area of another size. After another number than
+/// `DONE` nothing changed.
 #[unsafe(no_mangle)]
 pub extern "C" fn scmi_commit(
     alloc: Global,
@@ -43,10 +43,10 @@ pub extern "C" fn scmi_commit(
     code(given)
 }
 
-/// Answers the command that `scmi_ask` gave a change of, which the hardware refused, by HARDWARE_ERROR,
-/// and writes its answer whole: nothing of the area is read. `DONE`; `NO_PLATFORM`; `NOTHING` where no
-/// command was asked about; `WRONG_SIZE` where it stood in an area of another size. After another number
-/// than `DONE` nothing changed.
+/// Answers the command that `scmi_ask` gave a change of, which the hardware refused, by
+/// HARDWARE_ERROR, and writes its answer whole: nothing of the area is read. `DONE`; `NO_PLATFORM`;
+/// `NOTHING` if no command was asked about; `WRONG_SIZE` if it was in an area of another size.
+/// After another number than `DONE` nothing changed.
 #[unsafe(no_mangle)]
 pub extern "C" fn scmi_fail(
     alloc: Global,

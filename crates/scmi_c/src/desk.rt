@@ -1,4 +1,4 @@
-//! Where commands stand while they are answered.
+//! The place of commands while they are answered.
 ghost use Rattle.std.specs.Prelude.{◌≡◌, true, false};
 ghost use Rattle.scmi_c.specs.Kept.{IsAsked, IsUnasked};
 
@@ -14,16 +14,16 @@ pub struct Exchange {
     pub reply: Message,
 }
 
-/// Whose command was asked about, and the bytes of the area in which it stood.
+/// Whose command was asked about, and the bytes of the area that held it.
 #[derive(Clone, Copy, PartialEq, Eq, Debug)]
 pub struct Asker {
     pub agent: u32,
     pub bytes: usize,
 }
 
-/// A platform, and beside it the frame and the reply of the last command. Where one was asked about that
-/// is to change the hardware, it waits here, as it was read, until it is committed or has failed, and
-/// neither can be refused. Contracts see the platform and that command.
+/// A platform, and beside it the frame and the reply of the last command. If one was asked about
+/// that is to change the hardware, it waits here, as it was read, until it is committed or has
+/// failed, and neither can be refused. Contracts see the platform and that command.
 #[derive(Drop)]
 pub struct Desk {
     pub held: Held,

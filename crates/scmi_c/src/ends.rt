@@ -1,4 +1,5 @@
-//! What the first pending set is to change of the hardware, and its end where the hardware refuses.
+//! What the first pending set is to change of the hardware, and how it ends if the hardware
+//! refuses.
 ghost use Rattle.std.specs.Prelude.{◌≡◌, ◌≢◌, ◌↔◌, ◌⊎◌, ◌≤◌, Some, None, IsSomeAnd, IfSome, List, option_map};
 ghost use Rattle.scmi_core.specs.Effect.{effect_after};
 ghost use Rattle.scmi_core.specs.History.{IsIdle};
@@ -16,7 +17,7 @@ use crate::handle::Handle;
 use std::alloc::Global;
 
 /// Gives what the completion of the first pending set is to change of the hardware. `DONE`;
-/// `NO_PLATFORM`; `NOTHING` where none is pending. The platform is as it was.
+/// `NO_PLATFORM`; `NOTHING` if none is pending. The platform is as it was.
 #[unsafe(no_mangle)]
 pub extern "C" fn scmi_ask_advance(
     alloc: Global,
@@ -49,9 +50,9 @@ pub extern "C" fn scmi_ask_advance(
     }
 }
 
-/// Takes the first pending set off, whose change the hardware refused. `DONE`; `NO_PLATFORM`; `ASKED`
-/// where a command waits to be committed or to fail; `NOTHING` where none is pending; `MEMORY`, of a
-/// platform that keeps its history alone. After another number than `DONE` nothing changed.
+/// Takes off the first pending set, whose change the hardware refused. `DONE`; `NO_PLATFORM`;
+/// `ASKED` if a command waits to be committed or to fail; `NOTHING` if none is pending; `MEMORY`,
+/// of a platform that keeps its history alone. After another number than `DONE` nothing changed.
 #[unsafe(no_mangle)]
 pub extern "C" fn scmi_fail_advance(alloc: Global, platform: &mut Handle) -> u32
     ensures done { result ≡ DONE →

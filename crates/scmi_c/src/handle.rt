@@ -72,8 +72,8 @@ impl Handle {
         }
     }
 
-    /// Takes a platform out of which no command was asked about, and leaves nothing. `NO_PLATFORM` where
-    /// there is none, and `ASKED` where a command waits; then nothing changed.
+    /// Takes a platform out of which no command was asked about, and leaves nothing. `NO_PLATFORM`
+    /// if there is none, and `ASKED` if a command waits; then nothing changed.
     pub fn take_unasked(&mut self, alloc: Global) -> Result<Box<Desk>, u32>
         ensures taken { IfOk result (λ desk. self.old.value ≡ Some desk.value) }
         ensures unasked { IfOk result (λ desk. IsUnasked desk.value) }
@@ -93,7 +93,7 @@ impl Handle {
         Ok(desk)
     }
 
-    /// Holds a platform, where nothing was held.
+    /// Holds a platform, if nothing was held.
     pub fn put(&mut self, desk: Box<Desk>)
         requires { self.old.value ≡ None }
         ensures { self.new.value ≡ Some desk.value }

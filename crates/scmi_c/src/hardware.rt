@@ -1,4 +1,4 @@
-//! Commands are executed where they change no hardware, and else asked about.
+//! Commands that change no hardware are executed; the others are asked about.
 ghost use Rattle.std.specs.Prelude.{◌≡◌, ◌≢◌, ◌↔◌, ◌⊎◌, ◌≤◌, Some, None, IsSomeAnd, List, option_map};
 ghost use Rattle.scmi_codec.specs.Area.{frame_waiting};
 ghost use Rattle.scmi_codec.specs.declared.area.TheConstants.{AREA_BYTES};
@@ -19,12 +19,12 @@ use crate::handle::Handle;
 use scmi_codec::AREA_BYTES;
 use std::alloc::Global;
 
-/// Executes the frame that stands in an agent's area and answers it in place, as `scmi_answer` does, if
-/// it changes no hardware: `DONE`. Else gives what it is to change of the hardware, and keeps the frame,
-/// until `scmi_commit` or `scmi_fail` answers it: `EFFECT`; the area and the history are as they were.
-/// `NO_PLATFORM`; `ASKED` where a command was asked about already; `NO_FRAME` where the channel is free;
-/// `NO_AGENT`; `MEMORY`, of a platform that keeps its history alone. After another number than these two
-/// nothing changed.
+/// Executes the frame in an agent's area and answers it in place, as `scmi_answer` does, if it
+/// changes no hardware: `DONE`. Else gives what it is to change of the hardware, and keeps the
+/// frame, until `scmi_commit` or `scmi_fail` answers it: `EFFECT`; the area and the history are as
+/// they were. `NO_PLATFORM`; `ASKED` if a command was asked about already; `NO_FRAME` if the
+/// channel is free; `NO_AGENT`; `MEMORY`, of a platform that keeps its history alone. After another
+/// number than these two nothing changed.
 #[unsafe(no_mangle)]
 pub extern "C" fn scmi_ask(
     alloc: Global,

@@ -1,4 +1,4 @@
-//! What a handle stands for.
+//! What a handle holds.
 ghost use Rattle.std.specs.Prelude.{◌≡◌, ◌≢◌, ◌↔◌, List, length, true, false, slice_get, IfOk, OnOk, OnErr, IfErr, None, Ok, Err};
 ghost use Rattle.std.specs.Option.{option_copied};
 ghost use Rattle.scmi_plan.specs.Agent.{IsAgent, IsNoAgent};
@@ -26,8 +26,8 @@ pub enum Held {
 }
 
 impl Held {
-    /// Executes what an agent posted, and writes the reply where it is to stand. `NoAgent` where the
-    /// board lacks the agent, and `Memory` where the history could not grow; then nothing changed.
+    /// Executes what an agent posted, and writes the reply into its place. `NoAgent` if the board
+    /// lacks the agent, and `Memory` if the history could not grow; then nothing changed.
     pub fn command(
         &mut self,
         agent: u32,
@@ -50,7 +50,7 @@ impl Held {
         }
     }
 
-    /// Completes the first pending set; `false` where none is pending. `Memory` where the history could
+    /// Completes the first pending set; `false` if none is pending. `Memory` if the history could
     /// not grow; then nothing changed.
     pub fn advance(&mut self) -> Result<bool, CoreError>
         ensures waiting { (h : List Event) → StandsAt self.old h →
@@ -68,7 +68,7 @@ impl Held {
         }
     }
 
-    /// The first message of an agent's outbox, if there is one. `NoAgent` where the board lacks the
+    /// The first message of an agent's outbox, if there is one. `NoAgent` if the board lacks the
     /// agent.
     pub fn first(&self, agent: u32) -> Result<Option<&Message>, CoreError>
         ensures first { (h : List Event) → StandsAt self.now h →
@@ -109,8 +109,8 @@ impl Held {
         }
     }
 
-    /// Takes the first message off an agent's outbox, as posted. `NoAgent` where the board lacks the
-    /// agent, `Nothing` where its outbox is empty, and `Memory` where the history could not grow; then
+    /// Takes the first message off an agent's outbox, as posted. `NoAgent` if the board lacks the
+    /// agent, `Nothing` if its outbox is empty, and `Memory` if the history could not grow; then
     /// nothing changed.
     pub fn sent(&mut self, agent: u32) -> Result<(), CoreError>
         ensures event { OnOk result (HasHappened self.old self.new (Sent agent)) }
@@ -127,8 +127,8 @@ impl Held {
         }
     }
 
-    /// Ends what an agent asked for that restarted. `NoAgent` where the board lacks the agent, and
-    /// `Memory` where the history could not grow; then nothing changed.
+    /// Ends what an agent asked for that restarted. `NoAgent` if the board lacks the agent, and
+    /// `Memory` if the history could not grow; then nothing changed.
     pub fn restart(&mut self, agent: u32) -> Result<(), CoreError>
         ensures event { OnOk result (HasHappened self.old self.new (Restarted agent)) }
         ensures no_agent { (result ≡ Err CoreError.NoAgent) ↔
@@ -143,8 +143,8 @@ impl Held {
         }
     }
 
-    /// What an agent's command is to change of the hardware, before it is executed; `None` where it
-    /// changes nothing of it. `NoAgent` where the board lacks the agent.
+    /// What an agent's command is to change of the hardware, before it is executed; `None` if it
+    /// changes nothing of it. `NoAgent` if the board lacks the agent.
     pub fn effect_of(&self, agent: u32, frame: &Frame) -> Result<Option<Effect>, CoreError>
         ensures effect { (h : List Event) → StandsAt self.now h →
             IfOk result (λ effect.
@@ -161,8 +161,8 @@ impl Held {
         }
     }
 
-    /// As `effect_of`; where the command changes something, there is then room for its event.
-    /// `Memory` where the history could not grow. Nothing else changed.
+    /// As `effect_of`; if the command changes something, there is then room for its event. `Memory`
+    /// if the history could not grow. Nothing else changed.
     pub fn ask(&mut self, agent: u32, frame: &Frame) -> Result<Option<Effect>, CoreError>
         ensures effect { (h : List Event) → StandsAt self.old h →
             IfOk result (λ effect.
@@ -186,7 +186,7 @@ impl Held {
         Ok(effect)
     }
 
-    /// Makes room for one more event. `Memory` where the history could not grow; then nothing changed.
+    /// Makes room for one more event. `Memory` if the history could not grow; then nothing changed.
     fn reserve(&mut self) -> Result<(), CoreError>
         ensures room { OnOk result (HasRoom self.new) }
         ensures stands { StandsAsBefore self.old self.new }
@@ -200,7 +200,7 @@ impl Held {
     }
 
     /// What the completion of the first pending set is to change of the hardware, before it completes;
-    /// `None` where none is pending.
+    /// `None` if none is pending.
     pub fn effect_of_advance(&self) -> Option<Effect>
         ensures { (h : List Event) → StandsAt self.now h →
             result ≡ effect_after (board_of self.now) h Advance }
@@ -211,9 +211,9 @@ impl Held {
         }
     }
 
-    /// Answers a command whose change the hardware refused by HARDWARE_ERROR. `NoAgent` where the board
-    /// lacks the agent, `Nothing` where the command changes nothing of the hardware, and `Memory` where
-    /// the history could not grow; then nothing changed.
+    /// Answers a command whose change the hardware refused by HARDWARE_ERROR. `NoAgent` if the
+    /// board lacks the agent, `Nothing` if the command changes nothing of the hardware, and
+    /// `Memory` if the history could not grow; then nothing changed.
     pub fn command_failed(
         &mut self,
         agent: u32,
@@ -239,8 +239,8 @@ impl Held {
         }
     }
 
-    /// Takes the first pending set off, whose change the hardware refused; `false` where none is
-    /// pending. `Memory` where the history could not grow; then nothing changed.
+    /// Takes off the first pending set, whose change the hardware refused; `false` if none is
+    /// pending. `Memory` if the history could not grow; then nothing changed.
     pub fn advance_failed(&mut self) -> Result<bool, CoreError>
         ensures waiting { (h : List Event) → StandsAt self.old h →
             IfOk result (λ did. (did ≡ false) ↔ IsIdle (board_of self.old) h) }

@@ -37,7 +37,7 @@ pub extern "C" fn scmi_history_length(alloc: Global, platform: &mut Handle, even
     }
 }
 
-/// The number of events of the history, where it is kept.
+/// The number of events of the history, if it is kept.
 fn length_of(held: &Held) -> Option<usize>
     ensures events { MatchOption result
         (¬ (IsRecorded held.now)) (λ count.

@@ -1,9 +1,9 @@
 //! The platform controller of SCMI (DEN0056B, version 2.0) for a program in C: the calls of
 //! `include/scmi.h`.
 //!
-//! The main type is `Handle`, a platform as its pointer, and null where there is none. The main theorem
-//! is the contract of `scmi_answer`: the area after it is the definition's answer at that place of a
-//! history which is one event longer, or nothing changed.
+//! The main type is `Handle`, a platform as its pointer, and null if there is none. The main
+//! theorem is the contract of `scmi_answer`: the area after it is the definition's answer at that
+//! place of a history which is one event longer, or nothing changed.
 #![tactic(auto)]
 
 mod answer;
@@ -12,6 +12,7 @@ mod area;
 mod area_in;
 mod ask_in;
 mod board;
+mod board_of_tables;
 mod channel;
 mod code;
 mod commit;
@@ -26,11 +27,15 @@ mod history;
 mod loose;
 mod numbers;
 mod open;
+mod open_tables;
 mod refusal;
 mod restart;
+mod rows;
 mod send;
 mod settle;
 mod standing;
+mod tabled;
+mod tables;
 mod unrecorded;
 mod values;
 mod waiting;

@@ -4,7 +4,7 @@ ghost use Rattle.scmi_c.specs.Numbers.{numbers_of_library, version_of_library};
 
 use crate::code::{
     ASKED, DONE, EFFECT, IN_USE, LINE, MEMORY, NO_AGENT, NO_FRAME, NO_HISTORY, NO_PLATFORM,
-    NO_RESOURCE, NOT_FREE, NOTHING, RULE, WRONG_SIZE,
+    NO_RESOURCE, NOT_FREE, NOTHING, RULE, TABLE, WRONG_SIZE,
 };
 use crate::effect::{ENABLED, RATE, STATE};
 use scmi_codec::{AREA_BYTES, PAYLOAD_WORDS};
@@ -31,6 +31,7 @@ pub struct Numbers {
     pub no_resource: u32,
     pub asked: u32,
     pub effect: u32,
+    pub table: u32,
     pub rule: u32,
     pub line: u32,
     pub effect_state: u32,
@@ -59,6 +60,7 @@ pub extern "C" fn scmi_numbers(numbers: &mut Numbers)
         no_resource: NO_RESOURCE,
         asked: ASKED,
         effect: EFFECT,
+        table: TABLE,
         rule: RULE,
         line: LINE,
         effect_state: STATE,

@@ -16,9 +16,9 @@ use scmi_core::Core;
 use scmi_plan::Plan;
 use std::alloc::Global;
 
-/// Makes a platform of a board's text, which keeps no history and takes no memory from then on. `DONE`;
-/// `IN_USE` where the handle holds a platform; else the number of the text's fault (`read_plan`). After
-/// another number than `DONE` the handle is as it was.
+/// Makes a platform of a board's text, which keeps no history and takes no memory from then on.
+/// `DONE`; `IN_USE` if the handle holds a platform; else the number of the text's fault
+/// (`read_plan`). After another number than `DONE` the handle is as it was.
 #[unsafe(no_mangle)]
 pub extern "C" fn scmi_platform_new(alloc: Global, platform: &mut Handle, board: &[u8]) -> u32
     ensures done { result ≡ DONE →
@@ -68,10 +68,10 @@ pub extern "C" fn scmi_platform_new_recorded(
     }
 }
 
-/// Makes a platform that keeps no history. What it is made of is no local of the caller's, which reads
-/// the text.
+/// Makes a platform that keeps no history. Its parts are no locals of the caller's, which reads the
+/// text.
 #[inline(never)]
-fn hold_endless(alloc: Global, platform: &mut Handle, plan: Plan) -> u32
+pub fn hold_endless(alloc: Global, platform: &mut Handle, plan: Plan) -> u32
     requires { platform.old.value ≡ None }
     ensures done { result ≡ DONE →
         IsSomeAnd platform.new.value (λ p. IsUnasked p × (board_of p.held ≡ plan)
@@ -113,7 +113,7 @@ fn hold(alloc: Global, platform: &mut Handle, held: Held) -> u32
     }
 }
 
-/// Frees a platform; the handle then holds none. Where it held none nothing is done.
+/// Frees a platform; the handle then holds none. If it held none, nothing is done.
 #[unsafe(no_mangle)]
 pub extern "C" fn scmi_platform_free(alloc: Global, platform: &mut Handle)
     ensures { platform.new.value ≡ None }

@@ -11,11 +11,11 @@ use crate::handle::Handle;
 use crate::refusal::Refusal;
 use std::alloc::Global;
 
-/// Ends what an agent asked for that restarted without the platform: its requests for notifications,
-/// the messages in its outbox, and its wish for delayed responses to its pending sets. Permissions,
-/// values and the pending sets themselves stay (own). `DONE`; `NO_PLATFORM`; `NO_AGENT`; `ASKED` where a
-/// command waits to be committed or to fail; `MEMORY`, of a platform that keeps its history alone. After
-/// another number than `DONE` nothing changed.
+/// Ends what an agent asked for that restarted without the platform: its requests for
+/// notifications, the messages in its outbox, and its wish for delayed responses to its pending
+/// sets. Permissions, values and the pending sets themselves stay (own). `DONE`; `NO_PLATFORM`;
+/// `NO_AGENT`; `ASKED` if a command waits to be committed or to fail; `MEMORY`, of a platform that
+/// keeps its history alone. After another number than `DONE` nothing changed.
 #[unsafe(no_mangle)]
 pub extern "C" fn scmi_restart(alloc: Global, platform: &mut Handle, agent: u32) -> u32
     ensures done { result ≡ DONE →

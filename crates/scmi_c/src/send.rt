@@ -16,9 +16,9 @@ use crate::refusal::Refusal;
 use scmi_codec::AREA_BYTES;
 use std::alloc::Global;
 
-/// Writes the first message of an agent's outbox into an area, as a caller posts it; it stays in the
-/// outbox. `DONE`; `NO_PLATFORM`; `NO_AGENT`; `NOTHING` where the outbox is empty; `NOT_FREE` where the
-/// area still holds a message. After another number than `DONE` nothing changed.
+/// Writes the first message of an agent's outbox into an area, as a caller posts it; it stays in
+/// the outbox. `DONE`; `NO_PLATFORM`; `NO_AGENT`; `NOTHING` if the outbox is empty; `NOT_FREE` if
+/// the area still holds a message. After another number than `DONE` nothing changed.
 #[unsafe(no_mangle)]
 pub extern "C" fn scmi_next(
     alloc: Global,
@@ -50,7 +50,7 @@ pub extern "C" fn scmi_next(
 }
 
 /// Takes the first message off an agent's outbox, as posted. `DONE`; `NO_PLATFORM`; `NO_AGENT`;
-/// `ASKED` where a command waits to be committed or to fail; `NOTHING` where the outbox is empty;
+/// `ASKED` if a command waits to be committed or to fail; `NOTHING` if the outbox is empty;
 /// `MEMORY`, of a platform that keeps its history alone. After another number than `DONE` nothing
 /// changed.
 #[unsafe(no_mangle)]

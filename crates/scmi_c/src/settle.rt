@@ -12,10 +12,10 @@ use crate::refusal::Refusal;
 use scmi_codec::{Answer, Message, write_channel_answer, write_channel_message};
 use scmi_core::Answered;
 
-/// Executes the command that was asked about, whose change the hardware has made, and writes its answer
-/// whole: nothing of the area is read. `Nothing` where no command was asked about, `WrongSize` where the
-/// area has not the size of that in which the command stood; then nothing changed. It is refused for
-/// nothing else.
+/// Executes the command that was asked about, whose change the hardware has made, and writes its
+/// answer whole: nothing of the area is read. `Nothing` if no command was asked about, `WrongSize`
+/// if the area has not the size of the area that held the command; then nothing changed. It is
+/// refused for nothing else.
 pub fn commit(desk: &mut Desk, area: &mut [u8]) -> Result<(), Refusal>
     ensures ok { OnOk result (IsSomeAnd desk.old.asked (λ asked.
         HasAnswered desk.old.held desk.new.held asked.agent asked.frame area.old area.new)) }
@@ -39,10 +39,10 @@ pub fn commit(desk: &mut Desk, area: &mut [u8]) -> Result<(), Refusal>
     Ok(())
 }
 
-/// Answers the command that was asked about, whose change the hardware refused, by HARDWARE_ERROR, and
-/// writes its answer whole: nothing of the area is read. `Nothing` where no command was asked about,
-/// `WrongSize` where the area has not the size of that in which the command stood; then nothing changed.
-/// It is refused for nothing else.
+/// Answers the command that was asked about, whose change the hardware refused, by HARDWARE_ERROR,
+/// and writes its answer whole: nothing of the area is read. `Nothing` if no command was asked
+/// about, `WrongSize` if the area has not the size of the area that held the command; then nothing
+/// changed. It is refused for nothing else.
 pub fn fail(desk: &mut Desk, area: &mut [u8]) -> Result<(), Refusal>
     ensures ok { OnOk result (IsSomeAnd desk.old.asked (λ asked.
         HasFailed desk.old.held desk.new.held asked.agent asked.frame area.old area.new)) }
@@ -66,8 +66,8 @@ pub fn fail(desk: &mut Desk, area: &mut [u8]) -> Result<(), Refusal>
     Ok(())
 }
 
-/// Writes what a frame was answered with: of a reply its length, header and words, and last the status
-/// word. What it is made of is none of the locals of its callers, which execute the command.
+/// Writes the answer to a frame: of a reply its length, header and words, and last the status word.
+/// Its parts are not among the locals of its callers, which execute the command.
 #[inline(never)]
 fn write_whole(area: &mut [u8], answered: Answered, reply: &Message)
     requires size { is_channel_size (length area.old) ≡ true }

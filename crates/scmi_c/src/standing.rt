@@ -1,4 +1,4 @@
-//! Where a platform of either kind stands: values, pending sets and outboxes.
+//! The state of a platform of either kind: values, pending sets and outboxes.
 ghost use Rattle.std.specs.Prelude.{◌≡◌, ◌≤◌, ◌↔◌, List, length, slice_get, None, IfSome};
 ghost use Rattle.scmi_core.specs.History.{deeds, outbox, value_after};
 ghost use Rattle.scmi_core.specs.Pending.{pending_sets};
@@ -10,7 +10,7 @@ use crate::held::Held;
 use scmi_core::PendingSet;
 
 impl Held {
-    /// The state of a power domain. `None` where the board lacks the domain.
+    /// The state of a power domain. `None` if the board lacks the domain.
     pub fn power_state(&self, domain: u32) -> Option<u32>
         ensures value { (h : List Event) → StandsAt self.now h →
             IfSome result (λ state.
@@ -23,7 +23,7 @@ impl Held {
         }
     }
 
-    /// The rate of a clock in Hz. `None` where the board lacks the clock.
+    /// The rate of a clock in Hz. `None` if the board lacks the clock.
     pub fn clock_rate(&self, clock: u32) -> Option<u64>
         ensures value { (h : List Event) → StandsAt self.now h →
             IfSome result (λ rate. rate ≡ value_after (board_of self.now) (Rate clock) h) }
@@ -35,7 +35,7 @@ impl Held {
         }
     }
 
-    /// Whether a clock is enabled. `None` where the board lacks the clock.
+    /// Whether a clock is enabled. `None` if the board lacks the clock.
     pub fn is_clock_enabled(&self, clock: u32) -> Option<bool>
         ensures value { (h : List Event) → StandsAt self.now h →
             IfSome result (λ enabled.
@@ -61,7 +61,7 @@ impl Held {
         sets.get(place as usize).copied()
     }
 
-    /// How many messages wait in an agent's outbox. `None` where the board lacks the agent.
+    /// How many messages wait in an agent's outbox. `None` if the board lacks the agent.
     pub fn waiting(&self, agent: u32) -> Option<usize>
         ensures count { (h : List Event) → StandsAt self.now h →
             IfSome result (λ count. count ≡ length (outbox (board_of self.now) agent h)) }

@@ -11,7 +11,7 @@ use scmi_core::{Answered, CoreError, Platform};
 use scmi_plan::Plan;
 use std::marker::Model;
 
-/// A platform that keeps no history, of which it is known that it stands after some history.
+/// A platform that keeps no history, which is known to be in the state after some history.
 #[derive(Drop)]
 pub struct Unrecorded {
     pub platform: Platform,
@@ -38,8 +38,8 @@ impl Unrecorded {
         }
     }
 
-    /// Executes what an agent posted, and writes the reply where it is to stand. `NoAgent` where the
-    /// board lacks the agent, the only refusal; then nothing changed.
+    /// Executes what an agent posted, and writes the reply into its place. `NoAgent` if the board
+    /// lacks the agent, the only refusal; then nothing changed.
     pub fn command(
         &mut self,
         agent: u32,
@@ -60,7 +60,7 @@ impl Unrecorded {
         Ok(answered)
     }
 
-    /// Completes the first pending set; `false` where none is pending, and then nothing changed.
+    /// Completes the first pending set; `false` if none is pending, and then nothing changed.
     pub fn advance(&mut self) -> bool
         ensures waiting { (h : List Event) → StandsAfter self.old h
             → (result ≡ false) ↔ IsIdle self.old.board h }
@@ -71,7 +71,7 @@ impl Unrecorded {
         self.platform.advance()
     }
 
-    /// Takes the first pending set off, whose change the hardware refused; `false` where none is
+    /// Takes off the first pending set, whose change the hardware refused; `false` if none is
     /// pending, and then nothing changed.
     pub fn advance_failed(&mut self) -> bool
         ensures waiting { (h : List Event) → StandsAfter self.old h
@@ -83,8 +83,8 @@ impl Unrecorded {
         self.platform.advance_failed()
     }
 
-    /// Takes the first message off an agent's outbox, as posted. `NoAgent` where the board lacks the
-    /// agent, and `Nothing` where its outbox is empty; then nothing changed.
+    /// Takes the first message off an agent's outbox, as posted. `NoAgent` if the board lacks the
+    /// agent, and `Nothing` if its outbox is empty; then nothing changed.
     pub fn sent(&mut self, agent: u32) -> Result<(), CoreError>
         ensures event { OnOk result (MovesOn self.old (Sent agent) self.new) }
         ensures board { self.new.board ≡ self.old.board }
@@ -99,8 +99,8 @@ impl Unrecorded {
         Ok(())
     }
 
-    /// Ends what an agent asked for that restarted. `NoAgent` where the board lacks the agent, the only
-    /// refusal; then nothing changed.
+    /// Ends what an agent asked for that restarted. `NoAgent` if the board lacks the agent, the
+    /// only refusal; then nothing changed.
     pub fn restart(&mut self, agent: u32) -> Result<(), CoreError>
         ensures event { OnOk result (MovesOn self.old (Restarted agent) self.new) }
         ensures board { self.new.board ≡ self.old.board }

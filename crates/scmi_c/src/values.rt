@@ -12,7 +12,7 @@ use scmi_codec::rate_words;
 use std::alloc::Global;
 
 /// Gives the state of a power domain, as the word that a reply has. `DONE`; `NO_PLATFORM`; `NO_RESOURCE`
-/// where the board lacks the domain. The platform is as it was.
+/// if the board lacks the domain. The platform is as it was.
 #[unsafe(no_mangle)]
 pub extern "C" fn scmi_domain_state(
     alloc: Global,
@@ -46,7 +46,7 @@ pub extern "C" fn scmi_domain_state(
 }
 
 /// Gives the rate of a clock in Hz, as its lower and its upper word. `DONE`; `NO_PLATFORM`; `NO_RESOURCE`
-/// where the board lacks the clock. The platform is as it was.
+/// if the board lacks the clock. The platform is as it was.
 #[unsafe(no_mangle)]
 pub extern "C" fn scmi_clock_rate(
     alloc: Global,
@@ -81,7 +81,7 @@ pub extern "C" fn scmi_clock_rate(
     }
 }
 
-/// Gives 1 where a clock is enabled, else 0. `DONE`; `NO_PLATFORM`; `NO_RESOURCE` where the board lacks
+/// Gives 1 if a clock is enabled, else 0. `DONE`; `NO_PLATFORM`; `NO_RESOURCE` if the board lacks
 /// the clock. The platform is as it was.
 #[unsafe(no_mangle)]
 pub extern "C" fn scmi_clock_enabled(

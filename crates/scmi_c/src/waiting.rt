@@ -13,9 +13,9 @@ use crate::effect::{EffectNumbers, numbers_of};
 use crate::handle::Handle;
 use std::alloc::Global;
 
-/// Gives the pending set at a place, 0 that of the first, in the order in which they complete: its agent,
-/// and what it is to change of the hardware. `DONE`; `NO_PLATFORM`; `NOTHING` where no more are pending.
-/// The platform is as it was.
+/// Gives the pending set at a place, 0 that of the first, in the order in which they complete: its
+/// agent, and what it is to change of the hardware. `DONE`; `NO_PLATFORM`; `NOTHING` if no more are
+/// pending. The platform is as it was.
 #[unsafe(no_mangle)]
 pub extern "C" fn scmi_pending(
     alloc: Global,

@@ -4,7 +4,7 @@ use crate::messages::HEADER;
 use scmi_codec::{AREA_BYTES, write_word};
 use scmi_words::WordImage;
 
-/// What an area of the command stands for.
+/// What an area of the command encodes.
 #[derive(Clone, Copy, PartialEq, Debug)]
 pub enum Left {
     /// A free channel with no message.
@@ -17,7 +17,7 @@ pub enum Left {
     Response,
     /// A malformed frame of length 5, refused.
     Refused,
-    /// The channel is free; the message is not looked at.
+    /// The channel is free; the message is not examined.
     Free,
 }
 

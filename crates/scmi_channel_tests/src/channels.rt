@@ -143,7 +143,7 @@ fn plan_of_short_channels(alloc: Global) -> Result<Plan, Fail> {
     }
 }
 
-/// Whether a platform and a controller answer as the rows say.
+/// Whether a platform and a controller answer as the rows require.
 fn run(rt: &impl Abort, alloc: Global, rows: &[Row<'_>]) -> Result<(), Fail> {
     let mut platform = Platform::new(plan_of_short_channels(alloc)?);
     let mut core = Core::new(alloc, plan_of_short_channels(alloc)?);

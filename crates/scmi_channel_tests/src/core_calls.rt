@@ -44,7 +44,7 @@ fn other_numbers_are_no_agents(rt: HostRuntime) -> Result<(), Fail> {
 }
 
 /// Whether a malformed frame is answered by the error bit, and a set for later completes and is
-/// told.
+/// notified.
 fn four_calls(core: &mut Core, malformed: &Frame, set: &Frame) -> bool {
     core.command(2, malformed) == Ok(Answer::ChannelError)
         && core.command(1, set).is_ok()

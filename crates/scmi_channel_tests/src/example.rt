@@ -22,7 +22,7 @@ fn ask_version(alloc: Global, board: &RawPlan) -> Result<(Collected, usize), Fai
     agents[0].call(&links[0], BASE_PROTOCOL, 0x0, &Payload::new())?;
     platform.serve(&links, 1)?;
     let reply = agents[0].collect(&links[0]);
-    // All ends come together: the whole history, which the headline speaks of.
+    // All endpoints come together: the whole history, which the headline is about.
     let history = platform.retire(links, agents);
     Ok((reply, history.len()))
 }

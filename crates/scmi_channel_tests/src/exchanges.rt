@@ -126,7 +126,7 @@ fn a_buffer_is_written_over_by_each_kind(rt: HostRuntime) -> Result<(), Fail> {
     Ok(())
 }
 
-/// Whether the buffers stay where there is nothing to take or to collect.
+/// Whether the buffers stay unchanged if there is nothing to take or to collect.
 fn stays<C: Channel>(pair: &mut Pair<C>) -> bool {
     let mut frame = command_frame();
     let mut answer = Answer::ChannelError;

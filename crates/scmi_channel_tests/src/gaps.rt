@@ -1,4 +1,5 @@
-//! A close of either end at each gap between the calls of an exchange, over words and over rings.
+//! A close of either endpoint at each gap between the calls of an exchange, over words and over
+//! rings.
 
 use crate::areas::{Left, is_left};
 use crate::calls::{ANSWER, COLLECT, Call, POST, Said, Step, TAKE, make_calls};
@@ -136,8 +137,8 @@ const SAME: [Row<'static>; 10] = [
     ),
 ];
 
-/// Over words a caller takes back what was not taken, and tells an answer that waits from a command
-/// in service.
+/// Over words a caller takes back what was not taken, and distinguishes an answer that waits from a
+/// command in service.
 const WORDS: [Row<'static>; 5] = [
     // The caller closes after `post`, `take` and `answer`.
     (

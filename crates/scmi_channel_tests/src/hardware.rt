@@ -1,4 +1,4 @@
-//! The core beside hardware: what it is given, and what is answered where it refuses.
+//! The core beside hardware: what it is given, and the answer if it refuses.
 
 use crate::boards::reference_plan;
 use crate::messages::message;

@@ -1,4 +1,4 @@
-//! A channel of any kind with its two ends, on one thread.
+//! A channel of any kind with its two endpoints, on one thread.
 
 ghost use Rattle.std.specs.Prelude.{◌≡◌};
 
@@ -6,7 +6,7 @@ use scmi_codec::{Answer, Frame};
 use scmi_link::{Channel, CloseError, Closing, Collected, LinkError, Looked, PostError};
 use std::alloc::Global;
 
-/// A channel and its two ends.
+/// A channel and its two endpoints.
 #[derive(Drop)]
 pub struct Pair<C: Channel> {
     channel: C,
@@ -75,7 +75,7 @@ impl<C: Channel> Pair<C> {
         C::owes(&self.callee)
     }
 
-    /// Answers where an answer is owed, and says whether one was.
+    /// Answers if an answer is owed, and returns whether one was.
     pub fn answer(&mut self, answer: &Answer) -> bool {
         if !C::owes(&self.callee) {
             return false;
@@ -84,7 +84,7 @@ impl<C: Channel> Pair<C> {
         true
     }
 
-    /// Answers where an answer is owed, a message by `reply`, and says whether one was.
+    /// Answers if an answer is owed, a message by `reply`, and returns whether one was.
     pub fn reply(&mut self, answer: &Answer) -> bool {
         if !C::owes(&self.callee) {
             return false;

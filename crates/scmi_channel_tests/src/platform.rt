@@ -46,7 +46,7 @@ fn run(rt: &impl Abort, both: &mut Both, lines: &[Line<'_>]) {
     }
 }
 
-/// Whether both answer as the line says.
+/// Whether both answer as the line requires.
 fn holds(both: &mut Both, line: Line<'_>) -> bool {
     match line {
         Line::Do(agent, header, words, reply) => {

@@ -17,7 +17,7 @@ use std::thread::{Threads, join, yield_now};
 
 const ROUNDS: u32 = 1_000;
 
-/// How often each side looks before it gives up.
+/// How often each side polls before it gives up.
 const TURNS: u32 = 10_000_000;
 
 /// How a round ended for the agent.
@@ -30,7 +30,7 @@ enum Ended {
     Otherwise,
 }
 
-/// What the two threads tell each other.
+/// What the two threads report to each other.
 #[derive(Drop)]
 struct Flags {
     serving: AtomicBool,
@@ -128,7 +128,7 @@ fn wait_for(flag: &AtomicBool) {
     }
 }
 
-/// Posts, and closes at once; where that is refused, reads the response and closes.
+/// Posts, and closes at once; if that is refused, reads the response and closes.
 fn post_and_close<C: Channel, R: Wait>(rt: &R, end: &mut AgentEnd<C>, link: &Link<C>) -> Ended
     requires { IsOfLink (C.identity link.now.a2p) (C.identity link.now.p2a) end.old }
     ensures { HasSameIdentities end.old end.new }

@@ -31,7 +31,7 @@ fn lines_have_their_bytes_and_end_for_good(rt: HostRuntime) {
     assert!(rt; has_ended(&mut lines));
 }
 
-/// The number of words of a payload, and the last; `None` where it is refused.
+/// The number of words of a payload, and the last; `None` if it is refused.
 fn payload_end(text: &[u8]) -> Option<(usize, u32)> {
     let payload = Items::new(text).payload().ok()?;
     Some((payload.len(), *payload.last().unwrap_or(&0)))
@@ -52,7 +52,7 @@ fn hardware_steps(alloc: Global, text: &[u8]) -> Result<StepList, TextError> {
     read_hardware_steps(alloc, &mut Lines::new(text), 2)
 }
 
-/// The step of a line; `None` where it is refused.
+/// The step of a line; `None` if it is refused.
 fn hardware_step(alloc: Global, text: &[u8]) -> Option<Step> {
     let steps = hardware_steps(alloc, text).ok()?;
     let mut step = Step::Advance;

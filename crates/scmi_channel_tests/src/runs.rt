@@ -14,7 +14,7 @@ use std::sync::atomic::{AtomicU32, Ordering};
 use std::test::Fail;
 use std::thread::{Threads, yield_now};
 
-/// How often an agent looks whether the other is there.
+/// How often an agent checks whether the other is there.
 const TURNS: u32 = 10_000_000;
 
 /// Runs scripts on the reference board.
@@ -47,8 +47,8 @@ fn count(logs: &[AgentLog], index: usize) -> Option<Count> {
     Some((numbers, log.closing, log.stopped))
 }
 
-/// Scripts, the lines that they give, and, where no agent asks for a state again and again, what
-/// agent 1 did and the number of events.
+/// Scripts, the lines that they give, and, if no agent asks for a state again and again, what agent
+/// 1 did and the number of events.
 #[derive(Clone, Copy)]
 struct Row<'a> {
     scripts: &'a [u8],
@@ -62,7 +62,7 @@ fn is_outcome(alloc: Global, outcome: &Outcome, row: &Row<'_>) -> Result<bool, F
     Ok(lines.as_slice() == row.lines && has_left(outcome, row.left) && !outcome.memory)
 }
 
-/// Whether agent 1 did this, and the trace has so many events.
+/// Whether agent 1 did this, and the trace has this many events.
 fn has_left(outcome: &Outcome, left: Option<(Count, usize)>) -> bool {
     match left {
         Some((first, events)) => {

@@ -1,4 +1,4 @@
-//! Both sides of the reference board on one thread, the agents' looks into buffers.
+//! Both sides of the reference board on one thread, the agents' polls into buffers.
 ghost use Rattle.std.specs.Prelude.{◌≡◌};
 ghost use Rattle.scmi_ends.specs.AgentView.{IsOfLink, HasSameIdentities};
 
@@ -32,7 +32,7 @@ impl<C: Channel> Model for Session<C> {
     ghost invariant = { λ s. BelongTogether C.identity s.links.items s.controller s.agents.items };
 }
 
-/// What an agent does at its end.
+/// What an agent does at its endpoint.
 #[derive(Clone, Copy)]
 enum Call<'a> {
     /// Posts a command of this protocol, message id and payload.
@@ -58,7 +58,7 @@ impl<C: Channel> Session<C> {
         }
     }
 
-    /// Agent 1 makes a call, and says whether there was something.
+    /// Agent 1 makes a call, and returns whether there was something.
     fn first(&mut self, call: Call<'_>, answer: &mut Answer, frame: &mut Frame) -> bool {
         !self.agents.is_empty() && self.call_of_first(call, answer, frame)
     }
@@ -95,7 +95,7 @@ impl<C: Channel> Session<C> {
         self.controller.advance()
     }
 
-    /// Gathers all ends, and gives the number of events.
+    /// Gathers all endpoints, and gives the number of events.
     pub fn retire(self) -> usize {
         let Session {
             controller,
@@ -106,7 +106,7 @@ impl<C: Channel> Session<C> {
     }
 }
 
-/// Makes a call at an agent's end.
+/// Makes a call at an agent's endpoint.
 fn make_call<C: Channel>(
     end: &mut AgentEnd<C>,
     link: &Link<C>,

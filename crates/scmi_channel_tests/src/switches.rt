@@ -13,7 +13,7 @@ pub struct Switches {
 }
 
 impl Switches {
-    /// Hardware that refuses the change of this number, the first being 1, or none where it is 0.
+    /// Hardware that refuses the change of this number, the first being 1, or none if it is 0.
     pub fn refusing(alloc: Global, refused: u32) -> Switches {
         Switches {
             made: Vec::new(alloc),

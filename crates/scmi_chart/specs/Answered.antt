@@ -1,4 +1,4 @@
--- What the labels of the platform's messages say.
+-- What the labels of the platform's messages show.
 use Rattle.std.specs.Prelude.{ℕ, ◌/◌, ◌%◌, ◌^◌, ◌==◌, Bool, true, if◌then◌else◌, List, [], ◌∷◌, ◌++◌, codes, decimal, Option, Some, None, Result, Ok, Err}
 use Rattle.scmi_codec.specs.Header.{HeaderFields}
 use Rattle.scmi_codec.specs.Status.{status_of, status_name}
@@ -22,7 +22,7 @@ abbrev pub status_or_word : ℕ → Option Status → List ℕ
 status_or_word word (Some s) = status_name s
 status_or_word word None = hex_text word
 
--- the status that stands in a payload word
+-- the status that a payload word encodes
 abbrev pub status_text : ℕ → List ℕ
 status_text word = status_or_word word (status_of word)
 
@@ -43,24 +43,24 @@ with_reply board protocol words (Ok fields) w = with_fields board fields.items w
 with_reply board protocol words (Err NotSupported) w = with_list protocol words w
 with_reply board protocol words (Err status) w = record w { object = payload_text words }
 
--- a set that takes effect later has that as its remark
+-- a set that takes effect later has that as its comment
 abbrev pub with_outcome : Outcome → LabelWords → LabelWords
 with_outcome outcome.Pending w = record w { tag = codes "accepted, takes effect at an advance" }
 with_outcome _ w = w
 
--- what a reply says: its status, and what follows it
+-- what a reply reports: its status, and what follows it
 abbrev pub reply_words : Board → HeaderFields → Outcome → List ℕ → LabelWords
 reply_words board h outcome [] = name_alone (codes "no status")
 reply_words board h outcome (word ∷ words) =
     with_outcome outcome (with_reply board h.protocol words (reply_fields h.protocol h.id words) (name_alone (status_text word)))
 
--- what an answer says, which turned out so
+-- what an answer with this outcome reports
 unfoldable pub answer_words : Board → Answer → Outcome → LabelWords
 answer_words board (Reply m) outcome = reply_words board m.header outcome m.payload.items
 answer_words board Released outcome = name_alone (codes "released, no reply")
 answer_words board ChannelError outcome = name_alone (codes "channel error")
 
--- what the name of a delayed response says, by the status that it begins with: the set completed, or it failed with that status
+-- what the name of a delayed response reports, by the status that it begins with: the set completed, or it failed with that status
 abbrev pub delayed_words : ℕ → ℕ → List ℕ → LabelWords
 delayed_words protocol id [] = name_alone (message_text protocol id ++ codes " completed")
 delayed_words protocol id (status ∷ words) =
@@ -72,10 +72,10 @@ abbrev pub notified_words : Message → Option (List ℕ) → Bool → LabelWord
 notified_words m (Some name) true = name_alone name
 notified_words m _ _ = delayed_words m.header.protocol m.header.id m.payload.items
 
--- the fields of a notification, or of a delayed response behind its status
+-- the fields of a notification, or of a delayed response after its status
 abbrev pub posted_fields : Message → List Field
 posted_fields m = if m.header.kind == 3 then notification_fields m else if m.header.kind == 2 then delayed_fields m else []
 
--- what a message of the platform's own accord says
+-- what a message of the platform's own accord reports
 unfoldable pub posted_words : Board → Message → LabelWords
 posted_words board m = with_fields board (posted_fields m) (notified_words m (notification_text m.header.protocol m.header.id) (m.header.kind == 3))

@@ -1,4 +1,4 @@
--- What the labels of commands say.
+-- What the labels of commands show.
 use Rattle.std.specs.Prelude.{ℕ, ◌==◌, ◌&&◌, Bool, false, if◌then◌else◌, List, [], ◌∷◌, codes, Option, Some, None, Result, Ok, Err}
 use Rattle.scmi_codec.specs.Command.{command_of}
 use Rattle.scmi_codec.specs.declared.command.Command.{Command}
@@ -19,7 +19,7 @@ abbrev pub with_command : Board → List ℕ → Result Command Status → Label
 with_command board payload (Ok command) w = with_fields board (command_fields command) w
 with_command board payload (Err status) w = record w { object = payload_text payload }
 
--- whether a payload is the number that stands for the caller
+-- whether a payload is the number that means the caller
 abbrev pub is_caller : List ℕ → Bool
 is_caller (word ∷ []) = word == 0xFFFFFFFF
 is_caller _ = false
@@ -32,7 +32,7 @@ asks_for_itself m = (m.header.protocol == 0x10) && (m.header.id == 7) && is_call
 abbrev pub with_itself : Bool → LabelWords → LabelWords
 with_itself asks w = if asks then record w { object = codes "itself" } else w
 
--- a message that is no command has its type as a remark
+-- a message that is no command has its type as a comment
 abbrev pub with_kind : ℕ → LabelWords → LabelWords
 with_kind kind w = if kind == 0 then w else record w { tag = numbered_text (codes "type") kind }
 

@@ -8,7 +8,7 @@ use Rattle.scmi_svg.specs.Rate.{rate_text}
 use Rattle.scmi_chart.specs.Words.{agent_text, clock_text, counted_text, domain_text, hex_text, letters_text, numbered_text, state_text, switch_text}
 use Rattle.scmi_chart.specs.LabelWords.{LabelWords, behind, protocol_or_number, with_remark, with_remark_if}
 
--- a value for the object of a label; where there is no object, what the label is about
+-- a value for the object of a label; if there is no object, what the label is about
 abbrev pub value_for : List ℕ → List ℕ → LabelWords → LabelWords
 value_for [] text w = record w { object = text }
 value_for (byte ∷ bytes) text w = record w { value = text }
@@ -17,7 +17,7 @@ value_for (byte ∷ bytes) text w = record w { value = text }
 abbrev pub with_value : List ℕ → LabelWords → LabelWords
 with_value text w = value_for w.object text w
 
--- all bits of a word as a remark, where another is set than the low ones that have a meaning
+-- all bits of a word as a comment, if a bit is set other than the low ones that have a meaning
 abbrev pub with_bits : ℕ → ℕ → LabelWords → LabelWords
 with_bits known bits w = with_remark_if (nat_lt known bits) (codes "flags " ++ hex_text bits) w
 
@@ -58,7 +58,7 @@ version_text word = codes "version " ++ decimal (word / 2 ^ 16) ++ codes "." ++ 
 abbrev pub counts_text : ℕ → List ℕ
 counts_text word = behind (counted_text (word / 2 ^ 8 % 2 ^ 8) (codes "agents")) (counted_text (word % 2 ^ 8) (codes "protocols"))
 
--- what a field adds to a label: names where the board has one
+-- what a field adds to a label: names if the board has one
 abbrev pub with_field : Board → Field → LabelWords → LabelWords
 with_field board (field.Domain domain) w = record w { object = domain_text board domain }
 with_field board (field.Clock clock) w = record w { object = clock_text board clock }
@@ -83,7 +83,7 @@ with_field board (field.ResetFlags bits) w = with_reset_flags bits w
 with_field board (field.RateFlags bits) w = with_rate_flags bits w
 with_field board f w = w
 
--- what fields add to a label, one after the other
+-- what fields add to a label, one after another
 abbrev pub with_fields : Board → List Field → LabelWords → LabelWords
 with_fields board [] w = w
 with_fields board (f ∷ fields) w = with_fields board fields (with_field board f w)

@@ -5,7 +5,7 @@ use Rattle.scmi_describe.specs.Names.{protocol_text}
 use Rattle.scmi_svg.specs.declared.mark.Label.{Label}
 use Rattle.scmi_chart.specs.Words.{hex_text}
 
--- the words of a label: the name of a message, what it is about, the value that this gets, and a remark
+-- the words of a label: the name of a message, what it is about, the value that this gets, and a comment
 pub record LabelWords : Type 0 where
   pub name : List ℕ
   pub object : List ℕ
@@ -20,16 +20,16 @@ words_of l = record { name = l.name.items; object = l.object.items; value = l.va
 abbrev pub name_alone : List ℕ → LabelWords
 name_alone name = record { name = name; object = []; value = []; tag = [] }
 
--- a text behind others of its kind, with a comma between
+-- a text after others of its kind, with a comma between
 abbrev pub behind : List ℕ → List ℕ → List ℕ
 behind [] text = text
 behind (byte ∷ bytes) text = (byte ∷ bytes) ++ codes ", " ++ text
 
--- one remark more
+-- one comment more
 abbrev pub with_remark : List ℕ → LabelWords → LabelWords
 with_remark text w = record w { tag = behind w.tag text }
 
--- one remark more, if a condition holds
+-- one comment more, if a condition holds
 abbrev pub with_remark_if : Bool → List ℕ → LabelWords → LabelWords
 with_remark_if holds text w = if holds then with_remark text w else w
 
@@ -43,6 +43,6 @@ abbrev pub name_or_ids : ℕ → ℕ → Option (List ℕ) → List ℕ
 name_or_ids protocol id (Some name) = name
 name_or_ids protocol id None = protocol_or_number protocol (protocol_text protocol) ++ codes " " ++ hex_text id
 
--- the name of a message of this protocol and id (DEN0056B); where the profile has none, the two
+-- the name of a message of this protocol and id (DEN0056B); if the profile has none, the two
 abbrev pub message_text : ℕ → ℕ → List ℕ
 message_text protocol id = name_or_ids protocol id (message_name protocol id)

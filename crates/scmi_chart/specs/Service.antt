@@ -18,7 +18,7 @@ use Rattle.scmi_text.specs.declared.step_line.StepLine.TheVariants as line
 use Rattle.scmi_chart.specs.Posted.{message_of}
 use Rattle.scmi_chart.specs.Signs.{Sign, sent, lane}
 
--- the agent that a line names; 0 where it names none
+-- the agent that a line names; 0 if it names none
 abbrev pub line_agent : StepLine → ℕ
 line_agent (line.Token a token) = a
 line_agent (line.Posted a) = a
@@ -63,7 +63,7 @@ abbrev pub executed_by : Option ℕ → Sign → Sign
 executed_by by (sent x a token w) = sent (x || is_lane a by) a token w
 executed_by by sign = sign
 
--- the same of all commands that stand so far
+-- the same of all commands so far
 abbrev pub served_so_far : Option ℕ → List Sign → List Sign
 served_so_far None signs = signs
 served_so_far (Some a) signs = map (executed_by (Some a)) signs

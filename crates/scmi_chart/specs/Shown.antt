@@ -13,14 +13,14 @@ use Rattle.scmi_chart.specs.Service.{line_agent, if_got, served_by, is_served, s
 abbrev pub none_later : List Bool
 none_later = replicate LANES false
 
--- what stands of a run of these steps on a board, which came to these lines, one for each: of each agent it is known whether its last command takes effect later
+-- what is shown of a run of these steps on a board, which came to these lines, one for each: of each agent it is known whether its last command takes effect later
 abbrev pub run_signs : Board → List Bool → List Step → List StepLine → List Sign
 run_signs board laters (s ∷ steps) (l ∷ lines) =
     signs_of board (is_some (served_by s l) || is_served (lane (line_agent l)) steps lines) (is_later laters s l) s l
     ++ run_signs board (laters_after laters s l) steps lines
 run_signs board laters _ _ = []
 
--- what a chart shows so far: what its marks say, and of each lifeline whether the last command of its agent takes effect later; the board
+-- what a chart shows so far: what its marks show, and of each lifeline whether the last command of its agent takes effect later; the board
 pub record Shown : Type 0 where
   pub signs : List Sign
   pub laters : List Bool
@@ -42,7 +42,7 @@ serves by signs shown = record shown { signs = served_so_far by shown.signs ++ s
 abbrev pub with_later : ℕ → Bool → Shown → Shown
 with_later a later shown = record shown { laters = set shown.laters a later }
 
--- a command that was posted, served and collected in one step, and what stands of it between its execution and its answer
+-- a command that was posted, served and collected in one step, and what is shown of it between its execution and its answer
 abbrev pub exchanged : Step → ℕ → Collected → List Sign → Shown → Shown
 exchanged s a c between shown =
     with_later a (sets_later s) (serves (if_got a c)
@@ -64,7 +64,7 @@ pub record Head : Type 0 where
   pub agent : ℕ
   pub name : List ℕ
 
--- what stands at the head of a lifeline
+-- what is written at the head of a lifeline
 abbrev pub head_of : Lifeline → Head
 head_of lifeline = record { agent = lifeline.agent; name = lifeline.name.items }
 

@@ -1,4 +1,4 @@
--- What the marks of a chart say of a run.
+-- What the marks of a chart show of a run.
 use Rattle.std.specs.Prelude.{ℕ, Bool, true, false, ◌==◌, if◌then◌else◌, List, [], ◌∷◌, ◌++◌, Option, Some, None, min, Result, Ok, Err}
 use Rattle.scmi_codec.specs.Header.{HeaderFields}
 use Rattle.scmi_codec.specs.Payload.{begins_with_success}
@@ -31,7 +31,7 @@ use Rattle.scmi_svg.specs.declared.mark.Side.{Side}
 use Rattle.scmi_svg.specs.declared.mark.Side.TheVariants as side
 use Rattle.scmi_chart.specs.Wording.{Wording, answer_wording, asked_wording, posted_wording, refused_wording, wording_of}
 
--- what a mark says, with the words of its message: whether a command that an agent posted was executed, with its token where it has one; a post was refused; the platform executed a command; how the answer to its command that an agent read turned out; an agent took a delayed response or a notification; the platform posted a message; it was to complete a pending set, and whether there was one; it ended one whose change the hardware refused; the hardware refused what an agent's command was to change; channels were closed; or a step of an agent's came to nothing
+-- what a mark shows, with the words of its message: whether a command that an agent posted was executed, with its token if it has one; a post was refused; the platform executed a command; the outcome of the answer to its command that an agent read; an agent took a delayed response or a notification; the platform posted a message; it was to complete a pending set, and whether there was one; it ended one whose change the hardware refused; the hardware refused what an agent's command was to change; channels were closed; or a step of an agent's came to nothing
 pub data Sign : Type 0 where
   sent : Bool → ℕ → Option ℕ → Wording → Sign
   unsent : ℕ → Wording → Sign
@@ -46,7 +46,7 @@ pub data Sign : Type 0 where
   closed : ℕ → Side → Sign
   remarked : ℕ → Sign
 
--- what a mark says
+-- what a mark shows
 abbrev pub sign_of : Mark → Sign
 sign_of (mark.Command m token) = sent true m.agent token (wording_of m)
 sign_of (mark.Withdrawn m token) = sent false m.agent token (wording_of m)
@@ -81,7 +81,7 @@ abbrev pub is_success : Answer → Bool
 is_success (Reply m) = begins_with_success m.payload.items
 is_success _ = false
 
--- how an answer turned out: a refusal, or a success, of a set that takes effect later or of another command
+-- the outcome of an answer: a refusal, or a success, of a set that takes effect later or of another command
 abbrev pub outcome_of : Answer → Bool → Outcome
 outcome_of answer later = if is_success answer then (if later then outcome.Pending else outcome.Success) else outcome.Refusal
 
@@ -95,64 +95,64 @@ abbrev pub is_hardware_error : Collected → Bool
 is_hardware_error (collected.Got (Reply m)) = begins_with_hardware_error m.payload.items
 is_hardware_error _ = false
 
--- what stands of an agent that read an answer, which turned out so
+-- what is shown of an agent that read an answer with this outcome
 abbrev pub answered_sign : Board → ℕ → Answer → Outcome → Sign
 answered_sign board a answer outcome = answered a outcome (answer_wording board answer outcome)
 
--- what stands of a command that a step posted with this token, if it is known
+-- what is shown of a command that a step posted with this token, if it is known
 abbrev pub sent_sign : Board → Bool → Step → ℕ → Option ℕ → Sign
 sent_sign board x s a token = sent x a token (asked_wording board s token)
 
--- what stands of an agent that collected, whose last command was to take effect later or at once
+-- what is shown of an agent that collected, whose last command was to take effect later or at once
 abbrev pub collected_signs : Board → ℕ → Bool → Collected → List Sign
 collected_signs board a later collected.Nothing = remarked a ∷ []
 collected_signs board a later collected.Closed = remarked a ∷ []
 collected_signs board a later (collected.Got answer) = answered_sign board a answer (outcome_of answer later) ∷ []
 
--- what stands of an agent's command before it is collected in the same step: it was executed if it was answered
+-- what is shown of an agent's command before it is collected in the same step: it was executed if it was answered
 abbrev pub exchange_signs : Board → Bool → Step → ℕ → Collected → List Sign
 exchange_signs board x s a (collected.Got answer) = sent_sign board x s a (reply_token (collected.Got answer)) ∷ executed ∷ []
 exchange_signs board x s a c = sent_sign board x s a (reply_token c) ∷ []
 
--- what stands of hardware that refused, before an agent collected in the same step
+-- what is shown of hardware that refused, before an agent collected in the same step
 abbrev pub fault_signs : ℕ → Collected → List Sign
 fault_signs a c = if is_hardware_error c then faulted a ∷ [] else []
 
--- what stands of a pending set that was to end, whose change the hardware refused
+-- what is shown of a pending set that was to end, whose change the hardware refused
 abbrev pub failed_signs : Bool → List Sign
 failed_signs true = failed ∷ []
 failed_signs false = advanced false ∷ []
 
--- what stands of an agent that took a message with this header, which says this
+-- what is shown of an agent that took a message with this header, which reports this
 abbrev pub posted_sign : ℕ → HeaderFields → Wording → Sign
 posted_sign a h says = if h.kind == 3 then notified a says else delayed a h.token says
 
--- what stands of an agent that was to take a message
+-- what is shown of an agent that was to take a message
 abbrev pub taken_signs : Board → ℕ → Option Frame → List Sign
 taken_signs board a (Some (Good m)) = posted_sign a m.header (posted_wording board m) ∷ []
 taken_signs board a _ = remarked a ∷ []
 
--- what stands of an agent that was served
+-- what is shown of an agent that was served
 abbrev pub served_signs : ℕ → Served → List Sign
 served_signs a served.Done = executed ∷ []
 served_signs a served.Nothing = remarked a ∷ []
 
--- what stands of an agent to which a message was to be posted
+-- what is shown of an agent to which a message was to be posted
 abbrev pub flushed_signs : ℕ → Flushed → List Sign
 flushed_signs a flushed.Posted = posted ∷ []
 flushed_signs a _ = remarked a ∷ []
 
--- what stands of an agent that was to close its channels
+-- what is shown of an agent that was to close its channels
 abbrev pub closed_signs : ℕ → Result Closing CloseError → List Sign
 closed_signs a (Ok closing) = closed a side.Agent ∷ []
 closed_signs a (Err refusal) = remarked a ∷ []
 
--- what stands of an agent whose channels the platform was to close
+-- what is shown of an agent whose channels the platform was to close
 abbrev pub shut_signs : {T : Type 0} → ℕ → Result T ShutError → List Sign
 shut_signs a (Ok u) = closed a side.Platform ∷ []
 shut_signs a (Err refusal) = remarked a ∷ []
 
--- what stands of a step that came to this line: each command that was posted, and whether it is executed, in this step or later; each post that was refused, each execution, answer and message, each message that was posted, each advance, each refusal of the hardware and each close, by its agent, once, in the words of its message; and what came to nothing. A set of the agent's last command may be one that takes effect later
+-- what is shown of a step that came to this line: each command that was posted, and whether it is executed, in this step or later; each post that was refused, each execution, answer and message, each message that was posted, each advance, each refusal of the hardware and each close, by its agent, once, in the words of its message; and what came to nothing. A set of the agent's last command may be one that takes effect later
 abbrev pub signs_of : Board → Bool → Bool → Step → StepLine → List Sign
 signs_of board x later s (line.Token a token) = sent_sign board x s (lane a) (Some token) ∷ []
 signs_of board x later s (line.Posted a) = sent_sign board x s (lane a) (raw_token s) ∷ []

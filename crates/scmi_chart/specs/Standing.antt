@@ -1,4 +1,4 @@
--- Where the platform's domains, clocks and outboxes stand after its history.
+-- The states of the platform's domains, clocks and outboxes after its history.
 use Rattle.std.specs.Prelude.{◌≡◌, ◌≤◌, ℕ, ◌==◌, if◌then◌else◌, Bool, false, List, length, min}
 use Rattle.scmi_plan.specs.Agent.{IsNoAgent}
 use Rattle.scmi_plan.specs.Board.{Board}

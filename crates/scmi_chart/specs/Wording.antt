@@ -1,4 +1,4 @@
--- What the mark of a message says.
+-- What the mark of a message shows.
 use Rattle.std.specs.Prelude.{ℕ, List, codes, Option, None}
 use Rattle.scmi_codec.specs.declared.frame.Answer.{Answer}
 use Rattle.scmi_codec.specs.declared.message.Message.{Message}
@@ -18,11 +18,11 @@ pub record Wording : Type 0 where
   pub label : LabelWords
   pub detail : List ℕ
 
--- what an arrow says
+-- what an arrow shows
 abbrev pub wording_of : Arrow → Wording
 wording_of m = record { label = words_of m.label; detail = m.detail.items }
 
--- what the command of a step says, which has this token if it is known
+-- what the command of a step shows, which has this token if it is known
 unfoldable pub asked_wording : Board → Step → Option ℕ → Wording
 asked_wording board s token = record { label = asked_words board s; detail = step_detail s token }
 
@@ -33,18 +33,18 @@ refusal_text post_error.Closed = codes "not posted: closed"
 refusal_text post_error.Full = codes "not posted: full"
 refusal_text post_error.WellFormed = codes "not posted: well formed"
 
--- the same with a refusal as its remark
+-- the same with a refusal as its comment
 abbrev pub with_refusal : PostError → LabelWords → LabelWords
 with_refusal refusal w = record w { tag = refusal_text refusal }
 
--- what the command of a step says that was not posted
+-- what the command of a step shows that was not posted
 unfoldable pub refused_wording : Board → Step → PostError → Wording
 refused_wording board s refusal = record { label = with_refusal refusal (asked_words board s); detail = step_detail s None }
 
--- what an answer says that turned out so
+-- what an answer with this outcome shows
 unfoldable pub answer_wording : Board → Answer → Outcome → Wording
 answer_wording board answer outcome = record { label = answer_words board answer outcome; detail = answer_detail answer }
 
--- what a message of the platform's own accord says
+-- what a message of the platform's own accord shows
 unfoldable pub posted_wording : Board → Message → Wording
 posted_wording board m = record { label = posted_words board m; detail = message_detail m }

@@ -12,7 +12,7 @@ hex_text n = codes "0x" ++ digits 16 false n
 unfoldable pub numbered_text : List ℕ → ℕ → List ℕ
 numbered_text word n = if nat_le n 0xffff then word ++ codes " " ++ decimal n else word ++ codes " " ++ hex_text n
 
--- so many of a kind
+-- this many of a kind
 unfoldable pub counted_text : ℕ → List ℕ → List ℕ
 counted_text count noun = decimal count ++ codes " " ++ noun
 
@@ -49,7 +49,7 @@ letter byte = if byte == 0 then [] else byte ∷ []
 unfoldable pub letters : ℕ → List ℕ
 letters w = letter (w % 2 ^ 8) ++ letter (w / 2 ^ 8 % 2 ^ 8) ++ letter (w / 2 ^ 16 % 2 ^ 8) ++ letter (w / 2 ^ 24)
 
--- the name in payload words, without the zeros behind it
+-- the name in payload words, without the zeros after it
 abbrev pub letters_text : List ℕ → List ℕ
 letters_text ws = flat_map letters ws
 
@@ -57,10 +57,10 @@ letters_text ws = flat_map letters ws
 abbrev pub agent_text : Board → ℕ → List ℕ
 agent_text board agent = get_or (codes "platform" ∷ board.agents) agent (numbered_text (codes "agent") agent)
 
--- the name of a power domain, or its number where the board lacks it
+-- the name of a power domain, or its number if the board lacks it
 abbrev pub domain_text : Board → ℕ → List ℕ
 domain_text board domain = get_or (map (λ d. d.name) board.domains) domain (numbered_text (codes "domain") domain)
 
--- the name of a clock, or its number where the board lacks it
+-- the name of a clock, or its number if the board lacks it
 abbrev pub clock_text : Board → ℕ → List ℕ
 clock_text board clock = get_or (map (λ c. c.name) board.clocks) clock (numbered_text (codes "clock") clock)

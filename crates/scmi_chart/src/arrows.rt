@@ -1,4 +1,4 @@
-//! The messages of a chart, each with what it says.
+//! The messages of a chart, each with its words.
 ghost use Rattle.std.specs.Prelude.{◌≡◌, IfOk};
 ghost use Rattle.scmi_plan.specs.RawPlan.{asked_board};
 ghost use Rattle.scmi_chart.specs.Wording.{answer_wording, asked_wording, posted_wording, refusal_text, refused_wording, wording_of};
@@ -80,7 +80,7 @@ fn refusal_words(refusal: PostError) -> &'static str
     }
 }
 
-/// An answer that turned out so.
+/// An answer with this outcome.
 #[tactic(auto, unfolding(crate::specs::Wording::answer_wording))]
 pub(crate) fn answer_arrow(
     alloc: Global,

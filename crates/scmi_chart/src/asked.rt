@@ -77,7 +77,7 @@ fn add_command(
     }
 }
 
-/// Adds that an agent asks for itself, where it does.
+/// Adds that an agent asks for itself, if it does.
 fn add_itself(alloc: Global, label: &mut Label, message: &Message) -> Result<(), AllocError>
     ensures { OnOk result (words_of label.new
         ≡ with_itself (asks_for_itself message.now) (words_of label.old)) }
@@ -88,7 +88,7 @@ fn add_itself(alloc: Global, label: &mut Label, message: &Message) -> Result<(),
     Ok(())
 }
 
-/// Whether a message is BASE_DISCOVER_AGENT of the number that stands for the caller there.
+/// Whether a message is BASE_DISCOVER_AGENT of the number that means the caller there.
 fn asks_for_itself(message: &Message) -> bool
     ensures { result ≡ asks_for_itself message.now }
 {

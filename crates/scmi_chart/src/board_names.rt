@@ -7,7 +7,7 @@ use crate::words::numbered_word;
 use scmi_plan::RawPlan;
 use std::alloc::{AllocError, Global};
 
-/// The name of an agent; its number where the board lacks it, and `platform` for 0.
+/// The name of an agent; its number if the board lacks it, and `platform` for 0.
 pub(crate) fn agent_name(alloc: Global, board: &RawPlan, agent: u32) -> Result<Vec<u8>, AllocError>
     ensures { IfOk result (λ name. name.items ≡ agent_text (asked_board board.now) agent) }
 {
@@ -21,7 +21,7 @@ pub(crate) fn agent_name(alloc: Global, board: &RawPlan, agent: u32) -> Result<V
 }
 
 #[tactic(auto, using(crate::proofs::Named::named))]
-/// The name of a power domain; its number where the board lacks it.
+/// The name of a power domain; its number if the board lacks it.
 pub(crate) fn domain_name(
     alloc: Global,
     board: &RawPlan,
@@ -36,7 +36,7 @@ pub(crate) fn domain_name(
 }
 
 #[tactic(auto, using(crate::proofs::Named::named))]
-/// The name of a clock; its number where the board lacks it.
+/// The name of a clock; its number if the board lacks it.
 pub(crate) fn clock_name(alloc: Global, board: &RawPlan, clock: u32) -> Result<Vec<u8>, AllocError>
     ensures { IfOk result (λ name. name.items ≡ clock_text (asked_board board.now) clock) }
 {

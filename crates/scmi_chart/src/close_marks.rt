@@ -39,7 +39,7 @@ impl<'a> Recorder<'a> {
         })
     }
 
-    /// The platform's ends of an agent's channels were to be closed.
+    /// The platform's endpoints of an agent's channels were to be closed.
     pub(crate) fn record_shut(
         &mut self,
         agent: u8,

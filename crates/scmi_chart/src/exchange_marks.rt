@@ -12,7 +12,7 @@ use scmi_text::Step;
 use std::alloc::AllocError;
 
 impl<'a> Recorder<'a> {
-    /// A command was posted, served and collected in turn.
+    /// A command was posted, served and collected, in this order.
     pub(crate) fn record_exchange(
         &mut self,
         agent: u8,
@@ -26,7 +26,7 @@ impl<'a> Recorder<'a> {
         self.record_collect(agent, slot.saturating_add(1), collected)
     }
 
-    /// A command was posted, served beside hardware that refuses, and collected in turn.
+    /// A command was posted, served beside hardware that refuses, and collected, in this order.
     pub(crate) fn record_refused(
         &mut self,
         agent: u8,
@@ -42,7 +42,7 @@ impl<'a> Recorder<'a> {
         self.record_collect(agent, slot.saturating_add(1), collected)
     }
 
-    /// A command was posted and, where its answer is collected in the same step, executed.
+    /// A command was posted and, if its answer is collected in the same step, executed.
     pub(crate) fn record_service(
         &mut self,
         agent: u8,
@@ -80,7 +80,7 @@ impl<'a> Recorder<'a> {
         self.marks.add(Mark::Execution { slot, until })
     }
 
-    /// The hardware refused what the agent's command was to change, if the reply says so.
+    /// The hardware refused what the agent's command was to change, if the reply reports that.
     pub(crate) fn record_fault(
         &mut self,
         agent: u8,

@@ -71,7 +71,7 @@ fn add_field(
     Ok(())
 }
 
-/// Sets a state or a rate: what an object gets, or what there is where the message names none.
+/// Sets a state or a rate: what an object gets, or what it has if the message names none.
 fn set_value(label: &mut Label, words: Vec<u8>)
     ensures { words_of label.new ≡ with_value words.items (words_of label.old) }
 {
@@ -100,7 +100,7 @@ fn counts_words(alloc: Global, word: u32) -> Result<Vec<u8>, AllocError>
     Ok(words)
 }
 
-/// Adds who caused a change, as a remark.
+/// Adds who caused a change, as a comment.
 fn add_cause(
     alloc: Global,
     board: &RawPlan,

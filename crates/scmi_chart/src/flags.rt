@@ -71,7 +71,8 @@ fn add_rounding(label: &mut Label, bits: u32) -> Result<(), AllocError>
     add_remark_if(label, bits / 4 % 2 == 1, "up")
 }
 
-/// Adds all bits of a word to the remark, where another is set than the low ones that have a meaning.
+/// Adds all bits of a word to the comment, if a bit is set other than the low ones that have a
+/// meaning.
 fn add_bits(alloc: Global, label: &mut Label, known: u32, bits: u32) -> Result<(), AllocError>
     ensures { OnOk result (words_of label.new ≡ with_bits known bits (words_of label.old)) }
 {

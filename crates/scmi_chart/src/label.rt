@@ -28,7 +28,7 @@ pub(crate) fn plain_label(alloc: Global, words: &str) -> Result<Label, AllocErro
     Ok(name_label(alloc, Vec::from_slice(alloc, words.as_bytes())?))
 }
 
-/// The name of a message; where the profile has none, its protocol and id.
+/// The name of a message; if the profile has none, its protocol and id.
 pub(crate) fn name_of(alloc: Global, protocol: u8, id: u8) -> Result<Vec<u8>, AllocError>
     ensures { IfOk result (λ name. name.items ≡ message_text protocol id) }
 {
@@ -56,7 +56,7 @@ pub(crate) fn protocol_words(alloc: Global, protocol: u32) -> Result<Vec<u8>, Al
     Ok(words)
 }
 
-/// Adds words behind those that there are, with a comma between.
+/// Adds words after the present ones, with a comma between.
 pub(crate) fn add_behind(words: &mut Vec<u8>, more: &[u8]) -> Result<(), AllocError>
     ensures { OnOk result (words.new.items ≡ behind words.old.items more.now) }
 {
@@ -66,14 +66,14 @@ pub(crate) fn add_behind(words: &mut Vec<u8>, more: &[u8]) -> Result<(), AllocEr
     words.extend_from_slice(more)
 }
 
-/// Adds a remark.
+/// Adds a comment.
 pub(crate) fn add_remark(label: &mut Label, words: &[u8]) -> Result<(), AllocError>
     ensures { OnOk result (words_of label.new ≡ with_remark words.now (words_of label.old)) }
 {
     add_behind(&mut label.tag, words)
 }
 
-/// Adds a remark if a condition holds.
+/// Adds a comment if a condition holds.
 pub(crate) fn add_remark_if(label: &mut Label, holds: bool, words: &str) -> Result<(), AllocError>
     ensures { OnOk result (words_of label.new
         ≡ with_remark_if holds words.now (words_of label.old)) }

@@ -10,8 +10,8 @@ pub(crate) struct Level {
 }
 
 impl Level {
-    /// From this time on the state is this one: what lasted until then is a span. Says whether it is
-    /// another state.
+    /// From this time on the state is this one: what lasted until then is a span. Returns whether
+    /// it is another state.
     pub fn change(
         &mut self,
         spans: &mut Vec<Span>,

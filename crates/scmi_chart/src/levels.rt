@@ -15,7 +15,7 @@ struct Track {
     value: Level,
     pending: Level,
     spans: Vec<Span>,
-    // The time of the last change; 0 where there was none.
+    // The time of the last change; 0 if there was none.
     changed: u16,
 }
 

@@ -1,8 +1,8 @@
 //! What a chart shows of a run, from the run's steps and their lines.
 //!
-//! The main type is `Recorder`, which is given one step after the other and looks at the platform
-//! after each. The main theorem is the contract of `Recorder::record`: the marks that a step adds are
-//! those of its line, in order, each of the agent that the line names and with the words of its
+//! The main type is `Recorder`, which is given the steps one by one and reads the platform's state
+//! after each. The main theorem is the contract of `Recorder::record`: the marks that a step adds
+//! are those of its line, in order, each of the agent that the line names and with the words of its
 //! message, and no others.
 #![tactic(auto)]
 

@@ -29,7 +29,7 @@ pub(crate) fn lifelines_of(
     Ok(lifelines)
 }
 
-/// The lifeline behind so many.
+/// The lifeline after this many.
 fn lane_behind(count: usize) -> u8
     ensures { result ≡ lane (1 + count) }
 {

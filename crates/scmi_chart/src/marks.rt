@@ -9,7 +9,7 @@ use std::alloc::{AllocError, Global};
 use std::marker::Model;
 use std::mem;
 
-/// The marks of a chart so far. A contract sees what each of them says of the run.
+/// The marks of a chart so far. A contract sees what each of them shows of the run.
 #[derive(Drop)]
 pub(crate) struct Marks {
     marks: Vec<Mark>,

@@ -40,7 +40,7 @@ impl Model for Parties {
 }
 
 impl Parties {
-    /// Nothing is under way for so many agents.
+    /// Nothing is under way for this many agents.
     pub fn new(alloc: Global, agents: usize) -> Result<Parties, AllocError>
         ensures { IfOk result (λ parties. parties ≡ none_later) }
     {

@@ -1,4 +1,4 @@
-//! What messages of the platform's own accord say, in words.
+//! What the messages that the platform posts of its own accord report, in words.
 ghost use Rattle.std.specs.Prelude.{◌≡◌, ◌==◌, IfOk, OnOk};
 ghost use Rattle.scmi_plan.specs.RawPlan.{asked_board};
 ghost use Rattle.scmi_chart.specs.LabelWords.{words_of};
@@ -16,7 +16,7 @@ use scmi_plan::RawPlan;
 use scmi_svg::Label;
 use std::alloc::{AllocError, Global};
 
-/// What a delayed response or a notification says.
+/// What a delayed response or a notification reports.
 #[tactic(auto, unfolding(crate::specs::Answered::posted_words))]
 pub(crate) fn posted_label(
     alloc: Global,
@@ -43,7 +43,7 @@ fn posted_name(alloc: Global, message: &Message) -> Result<Label, AllocError>
     }
 }
 
-/// The name of a delayed response, and its status where that is none of success.
+/// The name of a delayed response, and its status if that is not success.
 fn delayed_label(alloc: Global, message: &Message) -> Result<Label, AllocError>
     ensures { IfOk result (λ label. words_of label ≡ delayed_words message.now.header.protocol
         message.now.header.id message.now.payload.items) }
@@ -63,7 +63,7 @@ fn delayed_label(alloc: Global, message: &Message) -> Result<Label, AllocError>
     }
 }
 
-/// Adds the fields of a notification, or of a delayed response behind its status.
+/// Adds the fields of a notification, or of a delayed response after its status.
 fn add_posted_fields(
     alloc: Global,
     board: &RawPlan,

@@ -17,7 +17,7 @@ use scmi_text::{Step, StepLine};
 use std::alloc::{AllocError, Global};
 use std::marker::Model;
 
-/// What a run left in its chart so far. A contract sees what each mark says of the run.
+/// What a run left in its chart so far. A contract sees what each mark shows of the run.
 #[derive(Drop)]
 pub struct Recorder<'a> {
     pub(crate) alloc: Global,
@@ -58,8 +58,8 @@ impl<'a> Recorder<'a> {
         })
     }
 
-    /// Records a step, which stands in this line of the script, what came of it, and where the platform
-    /// stands after it. After an error the marks are as many as memory allowed.
+    /// Records a step, which is in this line of the script, its result, and the state of the
+    /// platform after it. After an error there are as many marks as memory allowed.
     pub fn record(
         &mut self,
         script: TextLine<'_>,

@@ -1,4 +1,4 @@
-//! What answers say, in words.
+//! What answers report, in words.
 ghost use Rattle.std.specs.Prelude.{◌≡◌, IfOk, OnOk};
 ghost use Rattle.scmi_describe.specs.Replies.{reply_fields};
 ghost use Rattle.scmi_plan.specs.RawPlan.{asked_board};
@@ -14,7 +14,7 @@ use scmi_plan::RawPlan;
 use scmi_svg::{Label, Outcome};
 use std::alloc::{AllocError, Global};
 
-/// What an answer says.
+/// What an answer reports.
 #[tactic(auto, unfolding(crate::specs::Answered::answer_words))]
 pub(crate) fn answer_label(
     alloc: Global,
@@ -32,7 +32,7 @@ pub(crate) fn answer_label(
     }
 }
 
-/// What a reply says: its status, and what follows it.
+/// What a reply reports: its status, and what follows it.
 fn reply_label(
     alloc: Global,
     board: &RawPlan,
@@ -74,7 +74,7 @@ fn add_reply(
     }
 }
 
-/// Adds that a set takes effect later, where it does.
+/// Adds that a set takes effect later, if it does.
 fn add_outcome(alloc: Global, label: &mut Label, outcome: Outcome) -> Result<(), AllocError>
     ensures { OnOk result (words_of label.new ≡ with_outcome outcome (words_of label.old)) }
 {

@@ -1,4 +1,4 @@
-//! What a step, and what came of it, say of a mark: its lane, token, outcome and words.
+//! What a step and its result determine of a mark: its lane, token, outcome and words.
 ghost use Rattle.std.specs.Prelude.{◌≡◌, if◌then◌else◌};
 ghost use Rattle.scmi_svg.specs.declared.mark.Outcome.TheVariants as Outcome;
 ghost use Rattle.scmi_chart.specs.Signs.{sign_of, lane, raw_token, reply_token, is_hardware_error, outcome_of, posted_sign, sent};
@@ -52,7 +52,7 @@ pub(crate) fn is_hardware_error(collected: &Collected) -> bool
     }
 }
 
-/// How a command was answered, which takes effect later or at once.
+/// The outcome of an answered command, which takes effect later or at once.
 pub(crate) fn outcome_of(answer: &Answer, is_later: bool) -> Outcome
     ensures { result ≡ outcome_of answer.now is_later }
 {

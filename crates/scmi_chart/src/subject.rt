@@ -23,7 +23,7 @@ impl Subject {
         }
     }
 
-    /// Its state as the platform has it; `None` where the board lacks it.
+    /// Its state as the platform has it; `None` if the board lacks it.
     pub fn state(self, core: &Core) -> Option<State>
         ensures value { IfSome result (IsStateOf self core.now.board core.now.history) }
         ensures none { (result ≡ None) ↔ IsLacking self core.now.board }

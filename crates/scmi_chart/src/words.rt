@@ -38,7 +38,7 @@ pub(crate) fn numbered_word(alloc: Global, word: &str, number: u32) -> Result<Ve
     Ok(words.into_bytes())
 }
 
-/// So many of a kind.
+/// This many of a kind.
 #[tactic(auto, unfolding(crate::specs::Words::counted_text))]
 pub(crate) fn counted_words(alloc: Global, count: u32, noun: &str) -> Result<Vec<u8>, AllocError>
     ensures { IfOk result (λ text. text.items ≡ counted_text count noun.now) }
@@ -57,7 +57,7 @@ pub(crate) fn rate_words(alloc: Global, hertz: u64) -> Result<Vec<u8>, AllocErro
     }
 }
 
-/// The most payload words that stand beside an arrow.
+/// The most payload words that are shown beside an arrow.
 pub const SHOWN_WORDS: usize = 4;
 
 /// The first payload words, hexadecimal, and how many follow them.
@@ -97,7 +97,7 @@ fn add_words(alloc: Global, text: &mut Vec<u8>, words: &[u32]) -> Result<(), All
     Ok(())
 }
 
-/// The letters of a name in payload words, the first one lowest, zeros behind it.
+/// The letters of a name in payload words, the first one lowest, zeros after it.
 pub(crate) fn name_words(alloc: Global, words: &[u32; 4]) -> Result<Vec<u8>, AllocError>
     ensures { IfOk result (λ text. text.items ≡ letters_text words.now) }
 {

@@ -36,7 +36,7 @@ answer-other (Answered a (Good command) ChannelError) due = refl
 answer-other (Answered a (Malformed len header) answer) due = refl
 answer-other (Delivered a message) due = refl
 
--- an entry is found the same if and only if its verdict says so
+-- an entry is found the same if and only if its verdict is that
 same-found : (entry : Entry) (v : Verdict) → (is_same (finding_of entry v) ≡ true) ↔ (v ≡ verdict.Same)
 same-found entry verdict.Same = (λ is. refl, λ is. refl)
 same-found entry verdict.NoAgent = (λ is. absurd (cc), λ is. absurd (cc))

@@ -17,7 +17,7 @@ whole-same lines text rest first = ap (λ (r : List ℕ). record { rest = r; num
 broken : (text : List ℕ) (board : Board) (behind : List Line) (e : PlanError) → board_left (whole text) ≡ Ok (board, behind) → first_fault board ≡ Some e → IsFaultOfBoard text (PlanRule (number e))
 broken text board behind e is first = (board, behind, is, subst (λ o. IfSome o (λ b. number e ≡ number b)) (sym first) refl)
 
--- a board that breaks a rule, or memory that was refused
+-- a board that breaks a rule, or out of memory
 pub rule_fails : (text : List ℕ) (board : Board) (behind : List Line) (e : PlanError) → board_left (whole text) ≡ Ok (board, behind) → (e ≢ plan.Memory → first_fault board ≡ Some e)
     → IsFaultOfBoard text (error_of_plan e)
 rule_fails text board behind plan.Memory is first = tt

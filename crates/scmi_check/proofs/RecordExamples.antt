@@ -1,4 +1,4 @@
--- Texts of records, and the entries that they stand for, computed.
+-- Texts of records, and the entries that they encode, computed.
 use Rattle.std.proofs.Common.{ℕ, ◌≡◌, List, [], ◌∷◌, map, Ok, Err, refl}
 use Rattle.std.specs.Prelude.{codes}
 use Rattle.scmi_board.specs.Items.{behind_spaces, first_number, item_at, items_up_to}
@@ -26,7 +26,7 @@ command protocol token id words = Good (record { header = protocol_header protoc
 abbrev at : ℕ → Entry → Placed
 at line entry = record { line = line; entry = entry }
 
--- each form of a line, with a remark and a blank line; the second `do` of agent 1 has its next token, and `raw` its own
+-- each form of a line, with a comment and a blank line; the second `do` of agent 1 has its next token, and `raw` its own
 whole_record : record_left 2 (whole (codes "do 1 0x11 5 0\n1 reply 0x4405 0 7\n# later\nraw 2 0x4000 9\n\n2 error\n1 p2a 0x4604 0\ndo 1 16 3\n1 p2a 0x4700\n1 released\nbad 2 5 0x4000\n2 error\n"))
     ≡ Ok (
     at 2 (Answered 1 (command 0x11 0 5 (0 ∷ [])) (Reply (raw_with 0x4405 (0 ∷ 7 ∷ []))))

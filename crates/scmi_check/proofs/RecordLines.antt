@@ -1,4 +1,4 @@
--- A record's lines, read one after the other.
+-- A record's lines, read one after another.
 use Rattle.std.proofs.Common.{◌≡◌, ℕ, List, Result, Ok, sym, ap, subst}
 use Rattle.scmi_board.specs.declared.text_error.TextError.{TextError}
 use Rattle.scmi_board.specs.declared.text_error.TextError.TheVariants as errors
@@ -6,7 +6,7 @@ use Rattle.scmi_text.specs.TextLines.{FailsScript, GivesScript}
 use Rattle.scmi_check.specs.RecordText.{Shows, all_answered}
 use Rattle.scmi_check.specs.declared.placed.Placed.{Placed}
 
--- a line that is none of the record is none of its entries
+-- a line that is not of the record is not one of its entries
 pub fails_all : (error : TextError) (total : Result Shows ℕ) → FailsScript error total → FailsScript error (all_answered total)
 fails_all (errors.Board line) total fails = fails
 fails_all (errors.Script line) total fails = ap all_answered fails

@@ -27,11 +27,11 @@ pub record IsBoardText (text : List ℕ) (board : Board) : Type 0 where
   pub board_is : board_left (whole text) ≡ Ok (board, behind)
   pub lawful : first_fault board ≡ None
 
--- a text stands for a record of a platform of a board
+-- a text encodes a record of a platform of a board
 abbrev pub IsRecordText : Board → List ℕ → List Placed → Type 0
 IsRecordText board text placed = record_left (length board.agents) (whole text) ≡ Ok placed
 
--- what is written is the report of a record of a platform of a board, of which so many entries differ; where the texts are known, they stand for that board and that record. As many are the same as there are if and only if the record has a legal history
+-- what is written is the report of a record of a platform of a board, of which this many entries differ; if the texts are known, they encode that board and that record. As many are the same as there are if and only if the record has a legal history
 pub record WritesReport (style : Style) (board_known record_known : Option (List ℕ)) (differ : ℕ) (old new : Option (List ℕ)) : Type 0 where
   pub board : Board
   pub placed : List Placed
@@ -47,7 +47,7 @@ pub record IsChecked (style : Style) (board_known record_known : Option (List �
   pub report : WritesReport style board_known record_known differ old new
   pub zero : (status ≡ 0) ↔ (differ ≡ 0)
 
--- a fault of a board's text: its length, its first line that is none, or the first rule that the board breaks. That a read failed or that memory was refused says nothing of it
+-- a fault of a board's text: its length, its first line that is not one of a board, or the first rule that the board breaks. A failed read, or out of memory, shows nothing of it
 abbrev pub IsFaultOfBoard : List ℕ → CheckError → Type 0
 IsFaultOfBoard text Size = INPUT_BYTES < length text
 IsFaultOfBoard text (BoardLine line) = board_left (whole text) ≡ Err line
@@ -56,7 +56,7 @@ IsFaultOfBoard text Read = ⊤
 IsFaultOfBoard text Memory = ⊤
 IsFaultOfBoard text _ = ⊥
 
--- a fault of a record's text, where the platform is of this board: its length, or its first line that is none
+-- a fault of a record's text, if the platform is of this board: its length, or its first line that is not one of it
 abbrev pub IsFaultOfRecord : Board → List ℕ → CheckError → Type 0
 IsFaultOfRecord board text Size = INPUT_BYTES < length text
 IsFaultOfRecord board text (Record line) = record_left (length board.agents) (whole text) ≡ Err line
@@ -71,7 +71,7 @@ IsFaultOf board_known record_known fault =
     IfSome board_known (λ text. IsFaultOfBoard text fault)
     ⊎ ((board : Board) × IfSome board_known (λ text. IsBoardText text board) × IfSome record_known (λ text. IsFaultOfRecord board text fault))
 
--- a check ends with this status and the line of a fault, which has that status and is one of the texts, where they are known. Where a text is refused nothing else is written
+-- a check ends with this status and the line of a fault, which has that status and is one of the texts, if they are known. If a text is rejected nothing else is written
 pub record EndsWithFault (board_known record_known : Option (List ℕ)) (status : ℕ) (old new : Option (List ℕ)) : Type 0 where
   pub fault : CheckError
   pub status_is : status ≡ status_of fault

@@ -10,7 +10,7 @@ use Rattle.scmi_plan.specs.declared.plan_error.PlanError.TheVariants as plan
 use Rattle.scmi_check.specs.declared.check_error.CheckError.{CheckError}
 use Rattle.scmi_check.specs.declared.check_error.CheckError.TheVariants.{Size, Read, Board, Plan, Record, Memory, Write}
 
--- 1 for a failed output, 4 for out of memory, and 2 for a refused input (own)
+-- 1 for a failed output, 4 for out of memory, and 2 for a rejected input (own)
 abbrev pub status_of : CheckError → ℕ
 status_of Write = 1
 status_of Memory = 4
@@ -36,7 +36,7 @@ error_of_input input.Size = Size
 error_of_input input.Read = Read
 error_of_input input.Memory = Memory
 
--- a text that is refused, by its line
+-- a text that is rejected, by its line
 abbrev pub error_of_text : TextError → CheckError
 error_of_text (text.Board line) = Board line
 error_of_text (text.Script line) = Record line

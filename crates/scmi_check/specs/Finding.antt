@@ -13,7 +13,7 @@ use Rattle.scmi_check.specs.Own.{own_rule}
 use Rattle.scmi_check.specs.declared.finding.Finding.{Finding}
 use Rattle.scmi_check.specs.declared.finding.Finding.TheVariants.{Same, Own, Differs}
 
--- another reply to a command than was due: own where the headers are the same and a rule of the profile's own decides
+-- another reply to a command than was due: own if the headers are the same and a rule of the profile's own decides
 abbrev pub reply_finding : Message → Message → Message → Finding
 reply_finding command due seen =
     if is_same_header due.header seen.header then

@@ -16,7 +16,7 @@ entries_of placed = map (λ (one : Placed). one.entry) placed
 abbrev pub judged_after : Board → List Event → Placed → Judged
 judged_after board h one = record { line = one.line; entry = one.entry; verdict = verdict_of board h one.entry }
 
--- each entry with the verdict on it, after a history and what the entries before it stand for
+-- each entry with the verdict on it, after a history and what the entries before it encode
 abbrev pub judged_from : Board → List Event → List Placed → List Judged
 judged_from board h [] = []
 judged_from board h (one ∷ placed) = judged_after board h one ∷ judged_from board (h ++ events_of board h one.entry) placed

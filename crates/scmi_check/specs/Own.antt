@@ -23,7 +23,7 @@ abbrev pub is_nothing_given : List ℕ → Bool
 is_nothing_given (word ∷ number ∷ []) = word == status_word Success
 is_nothing_given _ = false
 
--- an error is due, and the same is seen with words behind it
+-- an error is due, and the same is seen with words after it
 abbrev pub is_longer_error : List ℕ → List ℕ → Bool
 is_longer_error (due ∷ []) (first ∷ second ∷ others) = due == first && not (due == status_word Success)
 is_longer_error _ _ = false

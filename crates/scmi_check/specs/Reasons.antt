@@ -9,12 +9,12 @@ use Rattle.scmi_judge.specs.declared.verdict.Verdict.{Verdict}
 use Rattle.scmi_judge.specs.declared.verdict.Verdict.TheVariants as verdict
 use Rattle.scmi_text.specs.Words.{message_text}
 
--- the name of the status that a payload begins with, behind a space
+-- the name of the status that a payload begins with, after a space
 abbrev pub status_text : List ℕ → List ℕ
 status_text [] = []
 status_text (word ∷ words) = elim (status_of word) [ None ↦ [] | Some status ↦ codes " " ++ status_name status ]
 
--- an answer: the name of its status and its words, or what it is where it is no reply
+-- an answer: the name of its status and its words, or what it is if it is no reply
 abbrev pub answer_text : Answer → List ℕ
 answer_text (Reply message) = status_text message.payload.items ++ message_text message
 answer_text Released = codes " released"
@@ -29,7 +29,7 @@ seen_text (Delivered a message) = message_text message
 abbrev pub lack_text : List ℕ → Entry → List ℕ
 lack_text kind entry = codes " due no " ++ kind ++ codes ", seen" ++ seen_text entry
 
--- what was due and what was seen, where they are not the same
+-- what was due and what was seen, if they are not the same
 abbrev pub reasons_text : Entry → Verdict → List ℕ
 reasons_text entry verdict.Same = []
 reasons_text entry verdict.NoAgent = lack_text (codes "agent") entry

@@ -1,4 +1,4 @@
--- The record that a text stands for.
+-- The record that a text encodes.
 use Rattle.std.specs.Prelude.{ℕ, ◌+◌, ◌-◌, ◌%◌, ◌==◌, ◌&&◌, ◌++◌, nat_le, if◌then◌else◌, List, [], ◌∷◌, get_or, replicate, slice_set, Option, Some, None, Result, Ok, Err}
 use Rattle.scmi_board.specs.Items.{◌>>=◌}
 use Rattle.scmi_board.specs.Lines.{Line, LinesView, lines_left}
@@ -37,14 +37,14 @@ nothing_shown = record { entries = []; waiting = None; tokens = replicate AGENTS
 abbrev pub with_entry : Shows → ℕ → Entry → Shows
 with_entry shows line entry = record shows { entries = shows.entries ++ record { line = line; entry = entry } ∷ [] }
 
--- a command, where none waits for its answer
+-- a command, if none waits for its answer
 unfoldable pub with_posted : Shows → ℕ → ℕ → Frame → Option Shows
 with_posted shows line a frame = elim shows.waiting [
   | None ↦ Some (record shows { waiting = Some (record { line = line; agent = a; frame = frame }) })
   | Some waiting ↦ None
 ]
 
--- the next token of an agent, as a session counts it, and what is shown once it is taken; none where no board has the agent
+-- the next token of an agent, as a session counts it, and what is shown once it is taken; none if no board has the agent
 unfoldable pub token_taken : Shows → ℕ → Option (ℕ × Shows)
 token_taken shows a =
     if nat_le 1 a && nat_le a AGENTS then
@@ -57,7 +57,7 @@ with_called shows line a call = do
   token ← token_taken shows a
   with_posted token.1 line a (Good (record { header = protocol_header call.protocol token.0 call.message; payload = call.payload }))
 
--- the answer to the command that waits, where that is the agent's
+-- the answer to the command that waits, if that is the agent's
 unfoldable pub with_answer : Shows → ℕ → ℕ → Answer → Option Shows
 with_answer shows line a answer = elim shows.waiting [
   | None ↦ None
@@ -71,18 +71,18 @@ with_shown shows line (Posted a frame) = with_posted shows line a frame
 with_shown shows line (Got a answer) = with_answer shows line a answer
 with_shown shows line (Took a message) = Some (with_entry shows line (Delivered a message))
 
--- with a line, on a board with this number of agents; none where the line can't stand there
+-- with a line, on a board with this number of agents; none if the line can't be there
 unfoldable pub with_line : ℕ → Shows → Line → Option Shows
 with_line agents shows line = do
   shown ← shown_at agents line.text
   with_shown shows line.number shown
 
--- the entries, where each command has its answer; else the number of the line of the one that has none
+-- the entries, if each command has its answer; else the number of the line of the one that has none
 abbrev pub all_answered : Result Shows ℕ → Result (List Placed) ℕ
 all_answered (Err number) = Err number
 all_answered (Ok shows) = elim shows.waiting [ None ↦ Ok shows.entries | Some waiting ↦ Err waiting.line ]
 
--- the entries of a record that these lines stand for, each at its line; else the number of the first line that is none of it
+-- the entries of a record that these lines encode, each at its line; else the number of the first line that is not of it
 abbrev pub record_of : ℕ → List Line → Result (List Placed) ℕ
 record_of agents lines = all_answered (after_each_line (with_line agents) nothing_shown lines)
 

@@ -10,13 +10,13 @@ use Rattle.scmi_check.specs.declared.judged.Judged.{Judged}
 use Rattle.scmi_check.specs.declared.style.Style.{Style}
 use Rattle.scmi_check.specs.declared.style.Style.TheVariants.{Plain, Tap}
 
--- what was found, with the rule where it is one of the profile's own
+-- what was found, with the rule if it is one of the profile's own
 abbrev pub finding_text : Finding → List ℕ
 finding_text Same = codes " same"
 finding_text (Own rule) = codes " own " ++ rule_name rule
 finding_text Differs = codes " differs"
 
--- what stands before the number of the line: for a test system whether the test is passed
+-- what is written before the number of the line: for a test system whether the test is passed
 abbrev pub mark_text : Style → Finding → List ℕ
 mark_text Plain finding = []
 mark_text Tap Differs = codes "not ok - line "

@@ -32,7 +32,7 @@ first_words view = do
   words ← payload_left header.1
   Some (raw_with header.0 words)
 
--- what stands behind the agent and the word: H W.., or nothing
+-- what follows the agent and the word: H W.., or nothing
 unfoldable pub seen_behind : SeenForm → ℕ → ItemsView → Option Shown
 seen_behind form.Reply a view = do
   message ← first_words view

@@ -21,16 +21,16 @@ pub enum CheckError {
     Board(u32),
     /// The board breaks this rule.
     Plan(u8),
-    /// This line of the record is no line of one there, or is a command that has no answer.
+    /// This line is not a valid line of a record there, or is a command that has no answer.
     Record(u32),
-    /// Memory was refused.
+    /// Out of memory.
     Memory,
     /// The output failed.
     Write,
 }
 
 impl CheckError {
-    /// The exit status: 1 for a failed output, 2 for a refused input, 4 where memory was refused.
+    /// The exit status: 1 for a failed output, 2 for a rejected input, 4 for out of memory.
     pub fn status(&self) -> u8
         ensures { result ≡ status_of self.now }
     {

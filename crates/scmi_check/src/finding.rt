@@ -9,7 +9,7 @@ use scmi_judge::{Entry, Verdict, is_same_header};
 /// What is found of an entry, by the verdict on it.
 #[derive(Clone, Copy, PartialEq, Eq, Debug)]
 pub enum Finding {
-    /// The entry is what the definitions say.
+    /// The entry is what the definitions require.
     Same,
     /// The entry is another reply, by a rule that is the profile's own.
     Own(OwnRule),
@@ -30,7 +30,7 @@ impl Finding {
     }
 }
 
-/// The same where this reply was due, and another answer was seen.
+/// The same if this reply was due, and another answer was seen.
 fn answer_finding(entry: &Entry, due: &Message) -> Finding
     ensures { result ≡ answer_finding entry.now due.now }
 {
@@ -44,7 +44,7 @@ fn answer_finding(entry: &Entry, due: &Message) -> Finding
     }
 }
 
-/// The same where another reply to a command was seen than was due.
+/// The same if another reply to a command was seen than was due.
 fn reply_finding(command: &Message, due: &Message, seen: &Message) -> Finding
     ensures { result ≡ reply_finding command.now due.now seen.now }
 {

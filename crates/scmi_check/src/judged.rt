@@ -15,7 +15,7 @@ use scmi_judge::{Entry, Judge, Verdict};
 use scmi_plan::Plan;
 use std::alloc::Global;
 
-/// An entry of a record at its line, with what the definitions say of it.
+/// An entry of a record at its line, with the definitions' verdict on it.
 #[derive(PartialEq, Eq, Debug, Drop)]
 pub struct Judged {
     pub line: u32,
@@ -32,9 +32,9 @@ impl Judged {
     }
 }
 
-/// Judges the entries of a record of a platform of a board, in order, each after what those before it
-/// stand for, also after a difference. As many are the same as there are if and only if the record has a
-/// legal history. `Memory` is the only refusal.
+/// Judges the entries of a record of a platform of a board, in order, each after what those before
+/// it encode, also after a difference. All are the same if and only if the record has a legal
+/// history. `Memory` is the only error.
 pub fn judge_all(alloc: Global, plan: Plan, placed: &[Placed]) -> Result<Vec<Judged>, CoreError>
     ensures judged { IfOk result (λ judged. judged.items ≡ judged_of plan placed.now) }
     ensures history { IfOk result (λ judged. All (λ one. one.verdict ≡ Same) judged.items

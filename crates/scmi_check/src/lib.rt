@@ -1,9 +1,10 @@
 //! Records of what went over another platform's channels, checked against the definitions of SCMI.
 //!
-//! The main type is `Judged`, an entry of a record with the verdict on it. The main theorems are the
-//! contracts of `read_record`, which gives exactly the entries that a text stands for, and of
-//! `run_check`: where the status is 0, what was written is a line for each entry, whose verdicts are the
-//! definitions', and no entry differs. All are the same if and only if the record has a legal history.
+//! The main type is `Judged`, an entry of a record with the verdict on it. The main theorems are
+//! the contracts of `read_record`, which gives exactly the entries that a text encodes, and of
+//! `run_check`: if the status is 0, what was written is a line for each entry, whose verdicts are
+//! the definitions', and no entry differs. All are the same if and only if the record has a legal
+//! history.
 #![tactic(auto)]
 
 mod check;

@@ -6,7 +6,7 @@ ghost use Rattle.scmi_check.specs.Own.{is_by, own_rule, rule_name};
 use crate::own_test::is_by;
 use scmi_codec::{Command, Status};
 
-/// A rule of the profile's own (own), where another platform may answer otherwise.
+/// A rule of the profile's own (own), by which another platform may answer otherwise.
 #[derive(Clone, Copy, PartialEq, Eq, Debug)]
 pub enum OwnRule {
     /// An id that is not there is NOT_FOUND, and here it was INVALID_PARAMETERS.
@@ -25,7 +25,7 @@ pub enum OwnRule {
     BoardName,
 }
 
-/// The rules, in the order in which they are looked at.
+/// The rules, in the order in which they are tried.
 pub const OWN_RULES: [OwnRule; 7] = [
     OwnRule::UnknownId,
     OwnRule::ReservedFlags,
@@ -53,8 +53,8 @@ impl OwnRule {
     }
 }
 
-/// The first rule of the profile's own by which the payload of a reply differs from the one that is due,
-/// where the command was read so.
+/// The first rule of the profile's own by which the payload of a reply differs from the one that is
+/// due, if the command was read so.
 #[tactic(auto, unfolding(crate::specs::Own::own_rule))]
 pub(crate) fn own_rule(
     command: &Result<Command, Status>,

@@ -65,7 +65,7 @@ fn is_nothing_given(payload: &[u32]) -> bool
     }
 }
 
-/// Whether an error is due, and the same is seen with words behind it.
+/// Whether an error is due, and the same is seen with words after it.
 fn is_longer_error(due: &[u32], seen: &[u32]) -> bool
     ensures { result ≡ is_longer_error due.now seen.now }
 {

@@ -9,7 +9,7 @@ use scmi_text::write_message_text;
 use std::io;
 use std::io::Write;
 
-/// Writes what was due and what was seen, where they are not the same.
+/// Writes what was due and what was seen, if they are not the same.
 pub(crate) fn write_reasons<W: Write>(
     writer: &mut W,
     entry: &Entry,

@@ -57,7 +57,7 @@ fn write_line<W: Write>(writer: &mut W, style: Style, one: &Judged) -> io::Resul
     writeln!(writer)
 }
 
-/// Writes what was found, with the rule where it is one of the profile's own.
+/// Writes what was found, with the rule if it is one of the profile's own.
 fn write_finding<W: Write>(writer: &mut W, finding: Finding) -> io::Result<()>
     ensures { OnOk result (Appends (W.contents writer.old) (W.contents writer.new)
         (finding_text finding)) }
@@ -69,7 +69,7 @@ fn write_finding<W: Write>(writer: &mut W, finding: Finding) -> io::Result<()>
     }
 }
 
-/// What stands before the number of the line.
+/// What is written before the number of the line.
 fn mark(style: Style, finding: Finding) -> &'static str
     ensures { result.now ≡ mark_text style finding }
 {

@@ -11,14 +11,14 @@ use crate::style::Style;
 use std::alloc::Global;
 use std::io::{Read, Write};
 
-/// The exit status where an entry differs.
+/// The exit status if an entry differs.
 pub const DIFFERS: u8 = 5;
 
-/// Checks a record of a platform of a board, and gives the exit status: 0 where no entry differs but by
-/// rules of the profile's own, `DIFFERS` where one does, else that of the error, whose text is written as
-/// the last line. A fault that can't be written gives status 1.
+/// Checks a record of a platform of a board, and gives the exit status: 0 if no entry differs
+/// except by rules of the profile's own, `DIFFERS` if one does, else that of the error, whose text
+/// is written as the last line. A fault that can't be written gives status 1.
 ///
-/// The board's text is that from its line `board` to its line `end`; what stands behind is not looked at.
+/// The board's text is that from its line `board` to its line `end`; what follows is ignored.
 pub fn run_check<B: Read, R: Read, W: Write>(
     alloc: Global,
     board: &mut B,

@@ -23,7 +23,7 @@ macro_rules! rows {
     };
 }
 
-/// The words behind the agent's number in such lines.
+/// The words after the agent's number in such lines.
 pub(crate) const SEEN_FORMS: [HeldRow<SeenForm>; 4] = rows![
     b"reply" Reply;
     b"released" Released;
@@ -41,7 +41,7 @@ pub(crate) fn read_seen(items: &mut Items<'_>, agents: u32) -> Result<Shown, Lin
     read_seen_of(form, agent, items)
 }
 
-/// What stands behind the word.
+/// What follows the word.
 #[tactic(auto, unfolding(crate::specs::Shown::seen_behind))]
 fn read_seen_of(form: SeenForm, agent: u32, items: &mut Items<'_>) -> Result<Shown, LineError>
     ensures { Gives (λ shown. shown) result (seen_behind form agent (items_left items.old)) }

@@ -22,8 +22,8 @@ pub(crate) enum Shown {
     Took { agent: u32, message: Message },
 }
 
-/// What a line shows: a command, as a line of a script has it, or else what an agent got, as a line of a
-/// run's output has it. `Form` where it is neither.
+/// What a line shows: a command, as a line of a script has it, or else what an agent got, as a line
+/// of a run's output has it. `Form` if it is neither.
 #[tactic(auto, unfolding(crate::specs::Shown::shown_at))]
 pub(crate) fn read_shown(alloc: Global, text: &[u8], agents: u32) -> Result<Shown, LineError>
     ensures { GivesUnless (λ shown. shown) result (shown_at agents text.now) }

@@ -45,7 +45,7 @@ impl SoFar {
         }
     }
 
-    /// What the line of this number shows. `Form` where it can't follow what is shown.
+    /// What the line of this number shows. `Form` if it can't follow what is shown.
     #[tactic(auto, unfolding(crate::specs::RecordText::with_shown))]
     pub fn add(&mut self, line: u32, shown: Shown) -> Result<(), LineError>
         ensures { GivesUnless (λ _. shows_of self.new) result
@@ -94,7 +94,7 @@ impl SoFar {
         self.post(line, agent, Frame::Good(Message { header, payload }))
     }
 
-    /// The next token of an agent. `Form` where no board has the agent.
+    /// The next token of an agent. `Form` if no board has the agent.
     #[tactic(auto, unfolding(crate::specs::RecordText::token_taken))]
     fn take_token(&mut self, agent: u32) -> Result<u16, LineError>
         ensures fits { IfOk result (λ token. token < TOKENS) }
@@ -110,7 +110,7 @@ impl SoFar {
         Ok(token)
     }
 
-    /// A command. `Form` where another waits for its answer.
+    /// A command. `Form` if another waits for its answer.
     #[tactic(auto, unfolding(crate::specs::RecordText::with_posted))]
     fn post(&mut self, line: u32, agent: u32, frame: Frame) -> Result<(), LineError>
         ensures { GivesUnless (λ _. shows_of self.new) result
@@ -123,7 +123,7 @@ impl SoFar {
         Ok(())
     }
 
-    /// The answer to the command that waits. `Form` where none of the agent does.
+    /// The answer to the command that waits. `Form` if no command of the agent waits.
     #[tactic(auto, unfolding(crate::specs::RecordText::with_answer))]
     fn answer(&mut self, line: u32, agent: u32, answer: Answer) -> Result<(), LineError>
         ensures { GivesUnless (λ _. shows_of self.new) result

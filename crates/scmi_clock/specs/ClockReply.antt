@@ -61,7 +61,7 @@ rates_words channel (rates.List list) index =
     rates_word (left - count) count ∷ flat_map rate_words (take count (drop index list))
 rates_words channel (rates.Steps low high step) index = triplet_word ∷ flat_map rate_words (low ∷ high ∷ step ∷ [])
 
--- the most pending sets that an agent is told of: none where the platform can't send to it (own)
+-- the most pending sets that an agent learns of: none where the platform can't send to it (own)
 abbrev pub pending_announced : AgentChannel → ℕ
 pending_announced channel = if channel.one_way then 0 else PENDING_SETS
 

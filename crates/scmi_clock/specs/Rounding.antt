@@ -25,7 +25,7 @@ pub record IsNearest (rates : Rates) (asked rate : ℕ) : Type 0 where
   pub closest : (r : ℕ) → IsSupported rates r → abs_diff asked rate ≤ abs_diff asked r
   pub lower_of_two : (r : ℕ) → IsSupported rates r → abs_diff asked r ≡ abs_diff asked rate → rate ≤ r
 
--- the rate that a rounding stands for
+-- the rate that a rounding gives
 abbrev pub IsRounded : Rounding → Rates → ℕ → ℕ → Type 0
 IsRounded rounding.Down rates asked rate = IsRoundedDown rates asked rate
 IsRounded rounding.Up rates asked rate = IsRoundedUp rates asked rate
@@ -55,7 +55,7 @@ nearer asked (Some below) (Some above) = if nat_le (asked - below) (above - aske
 abbrev pub rate_nearest : Rates → ℕ → Option ℕ
 rate_nearest rates asked = nearer asked (rate_below rates asked) (rate_above rates asked)
 
--- the rate that a rounding stands for, computed
+-- the rate that a rounding gives, computed
 abbrev pub round_to : Rounding → Rates → ℕ → Option ℕ
 round_to rounding.Down rates asked = rate_below rates asked
 round_to rounding.Up rates asked = rate_above rates asked

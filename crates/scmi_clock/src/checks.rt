@@ -58,8 +58,8 @@ pub(crate) fn check_set(
     Ok(set)
 }
 
-/// What flags and a rate ask for; INVALID_PARAMETERS for unknown flags, and where no supported rate
-/// lies in the asked direction.
+/// What flags and a rate ask for; INVALID_PARAMETERS for unknown flags, and if no supported rate
+/// lies in the requested direction.
 #[inline(always)]
 fn rounded_set(rates: &Rates, flags: u32, rate: u64) -> Result<RateSet, Status>
     requires { HasLawfulRates rates.now }
@@ -80,7 +80,7 @@ fn rounded_set(rates: &Rates, flags: u32, rate: u64) -> Result<RateSet, Status>
     })
 }
 
-/// The checks of 0x7 (DEN0056B, clock management protocol): clock, attributes, permission. Answers
+/// The checks of 0x7 (DEN0056B, clock management protocol): clock, attributes, permission. Returns
 /// whether the clock is to be enabled.
 pub(crate) fn check_config(
     plan: &Plan,
@@ -104,7 +104,7 @@ pub(crate) fn check_config(
     Ok(enable)
 }
 
-/// NOT_FOUND where the board has no such clock.
+/// NOT_FOUND if the board has no such clock.
 pub(crate) fn check_clock(plan: &Plan, clock: u32) -> Result<(), Status>
     ensures first { result ≡ (if no_clock plan.now clock then Err NotFound else Ok tt) }
     ensures clock { IfOk result (λ u. (clock < length plan.now.clocks) × (clock < CLOCKS)) }
@@ -115,7 +115,7 @@ pub(crate) fn check_clock(plan: &Plan, clock: u32) -> Result<(), Status>
     Ok(())
 }
 
-/// OUT_OF_RANGE where an index is past the end of a list of rates.
+/// OUT_OF_RANGE if an index is past the end of a list of rates.
 pub(crate) fn check_index(rates: &Rates, index: u32) -> Result<(), Status>
     ensures { result ≡ (if past_end rates.now index then Err OutOfRange else Ok tt) }
 {
@@ -125,7 +125,8 @@ pub(crate) fn check_index(rates: &Rates, index: u32) -> Result<(), Status>
     }
 }
 
-/// NOT_SUPPORTED where the platform could not tell the caller how an asynchronous set ended (own).
+/// NOT_SUPPORTED if the platform could not notify the caller of the result of an asynchronous set
+/// (own).
 fn check_answerable(plan: &Plan, caller: u32, asynchronous: bool) -> Result<(), Status>
     requires first { 1 ≤ caller }
     requires last { caller ≤ length plan.now.agents }
@@ -138,7 +139,7 @@ fn check_answerable(plan: &Plan, caller: u32, asynchronous: bool) -> Result<(), 
     Ok(())
 }
 
-/// DENIED where the caller may not change the clock.
+/// DENIED if the caller may not change the clock.
 fn check_permitted(plan: &Plan, base: &BaseState, caller: u32, clock: u32) -> Result<(), Status>
     requires first { 1 ≤ caller }
     requires last { caller ≤ length plan.now.agents }
@@ -151,7 +152,7 @@ fn check_permitted(plan: &Plan, base: &BaseState, caller: u32, clock: u32) -> Re
     Ok(())
 }
 
-/// BUSY where the clock has a pending set, or where an asynchronous set has no room.
+/// BUSY if the clock has a pending set, or if an asynchronous set has no room.
 fn check_pending(load: Load, clock: u32, asynchronous: bool) -> Result<(), Status>
     requires { clock < CLOCKS }
     ensures { result

@@ -88,11 +88,11 @@ impl ClockState {
     /// Executes a command of a caller, writes the reply, and names the set that it accepted for
     /// later: clock, rate in Hz, and whether a delayed response is wanted. The reply begins with a
     /// status: NOT_FOUND for an unknown clock or message id; then OUT_OF_RANGE for an index past a
-    /// list of rates, INVALID_PARAMETERS for unknown flags or attributes or where no rate lies in
-    /// the asked direction; then NOT_SUPPORTED for an asynchronous set of a caller that the platform
-    /// can't send to (own); then DENIED where the caller may not change the clock; then BUSY for a
-    /// set while the clock has a pending one, or for an asynchronous set that has no room. A set
-    /// rounds its rate to a supported one. A synchronous set and a configuration take effect at
+    /// list of rates, INVALID_PARAMETERS for unknown flags or attributes or if no rate lies in the
+    /// requested direction; then NOT_SUPPORTED for an asynchronous set of a caller that the
+    /// platform can't send to (own); then DENIED if the caller may not change the clock; then BUSY
+    /// for a set while the clock has a pending one, or for an asynchronous set that has no room. A
+    /// set rounds its rate to a supported one. A synchronous set and a configuration take effect at
     /// once; an asynchronous set changes nothing. A command that is refused changes nothing.
     #[tactic(auto, unfolding(crate::specs::ClockReply::clock_reply))]
     pub fn execute(
@@ -140,7 +140,7 @@ impl ClockState {
     }
 
     /// The clock and rate in Hz that a command of a caller sets at once, as `execute` does; `None`
-    /// where it sets none, or is refused.
+    /// if it sets none, or is refused.
     #[tactic(auto, unfolding(crate::specs::ClockReply::clock_reply))]
     pub fn rate_change_of(
         &self,
@@ -167,7 +167,7 @@ impl ClockState {
         }
     }
 
-    /// The clock and enabled bit that a command of a caller sets, as `execute` does; `None` where it
+    /// The clock and enabled bit that a command of a caller sets, as `execute` does; `None` if it
     /// sets none, or is refused.
     #[tactic(auto, unfolding(crate::specs::ClockReply::clock_reply))]
     pub fn enabled_change_of(

@@ -6,20 +6,21 @@ ghost use Rattle.scmi_clock.specs.Rounding.{IsRounded, HasNoRate, rate_below, ra
 
 use scmi_plan::Rates;
 
-/// Which supported rate stands for one that is asked for (DEN0056B, clock management protocol).
+/// Which supported rate is chosen for a requested one (DEN0056B, clock management protocol).
 #[derive(Clone, Copy, PartialEq, Eq, Debug)]
 pub enum Rounding {
-    /// The greatest rate that is at most the asked one.
+    /// The greatest rate that is at most the requested one.
     Down,
-    /// The least rate that is at least the asked one.
+    /// The least rate that is at least the requested one.
     Up,
-    /// The rate that is closest to the asked one, and of two that are equally close the lower (own).
+    /// The rate that is closest to the requested one, and of two that are equally close the lower
+    /// (own).
     Nearest,
 }
 
-/// The supported rate in Hz that stands for an asked one, from 0 to 2^64 - 1 Hz. `None` where every
-/// supported rate is above it, rounding down, or below it, rounding up; a nearest rate there always
-/// is.
+/// The supported rate in Hz that is chosen for a requested one, from 0 to 2^64 - 1 Hz. `None` if
+/// every supported rate is above it, rounding down, or below it, rounding up; there is always a
+/// nearest rate.
 #[tactic(auto, using(crate::proofs::Rounds::rounded_is, crate::proofs::Rounds::rounded_none))]
 #[inline(always)]
 pub fn round(rates: &Rates, asked: u64, rounding: Rounding) -> Option<u64>
@@ -68,7 +69,7 @@ fn nearest(rates: &Rates, asked: u64) -> Option<u64>
     }
 }
 
-/// The nearer of a rate at most the asked one and of one at least it, the lower on a tie (own).
+/// The nearer of a rate at most the requested one and of one at least it, the lower on a tie (own).
 fn nearer(asked: u64, down: u64, up: u64) -> u64
     requires down { down ≤ asked }
     requires up { asked ≤ up }

@@ -16,7 +16,7 @@ pub(crate) struct SetFlags {
 }
 
 impl SetFlags {
-    /// What a word of flags asks for; INVALID_PARAMETERS where any of bits 31 to 4 is set (own).
+    /// What a word of flags asks for; INVALID_PARAMETERS if any of bits 31 to 4 is set (own).
     pub(crate) fn read(word: u32) -> Result<SetFlags, Status>
         ensures { result ≡ set_flags word }
     {

@@ -9,7 +9,7 @@ use Rattle.scmi_codec.specs.declared.frame.Frame.TheVariants.{Good, Malformed}
 use Rattle.scmi_codec.specs.declared.frame.Answer.{Answer}
 use Rattle.scmi_codec.specs.declared.frame.Answer.TheVariants.{Reply, Released, ChannelError}
 
--- whether a length in bytes is 4 + 4k, k from 0 to so many words (own)
+-- whether a length in bytes is 4 + 4k, k from 0 to this many words (own)
 abbrev pub is_well_formed_within : ℕ → ℕ → Bool
 is_well_formed_within words n = nat_le 4 n && (nat_le n (4 + 4 * words) && (n % 4 == 0))
 
@@ -21,7 +21,7 @@ is_well_formed n = is_well_formed_within PAYLOAD_WORDS n
 abbrev pub status_at : List ℕ → ℕ
 status_at area = word_at 0x04 area
 
--- the length of header and payload in bytes, as it stands in an area
+-- the length of header and payload in bytes, as it is in an area
 abbrev pub length_at : List ℕ → ℕ
 length_at area = word_at 0x14 area
 
@@ -29,7 +29,7 @@ length_at area = word_at 0x14 area
 abbrev pub header_at : List ℕ → ℕ
 header_at area = word_at 0x18 area
 
--- the frame that an area of so many payload words stands for
+-- the frame that an area of this many payload words encodes
 abbrev pub frame_within : ℕ → List ℕ → Frame
 frame_within words area =
     if is_well_formed_within words (length_at area)
@@ -39,7 +39,7 @@ frame_within words area =
     })
     else Malformed (length_at area) (header_at area)
 
--- the frame that an area stands for
+-- the frame that an area encodes
 abbrev pub frame_of : List ℕ → Frame
 frame_of area = frame_within PAYLOAD_WORDS area
 
@@ -47,7 +47,7 @@ frame_of area = frame_within PAYLOAD_WORDS area
 abbrev pub message_of : ℕ → List ℕ → Message
 message_of word words = record { header = header_of word; payload = record { items = words } }
 
--- what a callee finds in an area of so many payload words: nothing while the channel is free
+-- what a callee finds in an area of this many payload words: nothing while the channel is free
 abbrev pub waiting_within : ℕ → List ℕ → Option Frame
 waiting_within words area = if status_at area % 2 == 1 then None else Some (frame_within words area)
 
@@ -55,22 +55,22 @@ waiting_within words area = if status_at area % 2 == 1 then None else Some (fram
 abbrev pub frame_waiting : List ℕ → Option Frame
 frame_waiting area = waiting_within PAYLOAD_WORDS area
 
--- an area of so many payload words stands for a status and a frame
+-- an area of this many payload words encodes a status and a frame
 pub record StandsWithin (words : ℕ) (area : List ℕ) (s : ℕ) (f : Frame) : Type 0 where
   pub status : status_at area ≡ s
   pub frame : frame_within words area ≡ f
 
--- an area stands for a status and a frame
+-- an area encodes a status and a frame
 abbrev pub StandsFor : List ℕ → ℕ → Frame → Type 0
 StandsFor area s f = StandsWithin PAYLOAD_WORDS area s f
 
--- an area of so many payload words stands for an answer to a frame
+-- an area of this many payload words encodes an answer to a frame
 abbrev pub StandsForAnswerWithin : ℕ → List ℕ → Frame → Answer → Type 0
 StandsForAnswerWithin words area frame (Reply m) = StandsWithin words area 1 (Good m)
 StandsForAnswerWithin words area frame Released = StandsWithin words area 1 frame
 StandsForAnswerWithin words area frame ChannelError = StandsWithin words area 3 frame
 
--- an area stands for an answer to a frame
+-- an area encodes an answer to a frame
 abbrev pub StandsForAnswer : List ℕ → Frame → Answer → Type 0
 StandsForAnswer area frame answer = StandsForAnswerWithin PAYLOAD_WORDS area frame answer
 

@@ -9,15 +9,15 @@ use Rattle.scmi_codec.specs.declared.frame.Frame.{Frame}
 use Rattle.scmi_codec.specs.declared.frame.Answer.{Answer}
 use Rattle.scmi_codec.specs.declared.frame.Answer.TheVariants.{Reply, Released, ChannelError}
 
--- the bytes of an area of so many payload words
+-- the bytes of an area of this many payload words
 abbrev pub channel_bytes : ℕ → ℕ
 channel_bytes words = 0x1C + 4 * words
 
--- whether a channel's area may have so many bytes: 28 + 4k, k from the least to the most words of a payload
+-- whether a channel's area may have this many bytes: 28 + 4k, k from the least to the most words of a payload
 abbrev pub is_channel_size : ℕ → Bool
 is_channel_size n = nat_le (channel_bytes LEAST_PAYLOAD_WORDS) n && (nat_le n (channel_bytes PAYLOAD_WORDS) && (n % 4 == 0))
 
--- how many payload words an area of so many bytes has
+-- how many payload words an area of this many bytes has
 abbrev pub channel_words : ℕ → ℕ
 channel_words bytes = (bytes - 0x1C) / 4
 
@@ -25,7 +25,7 @@ channel_words bytes = (bytes - 0x1C) / 4
 abbrev pub capacity : List ℕ → ℕ
 capacity area = channel_words (length area)
 
--- the frame that a channel's area stands for
+-- the frame that a channel's area encodes
 abbrev pub channel_frame : List ℕ → Frame
 channel_frame area = frame_within (capacity area) area
 
@@ -39,7 +39,7 @@ answer_words (Reply m) = length m.payload.items
 answer_words Released = 0
 answer_words ChannelError = 0
 
--- whether so many payload words may be written into an area, and why not
+-- whether this many payload words may be written into an area, and why not
 abbrev pub room_for : ℕ → List ℕ → Result ⊤ ChannelAreaError
 room_for words area =
     if is_channel_size (length area) then (if nat_le words (capacity area) then Ok tt else Err TooLong) else Err WrongSize

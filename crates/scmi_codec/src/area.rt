@@ -34,8 +34,8 @@ pub fn is_well_formed(length: u32) -> bool
     is_well_formed_within(length, PAYLOAD_WORDS)
 }
 
-/// The frame that a caller has posted, or `None` for a free channel: of the status word, bit 0 alone
-/// decides (own). `WrongSize` where there are not `AREA_BYTES` bytes.
+/// The frame that a caller has posted, or `None` for a free channel: of the status word, bit 0
+/// alone decides (own). `WrongSize` if there are not `AREA_BYTES` bytes.
 pub fn read_area(area: &[u8]) -> Result<Option<Frame>, AreaError>
     ensures ok { length area.now ≡ AREA_BYTES → result ≡ Ok (frame_waiting area.now) }
     ensures wrong_size { length area.now ≢ AREA_BYTES → result ≡ Err AreaError.WrongSize }
@@ -48,8 +48,8 @@ pub fn read_area(area: &[u8]) -> Result<Option<Frame>, AreaError>
     }
 }
 
-/// Reads the frame that a caller has posted, as `read_area`, into `frame`, and says whether there is
-/// one. Only the words that are there are written.
+/// Reads the frame that a caller has posted, as `read_area`, into `frame`, and returns whether
+/// there is one. Only the words that are there are written.
 pub fn read_area_into(area: &[u8], frame: &mut Frame) -> Result<bool, AreaError>
     ensures ok { length area.now ≡ AREA_BYTES → result ≡ Ok (is_some (frame_waiting area.now)) }
     ensures frame { result ≡ Ok true → frame_waiting area.now ≡ Some frame.new }
@@ -63,7 +63,7 @@ pub fn read_area_into(area: &[u8], frame: &mut Frame) -> Result<bool, AreaError>
     Ok(true)
 }
 
-/// Whether a channel is free, as `read_area` says it.
+/// Whether a channel is free, as `read_area` reports it.
 pub fn is_free(area: &[u8]) -> Result<bool, AreaError>
     ensures ok { length area.now ≡ AREA_BYTES → result ≡ Ok (is_none (frame_waiting area.now)) }
     ensures wrong_size { length area.now ≢ AREA_BYTES → result ≡ Err AreaError.WrongSize }
@@ -87,7 +87,7 @@ fn check_size(area: &[u8]) -> Result<(), AreaError>
 
 /// Writes the callee's answer over the message, and marks the channel free. A response writes the
 /// status word 1, its length, header and payload words; `Released` writes status word 1 alone, and
-/// `ChannelError` status word 3 alone; every other byte stays (own). `WrongSize` where there are not
+/// `ChannelError` status word 3 alone; every other byte stays (own). `WrongSize` if there are not
 /// `AREA_BYTES` bytes, and then nothing is written.
 pub fn write_answer(area: &mut [u8], answer: &Answer) -> Result<(), AreaError>
     ensures size { IsOk result ↔ (length area.old ≡ AREA_BYTES) }
@@ -103,7 +103,7 @@ pub fn write_answer(area: &mut [u8], answer: &Answer) -> Result<(), AreaError>
     Ok(())
 }
 
-/// Writes a response, as `write_answer` writes a reply, from where it stands.
+/// Writes a response, as `write_answer` writes a reply, from a message by reference.
 pub fn write_reply(area: &mut [u8], message: &Message) -> Result<(), AreaError>
     ensures size { IsOk result ↔ (length area.old ≡ AREA_BYTES) }
     ensures written { OnOk result (area.new ≡ area_after_answer (Reply message.now) area.old) }
@@ -120,7 +120,7 @@ pub fn write_reply(area: &mut [u8], message: &Message) -> Result<(), AreaError>
     Ok(())
 }
 
-/// Writes a response to the message that stands in an area, as `write_reply` writes one of that
+/// Writes a response to the message that is in an area, as `write_reply` writes one of that
 /// message's header: the header word stays as it is.
 pub fn write_response(area: &mut [u8], payload: &Payload) -> Result<(), AreaError>
     ensures size { IsOk result ↔ (length area.old ≡ AREA_BYTES) }
@@ -140,8 +140,8 @@ pub fn write_response(area: &mut [u8], payload: &Payload) -> Result<(), AreaErro
 }
 
 /// Writes a message as a caller posts it: its length, header and payload words, and last the status
-/// word 0, so that the channel is no longer free; every other byte stays (own). `WrongSize` where there
-/// are not `AREA_BYTES` bytes, and then nothing is written.
+/// word 0, so that the channel is no longer free; every other byte stays (own). `WrongSize` if
+/// there are not `AREA_BYTES` bytes, and then nothing is written.
 pub fn write_message(area: &mut [u8], message: &Message) -> Result<(), AreaError>
     ensures size { IsOk result ↔ (length area.old ≡ AREA_BYTES) }
     ensures written { OnOk result (area.new ≡ area_after_post message.now area.old) }

@@ -1,4 +1,4 @@
-//! Reading what stands in an area, whatever its size.
+//! Reading what is in an area, whatever its size.
 ghost use Rattle.std.specs.Prelude.{◌≡◌, ◌==◌, ◌%◌, ◌+◌, ◌*◌, ◌≤◌, length};
 ghost use Rattle.scmi_codec.specs.Header.{header_of};
 ghost use Rattle.scmi_codec.specs.Word.{words_at};
@@ -33,7 +33,7 @@ pub(crate) fn is_marked_free(area: &[u8]) -> bool
     status.contains(ChannelStatus::FREE)
 }
 
-/// Reads the frame that stands in an area of so many payload words, whatever its status word, into
+/// Reads the frame that is in an area of this many payload words, whatever its status word, into
 /// `frame`.
 pub(crate) fn read_frame(area: &[u8], words: usize, frame: &mut Frame)
     requires few { words ≤ PAYLOAD_WORDS }
@@ -53,7 +53,7 @@ pub(crate) fn read_frame(area: &[u8], words: usize, frame: &mut Frame)
     }
 }
 
-/// Reads a message as `read_message` into a frame that holds none.
+/// Reads a message as `read_message` into a frame that holds no message.
 #[inline(never)]
 fn read_anew(area: &[u8], header: u32, count: usize, frame: &mut Frame)
     requires few { count ≤ PAYLOAD_WORDS }
@@ -65,7 +65,7 @@ fn read_anew(area: &[u8], header: u32, count: usize, frame: &mut Frame)
     *frame = Frame::Good(message);
 }
 
-/// Reads a message of this header word and so many payload words of an area into `message`.
+/// Reads a message of this header word and this many payload words of an area into `message`.
 #[inline(always)]
 fn read_message(area: &[u8], header: u32, count: usize, message: &mut Message)
     requires few { count ≤ PAYLOAD_WORDS }

@@ -1,4 +1,4 @@
-//! Writing over what stands in an area, whatever its size.
+//! Writing over what is in an area, whatever its size.
 ghost use Rattle.std.specs.Prelude.{◌≡◌, ◌+◌, ◌*◌, ◌^◌, ◌<◌, ◌≤◌, ℕ, length, slice_index};
 ghost use Rattle.std.specs.List.{AllByRecursion};
 ghost use Rattle.scmi_codec.specs.Word.{put_word, put_words};
@@ -16,7 +16,7 @@ use crate::word::{read_word, write_word};
 use arrayvec::ArrayVec;
 use bitflags::Flags;
 
-/// Writes an answer over the message that stands in an area.
+/// Writes an answer over the message that is in an area.
 pub(crate) fn put_answer(area: &mut [u8], answer: &Answer)
     requires room { answer_words answer.now ≤ PAYLOAD_WORDS
         → 0x1C + 4 * answer_words answer.now ≤ length area.old }
@@ -37,7 +37,7 @@ pub(crate) fn put_answer(area: &mut [u8], answer: &Answer)
     }
 }
 
-/// Writes a response to the message that stands in an area, whose header word stays as it is.
+/// Writes a response to the message that is in an area, whose header word stays as it is.
 pub(crate) fn put_response(area: &mut [u8], words: &[u32])
     requires few { length words.now ≤ PAYLOAD_WORDS }
     requires room { 0x1C + 4 * length words.now ≤ length area.old }
@@ -53,8 +53,8 @@ pub(crate) fn put_response(area: &mut [u8], words: &[u32])
     write_parts(area, header, words, ChannelStatus::FREE.bits());
 }
 
-/// Writes a message, and then the status word. That a payload has at most `PAYLOAD_WORDS` words need
-/// not be known where this is called.
+/// Writes a message, and then the status word. That a payload has at most `PAYLOAD_WORDS` words
+/// need not be known when this is called.
 pub(crate) fn put_message(area: &mut [u8], message: &Message, status: u32)
     requires room { length message.now.payload.items ≤ PAYLOAD_WORDS
         → 0x1C + 4 * length message.now.payload.items ≤ length area.old }

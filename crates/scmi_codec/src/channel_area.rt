@@ -31,7 +31,7 @@ pub enum ChannelAreaError {
     TooLong = 2,
 }
 
-/// Whether a channel's area may have so many bytes: 28 + 4k with k from `LEAST_PAYLOAD_WORDS` to
+/// Whether a channel's area may have this many bytes: 28 + 4k with k from `LEAST_PAYLOAD_WORDS` to
 /// `PAYLOAD_WORDS` (own).
 pub fn is_channel_size(bytes: usize) -> bool
     ensures { result ≡ is_channel_size bytes }
@@ -39,7 +39,7 @@ pub fn is_channel_size(bytes: usize) -> bool
     bytes >= LEAST_AREA_BYTES && bytes <= AREA_BYTES && bytes % 4 == 0
 }
 
-/// The size in bytes of an area of so many payload words.
+/// The size in bytes of an area of this many payload words.
 pub fn channel_bytes(words: usize) -> usize
     requires few { words ≤ PAYLOAD_WORDS }
     ensures { result ≡ channel_bytes words }
@@ -47,7 +47,7 @@ pub fn channel_bytes(words: usize) -> usize
     PAYLOAD_AT + 4 * words
 }
 
-/// How many payload words an area of so many bytes has.
+/// How many payload words an area of this many bytes has.
 pub fn channel_words(bytes: usize) -> usize
     requires size { is_channel_size bytes ≡ true }
     ensures words { result ≡ channel_words bytes }
@@ -59,7 +59,7 @@ pub fn channel_words(bytes: usize) -> usize
 
 /// The frame that a caller has posted into an area of its channel's size, or `None` for a free
 /// channel: as `read_area`, but a length of more than the area's words is not well formed.
-/// `WrongSize` where the number of bytes is no channel's.
+/// `WrongSize` if the number of bytes is not a channel's.
 pub fn read_channel_area(area: &[u8]) -> Result<Option<Frame>, ChannelAreaError>
     ensures ok { is_channel_size (length area.now) ≡ true → result ≡ Ok (channel_waiting area.now) }
     ensures wrong_size { is_channel_size (length area.now) ≡ false
@@ -73,8 +73,8 @@ pub fn read_channel_area(area: &[u8]) -> Result<Option<Frame>, ChannelAreaError>
     }
 }
 
-/// Reads the frame that a caller has posted, as `read_channel_area`, into `frame`, and says whether
-/// there is one. Only the words that are there are written.
+/// Reads the frame that a caller has posted, as `read_channel_area`, into `frame`, and returns
+/// whether there is one. Only the words that are there are written.
 pub fn read_channel_area_into(area: &[u8], frame: &mut Frame) -> Result<bool, ChannelAreaError>
     ensures ok { is_channel_size (length area.now) ≡ true
         → result ≡ Ok (is_some (channel_waiting area.now)) }
@@ -90,7 +90,7 @@ pub fn read_channel_area_into(area: &[u8], frame: &mut Frame) -> Result<bool, Ch
     Ok(true)
 }
 
-/// Whether a channel is free, as `read_channel_area` says it.
+/// Whether a channel is free, as `read_channel_area` reports it.
 pub fn is_channel_free(area: &[u8]) -> Result<bool, ChannelAreaError>
     ensures ok { is_channel_size (length area.now) ≡ true
         → result ≡ Ok (is_none (channel_waiting area.now)) }
@@ -102,8 +102,8 @@ pub fn is_channel_free(area: &[u8]) -> Result<bool, ChannelAreaError>
 }
 
 /// Writes the callee's answer over the message, and marks the channel free, as `write_answer` does
-/// in an area of the most words. `WrongSize` where the number of bytes is no channel's, `TooLong`
-/// where a response has more words than the area, and then nothing is written.
+/// in an area of the most words. `WrongSize` if the number of bytes is not a channel's, `TooLong`
+/// if a response has more words than the area, and then nothing is written.
 pub fn write_channel_answer(area: &mut [u8], answer: &Answer) -> Result<(), ChannelAreaError>
     ensures size { result ≡ room_for (answer_words answer.now) area.old }
     ensures written { OnOk result (area.new ≡ area_after_answer answer.now area.old) }
@@ -118,7 +118,7 @@ pub fn write_channel_answer(area: &mut [u8], answer: &Answer) -> Result<(), Chan
     Ok(())
 }
 
-/// Writes a response to the message that stands in an area, as `write_channel_answer` writes one of
+/// Writes a response to the message that is in an area, as `write_channel_answer` writes one of
 /// that message's header: the header word stays as it is.
 pub fn write_channel_response(area: &mut [u8], payload: &Payload) -> Result<(), ChannelAreaError>
     ensures size { result ≡ room_for (length payload.now.items) area.old }
@@ -138,7 +138,7 @@ pub fn write_channel_response(area: &mut [u8], payload: &Payload) -> Result<(), 
 }
 
 /// Writes a message as a caller posts it, as `write_message` does in an area of the most words.
-/// `WrongSize` where the number of bytes is no channel's, `TooLong` where the message has more words
+/// `WrongSize` if the number of bytes is not a channel's, `TooLong` if the message has more words
 /// than the area, and then nothing is written.
 pub fn write_channel_message(area: &mut [u8], message: &Message) -> Result<(), ChannelAreaError>
     ensures size { result ≡ room_for (length message.now.payload.items) area.old }

@@ -4,7 +4,7 @@ ghost use Rattle.scmi_codec.specs.Reply.{single_flag};
 
 use crate::status::Status;
 
-/// Whether bit 0 of a word of flags is set; INVALID_PARAMETERS where any other bit is (own).
+/// Whether bit 0 of a word of flags is set; INVALID_PARAMETERS if any other bit is (own).
 pub fn single_flag(flags: u32) -> Result<bool, Status>
     ensures { result ≡ single_flag flags }
 {

@@ -4,11 +4,11 @@ ghost use Rattle.scmi_codec.specs.declared.frame.Frame.TheVariants.{Malformed};
 
 use crate::message::Message;
 
-/// What stands in an area that is not free: a message, or a length that is not well formed.
+/// What is in an area that is not free: a message, or a length that is not well formed.
 #[derive(Clone, PartialEq, Eq, Debug, Drop)]
 pub enum Frame {
     Good(Message),
-    /// The length in bytes as it stands, and the header word.
+    /// The length in bytes as given, and the header word.
     Malformed { length: u32, header: u32 },
 }
 
@@ -50,8 +50,8 @@ impl Frame {
         }
     }
 
-    /// Becomes a frame whose length in bytes, as it stands, is not well formed. What it is made of
-    /// is none of the locals of the callers, which a function clears when it is entered.
+    /// Becomes a frame whose length in bytes, as given, is not well formed. What it is made
+    /// of is not a local of the callers, which a function clears when it is entered.
     #[inline(never)]
     pub fn set_malformed(&mut self, length: u32, header: u32)
         ensures { self.new ≡ Malformed length header }

@@ -4,7 +4,7 @@ ghost use Rattle.scmi_codec.specs.Header.{header_of, header_word};
 
 use std::marker::Model;
 
-/// How many tokens a header tells apart: 10 bits (DEN0056B, message header).
+/// How many tokens a header distinguishes: 10 bits (DEN0056B, message header).
 pub const TOKENS: u16 = 1024;
 
 /// The fields of a message header (DEN0056B, message header), each within its width in bits:
@@ -44,7 +44,7 @@ impl Model for Header {
     ghost inverse = { λ h. record { reserved = h.reserved; token = h.token; protocol = h.protocol; kind = h.kind; id = h.id } };
 }
 
-// What stands in a place that holds no message.
+// What a place without a message contains.
 impl Default for Header {
     fn default() -> Header {
         Header::unpack(0)

@@ -2,7 +2,7 @@
 //!
 //! The main types are `Message`, a header with its payload, and `Command`, what a message asks for.
 //! The main theorems are the contracts of `read_area`, `write_message` and `write_answer` (what the
-//! bytes of an area stand for, every other byte kept; `read_channel_area` and its kin are the same in
+//! bytes of an area encode, every other byte kept; `read_channel_area` and its kin are the same in
 //! an area of the size that a board gives a channel) and of `Command::read` and `pack` (each undoes
 //! the other).
 #![tactic(auto)]

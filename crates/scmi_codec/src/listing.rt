@@ -1,4 +1,4 @@
-//! What the table of messages says of one.
+//! What the table of messages contains about one.
 ghost use Rattle.std.specs.Prelude.{◌≡◌, ◌≤◌, map, IfSome};
 ghost use Rattle.std.specs.Option.{option_map, option_map_or, option_copied};
 ghost use Rattle.scmi_codec.specs.Listing.{said, rows_of, row_in, listed_row, message_name, is_listed, misfit, wanted_words, words_of, size_of};

@@ -1,7 +1,7 @@
-//! The messages of the profile, by protocol: the one place where a message's name and the parts of its
-//! payloads stand. Code looks them up, and definitions cite them.
+//! The messages of the profile, by protocol: the one place where a message's name and the parts of
+//! its payloads are written. Code looks them up, and definitions cite them.
 
-/// What a payload word, or the words that belong together, say.
+/// What a payload word, or the words that belong together, encode.
 #[derive(Clone, Copy, PartialEq, Eq, Debug)]
 pub enum Part {
     /// The version of a protocol.
@@ -18,7 +18,7 @@ pub enum Part {
     Implementation,
     /// How many protocols to leave out.
     Skip,
-    /// A number, and so many ids of protocols, four to a word.
+    /// A number, and that many ids of protocols, four to a word.
     Protocols,
     Agent,
     Device,
@@ -39,17 +39,17 @@ pub enum Part {
     Clock,
     ClockAttributes,
     Index,
-    /// Flags with a number, and so many rates, one at least.
+    /// Flags with a number, and that many rates, at least one.
     Rates,
     RateFlags,
     /// A rate in Hz: two words.
     Rate,
 }
 
-/// A message: its id, its name in DEN0056B, the parts of its payload, of its reply behind the status,
-/// and of its delayed response behind the status.
+/// A message: its id, its name in DEN0056B, the parts of its payload, of its reply after the
+/// status, and of its delayed response after the status.
 ///
-/// It is generic because a constant has a name in definitions only where its struct holds no reference
+/// It is generic because a constant has a name in definitions only if its struct holds no reference
 /// of its own.
 #[derive(Clone, Copy)]
 pub struct MessageRow<N, P> {

@@ -40,7 +40,7 @@ fn is_printable(bytes: &[u8]) -> bool
 }
 
 impl Name {
-    /// The name of a text; `None` where the text is empty, longer than `NAME_BYTES`, or has a byte
+    /// The name of a text; `None` if the text is empty, longer than `NAME_BYTES`, or has a byte
     /// that is not printable.
     pub fn new(text: &str) -> Option<Name>
         ensures name { IfSome result (λ name. name ≡ text.now) }

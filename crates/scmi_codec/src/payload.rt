@@ -33,7 +33,7 @@ pub fn refusal(status: Status) -> Payload
     payload_of(&[status.word()])
 }
 
-/// Makes a payload these words, at most `PAYLOAD_WORDS` of them, where it stands.
+/// Makes a payload these words, at most `PAYLOAD_WORDS` of them, in place.
 #[inline]
 pub fn set_payload(payload: &mut Payload, words: &[u32])
     requires { length words.now ≤ PAYLOAD_WORDS }
@@ -43,7 +43,7 @@ pub fn set_payload(payload: &mut Payload, words: &[u32])
     copy_words(payload.as_mut_slice(), words);
 }
 
-/// Gives a payload so many words, whichever they are.
+/// Gives a payload this many words, of any value.
 #[inline]
 pub(crate) fn resize(payload: &mut Payload, count: usize)
     requires { count ≤ PAYLOAD_WORDS }
@@ -78,7 +78,7 @@ fn copy_words(own: &mut [u32], words: &[u32])
     }
 }
 
-/// Makes a payload that of an error response, where it stands: the status word alone (own).
+/// Makes a payload that of an error response, in place: the status word alone (own).
 #[inline]
 pub fn set_refusal(payload: &mut Payload, status: Status)
     ensures { payload.new.items ≡ status_word status ∷ [] }

@@ -39,8 +39,8 @@ macro_rules! rows {
     };
 }
 
-/// The statuses, in the order of the enum: the one place where a code and a name stand. Code looks them
-/// up, and definitions cite them.
+/// The statuses, in the order of the enum: the one place where a code and a name are written. Code
+/// looks them up, and definitions cite them.
 pub const STATUSES: [StatusRow<&'static str>; 11] = rows![
     0x0000_0000 SUCCESS Success;
     0xffff_ffff NOT_SUPPORTED NotSupported;
@@ -64,7 +64,7 @@ impl Status {
         STATUSES[*self as usize].word
     }
 
-    /// The status of a payload word; `None` where the word is no code.
+    /// The status of a payload word; `None` if the word is not a code.
     pub fn of_word(word: u32) -> Option<Status>
         ensures { result ≡ status_of word }
     {

@@ -17,7 +17,7 @@ few_after outboxes i outbox small few a = elim (cases_lt i (length outboxes)) [
   | inr past ↦ rw (set_past outboxes i outbox past) (few a)
 ]
 
--- an item is the same whatever stands for one that is missing
+-- an item is the same whatever the value for a missing one
 same_at : (outboxes : List (List Message)) (i : ℕ) (d e : List Message) → i < length outboxes → get_or outboxes i d ≡ get_or outboxes i e
 same_at [] i d e inside = elim inside [ ]
 same_at (x ∷ xs) zero d e inside = refl
@@ -39,7 +39,7 @@ popped outboxes a d new inside few is =
     let less : length new ≡ length (get_or outboxes (a - 1) d) - 1 = ap length is ∙ length-drop 1 (get_or outboxes (a - 1) d) in
     omega (arith, same, less, few)
 
--- outboxes are empty where the first is and the others are
+-- outboxes are empty if the first is and the others are
 empty_more : (x : List Message) (xs : List (List Message)) → x ≡ [] → ((i : ℕ) → get_or xs i [] ≡ []) → (i : ℕ) → get_or (x ∷ xs) i [] ≡ []
 empty_more x xs first rest zero = first
 empty_more x xs first rest (suc i) = rest i

@@ -69,7 +69,7 @@ state_given a set = record { thing = State set.0; value = set.1; causer = a }
 abbrev rate_given : ℕ → ℕ × ℕ → Change
 rate_given a set = record { thing = Rate set.0; value = set.1; causer = a }
 
--- a change is agent a's, who may make it where it stands
+-- a change is agent a's, who may make it there
 pub record IsOwn (board : Board) (a : ℕ) (s : Situation) (change : Change) : Type 0 where
   pub causer : change.causer ≡ a
   pub allowed : may board s.allowed (resource_of change.thing) ≡ true

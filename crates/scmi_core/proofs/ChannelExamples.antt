@@ -27,7 +27,7 @@ unfolding short_descriptions deeds reply_words base_reply power_reply clock_repl
 short_descriptions-replies = refl
 
 -- what an agent is offered that the platform can't send to, and what it is refused: after what its ids and values are
--- refused for, and before its permission is looked at
+-- refused for, and before its permission is checked
 one_way_agent : List Event
 one_way_agent =
     request 2 0 0x14 0x1 [] ∷ request 2 1 0x11 0x3 (0 ∷ []) ∷ request 1 0 0x14 0x1 [] ∷ request 1 1 0x11 0x3 (0 ∷ [])

@@ -1,4 +1,4 @@
--- Where an agent stands after one more event follows from where it stood, and from that event.
+-- An agent's situation after one more event follows from the one before, and from that event.
 use Rattle.std.proofs.Common.{◌≡◌, ℕ, ◌+◌, ◌≤◌, ◌==◌, true, false, List, [], ◌∷◌, ◌++◌, length, drop, slice_get, Option, None, unwrap_or, refl, sym, ap, ◌∙◌, arith, if◌then◌else◌}
 use Rattle.std.proofs.lemmas.List.{append-nil, drop-drop}
 use Rattle.std.specs.Option.{option_to_list, option_and_then, option_map_or}
@@ -40,7 +40,7 @@ made_next board b s deed =
     option_map_or (failed_response_for b) (failed_in s.pending deed.event) []
     ++ made_in b s (pending_next board s.pending deed) (completed_in s.pending deed.event) (change_in board s.pending deed)
 
--- where agent b stands after a deed, by where it stood
+-- the situation of agent b after a deed, by the one before
 abbrev pub next : Board → ℕ → Situation → Deed → Situation
 next board b s deed =
     record {
@@ -144,7 +144,7 @@ module _ (board : Board) (b : ℕ) (h : List Deed) where
         outbox = outbox-next e enough enough_sent i;
       }
 
--- agents that stand alike see one event alike
+-- agents in the same situation see one event alike
 pub deed-same : (board : Board) (h k : List Deed) (e : Event) → ((a : ℕ) → situation_after board a h ≡ situation_after board a k) → deed_after board h e ≡ deed_after board k e
 deed-same board h k (Command a (Good m)) same = ap (λ s. record { event = Command a (Good m); reply = words_given board a s m }) (same a)
 deed-same board h k (Command a (Malformed len header)) same = refl

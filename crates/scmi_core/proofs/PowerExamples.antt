@@ -57,7 +57,7 @@ refused_power_sets-told_modem : words_told board_b 2 refused_power_sets ≡ []
 unfolding refused_power_sets deeds reply_words base_reply power_reply clock_reply fold_with_prefix
 refused_power_sets-told_modem = refl
 
--- a subscriber is told of another state, and of none that stays equal
+-- a subscriber is notified of another state, and of none that stays equal
 state_notification : List Event
 state_notification =
     request 2 0 0x11 0x6 (0 ∷ 1 ∷ []) ∷ request 1 0 0x11 0x3 (0 ∷ []) ∷ request 1 1 0x11 0x4 (0 ∷ 0 ∷ 0x40000000 ∷ [])

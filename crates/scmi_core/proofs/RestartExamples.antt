@@ -11,8 +11,8 @@ use Rattle.scmi_core.specs.History.{deeds, outbox}
 use Rattle.scmi_core.proofs.ExampleWords.{request, replies, words_told}
 use Rattle.scmi_core.specs.BoardB.{board_b}
 
--- both agents ask to be told of a domain, a notification waits for each, and a set of the first is pending, which then
--- restarts: the set completes, and the other agent alone is told of it
+-- both agents ask to be notified of a domain, a notification waits for each, and a set of the first
+-- is pending, which then restarts: the set completes, and only the other agent is notified of it
 restart : List Event
 restart =
     request 1 0 0x11 0x6 (0 ∷ 1 ∷ []) ∷ request 2 0 0x11 0x6 (0 ∷ 1 ∷ []) ∷ request 2 1 0x11 0x4 (0 ∷ 0 ∷ 0 ∷ [])

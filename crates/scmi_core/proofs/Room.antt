@@ -29,7 +29,7 @@ use Rattle.scmi_clock.specs.ClockReply.{ClockView, clock_reply, config_checks, m
 use Rattle.scmi_core.specs.Reply.{reply_words}
 use Rattle.scmi_core.specs.Situation.{Situation, clock_view, power_view}
 
--- the channels of each agent of a lawful board are lawful
+-- the channels of each agent of a valid board are valid
 lawful_at : (xs : List AgentChannel) (k : ℕ) → All IsChannel xs → IsChannel (get_or xs k whole_channel)
 lawful_at [] k all = (omega arith, omega arith)
 lawful_at (x ∷ xs) zero all = All-head IsChannel x xs all
@@ -102,7 +102,7 @@ module _ (n : ℕ) (eight : 8 ≤ n) where
       ∷ [])
       (0 ∷ []) one
 
--- so many rates have room behind the status and the flags word
+-- this many rates have room after the status and the flags word
 most-within : (words : ℕ) → 8 ≤ words → 2 + 2 * ((words - 2) / 2) ≤ words
 most-within words eight = let pairs = mul-div-le (words - 2) 2 in omega (arith, eight, pairs)
 

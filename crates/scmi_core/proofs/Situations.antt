@@ -113,7 +113,7 @@ module _ (board : Board) (a : ℕ) (s u : Situation) (same : SameSituation board
         channel = refl;
       }) c
 
-  -- also where it may be longer than the channel
+  -- also if it may be longer than the channel
   pub given-same : (m : Message) → words_given board a s m ≡ words_given board a u m
   given-same m = ap (λ words. if fits_channel board a m then words else []) (reply-same (command_of m))
 

@@ -159,7 +159,7 @@ announced-after t m left responses x a d s before box pend was subs =
     ∙ ap (λ v. if nat_lt (length (outbox_at t x) + length responses + length (sets_by x left)) 16 then (if not (s == v) && is_subscribed m.power x d then state_changed a d s ∷ [] else []) else []) was
     ∙ ap (λ b. if nat_lt (length (outbox_at t x) + length responses + length (sets_by x left)) 16 then (if not (s == state_at t.power d) && b then state_changed a d s ∷ [] else []) else []) subs
 
--- what is announced is what is made, where no response is
+-- what is announced is what is made, if no response is
 pub announced-made : (t n : Tables) (left : List PendingSet) (x a : ℕ) (changed : Option (ℕ × ℕ)) (before : ℕ) → n.outboxes ≡ t.outboxes → n.pending ≡ left
     → ((set : ℕ × ℕ) → changed ≡ Some set → (before ≡ state_at t.power set.0) × (is_subscribed n.power x set.0 ≡ is_subscribed t.power x set.0))
     → announced_at n x a changed before ≡ made_in x (situation_in x t) left None (option_map (state_change a) changed)

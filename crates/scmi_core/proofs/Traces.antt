@@ -1,4 +1,4 @@
--- How the words of one more event stand behind those of a trace.
+-- How the words of one more event follow those of a trace.
 use Rattle.std.proofs.Common.{◌≡◌, ℕ, ◌+◌, ◌-◌, ◌*◌, ◌≤◌, List, [], ◌∷◌, ◌++◌, length, take, drop, zero, suc, refl, ap, subst, arith, length-append}
 use Rattle.std.proofs.lemmas.List.{take-append-le, drop-append-le, take_all, drop_all, length-drop}
 use Rattle.scmi_codec.specs.declared.payload.TheConstants.{PAYLOAD_WORDS}
@@ -33,7 +33,7 @@ one_more n = omega arith
 one_less : (n : ℕ) → suc n - 1 ≡ n
 one_less n = omega arith
 
--- there are events only where there are words
+-- there are events only if there are words
 pub events_of-none : (n : ℕ) (words : List ℕ) → n ≡ 0 → events_of n words ≡ []
 unfolding events_of
 events_of-none zero words none = refl
@@ -89,6 +89,6 @@ module _ (first size header : ℕ) (payload : List ℕ) (is : length payload ≡
       → events_of (n + 1) (words ++ first ∷ size ∷ header ∷ payload) ≡ events_of n words ++ event_of (mark_of first) size header payload ∷ []
   events_of-push n words are = subst (λ m. events_of m (words ++ first ∷ size ∷ header ∷ payload) ≡ events_of n words ++ event_of (mark_of first) size header payload ∷ []) (one_more n) (events_of-suc n words are)
 
-  -- and nothing stands behind them
+  -- and nothing is after them
   pub AreEvents-push : (n : ℕ) (words : List ℕ) → length payload ≤ PAYLOAD_WORDS → AreEvents n words → AreEvents (n + 1) (words ++ first ∷ size ∷ header ∷ payload)
   AreEvents-push n words few are = subst (λ m. AreEvents m (words ++ first ∷ size ∷ header ∷ payload)) (one_more n) (AreEvents-suc n words few are)

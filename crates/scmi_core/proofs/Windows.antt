@@ -28,7 +28,7 @@ module _ {X : Type 0} (N k n : ℕ) (xs : List X) (starts : k < N) (fits : n ≤
 
 -- these use the lemmas above at other windows
 module _ {X : Type 0} (N k n : ℕ) (xs : List X) (starts : k < N) (fits : n ≤ N) (all : length xs ≡ N) where
-  -- what is written behind the last item is added at the end
+  -- what is written after the last item is added at the end
   pub window-push : (x : X) → n < N → window k (n + 1) (set xs ((k + n) % N) x) ≡ window k n xs ++ x ∷ []
   window-push x room =
       let ys = set xs ((k + n) % N) x in
@@ -64,7 +64,7 @@ module _ {X : Type 0} (N k n : ℕ) (xs : List X) (f : X) (starts : k < N) (fits
   pub length-fronted : length (window k n (set xs k f)) ≡ n
   length-fronted = length-window N k n (set xs k f) starts fits (length-set xs k f ∙ all)
 
-  -- what is written behind the last item is added at the end
+  -- what is written after the last item is added at the end
   pub fronted-push : (x : X) → 0 < n → n < N → window k (n + 1) (set (set xs ((k + n) % N) x) k f) ≡ window k n (set xs k f) ++ x ∷ []
   fronted-push x some room =
       let other : (k + n) % N ≢ k = grind (arith, mod_wraps_once N (k + n) (omega (arith, starts, room))) in

@@ -1,4 +1,4 @@
--- What one agent did and was told.
+-- What one agent did and was notified of.
 use Rattle.std.specs.Prelude.{ℕ, ◌==◌, if◌then◌else◌, List, [], ◌∷◌, Option, Some, None}
 use Rattle.std.specs.List.{filter_map}
 use Rattle.scmi_codec.specs.declared.frame.Frame.{Frame}

@@ -16,7 +16,8 @@ use Rattle.scmi_core.specs.History.{deeds, outbox}
 use Rattle.scmi_core.specs.Legal.{IsLegal}
 use Rattle.scmi_core.specs.Tables.{outbox_at, value_at, IsThing, IsOfBoard}
 
--- the tables of a controller say what its history says: who is allowed and who is told, each value, the pending sets and the outboxes
+-- the tables of a controller say what its history says: who is allowed and who is notified, each
+-- value, the pending sets and the outboxes
 pub record Agrees (board : Board) (t : Tables) (h : List Event) : Type 0 where
   pub legal : IsLegal board h
   pub permissions : (a d : ℕ) (scope : Scope) → 1 ≤ a → a ≤ AGENTS → d < DEVICES → is_allowed t.base a d scope ≡ has_permission a d scope (deeds board h)

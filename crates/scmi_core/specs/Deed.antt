@@ -10,13 +10,13 @@ use Rattle.scmi_codec.specs.declared.command.Command as codec
 use Rattle.scmi_core.specs.declared.event.Event.{Event}
 use Rattle.scmi_core.specs.declared.event.Event.TheVariants.{Command, Restarted}
 
--- an event, and the payload words of its reply; none where the event is no well-formed command that fits its channel,
+-- an event, and the payload words of its reply; none if the event is no well-formed command that fits its channel,
 -- done or failed
 pub record Deed : Type 0 where
   pub event : Event
   pub reply : List ℕ
 
--- the last item of a list, d where there is none
+-- the last item of a list, d if there is none
 abbrev pub latest : {A : Type 0} → A → List A → A
 latest d [] = d
 latest d (x ∷ xs) = latest x xs

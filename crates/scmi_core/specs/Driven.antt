@@ -35,7 +35,7 @@ pub record ExecutesOn (board : Board) (a : ℕ) (frame : Frame) (given : Answer)
   pub happens : HappensOn board (IsCommandOf a frame) h applied h' applied'
   pub answer : answer_of_event board h happens.event ≡ Some given
 
--- one more event of a kind moves a platform on, whatever history it stands after, and what it changes was made by the hardware, and nothing else
+-- one more event of a kind moves a platform on, whatever history it comes after, and what it changes was made by the hardware, and nothing else
 pub record HappensThere (IsOne : Event → Type 0) (p : Standing) (applied : Option (List Effect)) (k : Standing) (applied' : Option (List Effect)) : Type 0 where
   pub event : Event
   pub is_one : IsOne event
@@ -47,11 +47,11 @@ pub record ExecutesThere (a : ℕ) (frame : Frame) (given : Answer) (p : Standin
   pub happens : HappensThere (IsCommandOf a frame) p applied k applied'
   pub answer : (h : List Event) → StandsAfter p h → answer_of_event p.board h happens.event ≡ Some given
 
--- a command of agent a is executed and answered, as where no hardware may refuse
+-- a command of agent a is executed and answered, as if no hardware may refuse
 abbrev pub IsExecuted : Board → ℕ → Frame → Answer → List Event → List Event → Type 0
 IsExecuted board a frame given h h' = (h' ≡ h ++ Command a frame ∷ []) × (given ≡ answer_to board a frame h)
 
--- the same of a platform, whatever history it stands after
+-- the same of a platform, whatever history it comes after
 abbrev pub IsExecutedThere : ℕ → Frame → Answer → Standing → Standing → Type 0
 IsExecutedThere a frame given p k = MovesOn p (Command a frame) k × ((h : List Event) → StandsAfter p h → given ≡ answer_to p.board a frame h)
 

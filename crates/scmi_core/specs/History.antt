@@ -29,7 +29,7 @@ deed_after board h event = record { event = event; reply = [] }
 unfoldable pub deeds : Board → List Event → List Deed
 deeds board h = fold (λ before event. before ++ deed_after board before event ∷ []) [] h
 
--- the reply to a message of agent a after a history, where it fits its channel
+-- the reply to a message of agent a after a history, if it fits its channel
 abbrev pub scmi : Board → ℕ → Message → List Event → Message
 scmi board a m h = reply_in board a m (situation_after board a (deeds board h))
 
@@ -37,7 +37,7 @@ scmi board a m h = reply_in board a m (situation_after board a (deeds board h))
 abbrev pub answer_to : Board → ℕ → Frame → List Event → Answer
 answer_to board a frame h = answer_in board a frame (situation_after board a (deeds board h))
 
--- the answer that stands as a reply beside what was answered
+-- the answer, from what was answered and the reply beside it
 abbrev pub answer_with : Answered → Message → Answer
 answer_with answered.Reply m = Reply m
 answer_with answered.ChannelError m = ChannelError

@@ -31,7 +31,7 @@ unfoldable pub without_refused : Board → ℕ → List Event → List Event
 without_refused board a h = flat_map_with_prefix (λ before event. if is_refused board a before event then [] else event ∷ []) h
 
 -- two histories differ by nothing but what agent a asked and was answered: each other agent asked the same and got the same answers,
--- each agent was made and posted the same messages, the same was changed, and each agent stands where it stands in the other
+-- each agent was made and posted the same messages, the same was changed, and each agent's situation is that in the other
 pub record AreAlikeBut (board : Board) (a : ℕ) (h k : List Event) : Type 0 where
   pub frames : (b : ℕ) → b ≢ a → frames_of b h ≡ frames_of b k
   pub answers : (b : ℕ) → b ≢ a → answers_to board b h ≡ answers_to board b k
@@ -59,7 +59,7 @@ may_after board h a x = may board (λ device scope. has_permission a device scop
 abbrev pub change_asked : Board → Success → Option Change
 change_asked board s = option_or (change_now board s) (option_map completion (acceptance board s))
 
--- the command that a change came of: it stands in the history, was its causer's, asked for this change and succeeded, and its agent might change that thing there
+-- the command that a change came of: it is in the history, was its causer's, asked for this change and succeeded, and its agent might change that thing there
 pub record HasCause (board : Board) (h : List Event) (change : Change) : Type 0 where
   pub before : List Event
   pub message : Message
@@ -73,7 +73,7 @@ pub record HasCause (board : Board) (h : List Event) (change : Change) : Type 0 
 abbrev pub HasIntegrity : Board → List Event → Type 0
 HasIntegrity board h = All (HasCause board h) (changes board (deeds board h))
 
--- a success that says what an agent may do is one of the trusted agent
+-- a success that sets what an agent may do is one of the trusted agent
 abbrev pub IsTrusted : Board → Success → Type 0
 IsTrusted board s = (a d : ℕ) (scope : Scope) → permission_in a d scope s.command ≢ None → s.caller ≡ board.trusted
 

@@ -8,8 +8,8 @@ use Rattle.scmi_core.specs.Effect.{effect_after}
 use Rattle.scmi_core.specs.History.{deeds, outbox}
 use Rattle.scmi_core.specs.Pending.{pending_sets}
 
--- an event may come after a history: a command of an agent, an advance where a set is pending, a posting where the outbox has a message;
--- a command or an advance may fail where it would change the hardware; and an agent may restart
+-- an event may come after a history: a command of an agent, an advance if a set is pending, a posting if the outbox has a message;
+-- a command or an advance may fail if it would change the hardware; and an agent may restart
 abbrev pub CanFollow : Board → List Event → Event → Type 0
 CanFollow board before (Command a frame) = IsAgent (length board.agents) a
 CanFollow board before Advance = 0 < length (pending_sets board (deeds board before))

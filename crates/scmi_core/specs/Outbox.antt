@@ -65,7 +65,7 @@ response_for a p = if p.agent == a && p.wanted then response_to p.header p.setti
 abbrev pub failed_response_for : ℕ → PendingSet → List Message
 failed_response_for a p = if p.agent == a && p.wanted then failed_response_to p.header ∷ [] else []
 
--- the notification that a change makes for an agent: of a state that is another than before, where the agent asked to be told; the causer is told as well (own)
+-- the notification that a change makes for an agent: of a state that is another than before, if the agent asked for it; the causer gets it as well (own)
 abbrev pub notice_in : Situation → Change → List Message
 notice_in s change = notice change.thing where
   notice : Thing → List Message

@@ -13,7 +13,7 @@ pub record AreOutboxes (outboxes : List (List Message)) : Type 0 where
   pub each : length outboxes ≡ AGENTS
   pub few : (a : ℕ) → length (outbox_in outboxes a) ≤ OUTBOX_ROOM
 
--- an agent's outbox got these messages behind the others, and only these
+-- an agent's outbox got these messages after the others, and only these
 abbrev pub Gets : List (List Message) → List (List Message) → ℕ → List Message → Type 0
 Gets outboxes new a messages = outbox_in new a ≡ outbox_in outboxes a ++ messages
 

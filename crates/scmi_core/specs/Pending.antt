@@ -91,6 +91,6 @@ is_pending board r h = has_set_of r (pending_sets board h)
 abbrev pub load_beside : ℕ → ℕ → List PendingSet → ℕ
 load_beside waiting a sets = waiting + length (sets_by a sets)
 
--- another set of agent a has room where fewer than 8 are pending in all, and its sets and its outbox are fewer than 16 together (own)
+-- another set of agent a has room if fewer than 8 are pending in all, and its sets and its outbox are fewer than 16 together (own)
 abbrev pub has_room_beside : ℕ → ℕ → List PendingSet → Bool
 has_room_beside waiting a sets = nat_lt (length sets) PENDING_SETS && nat_lt (load_beside waiting a sets) OUTBOX_ROOM

@@ -7,7 +7,7 @@ use Rattle.scmi_base.specs.Permission.{permission}
 use Rattle.scmi_base.specs.declared.scope.Scope.{Scope}
 use Rattle.scmi_core.specs.Deed.{Deed, latest, successes}
 
--- what a successful command says of agent a on device d, as a whole or for a protocol
+-- what a successful command says about agent a on device d, as a whole or for a protocol
 abbrev pub permission_in : ℕ → ℕ → Scope → codec.Command → Option Bool
 permission_in a d scope (Base c) = permission a d scope c
 permission_in a d scope _ = None

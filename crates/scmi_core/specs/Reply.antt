@@ -17,7 +17,7 @@ use Rattle.scmi_clock.specs.ClockReply.{clock_reply}
 use Rattle.scmi_core.specs.Outbox.{failed_words, message_with}
 use Rattle.scmi_core.specs.Situation.{Situation, clock_view, power_view}
 
--- the payload of the reply to a command of agent a, or to a message that is none: its status alone
+-- the payload of the reply to a command of agent a, or to a message that is not a command: its status alone
 unfoldable pub reply_words : Board → ℕ → Situation → Result codec.Command Status → List ℕ
 reply_words board a s (Err e) = status_word e ∷ []
 reply_words board a s (Ok (Base c)) = base_reply board a c

@@ -1,4 +1,4 @@
--- Where an agent stands with the platform.
+-- An agent's situation with the platform.
 use Rattle.std.specs.Prelude.{ℕ, Bool, List, length, ◌==◌}
 use Rattle.scmi_codec.specs.declared.message.Message.{Message}
 use Rattle.scmi_plan.specs.Board.{Board, channel_of}
@@ -17,7 +17,7 @@ pub record Situation : Type 0 where
   pub value : Thing → ℕ
   -- whether the agent is allowed on a device, as a whole or for a protocol
   pub allowed : ℕ → Scope → Bool
-  -- whether the agent is told of a domain's changes
+  -- whether the agent is notified of a domain's changes
   pub subscribed : ℕ → Bool
   -- the sets that are pending, of all agents
   pub pending : List PendingSet

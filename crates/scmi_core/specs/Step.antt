@@ -50,7 +50,7 @@ pub record HasStepped (board : Board) (t : Tables) (success : Option Success) (d
 abbrev pub HasExecuted : Board → ℕ → HeaderFields → Result codec.Command Status → List ℕ → Tables → Tables → Type 0
 HasExecuted board a header command reply t new = HasStepped board t (success_of a header command reply) None new
 
--- what a frame of agent a leaves; one that is malformed changes nothing
+-- what a frame of agent a leaves; a malformed frame changes nothing
 abbrev pub HasAnswered : Board → ℕ → Frame → Tables → Tables → Type 0
 HasAnswered board a (Good m) t new = HasExecuted board a m.header (command_of m) (words_given board a (situation_in a t) m) t new
 HasAnswered board a (Malformed len header) t new = new ≡ t
@@ -69,7 +69,7 @@ pub record SameButPending (t new : Tables) : Type 0 where
   pub clocks : new.clocks ≡ t.clocks
   pub outboxes : new.outboxes ≡ t.outboxes
 
--- a set was added behind those that are pending, if there is one, and nothing else changed there
+-- a set was added after those that are pending, if there is one, and nothing else changed there
 abbrev pub Accepts : Tables → Tables → Option PendingSet → Type 0
 Accepts t new set = new.pending ≡ t.pending ++ option_to_list set
 

@@ -1,4 +1,4 @@
--- Who asked to be told of which domain.
+-- Who asked to be notified of which domain.
 use Rattle.std.specs.Prelude.{ℕ, ◌==◌, Bool, false, if◌then◌else◌, List, Option, Some, None}
 use Rattle.std.specs.List.{filter_map}
 use Rattle.std.specs.Option.{option_and_then, option_or}
@@ -13,7 +13,7 @@ abbrev pub subscription_after_reset : ℕ → Option ℕ → Option Bool
 subscription_after_reset a None = None
 subscription_after_reset a (Some agent) = if agent == a then Some false else None
 
--- what a success says of the subscription of agent a to domain d
+-- what a success says about the subscription of agent a to domain d
 abbrev pub subscription : ℕ → ℕ → Success → Option Bool
 subscription a d s = said_by s.command where
   said_by : codec.Command → Option Bool
@@ -21,11 +21,12 @@ subscription a d s = said_by s.command where
   said_by (Base c) = subscription_after_reset a (reset_by c)
   said_by (Clock c) = None
 
--- what a deed says of it: a restart of the agent ends its requests, as a reset does (own)
+-- what a deed says about it: a restart of the agent ends its requests, as a reset does (own)
 abbrev pub subscription_at : ℕ → ℕ → Deed → Option Bool
 subscription_at a d deed =
     option_or (subscription_after_reset a (restarted_by deed.event)) (option_and_then (subscription a d) (success_at deed.event deed.reply))
 
--- an agent is told of a domain if its latest request, reset or restart says so (DEN0056B, power domain management protocol)
+-- an agent is notified of a domain if its latest request, reset or restart says so (DEN0056B, power
+-- domain management protocol)
 abbrev pub is_subscriber : ℕ → ℕ → List Deed → Bool
 is_subscriber a d h = latest false (filter_map (subscription_at a d) h)

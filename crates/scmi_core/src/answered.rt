@@ -1,6 +1,6 @@
 //! What a frame was answered with.
 
-/// Which answer a frame got, where the reply itself stands elsewhere.
+/// Which answer a frame got, if the reply itself is elsewhere.
 #[derive(Clone, Copy, PartialEq, Eq, Debug)]
 pub enum Answered {
     /// The reply that was written.

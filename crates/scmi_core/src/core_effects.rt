@@ -15,8 +15,8 @@ use crate::platform_effects::set_failed_reply;
 use scmi_codec::{Frame, Message};
 
 impl Core {
-    /// What an agent's command is to change of the hardware, before it is executed; `None` where it
-    /// changes nothing of it. `NoAgent` where the board lacks the agent.
+    /// What an agent's command is to change of the hardware, before it is executed; `None` if it
+    /// changes nothing of it. `NoAgent` if the board lacks the agent.
     pub fn effect_of(&self, agent: u32, frame: &Frame) -> Result<Option<Effect>, CoreError>
         ensures effect { IfOk result (λ effect.
             effect ≡ effect_after self.now.board self.now.history (Called agent frame.now)) }
@@ -28,7 +28,7 @@ impl Core {
     }
 
     /// What the completion of the first pending set is to change of the hardware, before it
-    /// completes; `None` where nothing is pending.
+    /// completes; `None` if nothing is pending.
     pub fn effect_of_advance(&self) -> Option<Effect>
         ensures { result ≡ effect_after self.now.board self.now.history Advance }
     {
@@ -36,8 +36,8 @@ impl Core {
     }
 
     /// Answers a command whose change the hardware refused by HARDWARE_ERROR, and adds that to the
-    /// history; nothing else changed. `NoAgent` where the board lacks the agent, `Nothing` where the
-    /// command changes nothing of the hardware, and `Memory` where the trace could not grow; then
+    /// history; nothing else changed. `NoAgent` if the board lacks the agent, `Nothing` if the
+    /// command changes nothing of the hardware, and `Memory` if the trace could not grow; then
     /// nothing changed.
     pub fn command_failed(
         &mut self,
@@ -70,9 +70,9 @@ impl Core {
     }
 
     /// Takes the first pending set off, whose change the hardware refused, and adds that to the
-    /// history: a delayed response of HARDWARE_ERROR if one is wanted, no notification, and no value
-    /// changed. `Ok(false)` where nothing is pending, and then nothing changed. `Memory` where a set
-    /// is pending and the trace could not grow, the only refusal; then nothing changed either.
+    /// history: a delayed response of HARDWARE_ERROR if one is wanted, no notification, and no
+    /// value changed. `Ok(false)` if nothing is pending, and then nothing changed. `Memory` if a
+    /// set is pending and the trace could not grow, the only refusal; then nothing changed either.
     pub fn advance_failed(&mut self) -> Result<bool, CoreError>
         ensures waiting { IfOk result (λ did.
             (did ≡ false) ↔ IsIdle self.old.board self.old.history) }

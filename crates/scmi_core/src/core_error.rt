@@ -5,8 +5,8 @@ ghost use Rattle.scmi_core.specs.declared.core_error.CoreError.TheVariants.{Memo
 use std::alloc::AllocError;
 use thiserror::Error;
 
-/// Why a call of `Core` was refused. A refused call changed nothing. Where several apply, the one
-/// that stands first in `NoAgent`, `Nothing`, `Memory` is answered (own).
+/// Why a call of `Core` was refused. A refused call changed nothing. If several apply, the one that
+/// comes first in `NoAgent`, `Nothing`, `Memory` is returned (own).
 #[derive(Clone, Copy, PartialEq, Eq, Debug, Error)]
 pub enum CoreError {
     /// A growth of the trace was refused.

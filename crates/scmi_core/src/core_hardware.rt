@@ -19,9 +19,9 @@ use crate::platform_effects::set_failed_reply;
 use scmi_codec::{Frame, Message};
 
 impl Core {
-    /// As `command_into`, beside the hardware: what the command changes of it is made first, and
-    /// where the hardware refuses that the command has failed, and its reply is HARDWARE_ERROR. The
-    /// hardware is not asked where the call is refused.
+    /// As `command_into`, beside the hardware: what the command changes of it is made first, and if
+    /// the hardware refuses that, the command has failed, and its reply is HARDWARE_ERROR. The
+    /// hardware is not asked if the call is refused.
     pub fn command_on<H: Hardware>(
         &mut self,
         hardware: &mut H,
@@ -86,8 +86,8 @@ impl Core {
         }
     }
 
-    /// As `advance`, beside the hardware: what the completion changes of it is made first, and where
-    /// the hardware refuses that the set ends as failed. The hardware is not asked where the call is
+    /// As `advance`, beside the hardware: what the completion changes of it is made first, and if
+    /// the hardware refuses that, the set ends as failed. The hardware is not asked if the call is
     /// refused.
     pub fn advance_on<H: Hardware>(&mut self, hardware: &mut H) -> Result<bool, CoreError>
         ensures waiting { IfOk result (λ did.

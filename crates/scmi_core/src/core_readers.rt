@@ -1,4 +1,4 @@
-//! Where a platform stands after its history.
+//! The state of a platform after its history.
 ghost use Rattle.std.specs.Prelude.{◌≡◌, ◌≤◌, ◌↔◌, length, None, IfSome};
 ghost use Rattle.scmi_plan.specs.Agent.{IsNoAgent};
 ghost use Rattle.scmi_plan.specs.declared.resource.Resource.TheVariants as resource;
@@ -19,7 +19,7 @@ impl Core {
     }
 
     /// The state of a power domain, as the word that a reply has: 0 is ON, 0x40000000 is OFF.
-    /// `None` where the board lacks the domain.
+    /// `None` if the board lacks the domain.
     pub fn power_state(&self, domain: u32) -> Option<u32>
         ensures value { IfSome result (λ state.
             state ≡ value_after self.now.board (State domain) self.now.history) }
@@ -28,7 +28,7 @@ impl Core {
         self.platform.power_state(domain)
     }
 
-    /// The rate of a clock in Hz. `None` where the board lacks the clock.
+    /// The rate of a clock in Hz. `None` if the board lacks the clock.
     pub fn clock_rate(&self, clock: u32) -> Option<u64>
         ensures value { IfSome result (λ rate.
             rate ≡ value_after self.now.board (Rate clock) self.now.history) }
@@ -37,7 +37,7 @@ impl Core {
         self.platform.clock_rate(clock)
     }
 
-    /// Whether a clock is enabled. `None` where the board lacks the clock.
+    /// Whether a clock is enabled. `None` if the board lacks the clock.
     pub fn is_clock_enabled(&self, clock: u32) -> Option<bool>
         ensures value { IfSome result (λ enabled.
             bit_value enabled ≡ value_after self.now.board (Enabled clock) self.now.history) }
@@ -62,8 +62,8 @@ impl Core {
         self.platform.is_clock_pending(clock)
     }
 
-    /// The pending sets, at most 8, in order of acceptance, in which they complete. Each says what it
-    /// will change (`PendingSet::effect`).
+    /// The pending sets, at most 8, in order of acceptance, in which they complete. Each shows what
+    /// it will change (`PendingSet::effect`).
     pub fn pending_sets(&self) -> &[PendingSet]
         ensures { result.now
             ≡ pending_sets self.now.board (deeds self.now.board self.now.history) }
@@ -71,7 +71,7 @@ impl Core {
         self.platform.pending_sets()
     }
 
-    /// How many messages wait in an agent's outbox, at most 16. `None` where the board lacks the
+    /// How many messages wait in an agent's outbox, at most 16. `None` if the board lacks the
     /// agent.
     pub fn waiting(&self, agent: u32) -> Option<usize>
         ensures count { IfSome result (λ count.

@@ -9,9 +9,9 @@ use crate::platform_core::Core;
 
 impl Core {
     /// Ends what an agent asked for that restarted without the platform, and adds that to the
-    /// history: its requests for notifications, the messages in its outbox, and its wish for delayed
-    /// responses to its pending sets. Permissions, values and the pending sets themselves stay
-    /// (own). `NoAgent` where the board lacks the agent, and `Memory` where the trace could not
+    /// history: its requests for notifications, the messages in its outbox, and its wish for
+    /// delayed responses to its pending sets. Permissions, values and the pending sets themselves
+    /// stay (own). `NoAgent` if the board lacks the agent, and `Memory` if the trace could not
     /// grow; then nothing changed.
     pub fn restart(&mut self, agent: u32) -> Result<(), CoreError>
         ensures event { OnOk result

@@ -62,7 +62,7 @@ impl<'a> Iterator for Events<'a> {
     }
 }
 
-/// The first three of some words, and the words behind them.
+/// The first three of some words, and the words after them.
 fn three_words(words: &[u32]) -> (u32, u32, u32, &[u32])
     requires { 3 ≤ length words.now }
     ensures { words.now ≡ result.0 ∷ result.1 ∷ result.2 ∷ result.3.now }

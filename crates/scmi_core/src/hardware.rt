@@ -1,4 +1,4 @@
-//! Hardware that is switched as the history says.
+//! Hardware that is switched as the history requires.
 ghost use Rattle.std.specs.Prelude.{◌≡◌, ◌≢◌, Bool, List, Ok, Option, true, false, None, Some, OnOk, OnErr};
 ghost use Rattle.scmi_core.specs.Driven.{and_made};
 ghost use Rattle.scmi_core.specs.declared.effect.Effect.{Effect};
@@ -10,15 +10,15 @@ use crate::effect::Effect;
 pub struct Fault;
 
 /// The power domains and clocks of a board, as a driver switches them. Contracts see whether it may
-/// refuse a change at all and, where the driver keeps a list, the changes that were made, in order.
+/// refuse a change at all and, if the driver keeps a list, the changes that were made, in order.
 pub trait Hardware {
     ghost REFUSES: { Bool };
 
     ghost applied: { Self → Option (List Effect) };
 
-    /// Makes a change; where the hardware refuses it, nothing is changed. A driver that can't tell
+    /// Makes a change; if the hardware refuses it, nothing is changed. A driver that does not know
     /// what a fault left brings the hardware back to the value that it had, which the platform's
-    /// readers give, before it refuses: from then on replies say that value.
+    /// readers give, before it refuses: from then on replies report that value.
     fn apply(&mut self, effect: Effect) -> Result<(), Fault>
         ensures ok { OnOk result (applied self.new ≡ and_made (applied self.old) (Some effect)) }
         ensures err { OnErr result (applied self.new ≡ applied self.old) }
@@ -40,7 +40,7 @@ impl Hardware for NoHardware {
     }
 }
 
-/// Makes a change, if there is one; `false` where the hardware refused it.
+/// Makes a change, if there is one; `false` if the hardware refused it.
 pub(crate) fn make<H: Hardware>(hardware: &mut H, effect: Option<Effect>) -> bool
     ensures made { result ≡ true
         → H.applied hardware.new ≡ and_made (H.applied hardware.old) effect }

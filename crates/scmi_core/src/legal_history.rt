@@ -14,7 +14,7 @@ ghost use Rattle.scmi_core.specs.declared.event.Event.{Event};
 use crate::trace::Trace;
 
 impl Trace {
-    /// What these events keep where they are a legal history of a board: the laws of
+    /// What these events keep if they are a legal history of a board: the laws of
     /// `every_legal_history`, of this one. It does nothing.
     pub fn laws(&self)
         ensures bounds { (board : Board) → IsLegal board self.now.events
@@ -40,10 +40,10 @@ impl Trace {
 /// At most 8 sets are pending, an agent's outbox and its pending sets are at most 16 together, and
 /// no delayed response is lost unless its agent restarts. A command that is refused moves nobody.
 /// Without all the commands that an agent had refused, a history is as legal, and the same to every
-/// other agent. Each change came of a command whose agent might make that change there, and what
-/// agents may do is said by the trusted agent alone. Each answer and each message has room in its agent's channels,
-/// and for an agent that the platform can't send to none is made. What a history changes of the hardware is what each event
-/// changes, in order.
+/// other agent. Each change came of a command whose agent might make that change there, and only
+/// the trusted agent decides what agents may do. Each answer and each message has room in its
+/// agent's channels, and for an agent that the platform can't send to none is made. What a history
+/// changes of the hardware is what each event changes, in order.
 pub fn every_legal_history()
     ensures bounds { (board : Board) (h : List Event) → IsLegal board h
         → HasBounds board (deeds board h) }

@@ -2,7 +2,7 @@
 //!
 //! The main type is `Core`. The main theorem is the contracts of its calls: each adds exactly one
 //! event to a legal history or changes nothing, and `command`, `advance` and `front` answer what
-//! the definitions of the history say at that place (specs/History.antt).
+//! the definitions of the history give at that place (specs/History.antt).
 #![tactic(auto)]
 
 mod answered;

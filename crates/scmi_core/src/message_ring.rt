@@ -12,7 +12,7 @@ use std::array;
 use std::marker::Model;
 
 /// At most `OUTBOX_ROOM` messages of at most `SLOT_WORDS` payload words, the oldest first. The
-/// oldest stands whole, so that it can be shown where it is; each of the others stands in a slot.
+/// oldest is whole, so that it can be shown in place; each of the others is in a slot.
 #[derive(Debug, Drop)]
 pub struct MessageRing {
     slots: [Slot; OUTBOX_ROOM],
@@ -89,7 +89,7 @@ impl MessageRing {
         self.count = 0;
     }
 
-    /// Writes a message of this header and these payload words behind the others.
+    /// Writes a message of this header and these payload words after the others.
     pub fn push(&mut self, header: Header, words: &[u32])
         requires room { length self.old < OUTBOX_ROOM }
         requires few { length words.now ≤ SLOT_WORDS }
@@ -106,7 +106,7 @@ impl MessageRing {
     }
 }
 
-/// Makes a message one of this header and these payload words, where it stands.
+/// Makes a message one of this header and these payload words, in place.
 fn set_message(message: &mut Message, header: Header, words: &[u32])
     requires { length words.now ≤ SLOT_WORDS }
     ensures { message.new ≡ message_with header words.now }

@@ -1,4 +1,4 @@
-//! What subscribers are told of a domain's state.
+//! The notifications to subscribers of a domain's state.
 ghost use Rattle.std.specs.Prelude.{◌≡◌, ◌≢◌, ◌≤◌, ◌<◌, ℕ, IfSome};
 ghost use Rattle.scmi_plan.specs.declared.limits.TheConstants.{AGENTS, DOMAINS};
 ghost use Rattle.scmi_core.specs.Outboxes.{Gets, HasSameOutbox};
@@ -9,7 +9,7 @@ use crate::outboxes::OUTBOX_ROOM;
 use crate::tables::Tables;
 
 impl Tables {
-    /// Tells subscribers of a domain's state that was set, if it is another than before.
+    /// Notifies subscribers of a domain's state that was set, if it differs from the one before.
     #[inline(always)]
     pub fn announce(&mut self, agents: u32, causer: u32, changed: Option<(u32, u32)>, before: u32)
         requires agents { agents ≤ AGENTS }
@@ -25,7 +25,7 @@ impl Tables {
         }
     }
 
-    /// Tells the subscribers of a domain its new state, by rising agent number.
+    /// Notifies the subscribers of a domain of its new state, by rising agent number.
     fn notify(&mut self, agents: u32, causer: u32, domain: u32, state: u32)
         requires agents { agents ≤ AGENTS }
         requires domain { domain < DOMAINS }
@@ -38,7 +38,7 @@ impl Tables {
         }
     }
 
-    /// Tells an agent a domain's new state, if it asked for that and its outbox has room.
+    /// Notifies an agent of a domain's new state, if it asked for that and its outbox has room.
     fn tell(&mut self, agent: u32, causer: u32, domain: u32, state: u32)
         requires first { 1 ≤ agent }
         requires last { agent ≤ AGENTS }

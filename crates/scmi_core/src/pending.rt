@@ -55,7 +55,7 @@ impl Pending {
         self.sets.is_empty()
     }
 
-    /// Adds a set behind the others.
+    /// Adds a set after the others.
     pub fn push(&mut self, set: PendingSet)
         requires { length self.old < PENDING_SETS }
         ensures { self.new ≡ self.old ++ set ∷ [] }
@@ -69,7 +69,12 @@ impl Pending {
         ensures first { slice_get self.old 0 ≡ Some result }
         ensures rest { self.new ≡ drop 1 self.old }
     {
-        self.sets.remove(0)
+        let sets = self.sets.as_mut_slice();
+        let first = sets[0];
+        // `remove` rotates the rest, which takes some 4 KB of code.
+        sets.copy_within(1.., 0);
+        let _last = self.sets.pop();
+        first
     }
 
     /// Takes back an agent's wish for delayed responses to its sets.

@@ -17,10 +17,10 @@ use scmi_codec::{Frame, Message};
 use scmi_plan::Plan;
 use std::marker::Model;
 
-/// A platform controller that keeps no history: what SCMI (DEN0056B) and this profile say of a
-/// board. It takes no memory, however long it runs. Contracts see the board and where the platform
-/// stands, and say of every history after which it may stand there what is answered and which one
-/// follows.
+/// A platform controller that keeps no history: what SCMI (DEN0056B) and this profile require of a
+/// board. It takes no memory, however long it runs. Contracts see the board and the platform's
+/// state, and give for every history that may lead to this state what the answer is and which
+/// history follows.
 #[derive(Drop, Debug)]
 pub struct Platform {
     pub(crate) plan: Plan,
@@ -57,9 +57,9 @@ impl Platform {
         self.plan.agents()
     }
 
-    /// Executes what an agent posted, and writes the reply where it is to stand; `ChannelError` for
-    /// a malformed frame, and then no reply is written. `NoAgent` where the board lacks the agent,
-    /// the only refusal; then nothing changed.
+    /// Executes what an agent posted, and writes the reply into `reply`; `ChannelError` for a
+    /// malformed frame, and then no reply is written. `NoAgent` if the board lacks the agent, the
+    /// only refusal; then nothing changed.
     pub fn command(
         &mut self,
         agent: u32,
@@ -81,7 +81,7 @@ impl Platform {
         Ok(self.execute(agent, frame, reply))
     }
 
-    /// Completes the first pending set; `false` where nothing is pending, and then nothing changed.
+    /// Completes the first pending set; `false` if nothing is pending, and then nothing changed.
     pub fn advance(&mut self) -> bool
         ensures waiting { (h : List Event) → StandsAfter self.old h
             → (result ≡ false) ↔ IsIdle self.old.board h }
@@ -96,8 +96,8 @@ impl Platform {
         true
     }
 
-    /// The first message of an agent's outbox, which is the next to be posted to it;
-    /// `None` where the outbox is empty. `NoAgent` where the board lacks the agent.
+    /// The first message of an agent's outbox, which is the next to be posted to it; `None` if the
+    /// outbox is empty. `NoAgent` if the board lacks the agent.
     pub fn front(&self, agent: u32) -> Result<Option<Message>, CoreError>
         ensures first { (h : List Event) → StandsAfter self.now h
             → IfOk result (λ message. message ≡ slice_get (outbox self.now.board agent h) 0) }
@@ -122,8 +122,8 @@ impl Platform {
         self.tables.outboxes.first(agent)
     }
 
-    /// Takes the first message off an agent's outbox, as posted. `NoAgent` where the board lacks
-    /// the agent, and `Nothing` where its outbox is empty; then nothing changed.
+    /// Takes the first message off an agent's outbox, as posted. `NoAgent` if the board lacks the
+    /// agent, and `Nothing` if its outbox is empty; then nothing changed.
     pub fn sent(&mut self, agent: u32) -> Result<(), CoreError>
         ensures event { OnOk result (MovesOn self.old (Sent agent) self.new) }
         ensures board { self.new.board ≡ self.old.board }

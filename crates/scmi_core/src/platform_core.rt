@@ -18,9 +18,9 @@ use scmi_plan::Plan;
 use std::alloc::Global;
 use std::marker::Model;
 
-/// A platform controller: what SCMI (DEN0056B) and this profile say of a board, kept in step with
-/// one history of events. Contracts see the board, the history, and for how many more events the
-/// trace has memory.
+/// A platform controller: what SCMI (DEN0056B) and this profile require of a board, kept in step
+/// with one history of events. Contracts see the board, the history, and for how many more events
+/// the trace has memory.
 #[derive(Drop, Debug)]
 pub struct Core {
     pub(crate) platform: Platform,
@@ -61,7 +61,7 @@ impl Core {
     }
 
     /// Makes room in the trace for one event, so that the next `command`, `advance` or `sent` is
-    /// not refused as `Memory`. Where there is none the room doubles; `Memory` is the only refusal.
+    /// not refused as `Memory`. If there is none, the room doubles; `Memory` is the only refusal.
     pub fn reserve(&mut self) -> Result<(), CoreError>
         ensures ok { OnOk result (0 < self.new.room) }
         ensures history { self.new.history ≡ self.old.history }
@@ -75,8 +75,8 @@ impl Core {
     }
 
     /// Executes what an agent posted, adds that to the history, and gives the answer: the reply of
-    /// the protocol for a message, `ChannelError` for a malformed frame. `NoAgent` where the board
-    /// lacks the agent, and `Memory` where the trace could not grow; then nothing changed.
+    /// the protocol for a message, `ChannelError` for a malformed frame. `NoAgent` if the board
+    /// lacks the agent, and `Memory` if the trace could not grow; then nothing changed.
     pub fn command(&mut self, agent: u32, frame: &Frame) -> Result<Answer, CoreError>
         ensures answer { IfOk result (λ x.
             x ≡ answer_to self.old.board agent frame.now self.old.history) }
@@ -97,8 +97,8 @@ impl Core {
         }
     }
 
-    /// As `command`, with the reply written where it is to stand. It is written only where a
-    /// message was executed.
+    /// As `command`, with the reply written into `reply`. It is written only if a message was
+    /// executed.
     pub fn command_into(
         &mut self,
         agent: u32,
@@ -139,8 +139,8 @@ impl Core {
         answered
     }
 
-    /// Completes the first pending set and adds that to the history; `Ok(false)` where nothing is
-    /// pending, and then nothing changed. `Memory` where a set is pending and the trace could not
+    /// Completes the first pending set and adds that to the history; `Ok(false)` if nothing is
+    /// pending, and then nothing changed. `Memory` if a set is pending and the trace could not
     /// grow, the only refusal; then nothing changed either.
     pub fn advance(&mut self) -> Result<bool, CoreError>
         ensures waiting { IfOk result (λ did.
@@ -164,8 +164,8 @@ impl Core {
         Ok(true)
     }
 
-    /// The first message of an agent's outbox, which is the next to be posted to it; `None` where
-    /// the outbox is empty. `NoAgent` where the board lacks the agent.
+    /// The first message of an agent's outbox, which is the next to be posted to it; `None` if the
+    /// outbox is empty. `NoAgent` if the board lacks the agent.
     pub fn front(&self, agent: u32) -> Result<Option<Message>, CoreError>
         ensures first { IfOk result (λ message.
             message ≡ slice_get (outbox self.now.board agent self.now.history) 0) }
@@ -186,8 +186,8 @@ impl Core {
     }
 
     /// Takes the first message off an agent's outbox, as posted, and adds that to the history.
-    /// `NoAgent` where the board lacks the agent, `Nothing` where its outbox is empty, and `Memory`
-    /// where the trace could not grow; then nothing changed.
+    /// `NoAgent` if the board lacks the agent, `Nothing` if its outbox is empty, and `Memory` if
+    /// the trace could not grow; then nothing changed.
     pub fn sent(&mut self, agent: u32) -> Result<(), CoreError>
         ensures event { OnOk result
             (self.new.history ≡ self.old.history ++ Sent agent ∷ []) }
@@ -243,6 +243,7 @@ impl Core {
     #[tactic(auto, using(crate::proofs::Bounds::bounds, crate::proofs::Responses::responses))]
     pub fn into_trace(self) -> Trace
         ensures events { result.events ≡ self.history }
+        ensures room { result.room ≡ self.room }
         ensures legal { IsLegal self.board self.history }
         ensures bounds { HasBounds self.board (deeds self.board self.history) }
         ensures responses { HasResponses self.board (deeds self.board self.history) }

@@ -1,4 +1,4 @@
-//! Changes of hardware: what they are to be, and what is left where the hardware refuses them.
+//! Changes of hardware: what they are to be, and what is left if the hardware refuses them.
 ghost use Rattle.std.specs.Prelude.{◌≡◌, ◌≢◌, ◌≤◌, ◌<◌, ◌↔◌, List, length, true, false, None, IfOk, IfSome, OnOk, OnErr, IfErr, Err};
 ghost use Rattle.scmi_codec.specs.declared.frame.Frame.TheVariants.{Good};
 ghost use Rattle.scmi_codec.specs.declared.frame.Answer.TheVariants.{Reply};
@@ -18,8 +18,8 @@ use crate::platform::Platform;
 use scmi_codec::{Frame, Message, Status, set_refusal};
 
 impl Platform {
-    /// What an agent's command is to change of the hardware, before it is executed; `None` where it
-    /// changes nothing of it. `NoAgent` where the board lacks the agent.
+    /// What an agent's command is to change of the hardware, before it is executed; `None` if it
+    /// changes nothing of it. `NoAgent` if the board lacks the agent.
     pub fn effect_of(&self, agent: u32, frame: &Frame) -> Result<Option<Effect>, CoreError>
         ensures effect { (h : List Event) → StandsAfter self.now h
             → IfOk result (λ effect.
@@ -33,7 +33,7 @@ impl Platform {
     }
 
     /// What the completion of the first pending set is to change of the hardware, before it
-    /// completes; `None` where nothing is pending.
+    /// completes; `None` if nothing is pending.
     pub fn effect_of_advance(&self) -> Option<Effect>
         ensures { (h : List Event) → StandsAfter self.now h
             → result ≡ effect_after self.now.board h Advance }
@@ -45,8 +45,8 @@ impl Platform {
     }
 
     /// Answers a command whose change the hardware refused: HARDWARE_ERROR, and nothing changed.
-    /// `NoAgent` where the board lacks the agent, and `Nothing` where the command changes nothing of
-    /// the hardware; then no event happened, and no reply was written.
+    /// `NoAgent` if the board lacks the agent, and `Nothing` if the command changes nothing of the
+    /// hardware; then no event happened, and no reply was written.
     pub fn command_failed(
         &self,
         agent: u32,
@@ -73,7 +73,7 @@ impl Platform {
     }
 
     /// Takes the first pending set off, whose change the hardware refused: a delayed response of
-    /// HARDWARE_ERROR if one is wanted, no notification, and no value changed. `false` where nothing
+    /// HARDWARE_ERROR if one is wanted, no notification, and no value changed. `false` if nothing
     /// is pending, and then nothing changed.
     pub fn advance_failed(&mut self) -> bool
         ensures waiting { (h : List Event) → StandsAfter self.old h
@@ -130,7 +130,7 @@ impl Platform {
     }
 }
 
-/// Makes a reply that to a message whose change the hardware refused, where it stands.
+/// Makes a reply, in place, into that to a message whose change the hardware refused.
 pub(crate) fn set_failed_reply(message: &Message, reply: &mut Message)
     ensures { reply.new ≡ message_with message.now.header failed_words }
 {

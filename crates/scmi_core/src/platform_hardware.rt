@@ -20,9 +20,9 @@ use crate::platform_effects::set_failed_reply;
 use scmi_codec::{Frame, Message};
 
 impl Platform {
-    /// As `command`, beside the hardware: what the command changes of it is made first, and where
-    /// the hardware refuses that the command has failed, and its reply is HARDWARE_ERROR. The
-    /// hardware is not asked where the call is refused.
+    /// As `command`, beside the hardware: what the command changes of it is made first, and if the
+    /// hardware refuses that, the command has failed, and its reply is HARDWARE_ERROR. The hardware
+    /// is not asked if the call is refused.
     pub fn command_on<H: Hardware>(
         &mut self,
         hardware: &mut H,
@@ -49,8 +49,8 @@ impl Platform {
         Ok(self.execute_on(hardware, agent, frame, reply))
     }
 
-    /// As `advance`, beside the hardware: what the completion changes of it is made first, and where
-    /// the hardware refuses that the set ends as failed.
+    /// As `advance`, beside the hardware: what the completion changes of it is made first, and if
+    /// the hardware refuses that, the set ends as failed.
     pub fn advance_on<H: Hardware>(&mut self, hardware: &mut H) -> bool
         ensures waiting { (h : List Event) → StandsAfter self.old h
             → (result ≡ false) ↔ IsIdle self.old.board h }

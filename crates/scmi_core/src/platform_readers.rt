@@ -1,4 +1,4 @@
-//! Where a platform stands: its board, values, pending sets and outboxes.
+//! The state of a platform: its board, values, pending sets and outboxes.
 ghost use Rattle.std.specs.Prelude.{◌≡◌, ◌≤◌, ◌↔◌, List, length, None, IfSome};
 ghost use Rattle.scmi_plan.specs.Agent.{IsNoAgent};
 ghost use Rattle.scmi_plan.specs.declared.resource.Resource.TheVariants as resource;
@@ -21,7 +21,7 @@ impl Platform {
     }
 
     /// The state of a power domain, as the word that a reply has: 0 is ON, 0x40000000 is OFF.
-    /// `None` where the board lacks the domain.
+    /// `None` if the board lacks the domain.
     pub fn power_state(&self, domain: u32) -> Option<u32>
         ensures value { (h : List Event) → StandsAfter self.now h
             → IfSome result (λ state. state ≡ value_after self.now.board (State domain) h) }
@@ -34,7 +34,7 @@ impl Platform {
         }
     }
 
-    /// The rate of a clock in Hz. `None` where the board lacks the clock.
+    /// The rate of a clock in Hz. `None` if the board lacks the clock.
     pub fn clock_rate(&self, clock: u32) -> Option<u64>
         ensures value { (h : List Event) → StandsAfter self.now h
             → IfSome result (λ rate. rate ≡ value_after self.now.board (Rate clock) h) }
@@ -47,7 +47,7 @@ impl Platform {
         }
     }
 
-    /// Whether a clock is enabled. `None` where the board lacks the clock.
+    /// Whether a clock is enabled. `None` if the board lacks the clock.
     pub fn is_clock_enabled(&self, clock: u32) -> Option<bool>
         ensures value { (h : List Event) → StandsAfter self.now h
             → IfSome result (λ enabled.
@@ -77,8 +77,8 @@ impl Platform {
         self.tables.pending.is_pending(Resource::Clock(clock))
     }
 
-    /// The pending sets, at most 8, in order of acceptance, in which they complete. Each says what it
-    /// will change (`PendingSet::effect`).
+    /// The pending sets, at most 8, in order of acceptance, in which they complete. Each shows what
+    /// it will change (`PendingSet::effect`).
     pub fn pending_sets(&self) -> &[PendingSet]
         ensures { (h : List Event) → StandsAfter self.now h
             → result.now ≡ pending_sets self.now.board (deeds self.now.board h) }
@@ -86,7 +86,7 @@ impl Platform {
         self.tables.pending.as_slice()
     }
 
-    /// How many messages wait in an agent's outbox, at most 16. `None` where the board lacks the
+    /// How many messages wait in an agent's outbox, at most 16. `None` if the board lacks the
     /// agent.
     pub fn waiting(&self, agent: u32) -> Option<usize>
         ensures count { (h : List Event) → StandsAfter self.now h

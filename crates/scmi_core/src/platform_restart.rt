@@ -11,8 +11,8 @@ use crate::platform::Platform;
 impl Platform {
     /// Ends what an agent asked for that restarted without the platform: its requests for
     /// notifications, the messages in its outbox, and its wish for delayed responses to its pending
-    /// sets. Permissions, values and the pending sets themselves stay (own). `NoAgent` where the
-    /// board lacks the agent, the only refusal; then nothing changed.
+    /// sets. Permissions, values and the pending sets themselves stay (own). `NoAgent` if the board
+    /// lacks the agent, the only refusal; then nothing changed.
     pub fn restart(&mut self, agent: u32) -> Result<(), CoreError>
         ensures event { OnOk result (MovesOn self.old (Restarted agent) self.new) }
         ensures board { self.new.board ≡ self.old.board }

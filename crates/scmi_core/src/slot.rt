@@ -31,7 +31,7 @@ impl Model for Slot {
 }
 
 impl Slot {
-    /// What stands in a place that holds no message.
+    /// The content of a place that holds no message.
     pub fn new() -> Slot {
         Slot {
             header: Header::default(),
@@ -61,7 +61,7 @@ impl Slot {
         }
     }
 
-    /// Makes a message this one, where it stands.
+    /// Makes a message this one, in place.
     pub fn copy_to(&self, message: &mut Message)
         ensures { message.new ≡ self.now }
     {

@@ -36,7 +36,7 @@ use scmi_codec::{
 use scmi_plan::{DOMAINS, Load, Plan};
 use scmi_power::PowerState;
 
-// What stands for the load of a command that meets none.
+// The value used as the load of a command that meets none.
 const NO_LOAD: Load = Load {
     busy: 0,
     room: false,
@@ -192,7 +192,7 @@ impl Tables {
             reply.new.items self.old self.new }
     {
         let agents = plan.agents();
-        // A set is reported also where the state stays equal, so the state is read before it.
+        // A set is reported also if the state stays equal, so the state is read before it.
         let before = self.state_before(command);
         let load = self.power_load(agent, command);
         let done = self
@@ -367,7 +367,7 @@ impl Tables {
         }
     }
 
-    /// The state of the domain that a command sets, 0 where it sets none.
+    /// The state of the domain that a command sets, 0 if it sets none.
     fn state_before(&self, command: PowerCommand) -> u32
         ensures { IfSome (set_domain command) (λ domain.
             domain < DOMAINS → result ≡ state_at self.now.power domain) }

@@ -81,7 +81,7 @@ impl Trace {
         }
     }
 
-    /// Makes room for one more event, by doubling where there is none.
+    /// Makes room for one more event, by doubling if there is none.
     pub(crate) fn reserve(&mut self) -> Result<(), AllocError>
         ensures events { self.new.events ≡ self.old.events }
         ensures ok { OnOk result (0 < self.new.room) }
@@ -184,7 +184,7 @@ impl Trace {
     }
 }
 
-/// Adds the words of an event behind others, in the room that there is.
+/// Adds the words of an event after others, in the room that there is.
 fn append(words: &mut Vec<u32>, first: u32, size: u32, header: u32, payload: &[u32])
     requires { vec_len words.old + 3 + length payload.now ≤ vec_capacity words.old }
     ensures items { words.new.items ≡ words.old.items ++ first ∷ size ∷ header ∷ payload.now }

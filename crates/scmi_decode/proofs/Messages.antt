@@ -1,4 +1,4 @@
--- Lines that tell a message, which the prover reads by the definitions: the frame in the area of each.
+-- Lines that report a message, which the prover reads by the definitions: the frame in the area of each.
 use Rattle.std.proofs.Common.{◌≡◌, List, [], ◌∷◌, Option, None, Some, codes, refl}
 use Rattle.std.specs.Prelude.{ℕ}
 use Rattle.std.specs.Option.{option_map}
@@ -12,7 +12,7 @@ use Rattle.scmi_decode.specs.Event.{event_area, event_header, event_payload, sig
 use Rattle.scmi_decode.specs.MessageArea.{message_area, message_start}
 use Rattle.scmi_decode.specs.MessageLine.{alone_bytes}
 
--- the frame that stands in the area of a line's message
+-- the frame that is in the area of a line's message
 abbrev pub frame_told : List ℕ → Option Frame
 frame_told line = option_map channel_frame (alone_bytes line)
 

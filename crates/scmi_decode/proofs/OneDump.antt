@@ -1,4 +1,4 @@
--- The text of an input that is one dump is that of its bytes, in whatever form they stand.
+-- The text of an input that is one dump is that of its bytes, in whatever form they are.
 use Rattle.std.proofs.Common.{◌≡◌, ℕ, ◌+◌, true, false, List, [], ◌∷◌, ◌++◌, length, Option, None, Some, ◌∙◌, sym, ap, refl, subst, arith, append_assoc, append-nil}
 use Rattle.std.specs.Prelude.{◌==◌, not}
 use Rattle.std.specs.List.{slice_split}

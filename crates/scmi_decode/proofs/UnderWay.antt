@@ -12,13 +12,13 @@ use Rattle.scmi_input.specs.Lines.{is_line_feed, first_line, after_line, has_lin
 use Rattle.scmi_decode.specs.OpenDump.{DumpView, no_dump, closed}
 use Rattle.scmi_decode.specs.Decoded.{IsDecoded, decoded_text, dump_after, dump_text, has_area, lines_found, lines_text, step_text}
 
--- what is left to read of an input, with the dump that is open there: what is still to be written, behind what was, is the text of the whole
+-- what is left to read of an input, with the dump that is open there: what is still to be written, after what was, is the text of the whole
 pub record IsOnItsWay (input rest : List ℕ) (d : DumpView) (n : ℕ) (old now : Option (List ℕ)) : Type 0 where
   pub text : (end : Option (List ℕ)) → Appends now end (lines_text d n (slice_split is_line_feed rest)) → Appends old end (decoded_text input)
   pub found : lines_found d n (slice_split is_line_feed rest) ≡ has_area input
   pub size : n + length rest ≤ length input + 1
 
--- the same, where it may be unknown what the reader gives
+-- the same, if it may be unknown what the reader gives
 abbrev pub IsUnderWay : (whole left : Option (List ℕ)) (d : DumpView) (n : ℕ) (old now : Option (List ℕ)) → Type 0
 IsUnderWay None left d n old now = Unit {0}
 IsUnderWay (Some input) None d n old now = ⊥

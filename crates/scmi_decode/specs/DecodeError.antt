@@ -5,7 +5,7 @@ use Rattle.scmi_input.specs.declared.input_error.InputError.TheVariants as input
 use Rattle.scmi_decode.specs.declared.decode_error.DecodeError.{DecodeError}
 use Rattle.scmi_decode.specs.declared.decode_error.DecodeError.TheVariants.{Size, Read, Memory, Write, NoArea}
 
--- 1 for a failed output, 4 for want of memory, and 2 for a refused input (own)
+-- 1 for a failed output, 4 for out of memory, and 2 for a refused input (own)
 abbrev pub status_of : DecodeError → ℕ
 status_of Write = 1
 status_of Memory = 4

@@ -34,7 +34,7 @@ looks_swapped area = not (is_well_formed (length_at area)) && is_well_formed (sw
 unfoldable pub swapped_text : ℕ → List ℕ
 swapped_text len = codes "    hint        length " ++ decimal len ++ codes " in the other byte order: are words printed in that?\n"
 
--- a hint that an area's words were printed in the other byte order, where it looks so
+-- a hint that an area's words were printed in the other byte order, if it looks so
 unfoldable pub hint_text : List ℕ → List ℕ
 hint_text area = if looks_swapped area then swapped_text (swapped_length area) else []
 
@@ -81,7 +81,7 @@ abbrev pub row_text : DumpView → ℕ → List ℕ → Option RowView → List 
 row_text d number line None = dump_text d ++ line_text number line
 row_text d number line (Some r) = if goes_on d r then [] else dump_text d
 
--- the dump behind such a line
+-- the dump after such a line
 abbrev pub dump_after_row : DumpView → ℕ → List ℕ → Option RowView → DumpView
 dump_after_row d number line None = beside (closed d) (line_is_area line)
 dump_after_row d number line (Some r) = if goes_on d r then added d r else begun (closed d) number r
@@ -91,24 +91,24 @@ abbrev pub end_text : DumpView → ℕ → List ℕ → Option ℕ → List ℕ
 end_text d number line (Some address) = dump_text (filled d address)
 end_text d number line None = row_text d number line (row_of line)
 
--- the dump behind such a line
+-- the dump after such a line
 abbrev pub dump_after_end : DumpView → ℕ → List ℕ → Option ℕ → DumpView
 dump_after_end d number line (Some address) = closed (filled d address)
 dump_after_end d number line None = dump_after_row d number line (row_of line)
 
--- what is written at a line: nothing of a remark; an empty line ends the dump
+-- what is written at a line: nothing of a comment; an empty line ends the dump
 unfoldable pub step_text : DumpView → ℕ → List ℕ → List ℕ
 step_text d number line =
     if is_remark line then [] else if length line == 0 then dump_text d else if is_star d line then []
     else end_text d number line (end_at d line)
 
--- the dump behind a line
+-- the dump after a line
 unfoldable pub dump_after : DumpView → ℕ → List ℕ → DumpView
 dump_after d number line =
     if is_remark line then d else if length line == 0 then closed d else if is_star d line then repeated d
     else dump_after_end d number line (end_at d line)
 
--- what is written of lines that are numbered from n, where a dump is open or not
+-- what is written of lines that are numbered from n, whether a dump is open or not
 abbrev pub lines_text : DumpView → ℕ → List (List ℕ) → List ℕ
 lines_text d n [] = dump_text d
 lines_text d n (line ∷ lines) = step_text d n line ++ lines_text (dump_after d n line) (n + 1) lines
@@ -126,6 +126,6 @@ decoded_text input = lines_text no_dump 1 (slice_split is_line_feed input)
 abbrev pub has_area : List ℕ → Bool
 has_area input = lines_found no_dump 1 (slice_split is_line_feed input)
 
--- what is written is that of an input, where its bytes are known
+-- what is written is that of an input, if its bytes are known
 abbrev pub IsDecoded : (input old new : Option (List ℕ)) → Type 0
 IsDecoded input old new = IfSome input (λ bytes. Appends old new (decoded_text bytes))

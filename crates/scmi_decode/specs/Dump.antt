@@ -5,15 +5,15 @@ use Rattle.std.specs.Option.{option_map}
 use Rattle.std.specs.Result.{result_ok}
 use Rattle.hex.specs.Hex.{decode_of}
 
--- whether a byte stands between the items of a line: a space, a tab, a carriage return or a comma
+-- whether a byte separates the items of a line: a space, a tab, a carriage return or a comma
 abbrev pub is_gap : ℕ → Bool
 is_gap b = (b == 32) || (b == 9) || (b == 13) || (b == 44)
 
--- whether an item has the mark of a number, `0x`, and something behind it
+-- whether an item has the mark of a number, `0x`, and something after it
 abbrev pub has_mark : List ℕ → Bool
 has_mark item = nat_lt 2 (length item) && (slice_index item 0 == 48) && (slice_index item 1 == 120)
 
--- bytes that stand as two hexadecimal digits each, of either case, the high one first
+-- bytes as two hexadecimal digits each, of either case, the high one first
 abbrev pub bytes_of : List ℕ → Option (List ℕ)
 bytes_of digits = result_ok (decode_of digits)
 
@@ -21,11 +21,11 @@ bytes_of digits = result_ok (decode_of digits)
 abbrev pub number_bytes : List ℕ → Option (List ℕ)
 number_bytes digits = option_map reverse (bytes_of digits)
 
--- the bytes of an item: a number behind its mark, or a word of eight digits, is its bytes from the lowest on; any other item is bytes in their order
+-- the bytes of an item: a number after its mark, or a word of eight digits, is its bytes from the lowest on; any other item is bytes in their order
 abbrev pub item_bytes : List ℕ → Option (List ℕ)
 item_bytes item = if has_mark item then number_bytes (drop 2 item) else if length item == 8 then number_bytes item else bytes_of item
 
--- what a vector is once the bytes of an item were added, where it has some, and whether it has
+-- what a vector is once the bytes of an item were added, if it has some, and whether it has
 abbrev pub Adds : Option (List ℕ) → (added : Bool) → (old new : List ℕ) → Type 0
 Adds None added old new = added ≡ false
 Adds (Some bytes) added old new = (added ≡ true) × (new ≡ old ++ bytes)
@@ -34,11 +34,11 @@ Adds (Some bytes) added old new = (added ≡ true) × (new ≡ old ++ bytes)
 abbrev pub is_number : List ℕ → Bool
 is_number item = has_mark item || (length item == 8)
 
--- the digits of an item, behind its mark
+-- the digits of an item, after its mark
 abbrev pub digits_of : List ℕ → List ℕ
 digits_of item = if has_mark item then drop 2 item else item
 
--- one after the other, where both are there
+-- one after the other, if both are there
 abbrev pub both_bytes : Option (List ℕ) → Option (List ℕ) → Option (List ℕ)
 both_bytes (Some a) (Some b) = Some (a ++ b)
 both_bytes _ _ = None
@@ -48,6 +48,6 @@ abbrev pub items_bytes : List (List ℕ) → Option (List ℕ)
 items_bytes [] = Some []
 items_bytes (item ∷ items) = both_bytes (item_bytes item) (items_bytes items)
 
--- the bytes of a line, where each of its items has some
+-- the bytes of a line, if each of its items has some
 abbrev pub line_bytes : List ℕ → Option (List ℕ)
 line_bytes line = items_bytes (slice_split is_gap line)

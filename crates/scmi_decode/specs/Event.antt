@@ -1,4 +1,4 @@
--- The message that a line of Linux's event `scmi_msg_dump` tells, by its fields.
+-- The message that a line of Linux's event `scmi_msg_dump` reports, by its fields.
 use Rattle.std.specs.Prelude.{ℕ, ◌-◌, ◌%◌, ◌^◌, ◌==◌, ◌&&◌, nat_lt, Bool, true, false, if◌then◌else◌, List, [], ◌∷◌, ◌++◌, codes, drop, Option, Some, None}
 use Rattle.std.specs.Int.{to_le_bytes, w32}
 use Rattle.scmi_codec.specs.Header.{HeaderFields, header_word}
@@ -15,7 +15,7 @@ is_word [] (b ∷ bs) = false
 is_word (c ∷ cs) [] = false
 is_word (c ∷ cs) (b ∷ bs) = (b == c) && is_word cs bs
 
--- what stands behind a name at the begin of an item, if the name stands there
+-- what follows a name at the beginning of an item, if the item begins with it
 abbrev pub behind_name : (name item : List ℕ) → Option (List ℕ)
 behind_name [] item = Some item
 behind_name (c ∷ cs) [] = None
@@ -26,7 +26,7 @@ abbrev pub first_there : Option (List ℕ) → Option (List ℕ) → Option (Lis
 first_there (Some value) other = Some value
 first_there None other = other
 
--- the value of a field, what stands behind its name in the first item that begins with it
+-- the value of a field, which follows its name in the first item that begins with it
 abbrev pub value_of : (name : List ℕ) → List (List ℕ) → Option (List ℕ)
 value_of name [] = None
 value_of name (item ∷ items) = first_there (behind_name name item) (value_of name items)
@@ -108,29 +108,29 @@ abbrev pub status_bytes : Option ℕ → Option (List ℕ)
 status_bytes None = None
 status_bytes (Some word) = Some (to_le_bytes w32 word)
 
--- the payload of an event's message: `s=` has its status, if it has one, and `pyld=` the bytes behind it
+-- the payload of an event's message: `s=` has its status, if it has one, and `pyld=` the bytes after it
 unfoldable pub event_payload : EventKind → List (List ℕ) → Option (List ℕ)
 event_payload k items =
     if has_status k then both_bytes (status_bytes (status_word (value_of (codes "s=") items))) (payload_bytes (value_of (codes "pyld=") items))
     else payload_bytes (value_of (codes "pyld=") items)
 
--- the status word of the channel in which an event's message stands: free with a response, and busy with any other
+-- the status word of the channel that holds an event's message: free with a response, and busy with any other
 abbrev pub channel_word : EventKind → ℕ
 channel_word Command = 0
 channel_word Response = 1
 channel_word Delayed = 0
 channel_word Notification = 0
 
--- the area in which a message of this header and payload stands
+-- the area that holds a message of this header and payload
 abbrev pub event_area_with : EventKind → Option HeaderFields → Option (List ℕ) → Option (List ℕ)
 event_area_with k (Some h) (Some payload) = message_area (channel_word k) (to_le_bytes w32 (header_word h) ++ payload)
 event_area_with k _ _ = None
 
--- the same, where it is known what the event is of
+-- the same, if it is known what the event is of
 abbrev pub event_area_of : Option EventKind → List (List ℕ) → Option (List ℕ)
 event_area_of None items = None
 event_area_of (Some k) items = event_area_with k (event_header k items) (event_payload k items)
 
--- the area in which an event's message stands, of the items behind the event's name
+-- the area that holds an event's message, of the items after the event's name
 unfoldable pub event_area : List (List ℕ) → Option (List ℕ)
 event_area items = event_area_of (kind_of (value_of (codes "t=") items)) items

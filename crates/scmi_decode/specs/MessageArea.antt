@@ -1,4 +1,4 @@
--- The area in which a message stands.
+-- The area that holds a message.
 use Rattle.std.specs.Prelude.{ℕ, ◌+◌, ◌*◌, ◌-◌, ◌&&◌, nat_lt, Bool, if◌then◌else◌, List, [], ◌∷◌, ◌++◌, length, Option, Some, None}
 use Rattle.std.specs.Int.{to_le_bytes, w32}
 use Rattle.scmi_codec.specs.declared.area.TheConstants.{AREA_BYTES}
@@ -13,7 +13,7 @@ fits_area message = nat_lt 3 (length message) && nat_lt (length message) (4 + 4 
 unfoldable pub message_start : (status : ℕ) → (message : List ℕ) → List ℕ
 message_start status message = copies 4 (0 ∷ []) ++ to_le_bytes w32 status ++ copies 12 (0 ∷ []) ++ to_le_bytes w32 (length message) ++ message
 
--- bytes with as many zeros behind them as an area has
+-- bytes with as many zeros after them as an area has
 abbrev pub padded : List ℕ → List ℕ
 padded bytes = bytes ++ copies (AREA_BYTES - length bytes) (0 ∷ [])
 

@@ -1,11 +1,11 @@
--- Lines that tell a message: of Linux's event `scmi_msg_dump`, or of a script.
+-- Lines that report a message: of Linux's event `scmi_msg_dump`, or of a script.
 use Rattle.std.specs.Prelude.{ℕ, ◌^◌, ◌&&◌, ◌||◌, Bool, if◌then◌else◌, List, [], ◌∷◌, codes, Option, Some, None, is_some}
 use Rattle.std.specs.List.{slice_split}
 use Rattle.scmi_decode.specs.Dump.{is_gap, items_bytes}
 use Rattle.scmi_decode.specs.Event.{digits_number, event_area, is_word}
 use Rattle.scmi_decode.specs.MessageArea.{message_area}
 
--- what stands behind the name of the event, if it is among the items
+-- what follows the name of the event, if it is among the items
 abbrev pub behind_event : List (List ℕ) → Option (List (List ℕ))
 behind_event [] = None
 behind_event (item ∷ items) = if is_word (codes "scmi_msg_dump:") item then Some items else behind_event items
@@ -14,11 +14,11 @@ behind_event (item ∷ items) = if is_word (codes "scmi_msg_dump:") item then So
 abbrev pub is_agent : List ℕ → Bool
 is_agent item = is_some (digits_number 10 (2 ^ 32) item)
 
--- whether an item says that an agent has got the message behind it
+-- whether an item reports that an agent has got the message after it
 abbrev pub is_got : List ℕ → Bool
 is_got item = is_word (codes "reply") item || is_word (codes "got") item || is_word (codes "p2a") item
 
--- what stands behind an agent and the word that it has got a message
+-- what follows an agent and the word for a message that it has got
 abbrev pub behind_got : List (List ℕ) → Option (List (List ℕ))
 behind_got [] = None
 behind_got (agent ∷ []) = None
@@ -29,17 +29,17 @@ abbrev pub got_area : Option (List ℕ) → Option (List ℕ)
 got_area None = None
 got_area (Some message) = message_area 1 message
 
--- the bytes of a line that tells no event: the area of the message that an agent has got, or else its own
+-- the bytes of a line without an event: the area of the message that an agent has got, or its own
 abbrev pub got_or_own : Option (List (List ℕ)) → List (List ℕ) → Option (List ℕ)
 got_or_own (Some behind) items = got_area (items_bytes behind)
 got_or_own None items = items_bytes items
 
--- the bytes of a line: the area of the message that an event tells, or else as above
+-- the bytes of a line: the area of the message that an event reports, or else as above
 abbrev pub event_or_own : Option (List (List ℕ)) → List (List ℕ) → Option (List ℕ)
 event_or_own (Some behind) items = event_area behind
 event_or_own None items = got_or_own (behind_got items) items
 
--- the bytes that the items of a line stand for alone, where it is no row of a dump
+-- the bytes that the items of a line encode alone, if it is no row of a dump
 abbrev pub items_alone : List (List ℕ) → Option (List ℕ)
 items_alone items = event_or_own (behind_event items) items
 

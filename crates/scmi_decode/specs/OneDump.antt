@@ -21,7 +21,7 @@ pub record IsNextRow (d : DumpView) (line : List ℕ) (r : RowView) : Type 0 whe
   pub no_end : end_at d line ≡ None
   pub next : goes_on d r ≡ true
 
--- nothing, or the empty line behind the last line feed
+-- nothing, or the empty line after the last line feed
 abbrev pub IsEnd : List (List ℕ) → Type 0
 IsEnd [] = Unit {0}
 IsEnd ([] ∷ []) = Unit {0}

@@ -6,7 +6,7 @@ use Rattle.scmi_decode.specs.Row.{RowView, address_of, first_item, after_item, a
 use Rattle.scmi_decode.specs.declared.form.Form.{Form}
 use Rattle.scmi_decode.specs.declared.form.Form.TheVariants.{Plain, Marked, Offset}
 
--- a dump, which has no bytes where none is open: the number of its first line, its form, the address behind its last row, how many bytes its first row has, whether its rows repeat up to the next address, its bytes; and whether an area was found before
+-- a dump, which has no bytes if none is open: the number of its first line, its form, the address after its last row, how many bytes its first row has, whether its rows repeat up to the next address, its bytes; and whether an area was found before
 pub record DumpView : Type 0 where
   pub first : ℕ
   pub form : Form
@@ -35,7 +35,7 @@ same_form Marked Marked = true
 same_form Offset Offset = true
 same_form f g = false
 
--- whether an address is the one behind the last row, or, where rows repeat, so many rows behind it
+-- whether an address is the one after the last row, or, if rows repeat, whole rows after it
 unfoldable pub reaches : DumpView → ℕ → Bool
 reaches d address =
     if d.repeats then not (d.width == 0) && nat_le d.next address && nat_le (address - d.next) AREA_BYTES && ((address - d.next) % d.width == 0)
@@ -45,11 +45,11 @@ reaches d address =
 abbrev pub is_even : DumpView → Bool
 is_even d = not (d.width == 0) && (length d.bytes % d.width == 0)
 
--- whether a row goes on with a dump: it has the same form, stands behind the last row, and is not longer than the first; and no shorter row came before it
+-- whether a row goes on with a dump: it has the same form, follows the last row, and is not longer than the first; and no shorter row came before it
 unfoldable pub goes_on : DumpView → RowView → Bool
 goes_on d r = is_open d && same_form d.form r.form && is_even d && nat_le (length r.bytes) d.width && (same_form r.form Plain || reaches d r.address)
 
--- so many copies of bytes
+-- copies of bytes, as many as the number
 abbrev pub copies : ℕ → List ℕ → List ℕ
 copies zero row = []
 copies (suc n) row = copies n row ++ row
@@ -66,7 +66,7 @@ last_row d = drop (length d.bytes - d.width) d.bytes
 unfoldable pub filled : DumpView → ℕ → DumpView
 filled d address = record d { bytes = d.bytes ++ copies (rows_before d address) (last_row d); repeats = false }
 
--- a dump with a row more behind it
+-- a dump with one more row after it
 unfoldable pub extended : DumpView → RowView → DumpView
 extended d r = record d { bytes = d.bytes ++ r.bytes; next = (r.address + length r.bytes) % 2 ^ 64 }
 
@@ -107,11 +107,11 @@ unfoldable pub is_star : DumpView → List ℕ → Bool
 is_star d line =
     is_open d && not (same_form d.form Plain) && (length (first_item line) == 1) && (slice_index (first_item line) 0 == 42) && has_one_item line
 
--- an address, where a dump reaches it
+-- an address, if a dump reaches it
 abbrev pub if_reached : DumpView → Option ℕ → Option ℕ
 if_reached d None = None
 if_reached d (Some address) = if reaches d address then Some address else None
 
--- the address of a line that ends a dump as `hexdump` and `od` do: it has an address alone, where the dump's bytes end
+-- the address of a line that ends a dump as `hexdump` and `od` do: it has an address alone, that at which the dump's bytes end
 unfoldable pub end_at : DumpView → List ℕ → Option ℕ
 end_at d line = if is_open d && same_form d.form Offset && has_one_item line then if_reached d (address_of Offset (first_item line)) else None

@@ -37,7 +37,7 @@ rows_reading Marked true = MarkedWords
 rows_reading Offset false = OffsetBytes
 rows_reading Offset true = OffsetWords
 
--- how a row of a dump is read, by its first item behind the address
+-- how a row of a dump is read, by its first item after the address
 unfoldable pub row_reading : List ℕ → Reading
 row_reading line = rows_reading (parts_of line).form (is_wide (first_item (parts_of line).bytes))
 

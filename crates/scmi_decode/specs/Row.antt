@@ -11,7 +11,7 @@ digit_value b =
     if nat_lt 47 b && nat_lt b 58 then b - 48 else if nat_lt 96 b && nat_lt b 103 then b - 97 + 10
     else if nat_lt 64 b && nat_lt b 71 then b - 65 + 10 else 16
 
--- the number that digits of a base give behind what stands before them, if it has at most 64 bits
+-- the number that digits of a base give after what comes before them, if it has at most 64 bits
 abbrev pub number_from : (base before : ℕ) → List ℕ → Option ℕ
 number_from base before [] = Some before
 number_from base before (d ∷ ds) =
@@ -22,12 +22,12 @@ abbrev pub gap_length : List ℕ → ℕ
 gap_length [] = 0
 gap_length (b ∷ bs) = if is_gap b then 1 + gap_length bs else 0
 
--- how many bytes stand before the first gap
+-- how many bytes come before the first gap
 abbrev pub item_length : List ℕ → ℕ
 item_length [] = 0
 item_length (b ∷ bs) = if is_gap b then 0 else 1 + item_length bs
 
--- what stands behind the gap at the begin
+-- what follows the gap at the beginning
 abbrev pub after_gap : List ℕ → List ℕ
 after_gap line = drop (gap_length line) line
 
@@ -35,7 +35,7 @@ after_gap line = drop (gap_length line) line
 abbrev pub first_item : List ℕ → List ℕ
 first_item line = take (item_length (after_gap line)) (after_gap line)
 
--- what stands behind the first item of a line
+-- what follows the first item of a line
 abbrev pub after_item : List ℕ → List ℕ
 after_item line = drop (item_length (after_gap line)) (after_gap line)
 
@@ -43,21 +43,21 @@ abbrev pub begins_with_space : List ℕ → Bool
 begins_with_space [] = false
 begins_with_space (b ∷ bs) = b == 32
 
--- how many bytes stand before two spaces in a row
+-- how many bytes come before two spaces in a row
 abbrev pub column_length : List ℕ → ℕ
 column_length [] = 0
 column_length (b ∷ bs) = if (b == 32) && begins_with_space bs then 0 else 1 + column_length bs
 
--- how many bytes stand before `|` or `>`
+-- how many bytes come before `|` or `>`
 abbrev pub bar_length : List ℕ → ℕ
 bar_length [] = 0
 bar_length (b ∷ bs) = if (b == 124) || (b == 62) then 0 else 1 + bar_length bs
 
--- what stands before two spaces, the gap at the begin aside
+-- what comes before two spaces, apart from the gap at the beginning
 abbrev pub before_column : List ℕ → List ℕ
 before_column behind = take (column_length (after_gap behind)) (after_gap behind)
 
--- what stands before `|` or `>`
+-- what comes before `|` or `>`
 abbrev pub before_bar : List ℕ → List ℕ
 before_bar behind = take (bar_length behind) behind
 
@@ -73,7 +73,7 @@ without_last item = take (length item - 1) item
 abbrev pub is_symbol : List ℕ → Bool
 is_symbol item = ends_in_colon item && (slice_index item 0 == 60)
 
--- whether two items, with nothing behind them, are an address and its value
+-- whether two items, with nothing after them, are an address and its value
 abbrev pub is_pair : (first second behind : List ℕ) → Bool
 is_pair first second behind = has_mark first && has_mark second && (length (after_gap behind) == 0)
 
@@ -82,13 +82,13 @@ abbrev pub is_offset : (first second : List ℕ) → Bool
 is_offset first second =
     nat_lt 5 (length first) && nat_lt (length first) 9 && ((length second == 2) || (length second == 8)) && not (length first == length second)
 
--- the form of a row, the digits of its address, and where its bytes stand
+-- the form of a row, the digits of its address, and the place of its bytes
 pub record RowParts : Type 0 where
   pub form : Form
   pub digits : List ℕ
   pub bytes : List ℕ
 
--- a row of these digits, whose bytes stand behind them before a column of text
+-- a row of these digits, whose bytes follow them, before a column of text
 unfoldable pub marked_parts : (digits behind : List ℕ) → RowParts
 marked_parts digits behind = record { form = Marked; digits = digits; bytes = before_column behind }
 
@@ -120,16 +120,16 @@ without_mark digits = if has_mark digits then drop 2 digits else digits
 unfoldable pub address_of : Form → List ℕ → Option ℕ
 address_of f digits = number_from (base_of f digits) 0 (without_mark digits)
 
--- a row of bytes, where it has some and not too many
+-- a row of bytes, if it has some and not too many
 abbrev pub row_with : Form → ℕ → List ℕ → Option RowView
 row_with f address bytes = if nat_lt 0 (length bytes) && nat_lt (length bytes) (ROW_BYTES + 1) then Some (record { form = f; address = address; bytes = bytes }) else None
 
--- the same, where address and bytes are there
+-- the same, if address and bytes are there
 abbrev pub row_if : Form → Option ℕ → Option (List ℕ) → Option RowView
 row_if f (Some address) (Some bytes) = row_with f address bytes
 row_if f _ _ = None
 
--- the row of a form, the digits of an address, and what its bytes stand in
+-- the row of a form, the digits of an address, and the text that has its bytes
 unfoldable pub parts_row : Form → (digits bytes : List ℕ) → Option RowView
 parts_row f digits bytes = row_if f (address_of f digits) (line_bytes bytes)
 

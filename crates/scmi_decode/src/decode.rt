@@ -16,7 +16,7 @@ use std::io::{Read, Write};
 
 /// Decodes an input, a line at a time, and gives the exit status: 0, or that of the error, whose text is
 /// written as the last line; `NoArea` has none. A fault that can't be written gives status 1. `readings`
-/// is told how each area is read, where that is another way than that of the area before.
+/// is notified of how each area is read, if that differs from the area before.
 pub fn run_decode<R: Read, W: Write, N: Readings>(
     alloc: Global,
     reader: &mut R,
@@ -55,10 +55,10 @@ pub fn run_counted<R: CountedRead + Drop, W: Write, N: Readings>(
     }
 }
 
-/// Reads an input line by line, and writes each of its dumps that has ended, behind the number of its
-/// first line, in words. `NoArea` where all was written and none of it is an area. `Size` at a line
-/// longer than `INPUT_BYTES`, `Read` at a read that fails, `Memory` where memory is refused and `Write`
-/// where the output fails: what stands before is then written.
+/// Reads an input line by line, and writes each of its dumps that has ended, after the number of
+/// its first line, in words. `NoArea` if all was written and nothing of it is an area. `Size` at a
+/// line longer than `INPUT_BYTES`, `Read` at a read that fails, `Memory` when out of memory and
+/// `Write` if the output fails: what comes before is then written.
 pub fn decode<R: CountedRead + Drop, W: Write, N: Readings>(
     alloc: Global,
     input: &mut Input<R>,

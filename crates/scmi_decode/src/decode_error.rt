@@ -16,7 +16,7 @@ pub enum DecodeError {
     /// A read failed, or reads were interrupted too often.
     #[error("read")]
     Read,
-    /// Memory was refused.
+    /// Out of memory.
     #[error("memory")]
     Memory,
     /// The output failed.
@@ -28,8 +28,8 @@ pub enum DecodeError {
 }
 
 impl DecodeError {
-    /// The exit status of a run that ends so: 1 for a failed output, 2 for a refused input, 4 where
-    /// memory was refused.
+    /// The exit status of a run that ends so: 1 for a failed output, 2 for a refused input, 4 when
+    /// out of memory.
     pub fn status(&self) -> u8
         ensures { result ≡ status_of self.now }
     {

@@ -8,12 +8,12 @@ use crate::row::ROW_BYTES;
 use hex::FromHexError;
 use std::alloc::{AllocError, Global};
 
-/// An item of at most so many digits takes no memory of its own (own).
+/// An item of at most this many digits takes no memory of its own (own).
 const SHORT_DIGITS: usize = 64;
 
-/// The bytes that stand in a line, `None` where an item of it is of another form. An item is bytes of
-/// two hexadecimal digits each; or a number, its lowest byte first: eight digits, or `0x` and digits
-/// (own). The only error is want of memory.
+/// The bytes of a line, `None` if an item of it is of another form. An item is bytes of two
+/// hexadecimal digits each; or a number, its lowest byte first: eight digits, or `0x` and digits
+/// (own). The only possible error: out of memory.
 pub fn line_bytes(alloc: Global, line: &[u8]) -> Result<Option<Vec<u8>>, AllocError>
     ensures { IfOk result (λ found. option_map (λ bytes. bytes.items) found ≡ line_bytes line.now) }
 {
@@ -26,7 +26,7 @@ pub fn line_bytes(alloc: Global, line: &[u8]) -> Result<Option<Vec<u8>>, AllocEr
     Ok(Some(all))
 }
 
-/// The bytes of items, one after the other.
+/// The bytes of items, in order.
 pub(crate) fn items_bytes(alloc: Global, items: &[&[u8]]) -> Result<Option<Vec<u8>>, AllocError>
     ensures { IfOk result (λ found. option_map (λ bytes. bytes.items) found ≡
         items_bytes (map (λ item. item.now) items.now)) }
@@ -86,7 +86,7 @@ pub(crate) fn is_number(item: &[u8]) -> bool
     has_mark(item) || item.len() == 8
 }
 
-/// The digits of an item, behind its mark.
+/// The digits of an item, after its mark.
 fn digits_of(item: &[u8]) -> &[u8]
     ensures { result.now ≡ digits_of item.now }
 {
@@ -106,7 +106,7 @@ fn item_bytes(alloc: Global, item: &[u8]) -> Result<Option<Vec<u8>>, AllocError>
     bytes_of(alloc, item)
 }
 
-/// Whether an item begins with `0x`, and has something behind it.
+/// Whether an item begins with `0x`, and something follows it.
 pub(crate) fn has_mark(item: &[u8]) -> bool
     ensures { result ≡ has_mark item.now }
 {

@@ -1,4 +1,4 @@
-//! The message that a line of Linux's event `scmi_msg_dump` tells, by its fields.
+//! The message that a line of Linux's event `scmi_msg_dump` reports, by its fields.
 ghost use Rattle.std.specs.Prelude.{◌≡◌, ◌<◌, IfOk, IfSome, map};
 ghost use Rattle.std.specs.Int.{to_le_bytes, w32};
 ghost use Rattle.std.specs.Option.{option_copied, option_map};
@@ -19,8 +19,8 @@ pub enum EventKind {
     Notification,
 }
 
-/// The area in which an event's message stands, of the items behind the event's name: a response in a
-/// free channel, any other message in a busy one. `None` where a field is missing or has another form.
+/// The area that holds an event's message, of the items after the event's name: a response in a
+/// free channel, any other message in a busy one. `None` if a field is missing or has another form.
 #[tactic(auto, unfolding(crate::specs::Event::event_area))]
 pub(crate) fn event_area(alloc: Global, items: &[&[u8]]) -> Result<Option<Vec<u8>>, AllocError>
     ensures { IfOk result (λ found.
@@ -32,7 +32,7 @@ pub(crate) fn event_area(alloc: Global, items: &[&[u8]]) -> Result<Option<Vec<u8
     }
 }
 
-/// The same, where it is known what the event is of.
+/// The same, if it is known what the event is of.
 fn event_area_of(
     alloc: Global,
     kind: EventKind,
@@ -70,7 +70,8 @@ fn event_header(kind: EventKind, items: &[&[u8]]) -> Option<Header>
     })
 }
 
-/// The payload of an event's message: `s=` has its status, if it has one, and `pyld=` the bytes behind it.
+/// The payload of an event's message: `s=` has its status, if it has one, and `pyld=` the bytes
+/// after it.
 #[tactic(auto, unfolding(crate::specs::Event::event_payload))]
 fn event_payload(
     alloc: Global,
@@ -95,7 +96,7 @@ fn event_payload(
     Ok(Some(payload))
 }
 
-/// The value of a field, what stands behind its name in the first item that begins with it.
+/// The value of a field, which follows its name in the first item that begins with it.
 fn value_of<'a>(name: &[u8], items: &[&'a [u8]]) -> Option<&'a [u8]>
     ensures { option_copied result ≡ value_of name.now (map (λ item. item.now) items.now) }
 {
@@ -108,7 +109,7 @@ fn value_of<'a>(name: &[u8], items: &[&'a [u8]]) -> Option<&'a [u8]>
     }
 }
 
-/// What stands behind a name at the begin of an item, if the name stands there.
+/// What follows a name at the beginning of an item, if the item begins with it.
 fn behind_name<'a>(name: &[u8], item: &'a [u8]) -> Option<&'a [u8]>
     ensures { option_copied result ≡ behind_name name.now item.now }
 {
@@ -177,7 +178,7 @@ fn has_status(kind: EventKind) -> bool
     }
 }
 
-/// The status word of the channel in which an event's message stands.
+/// The status word of the channel that holds an event's message.
 fn channel_word(kind: EventKind) -> u32
     ensures { result ≡ channel_word kind }
 {

@@ -1,13 +1,13 @@
 //! The forms of rows.
 
-/// How a row of a dump says where its bytes stand.
+/// How a row of a dump marks the place of its bytes.
 #[derive(Clone, Copy, PartialEq, Eq)]
 pub enum Form {
     /// No address: `xxd -p`, `od -An`, one value a line.
     Plain,
-    /// An address with a colon behind it, and a column of text behind two spaces: `xxd`, U-Boot's `md`,
-    /// gdb's `x`; or an address and one value.
+    /// An address with a colon after it, and a column of text after two spaces: `xxd`, U-Boot's
+    /// `md`, gdb's `x`; or an address and one value.
     Marked,
-    /// An address alone, and a column of text behind `|` or `>`: `hexdump -C`, `od`.
+    /// An address alone, and a column of text after `|` or `>`: `hexdump -C`, `od`.
     Offset,
 }

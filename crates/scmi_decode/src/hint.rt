@@ -28,7 +28,7 @@ pub(crate) fn write_hinted<W: Write>(
     write_hint(writer, area)
 }
 
-/// Writes that an area's words may have been printed in the other byte order, where it looks so.
+/// Writes that an area's words may have been printed in the other byte order, if it looks so.
 #[tactic(auto, unfolding(crate::specs::Decoded::hint_text))]
 fn write_hint<W: Write>(writer: &mut W, area: &[u8]) -> io::Result<()>
     requires room { 0x18 ≤ length area.now }

@@ -1,11 +1,12 @@
-//! Dumps of areas of shared memory in, what each of them is out.
+//! Decodes dumps of areas of shared memory: dumps in, their texts out.
 //!
-//! The main type is `Form`, how a row of a dump says where its bytes stand. The main theorem is the
-//! contract of `run_decode`: where the status is 0, what was written is the text of each dump of the
-//! input, in order and behind the number of its first line, and that text is what `scmi_describe` writes
-//! of the dump's area, or says that it is none. `decode` adds that the text of a dump is that of its
-//! bytes, in whatever form they stand (`forms`). A line that tells a message, of Linux's ftrace or of a
-//! run of a script, has the bytes of that message's area. `Readings` is told how each area was read.
+//! The main type is `Form`, how a row of a dump marks the place of its bytes. The main theorem is
+//! the contract of `run_decode`: if the status is 0, what was written is the text of each dump of
+//! the input, in order and after the number of its first line, and that text is what
+//! `scmi_describe` writes of the dump's area, or that it is no area. `decode` adds that the text of
+//! a dump is that of its bytes, in whatever form they are (`forms`). A line that reports a message,
+//! of Linux's ftrace or of a run of a script, has the bytes of that message's area. `Readings` is
+//! notified of how each area was read.
 #![tactic(auto)]
 
 mod decode;

@@ -19,9 +19,9 @@ use std::alloc::Global;
 use std::io;
 use std::io::Write;
 
-/// Writes what a line is that is a dump of its own, behind its number: what its area is, or that it is
-/// none; nothing of a line that is empty or begins with `#`. Gives how it is read where it is an area.
-/// `Memory` where memory is refused, `Write` where the output fails.
+/// Writes the text of a line that is a dump of its own, after its number: its area, or that it is
+/// no area; nothing of a line that is empty or begins with `#`. Gives how it is read, if it is an
+/// area. `Memory` when out of memory, `Write` if the output fails.
 pub fn write_line<W: Write>(
     alloc: Global,
     writer: &mut W,
@@ -46,7 +46,7 @@ pub fn write_line<W: Write>(
     Ok(Some(alone_reading(items.as_slice())))
 }
 
-/// Writes what a line is, behind its number, and gives whether it is an area.
+/// Writes the text of a line, after its number, and gives whether it is an area.
 fn write_found_line<W: Write>(
     writer: &mut W,
     number: usize,
@@ -70,7 +70,7 @@ fn write_found_line<W: Write>(
     }
 }
 
-/// Writes what a dump is, behind the number of its first line; nothing where none is open.
+/// Writes the text of a dump, after the number of its first line; nothing if none is open.
 pub(crate) fn write_dump<W: Write>(writer: &mut W, dump: &OpenDump) -> Result<(), DecodeError>
     ensures text { OnOk result (Appends (W.contents writer.old) (W.contents writer.new) (
         dump_text dump.now)) }
@@ -82,7 +82,7 @@ pub(crate) fn write_dump<W: Write>(writer: &mut W, dump: &OpenDump) -> Result<()
     write_bytes_line(writer, dump.first(), dump.bytes())
 }
 
-/// Writes what bytes are, behind the number of a line.
+/// Writes the text of bytes, after the number of a line.
 fn write_bytes_line<W: Write>(
     writer: &mut W,
     number: usize,
@@ -98,7 +98,7 @@ fn write_bytes_line<W: Write>(
     }
 }
 
-/// Writes that a line has another form, behind its number.
+/// Writes that a line has another form, after its number.
 fn write_no_digits_line<W: Write>(writer: &mut W, number: usize) -> Result<(), DecodeError>
     ensures text { OnOk result (Appends (W.contents writer.old) (W.contents writer.new) (
         numbered_text number None)) }

@@ -6,7 +6,7 @@ ghost use Rattle.scmi_decode.specs.Decoded.{is_described};
 
 use std::alloc::{AllocError, Global};
 
-/// The items of a line, what stands between its gaps; some may be empty.
+/// The items of a line, which are between its gaps; some may be empty.
 pub fn items_of<'a>(alloc: Global, line: &'a [u8]) -> Result<Vec<&'a [u8]>, AllocError>
     ensures { IfOk result (λ items. map (λ item. item.now) items.items ≡
         slice_split is_gap line.now) }
@@ -14,7 +14,7 @@ pub fn items_of<'a>(alloc: Global, line: &'a [u8]) -> Result<Vec<&'a [u8]>, Allo
     line.split(|byte| is_gap(*byte)).collect(alloc)
 }
 
-/// Whether a byte stands between the items of a line: a space, a tab, a carriage return or a comma.
+/// Whether a byte separates the items of a line: a space, a tab, a carriage return or a comma.
 pub(crate) fn is_gap(byte: u8) -> bool
     ensures { result ≡ is_gap byte }
 {

@@ -1,4 +1,4 @@
-//! The area in which a message stands.
+//! The area that holds a message.
 ghost use Rattle.std.specs.Prelude.{◌≡◌, IfOk, true};
 ghost use Rattle.std.specs.Option.{option_map};
 ghost use Rattle.scmi_decode.specs.MessageArea.{fits_area, message_area, message_start, padded};
@@ -7,8 +7,8 @@ use crate::open_dump::copies;
 use scmi_codec::{AREA_BYTES, PAYLOAD_WORDS};
 use std::alloc::{AllocError, Global};
 
-/// The area of a message, header first, in a channel of this status word; `None` where it has no header
-/// or too many payload bytes. The only error is want of memory.
+/// The area of a message, header first, in a channel of this status word; `None` if it has no
+/// header or too many payload bytes. The only possible error: out of memory.
 #[tactic(auto, unfolding(crate::specs::MessageArea::message_area))]
 pub(crate) fn message_area(
     alloc: Global,
@@ -47,7 +47,7 @@ fn message_start(alloc: Global, status: u32, message: &[u8]) -> Result<Vec<u8>, 
     Ok(start)
 }
 
-/// Bytes with as many zeros behind them as an area has.
+/// Bytes with as many zeros after them as an area has.
 fn padded(alloc: Global, mut bytes: Vec<u8>) -> Result<Vec<u8>, AllocError>
     ensures { IfOk result (λ all. all.items ≡ padded bytes.items) }
 {

@@ -1,4 +1,4 @@
-//! Lines that tell a message: of Linux's event `scmi_msg_dump`, or of a script.
+//! Lines that report a message: of Linux's event `scmi_msg_dump`, or of a script.
 ghost use Rattle.std.specs.Prelude.{◌≡◌, IfOk, map};
 ghost use Rattle.std.specs.Option.{option_map};
 ghost use Rattle.scmi_decode.specs.MessageLine.{behind_event, behind_got, got_or_own, is_agent, is_got, items_alone};
@@ -8,8 +8,8 @@ use crate::event::{digits_number, event_area, is_word};
 use crate::message_area::message_area;
 use std::alloc::{AllocError, Global};
 
-/// The bytes that the items of a line stand for alone: the area of the message that they tell, or else
-/// their own. The only error is want of memory.
+/// The bytes that the items of a line encode alone: the area of the message that they report, or
+/// else their own. The only possible error: out of memory.
 pub(crate) fn alone_bytes(alloc: Global, items: &[&[u8]]) -> Result<Option<Vec<u8>>, AllocError>
     ensures { IfOk result (λ found. option_map (λ bytes. bytes.items) found ≡
         items_alone (map (λ item. item.now) items.now)) }
@@ -20,7 +20,7 @@ pub(crate) fn alone_bytes(alloc: Global, items: &[&[u8]]) -> Result<Option<Vec<u
     }
 }
 
-/// What stands behind the name of the event, if it is among the items.
+/// What follows the name of the event, if it is among the items.
 pub(crate) fn behind_event<'a, 'b>(items: &'b [&'a [u8]]) -> Option<&'b [&'a [u8]]>
     ensures { option_map (λ behind. map (λ item. item.now) behind.now) result
         ≡ behind_event (map (λ item. item.now) items.now) }
@@ -35,7 +35,7 @@ pub(crate) fn behind_event<'a, 'b>(items: &'b [&'a [u8]]) -> Option<&'b [&'a [u8
     }
 }
 
-/// The area of the message that a line says that an agent has got, or else the bytes of its items.
+/// The area of the message that an agent has got by a line, or else the bytes of its items.
 fn got_or_own(alloc: Global, items: &[&[u8]]) -> Result<Option<Vec<u8>>, AllocError>
     ensures { IfOk result (λ found. option_map (λ bytes. bytes.items) found ≡
         got_or_own (behind_got (map (λ item. item.now) items.now)) (map (λ item. item.now) items.now)) }
@@ -49,7 +49,7 @@ fn got_or_own(alloc: Global, items: &[&[u8]]) -> Result<Option<Vec<u8>>, AllocEr
     }
 }
 
-/// What stands behind an agent and the word that it has got a message.
+/// What follows an agent and the word for a message that it has got.
 pub(crate) fn behind_got<'a, 'b>(items: &'b [&'a [u8]]) -> Option<&'b [&'a [u8]]>
     ensures { option_map (λ behind. map (λ item. item.now) behind.now) result
         ≡ behind_got (map (λ item. item.now) items.now) }
@@ -74,7 +74,7 @@ fn is_agent(item: &[u8]) -> bool
     digits_number(10, 1 << 32, item).is_some()
 }
 
-/// Whether an item says that an agent has got the message behind it.
+/// Whether an item reports that an agent has got the message after it.
 fn is_got(item: &[u8]) -> bool
     ensures { result ≡ is_got item.now }
 {

@@ -14,8 +14,8 @@ fn digit_value(byte: u8) -> u64
     }
 }
 
-/// The number that digits of a base give behind what stands before them, `None` where one of them is
-/// no digit of the base or the number has more than 64 bits.
+/// The number that digits of a base give after what comes before them, `None` if one of them is no
+/// digit of the base or the number has more than 64 bits.
 pub(crate) fn number_from(base: u64, before: u64, digits: &[u8]) -> Option<u64>
     ensures { result ≡ number_from base before digits.now }
 {

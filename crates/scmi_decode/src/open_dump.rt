@@ -107,7 +107,7 @@ impl OpenDump {
         self.width != 0 && self.bytes.len() % self.width == 0
     }
 
-    /// Whether an address is the one behind the last row, or, where rows repeat, so many rows behind it.
+    /// Whether an address is the one after the last row, or, if rows repeat, whole rows after it.
     #[tactic(auto, unfolding(crate::specs::OpenDump::reaches))]
     fn reaches(&self, address: u64) -> bool
         ensures { result ≡ reaches self.now address }
@@ -196,7 +196,7 @@ impl OpenDump {
         self.bytes.clear();
     }
 
-    /// Notes how a line beside the dump was read, where it is an area.
+    /// Notes how a line beside the dump was read, if it is an area.
     #[tactic(auto, unfolding(crate::specs::OpenDump::beside))]
     pub(crate) fn note(&mut self, number: usize, read: Option<Reading>)
         ensures { self.new ≡ beside self.old (is_some read) }
@@ -214,7 +214,7 @@ impl OpenDump {
         self.reading = reading;
     }
 
-    /// Says how the areas that have ended are read, where that is another way than before.
+    /// Reports how the areas that have ended are read, if that differs from before.
     pub(crate) fn say<N: Readings>(&mut self, readings: &mut N)
         ensures { self.new ≡ self.old }
     {
@@ -242,8 +242,8 @@ impl OpenDump {
         self.repeats = true;
     }
 
-    /// The address of a line that ends the dump as `hexdump` and `od` do: it has an address alone, where
-    /// the dump's bytes end.
+    /// The address of a line that ends the dump as `hexdump` and `od` do: it has an address alone,
+    /// that at which the dump's bytes end.
     #[tactic(auto, unfolding(crate::specs::OpenDump::end_at))]
     pub(crate) fn end_at(&self, line: &[u8]) -> Option<u64>
         ensures { result ≡ end_at self.now line.now }
@@ -260,7 +260,7 @@ impl OpenDump {
     }
 }
 
-/// The address behind a row.
+/// The address after a row.
 fn end_of(row: &Row) -> u64
     ensures { result ≡ (row.now.address + length row.now.bytes) % 2 ^ 64 }
 {
@@ -292,7 +292,7 @@ fn has_one_item(line: &[u8]) -> bool
     after_gap(after_item(line)).is_empty()
 }
 
-/// So many copies of bytes.
+/// Copies of bytes, as many as the number.
 pub(crate) fn copies(alloc: Global, count: u64, row: &[u8]) -> Result<Vec<u8>, AllocError>
     ensures { IfOk result (λ all. all.items ≡ copies count row.now) }
 {

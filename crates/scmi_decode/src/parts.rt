@@ -6,7 +6,7 @@ use crate::dump::has_mark;
 use crate::form::Form;
 use crate::scan::{after_gap, bar_length, column_length, item_and_rest};
 
-/// The form of a row, the digits of its address, and where its bytes stand.
+/// The form of a row, the digits of its address, and the place of its bytes.
 #[derive(Drop)]
 pub(crate) struct Parts<'a> {
     pub(crate) form: Form,
@@ -46,7 +46,7 @@ pub(crate) fn parts_of(line: &[u8]) -> Parts<'_>
     }
 }
 
-/// A row of these digits, whose bytes stand behind them before a column of text.
+/// A row of these digits, whose bytes follow them, before a column of text.
 #[tactic(auto, unfolding(crate::specs::Row::marked_parts))]
 fn marked_parts<'a>(digits: &'a [u8], behind: &'a [u8]) -> Parts<'a>
     ensures form { result.form ≡ (marked_parts digits.now behind.now).form }
@@ -60,7 +60,7 @@ fn marked_parts<'a>(digits: &'a [u8], behind: &'a [u8]) -> Parts<'a>
     }
 }
 
-/// What stands before two spaces, the gap at the begin aside.
+/// What comes before two spaces, apart from the gap at the beginning.
 fn before_column(behind: &[u8]) -> &[u8]
     ensures { result.now ≡ before_column behind.now }
 {
@@ -68,7 +68,7 @@ fn before_column(behind: &[u8]) -> &[u8]
     &data[..column_length(data)]
 }
 
-/// What stands before `|` or `>`.
+/// What comes before `|` or `>`.
 fn before_bar(behind: &[u8]) -> &[u8]
     ensures { result.now ≡ before_bar behind.now }
 {
@@ -96,7 +96,7 @@ fn is_symbol(item: &[u8]) -> bool
     ends_in_colon(item) && item[0] == b'<'
 }
 
-/// Whether two items, with nothing behind them, are an address and its value: both begin with `0x`.
+/// Whether two items, with nothing after them, are an address and its value: both begin with `0x`.
 fn is_pair(first: &[u8], second: &[u8], behind: &[u8]) -> bool
     ensures { result ≡ is_pair first.now second.now behind.now }
 {

@@ -8,20 +8,20 @@ use crate::message_line::{behind_event, behind_got};
 use crate::parts::parts_of;
 use crate::scan::first_item;
 
-/// How a dump is read, or a line that tells a message.
+/// How a dump is read, or a line that reports a message.
 #[derive(Clone, Copy, PartialEq, Eq)]
 pub enum Reading {
     /// Bytes in their order, without addresses.
     Bytes,
     /// Numbers, without addresses.
     Words,
-    /// Bytes in their order, behind an address and a colon.
+    /// Bytes in their order, after an address and a colon.
     MarkedBytes,
-    /// Numbers behind an address and a colon, or one behind an address.
+    /// Numbers after an address and a colon, or one after an address.
     MarkedWords,
-    /// Bytes in their order, behind an address alone.
+    /// Bytes in their order, after an address alone.
     OffsetBytes,
-    /// Numbers behind an address alone.
+    /// Numbers after an address alone.
     OffsetWords,
     /// The message of an event of Linux's ftrace.
     Event,
@@ -30,7 +30,7 @@ pub enum Reading {
 }
 
 /// A way to read a dump, and what it is called. It is generic because a constant has a name in
-/// definitions only where its struct holds no reference of its own.
+/// definitions only if its struct holds no reference of its own.
 #[derive(Clone, Copy)]
 pub struct ReadingRow<T> {
     pub reading: Reading,
@@ -103,7 +103,7 @@ pub(crate) fn alone_reading(items: &[&[u8]]) -> Reading
     rows_reading(Form::Plain, is_wide(first_full(items)))
 }
 
-/// The first item that is not empty; empty where there is none.
+/// The first item that is not empty; empty if there is none.
 fn first_full<'a>(items: &[&'a [u8]]) -> &'a [u8]
     ensures { result.now ≡ first_full (map (λ item. item.now) items.now) }
 {

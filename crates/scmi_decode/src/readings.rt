@@ -1,16 +1,16 @@
-//! What is told how areas are read.
+//! What is notified of how areas are read.
 
 use crate::reading::Reading;
 
-/// What is told how areas are read.
+/// What is notified of how areas are read.
 pub trait Readings {
     /// The dump of an area that begins at a line of this number, from 1, is read so, and the area before
-    /// it is read otherwise, or there is none.
+    /// it is read otherwise, or there is no area before it.
     fn note(&mut self, line: usize, reading: Reading);
 }
 
-/// The areas of which it is still to be said how they are read: at most one of a dump, and one of the
-/// line behind it.
+/// The areas of which it is still to be reported how they are read: at most one of a dump, and one
+/// of the line after it.
 #[derive(Drop)]
 pub(crate) struct Unsaid {
     last: Option<Reading>,
@@ -47,7 +47,7 @@ impl Unsaid {
         Some((line, reading))
     }
 
-    /// Says what is unsaid.
+    /// Reports what is not yet reported.
     pub(crate) fn say<N: Readings>(&mut self, readings: &mut N) {
         if let Some((line, reading)) = self.dump {
             readings.note(line, reading);

@@ -64,7 +64,7 @@ pub(crate) fn row_of(alloc: Global, line: &[u8]) -> Result<Option<Row>, AllocErr
     parts_row(alloc, parts.form, parts.digits, parts.bytes)
 }
 
-/// The row of a form, the digits of an address, and what its bytes stand in.
+/// The row of a form, the digits of an address, and the text that has its bytes.
 #[tactic(auto, unfolding(crate::specs::Row::parts_row))]
 fn parts_row(
     alloc: Global,
@@ -83,7 +83,7 @@ fn parts_row(
     }
 }
 
-/// A row of bytes, where it has some and not too many.
+/// A row of bytes, if it has some and not too many.
 fn row_with(form: Form, address: u64, bytes: Vec<u8>) -> Option<Row>
     ensures { result ≡ row_with form address bytes.items }
 {

@@ -19,7 +19,7 @@ fn gap_length(line: &[u8]) -> usize
     }
 }
 
-/// How many bytes stand before the first gap.
+/// How many bytes come before the first gap.
 fn item_length(line: &[u8]) -> usize
     ensures value { result ≡ item_length line.now }
     ensures bound { result ≤ length line.now }
@@ -34,7 +34,7 @@ fn item_length(line: &[u8]) -> usize
     }
 }
 
-/// What stands behind the gap at the begin.
+/// What follows the gap at the beginning.
 pub(crate) fn after_gap(line: &[u8]) -> &[u8]
     ensures { result.now ≡ after_gap line.now }
 {
@@ -49,7 +49,7 @@ pub(crate) fn first_item(line: &[u8]) -> &[u8]
     &line[..item_length(line)]
 }
 
-/// What stands behind the first item of a line.
+/// What follows the first item of a line.
 pub(crate) fn after_item(line: &[u8]) -> &[u8]
     ensures { result.now ≡ after_item line.now }
 {
@@ -57,7 +57,7 @@ pub(crate) fn after_item(line: &[u8]) -> &[u8]
     &line[item_length(line)..]
 }
 
-/// The first item of a line, and what stands behind it.
+/// The first item of a line, and what follows it.
 pub(crate) fn item_and_rest(line: &[u8]) -> (&[u8], &[u8])
     ensures item { result.0.now ≡ first_item line.now }
     ensures rest { result.1.now ≡ after_item line.now }
@@ -66,7 +66,7 @@ pub(crate) fn item_and_rest(line: &[u8]) -> (&[u8], &[u8])
     line.split_at(item_length(line))
 }
 
-/// How many bytes stand before two spaces in a row.
+/// How many bytes come before two spaces in a row.
 pub(crate) fn column_length(line: &[u8]) -> usize
     ensures value { result ≡ column_length line.now }
     ensures bound { result ≤ length line.now }
@@ -89,7 +89,7 @@ fn begins_with_space(line: &[u8]) -> bool
     }
 }
 
-/// How many bytes stand before `|` or `>`.
+/// How many bytes come before `|` or `>`.
 pub(crate) fn bar_length(line: &[u8]) -> usize
     ensures value { result ≡ bar_length line.now }
     ensures bound { result ≤ length line.now }

@@ -1,4 +1,4 @@
-//! A line of an input, by what stands before it.
+//! A line of an input, by what comes before it.
 ghost use Rattle.std.specs.Prelude.{◌≡◌, ◌⊎◌, OnOk, IfErr};
 ghost use Rattle.std.specs.Io.KnownBytes.{Appends};
 ghost use Rattle.scmi_decode.specs.OpenDump.{beside, closed};
@@ -14,7 +14,7 @@ use crate::row::{Row, row_of};
 use std::alloc::Global;
 use std::io::Write;
 
-/// Takes a line, and says how the areas that it ends are read.
+/// Takes a line, and reports how the areas that it ends are read.
 pub(crate) fn take_and_say<W: Write, N: Readings>(
     alloc: Global,
     writer: &mut W,
@@ -33,7 +33,7 @@ pub(crate) fn take_and_say<W: Write, N: Readings>(
     Ok(())
 }
 
-/// Ends the dump, writes what it was, and says how it is read.
+/// Ends the dump, writes what it was, and reports how it is read.
 pub(crate) fn close_and_say<W: Write, N: Readings>(
     writer: &mut W,
     readings: &mut N,
@@ -49,8 +49,8 @@ pub(crate) fn close_and_say<W: Write, N: Readings>(
     Ok(())
 }
 
-/// Takes a line: a row that goes on with the dump is added to it; any other line but a remark ends it,
-/// and what it was is written. `Memory` where memory is refused, `Write` where the output fails.
+/// Takes a line: a row that goes on with the dump is added to it; any other line but a comment ends
+/// it, and what it was is written. `Memory` when out of memory, `Write` if the output fails.
 #[tactic(auto, unfolding(crate::specs::Decoded::step_text, crate::specs::Decoded::dump_after))]
 fn take_line<W: Write>(
     alloc: Global,

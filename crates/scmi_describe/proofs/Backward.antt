@@ -7,7 +7,7 @@ use Rattle.scmi_describe.specs.Literal.{literal}
 use Rattle.scmi_describe.specs.Digits.{last_digit, eight_digits}
 use Rattle.scmi_describe.specs.Words.{word_text, each_word}
 
--- a text from its end, and behind it what is there
+-- a text from its end, and after it what is there
 abbrev pub back : List ℕ → List ℕ → List ℕ
 back [] onto = onto
 back (x ∷ xs) onto = back xs (x ∷ onto)
@@ -30,7 +30,7 @@ pub back-eight : (w : ℕ) (onto : List ℕ) → back (eight_digits w) onto ≡ 
 unfolding eight_digits
 back-eight w onto = refl
 
--- words from their end, each behind a space
+-- words from their end, each after a space
 abbrev pub words_back : List ℕ → List ℕ → List ℕ
 words_back [] onto = onto
 words_back (w ∷ ws) onto = eight_back w (32 ∷ words_back ws onto)
@@ -91,7 +91,7 @@ eight_back-injective v w onto rest small narrow e =
 abbrev pub AreWords : List ℕ → Type 0
 AreWords ws = AllByRecursion (λ w. w < 2 ^ 32) ws
 
--- words behind a space more: their number and each of them is known from the end
+-- words after a space more: their number and each of them is known from the end
 pub words_back-injective : (vs ws p q : List ℕ) → AreWords vs → AreWords ws → words_back vs (32 ∷ p) ≡ words_back ws (32 ∷ q) → vs ≡ ws
 words_back-injective [] [] p q hv hw e = refl
 words_back-injective [] (w ∷ ws) p q hv hw e = absurd (last_digit-no_space w (sym (ap (λ xs. get_or xs 0 0) e)))
@@ -105,12 +105,12 @@ AreWords-back : (xs ys : List ℕ) → AreWords xs → AreWords ys → AreWords 
 AreWords-back [] ys hx hy = hy
 AreWords-back (x ∷ xs) ys hx hy = AreWords-back xs (x ∷ ys) hx.1 (hx.0, hy)
 
--- what stands before the digits of the last word is a space
+-- what is before the digits of the last word is a space
 pub laid_mark : (xs ys onto : List ℕ) (y : ℕ) → get_or (words_back (back xs (y ∷ ys)) onto) 8 0 ≡ 32
 laid_mark [] ys onto y = refl
 laid_mark (x ∷ xs) ys onto y = laid_mark xs (y ∷ ys) onto x
 
--- a first word and words behind it, from their end
+-- a first word and words after it, from their end
 pub laid_back-injective : (h k : ℕ) (xs ys p q : List ℕ) → h < 2 ^ 32 → k < 2 ^ 32 → AreWords xs → AreWords ys
     → words_back (back xs (h ∷ [])) (32 ∷ p) ≡ words_back (back ys (k ∷ [])) (32 ∷ q) → (h ≡ k) × (xs ≡ ys)
 laid_back-injective h k xs ys p q hh hk hx hy e =

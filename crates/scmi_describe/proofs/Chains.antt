@@ -1,4 +1,4 @@
--- One write behind others.
+-- One write after others.
 use Rattle.std.proofs.Common.{ℕ, List, ◌++◌, Option, Result, Ok, Err}
 use Rattle.std.proofs.KnownBytes.{Appends-trans}
 use Rattle.std.specs.Result.{OnOk}

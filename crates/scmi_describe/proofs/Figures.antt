@@ -1,4 +1,4 @@
--- Decimal numbers in a text, each with a space behind it.
+-- Decimal numbers in a text, each with a space after it.
 use Rattle.std.proofs.Common.{◌≡◌, ◌≢◌, ℕ, ◌+◌, ◌%◌, ◌^◌, ◌<◌, ◌≤◌, List, [], ◌∷◌, ◌++◌, get_or, drop, decimal, refl, sym, ap, ◌∙◌, arith}
 use Rattle.std.proofs.lemmas.Fmt.{decimal_by_steps, decimal_injective}
 
@@ -20,7 +20,7 @@ figure-first : (xs : List ℕ) → BeginsWithFigure xs → get_or xs 0 0 < 58
 figure-first [] h = absurd h
 figure-first (x ∷ xs) h = h.1
 
--- of a text that begins with a number, and has four parts behind it
+-- of a text that begins with a number, and has four parts after it
 pub decimal_first : (n : ℕ) (a b c d : List ℕ) → n < 2 ^ 64 → get_or (decimal n ++ a ++ b ++ c ++ d) 0 0 < 58
 decimal_first n a b c d h =
     figure-first (decimal n ++ a ++ b ++ c ++ d)
@@ -44,7 +44,7 @@ decimal-no_space n h =
     decimal_by_steps (λ n ds. HasNoSpace ds) (λ n few. (figure-no_space n, tt))
     (λ n ds many front. HasNoSpace-append ds _ front (figure-no_space (n % 10), tt)) n h
 
--- what stands before the first space
+-- what is before the first space
 before_space : (xs ys p q : List ℕ) → HasNoSpace xs → HasNoSpace ys → xs ++ 32 ∷ p ≡ ys ++ 32 ∷ q → xs ≡ ys
 before_space [] [] p q hx hy e = refl
 before_space [] (y ∷ ys) p q hx hy e =
@@ -58,7 +58,7 @@ before_space (x ∷ xs) (y ∷ ys) p q hx hy e =
     let more = before_space xs ys p q hx.1 hy.1 (ap (λ zs. drop 1 zs) e) in
     ap (λ z. z ∷ xs) first ∙ ap (λ zs. y ∷ zs) more
 
--- a number with a space behind it is known from its text
+-- a number with a space after it is known from its text
 pub decimal-known : (m n : ℕ) (p q : List ℕ) → m < 2 ^ 64 → n < 2 ^ 64 → decimal m ++ 32 ∷ p ≡ decimal n ++ 32 ∷ q → m ≡ n
 decimal-known m n p q hm hn e =
     decimal_injective m n hm hn (before_space (decimal m) (decimal n) p q (decimal-no_space m hm) (decimal-no_space n hn) e)

@@ -1,4 +1,4 @@
--- The frame that stands in an area, read once its status word is 0.
+-- The frame that is in an area, read once its status word is 0.
 use Rattle.std.proofs.Common.{◌≡◌, ◌≤◌, ℕ, List, length, Some, ◌∙◌, arith, ap, true}
 use Rattle.std.proofs.lemmas.Bool.Decides.{nat_tests}
 use Rattle.scmi_codec.specs.Area.{frame_waiting, frame_of, waiting_within, frame_within}

@@ -64,7 +64,7 @@ ends_in_words Busy m = posted-cases (EndsInWords m) m (λ r. (_, refl)) (_, refl
 ends_in_words Free m = left-cases (EndsInWords m) m (λ r. (_, refl)) (_, refl) (λ s. (_, refl)) (_, refl) (_, refl) (_, refl)
 ends_in_words Failed m = (_, refl)
 
--- what stands before the length of a malformed frame
+-- what is before the length of a malformed frame
 abbrev pub malformed_front : State → List ℕ
 malformed_front Busy = state_text false ++ literal (codes "malformed: ")
 malformed_front Free = state_text true ++ literal (codes "malformed: ")

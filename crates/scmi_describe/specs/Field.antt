@@ -141,7 +141,7 @@ abbrev pub before_zero : ℕ → ℕ
 before_zero w =
     if w % 2 ^ 8 == 0 then 0 else if w / 2 ^ 8 % 2 ^ 8 == 0 then w % 2 ^ 8 else if w / 2 ^ 16 % 2 ^ 8 == 0 then w % 2 ^ 16 else w
 
--- the same of a word that a name reaches, and 0 of one behind its end
+-- the same of a word that a name reaches, and 0 of one after its end
 abbrev pub part_of : Bool → ℕ → ℕ
 part_of goes w = if goes then before_zero w else 0
 
@@ -169,7 +169,7 @@ quoted_text ws =
 unfoldable pub name_text : List ℕ → List ℕ
 name_text ws = quoted_text (name_words ws) ++ if_text (not (are_same_words (name_words ws) ws)) (codes ", and bytes behind its end")
 
--- what a field says, behind a space
+-- what a field says, after a space
 abbrev pub value_text : Field → List ℕ
 value_text (field.Version w) = codes " " ++ decimal (w / 2 ^ 16) ++ codes "." ++ decimal (w % 2 ^ 16)
 value_text (field.Counts w) = counts_text w

@@ -56,13 +56,13 @@ clock_fields id words = from_table
     ∷ (0x7, 0, λ w. record { items = [] })
     ∷ []) id words
 
--- the fields of a successful reply behind its status, by protocol and message id
+-- the fields of a successful reply after its status, by protocol and message id
 abbrev pub reply_fields : ℕ → ℕ → List ℕ → Result FieldList Status
 reply_fields protocol id words =
     if protocol == 0x10 then base_fields id words else if protocol == 0x11 then power_fields id words
     else if protocol == 0x14 then clock_fields id words else Err NotSupported
 
--- a number, and so many ids of protocols, four to a word
+-- a number, and this many ids of protocols, four to a word
 abbrev pub has_protocols : List ℕ → Bool
 has_protocols [] = false
 has_protocols (count ∷ ids) = length ids == (count + 3) / 4
@@ -98,7 +98,7 @@ payload_status h (word ∷ words) = option_and_then (λ s. if may_follow h s wor
 abbrev pub response_status : Message → Option Status
 response_status m = payload_status m.header m.payload.items
 
--- the fields of a delayed response behind its status
+-- the fields of a delayed response after its status
 abbrev pub delayed_fields : Message → List Field
 delayed_fields m =
     let w = m.payload.items in

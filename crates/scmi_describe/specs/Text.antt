@@ -59,7 +59,7 @@ misfit_line m = misfit_start m ++ misfit_end m.header
 unfoldable pub taken_back_line : HeaderFields → List ℕ
 taken_back_line h = state_text true ++ literal (codes "command ") ++ name_text h.protocol h.id ++ literal (codes " that was withdrawn, ") ++ token_text h ++ codes "\n"
 
--- the first line of a message that no table has, so that its words tell no reply from a command
+-- the first line of a message that no table has, so its words do not show whether it is a reply or a command
 unfoldable pub unnamed_line : HeaderFields → List ℕ
 unnamed_line h = state_text true ++ literal (codes "reply or withdrawn command, ") ++ heading_text h ++ codes "\n"
 
@@ -82,13 +82,13 @@ unfoldable pub row_text : Result FieldList Status → List ℕ
 row_text (Ok fields) = fields_text fields.items
 row_text (Err e) = []
 
--- what stands behind the status of a successful reply, by protocol and message id
+-- what follows the status of a successful reply, by protocol and message id
 unfoldable pub listed_text : ℕ → ℕ → List ℕ → List ℕ
 listed_text protocol id words =
     if (protocol == 0x10) && (id == 6) then protocols_text words else if (protocol == 0x14) && (id == 4) then rates_text words
     else row_text (reply_fields protocol id words)
 
--- what a successful reply says behind its status
+-- what a successful reply says after its status
 abbrev pub behind_status : HeaderFields → List ℕ → List ℕ
 behind_status h [] = []
 behind_status h (status ∷ words) = listed_text h.protocol h.id words

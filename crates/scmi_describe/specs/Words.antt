@@ -8,11 +8,11 @@ use Rattle.scmi_describe.specs.Digits.{eight_digits, two_digits}
 use Rattle.scmi_describe.specs.Field.{reserved_text}
 use Rattle.scmi_describe.specs.Names.{protocol_text}
 
--- a word behind a space
+-- a word after a space
 unfoldable pub word_text : ℕ → List ℕ
 word_text word = literal (codes " ") ++ eight_digits word
 
--- words, each behind a space
+-- words, each after a space
 abbrev pub each_word : List ℕ → List ℕ
 each_word words = flat_map word_text words
 
@@ -67,7 +67,7 @@ protocol_label protocol = unwrap_or (protocol_text protocol) (codes "?")
 unfoldable pub id_text : ℕ → ℕ → List ℕ
 id_text i id = id_mark i ++ two_digits id ++ literal (codes " ") ++ protocol_label id
 
--- so many ids of protocols
+-- this many ids of protocols
 unfoldable pub ids_text : ℕ → List ℕ → List ℕ
 ids_text zero words = []
 ids_text (suc i) words = ids_text i words ++ id_text i (id_at i words)

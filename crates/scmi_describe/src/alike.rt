@@ -8,10 +8,10 @@ use crate::describing::{STATUS_AT, standing_frame};
 use byteorder::{ByteOrder, LittleEndian};
 use scmi_codec::{AREA_BYTES, Frame};
 
-/// Whether two areas are described alike, with the same text. It is so exactly where they have the
-/// same frame (header and payload words, or the length and header word of a malformed one) and
-/// their channels are in the same state: busy, free, or free with the error bit. So the text
-/// loses nothing of these; of the other bytes of an area it says nothing.
+/// Whether two areas are described alike, with the same text. This holds if and only if they have
+/// the same frame (header and payload words, or the length and header word of a malformed one) and
+/// their channels are in the same state: busy, free, or free with the error bit. So the text loses
+/// nothing of these; it does not show the other bytes of an area.
 #[tactic(auto, using(crate::proofs::SameText::same_text))]
 pub fn are_described_alike(first: &[u8; AREA_BYTES], second: &[u8; AREA_BYTES]) -> bool
     ensures area { IsTrue result ↔ StandAlike first.now second.now }

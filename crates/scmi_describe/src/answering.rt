@@ -8,8 +8,8 @@ use crate::describing::describe;
 use crate::description::Description;
 use scmi_codec::{AREA_BYTES, Answer, Message, write_answer, write_message};
 
-/// Answers the frame of an area as a callee does, and says what the area then is: that answer, or where
-/// it has no words of its own the frame that it was given to.
+/// Answers the frame of an area as a callee does, and gives what the area then is: that answer, or,
+/// if it has no words of its own, the frame that it was given to.
 pub fn describe_answered(area: &mut [u8; AREA_BYTES], answer: &Answer) -> Description
     ensures description { result ≡ described_answer (frame_of area.old) answer.now }
     ensures area { area.new ≡ area_after_answer answer.now area.old }
@@ -18,7 +18,8 @@ pub fn describe_answered(area: &mut [u8; AREA_BYTES], answer: &Answer) -> Descri
     describe(area)
 }
 
-/// Writes a message as a caller posts it, and says what the area then is: that message, which waits.
+/// Writes a message as a caller posts it, and gives what the area then is: that message, which
+/// waits.
 pub fn describe_written(area: &mut [u8; AREA_BYTES], message: &Message) -> Description
     ensures description { result ≡ described_posted (Good message.now) }
     ensures area { area.new ≡ area_after_post message.now area.old }

@@ -9,8 +9,9 @@ use crate::describing::{STATUS_AT, describe_left, describe_posted, has_error};
 use crate::description::Description;
 use scmi_codec::{AREA_BYTES, ChannelAreaError, Frame, read_channel_area, write_word};
 
-/// What the area of a channel is, as `describe` says it of one of the most bytes: a length of more than
-/// its own words is that of no frame. `WrongSize` where the number of bytes is no channel's.
+/// What the area of a channel is, as `describe` gives it for one of the most bytes: a length of
+/// more than its own words is not that of a frame. `WrongSize` if the number of bytes is no
+/// channel's.
 pub fn describe_channel(area: &[u8]) -> Result<Description, ChannelAreaError>
     ensures ok { is_channel_size (length area.now) ≡ true
         → result ≡ Ok (described_channel area.now) }
@@ -24,7 +25,7 @@ pub fn describe_channel(area: &[u8]) -> Result<Description, ChannelAreaError>
     }
 }
 
-/// The frame that stands in the area of a channel, whatever its status word.
+/// The frame that is in the area of a channel, whatever its status word.
 fn standing_channel_frame(area: &[u8]) -> Frame
     requires size { is_channel_size (length area.now) ≡ true }
     ensures { result ≡ channel_frame area.now }

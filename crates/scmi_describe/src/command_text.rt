@@ -42,7 +42,7 @@ fn write_command_line<W: Write>(
     writeln!(writer)
 }
 
-/// Writes the number of payload words where the command has another.
+/// Writes the number of payload words if the command has another.
 #[tactic(auto, unfolding(crate::specs::Text::count_text))]
 fn write_count<W: Write>(
     writer: &mut W,
@@ -115,8 +115,8 @@ fn write_withdrawn_line<W: Write>(
     }
 }
 
-/// Writes the first line of a message that no table has, so that its words tell no reply from a
-/// command.
+/// Writes the first line of a message that no table has, so that its words do not distinguish a
+/// reply from a command.
 #[tactic(auto, unfolding(crate::specs::Text::unnamed_line))]
 fn write_unnamed<W: Write>(writer: &mut W, header: &Header) -> io::Result<()>
     ensures { OnOk result (Appends (W.contents writer.old) (W.contents writer.new)

@@ -13,9 +13,9 @@ use scmi_codec::{AREA_BYTES, Command, Frame, Message, Status, read_area, write_w
 // The place of the status word, in bytes (DEN0056B, shared memory transport).
 pub(crate) const STATUS_AT: usize = 4;
 
-/// What an area is. The status word decides first: of a busy channel its caller's message stands
-/// there. Of a free one a message of type 0 is a reply where it has the form of one, and else a command
-/// that was withdrawn (own).
+/// What an area is. The status word decides first: the area of a busy channel holds its caller's
+/// message. In a free one a message of type 0 is a reply if it has the form of one, and else a
+/// command that was withdrawn (own).
 pub fn describe(area: &[u8; AREA_BYTES]) -> Description
     ensures description { result ≡ described_area area.now }
     ensures answer { (frame : FrameOf) → (answer : AnswerOf) →
@@ -35,7 +35,7 @@ pub(crate) fn has_error(area: &[u8]) -> bool
     LittleEndian::read_u32(&area[STATUS_AT..]) / 2 % 2 == 1
 }
 
-/// The frame that stands in an area, whatever its status word.
+/// The frame that is in an area, whatever its status word.
 pub(crate) fn standing_frame(area: &[u8; AREA_BYTES]) -> Frame
     ensures { result ≡ frame_of area.now }
 {

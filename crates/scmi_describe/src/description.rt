@@ -3,20 +3,20 @@ ghost use Rattle.std.specs.Prelude.{◌≡◌};
 
 use scmi_codec::{Command, Frame, Message, Status};
 
-/// What an area is. While a channel is busy its caller's message stands there; once it is free the
-/// answer does, or the message where no response was written over it.
+/// What an area is. While a channel is busy the area holds its caller's message; once it is free it
+/// holds the reply, or the message if no response was written over it.
 #[derive(Drop)]
 pub enum Description {
     /// Free, with length and header 0: nothing was ever posted.
     Unused,
-    /// Busy: a command that waits for its answer, and what it asks for. NOT_SUPPORTED stands for an
-    /// unknown message, PROTOCOL_ERROR for another number of payload words than the command has.
+    /// Busy: a command that waits for its answer, and what it asks for. NOT_SUPPORTED is given for
+    /// an unknown message, PROTOCOL_ERROR for another number of payload words than the command has.
     Command {
         message: Message,
         request: Result<Command, Status>,
     },
-    /// Free, and no reply by its form: a command that was withdrawn, and what it asked for. A message
-    /// that no table has, for which NOT_SUPPORTED stands, may as well be a reply.
+    /// Free, and no reply by its form: a command that was withdrawn, and what it asked for. A
+    /// message that no table has, for which NOT_SUPPORTED is given, may as well be a reply.
     Withdrawn {
         message: Message,
         request: Result<Command, Status>,

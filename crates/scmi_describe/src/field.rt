@@ -11,7 +11,7 @@ pub const FIELDS: usize = 4;
 /// The fields of a message, in their order.
 pub type Fields = ArrayVec<Field, FIELDS>;
 
-/// A field of a message and what stands there: a payload word, or the words that belong together.
+/// A field of a message and what it contains: a payload word, or the words that belong together.
 #[derive(Clone, Copy)]
 pub enum Field {
     /// The version of a protocol: the major number in bits [31:16], the minor one in [15:0].
@@ -22,7 +22,7 @@ pub enum Field {
     Message(u32),
     /// The attributes of a message, with no bit named.
     Attributes(u32),
-    /// A name of at most 16 bytes, the first one lowest; it ends before its first zero byte.
+    /// A name of at most 16 bytes, the first one lowest; it stops before its first zero byte.
     Name([u32; 4]),
     /// The version of an implementation, in its vendor's own form.
     Implementation(u32),

@@ -80,7 +80,7 @@ fn write_header_end<W: Write>(writer: &mut W, header: u32) -> io::Result<()>
     writeln!(writer)
 }
 
-/// Writes why a length in bytes is that of no frame, and the header word.
+/// Writes why a length in bytes is not that of a frame, and the header word.
 #[tactic(auto, unfolding(crate::specs::Text::length_text))]
 fn write_length<W: Write>(writer: &mut W, length: u32, header: u32) -> io::Result<()>
     ensures { OnOk result (Appends (W.contents writer.old) (W.contents writer.new)

@@ -101,7 +101,7 @@ pub(crate) fn write_state<W: Write>(writer: &mut W, is_free: bool) -> io::Result
     }
 }
 
-/// Ends the first line of a message of the platform's: it was taken where the channel is free.
+/// Ends the first line of a message of the platform's: it was taken if the channel is free.
 #[tactic(auto, unfolding(crate::specs::Heading::taken_text))]
 pub(crate) fn write_taken<W: Write>(writer: &mut W, is_free: bool) -> io::Result<()>
     ensures { OnOk result (Appends (W.contents writer.old) (W.contents writer.new)
@@ -114,7 +114,7 @@ pub(crate) fn write_taken<W: Write>(writer: &mut W, is_free: bool) -> io::Result
     }
 }
 
-/// Writes the name of a notification, and a token where there is one.
+/// Writes the name of a notification, and a token if there is one.
 #[tactic(auto, unfolding(crate::specs::Heading::notification_name_text))]
 pub(crate) fn write_notification_name<W: Write>(
     writer: &mut W,
@@ -130,7 +130,7 @@ pub(crate) fn write_notification_name<W: Write>(
     }
 }
 
-/// Writes the token of a message that needs none, where there is one.
+/// Writes the token of a message that needs no token, if there is one.
 #[tactic(auto, unfolding(crate::specs::Heading::own_token_text))]
 pub(crate) fn write_own_token<W: Write>(writer: &mut W, header: &Header) -> io::Result<()>
     ensures { OnOk result (Appends (W.contents writer.old) (W.contents writer.new)

@@ -1,10 +1,10 @@
 //! What an area of shared memory is, in words: messages, fields and statuses by their names (DEN0056B).
 //!
 //! The main type is `Description`, what an area is; `describe` makes it of the bytes, and
-//! `write_description` writes it. The main theorems are the contracts of `describe` (a description is
-//! the codec's frame and command, and an area that stands for an answer is described as that answer;
-//! `describe_channel` is the same for an area of any size that a channel has),
-//! of `write_description` (the text, to its last byte) and of `are_described_alike` (the text loses
+//! `write_description` writes it. The main theorems are the contracts of `describe` (a description
+//! is the codec's frame and command, and an area that encodes an answer is described as that
+//! answer; `describe_channel` is the same for an area of any size that a channel has), of
+//! `write_description` (the text, to its last byte) and of `are_described_alike` (the text loses
 //! nothing of the frame and of the channel's state).
 #![tactic(auto)]
 

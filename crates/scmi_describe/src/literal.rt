@@ -6,7 +6,7 @@ ghost use Rattle.scmi_describe.specs.Literal.{literal};
 use std::io;
 use std::io::Write;
 
-/// Writes a text as it stands.
+/// Writes a text as it is.
 #[tactic(auto, unfolding(crate::specs::Literal::literal))]
 pub(crate) fn write_text<W: Write>(writer: &mut W, text: &str) -> io::Result<()>
     ensures { OnOk result (Appends (W.contents writer.old) (W.contents writer.new)

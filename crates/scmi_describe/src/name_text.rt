@@ -39,7 +39,7 @@ fn name_words(words: &[u32; 4]) -> [u32; 4]
     ]
 }
 
-/// Whether a name goes on behind a word: no byte of it is zero.
+/// Whether a name goes on after a word: no byte of it is zero.
 fn goes_on(word: u32) -> bool
     ensures { result ≡ goes_on word }
 {
@@ -62,7 +62,7 @@ fn before_zero(word: u32) -> u32
     word
 }
 
-/// The same of a word that a name reaches, and 0 of one behind its end.
+/// The same of a word that a name reaches, and 0 of one after its end.
 fn part_of(goes: bool, word: u32) -> u32
     ensures { result ≡ part_of goes word }
 {

@@ -39,7 +39,7 @@ fn has_reply_form(protocol: u8, id: u8, words: &[u32]) -> bool
     }
 }
 
-/// Whether words are a number and so many ids of protocols, four to a word.
+/// Whether words are a number and that many ids of protocols, four to a word.
 fn has_protocols(words: &[u32]) -> bool
     ensures { result ≡ has_protocols words.now }
 {
@@ -49,7 +49,7 @@ fn has_protocols(words: &[u32]) -> bool
     }
 }
 
-/// Whether words are a flags word and as many rates as it says, one at least.
+/// Whether words are a flags word and as many rates as it encodes, one at least.
 fn has_rates(words: &[u32]) -> bool
     ensures { result ≡ has_rates words.now }
 {
@@ -62,7 +62,7 @@ fn has_rates(words: &[u32]) -> bool
     }
 }
 
-/// The fields of a successful reply to this message behind its status: NOT_SUPPORTED for a message
+/// The fields of a successful reply to this message after its status: NOT_SUPPORTED for a message
 /// that is not of the profile or whose reply is a list, PROTOCOL_ERROR for another number of words
 /// than the reply has.
 pub fn reply_fields(protocol: u8, id: u8, words: &[u32]) -> Result<Fields, Status>
@@ -134,7 +134,7 @@ fn clock_fields(id: u8, words: &[u32]) -> Result<Fields, Status>
     }
 }
 
-/// The fields of a delayed response behind its status; none where it has another form.
+/// The fields of a delayed response after its status; none if it has another form.
 pub(crate) fn delayed_fields(message: &Message) -> Fields
     ensures { result.items ≡ delayed_fields message.now }
 {
@@ -150,7 +150,7 @@ pub(crate) fn delayed_fields(message: &Message) -> Fields
     }
 }
 
-/// The fields of a notification; none where it has another form.
+/// The fields of a notification; none if it has another form.
 pub(crate) fn notification_fields(message: &Message) -> Fields
     ensures { result.items ≡ notification_fields message.now }
 {

@@ -41,7 +41,7 @@ pub(crate) fn write_reply<W: Write>(writer: &mut W, message: &Message) -> io::Re
     write_words(writer, message)
 }
 
-/// Writes what a successful reply says behind its status.
+/// Writes what a successful reply contains after its status.
 #[tactic(auto, unfolding(crate::specs::Text::reply_fields_text))]
 fn write_reply_fields<W: Write>(writer: &mut W, message: &Message) -> io::Result<()>
     ensures { OnOk result (Appends (W.contents writer.old) (W.contents writer.new)
@@ -54,7 +54,7 @@ fn write_reply_fields<W: Write>(writer: &mut W, message: &Message) -> io::Result
     write_listed(writer, header.protocol, header.id, words)
 }
 
-/// Writes what stands behind the status of a successful reply: a list, or the fields of its row.
+/// Writes what follows the status of a successful reply: a list, or the fields of its row.
 #[tactic(auto, unfolding(crate::specs::Text::listed_text))]
 fn write_listed<W: Write>(writer: &mut W, protocol: u8, id: u8, words: &[u32]) -> io::Result<()>
     ensures { OnOk result (Appends (W.contents writer.old) (W.contents writer.new)

@@ -1,4 +1,4 @@
-//! What fields say, as it is written: each part behind a space.
+//! What fields contain, as it is written: each part after a space.
 ghost use Rattle.std.specs.Prelude.{◌≡◌, ◌/◌, ◌%◌, ◌^◌, ◌==◌, ◌<◌, OnOk, if◌then◌else◌, []};
 ghost use Rattle.std.specs.Io.KnownBytes.{Appends};
 ghost use Rattle.scmi_describe.specs.Field.{value_text, fields_text, if_text, flag_text, switch_text, reserved_text, rate_flags_text, supports_text, supports_start, supports_rest, state_text, agent_text, subject_text, statistics_text, hexadecimal, address_text};
@@ -11,8 +11,8 @@ use crate::name_text::write_name;
 use std::io;
 use std::io::Write;
 
-/// Writes each field on a line of its own, its name and what it says. The error is the writer's;
-/// some parts may then be written.
+/// Writes each field on a line of its own, its name and what it contains. The error is the
+/// writer's; some parts may then be written.
 pub(crate) fn write_fields<W: Write>(writer: &mut W, fields: &[Field]) -> io::Result<()>
     ensures { OnOk result (Appends (W.contents writer.old) (W.contents writer.new)
         (fields_text fields.now)) }
@@ -25,7 +25,7 @@ pub(crate) fn write_fields<W: Write>(writer: &mut W, fields: &[Field]) -> io::Re
     Ok(())
 }
 
-/// Writes what a field says.
+/// Writes what a field contains.
 pub(crate) fn write_value<W: Write>(writer: &mut W, field: &Field) -> io::Result<()>
     ensures { OnOk result (Appends (W.contents writer.old) (W.contents writer.new)
         (value_text field.now)) }

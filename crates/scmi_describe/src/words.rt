@@ -31,7 +31,7 @@ fn write_words_start<W: Write>(writer: &mut W, header: u32) -> io::Result<()>
     write_eight_digits(writer, header)
 }
 
-/// Writes each word behind a space, in eight digits.
+/// Writes each word after a space, in eight digits.
 fn write_each_word<W: Write>(writer: &mut W, words: &[u32]) -> io::Result<()>
     ensures { OnOk result (Appends (W.contents writer.old) (W.contents writer.new)
         (each_word words.now)) }
@@ -42,7 +42,7 @@ fn write_each_word<W: Write>(writer: &mut W, words: &[u32]) -> io::Result<()>
     Ok(())
 }
 
-/// Writes a word behind a space, in eight digits.
+/// Writes a word after a space, in eight digits.
 #[tactic(auto, unfolding(crate::specs::Words::word_text))]
 fn write_spaced<W: Write>(writer: &mut W, word: u32) -> io::Result<()>
     ensures { OnOk result (Appends (W.contents writer.old) (W.contents writer.new)
@@ -73,7 +73,7 @@ fn write_rates_start<W: Write>(writer: &mut W, flags: u32) -> io::Result<()>
     write!(writer, "    rates       {}", flags % 4096)
 }
 
-/// Writes the flags of a list of rates behind their number.
+/// Writes the flags of a list of rates after their number.
 #[tactic(auto, unfolding(crate::specs::Words::rates_flags))]
 fn write_rates_flags<W: Write>(writer: &mut W, flags: u32) -> io::Result<()>
     ensures { OnOk result (Appends (W.contents writer.old) (W.contents writer.new)
@@ -152,7 +152,7 @@ fn write_ids<W: Write>(writer: &mut W, count: usize, words: &[u32]) -> io::Resul
     Ok(())
 }
 
-/// Writes the id of a protocol and its name behind a mark: the first in its list has a colon.
+/// Writes the id of a protocol and its name after a mark: the first in its list has a colon.
 #[tactic(auto, unfolding(crate::specs::Words::id_text))]
 fn write_id<W: Write>(writer: &mut W, i: usize, id: u8) -> io::Result<()>
     ensures { OnOk result (Appends (W.contents writer.old) (W.contents writer.new) (id_text i id)) }

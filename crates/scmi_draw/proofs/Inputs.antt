@@ -1,4 +1,4 @@
--- The first line of an input, and the lines behind it.
+-- The first line of an input, and the lines after it.
 use Rattle.std.proofs.Common.{◌≡◌, ℕ, ◌≤◌, ◌<◌, List, take, length, Option, None, Some, IfSome, sym, ap, ◌∙◌, subst, arith}
 use Rattle.std.proofs.lemmas.List.{length-take, take_all}
 use Rattle.scmi_board.specs.Lines.{LinesView}
@@ -30,12 +30,12 @@ named line kept m is mode =
     let few : length kept < KEPT_BYTES = omega (arith, short m, ap length mode) in
     sym (whole line kept is few) ∙ mode
 
--- the first line of an input, where it is known, is that of the mode that its first bytes name
+-- the first line of an input, if it is known, is that of the mode that its first bytes name
 pub named_line : (known : Option (List ℕ)) (kept : List ℕ) (m : Mode) → IfSome known (λ input. kept ≡ take KEPT_BYTES (first_line input)) → kept ≡ line_of m → IfSome known (λ input. first_line input ≡ line_of m)
 named_line None kept m is mode = tt
 named_line (Some input) kept m is mode = named (first_line input) kept m is mode
 
--- what is left behind the first line, and read to its end
+-- what is left after the first line, and read to its end
 pub behind_line : (known left : Option (List ℕ)) (all : List ℕ) → IfSome known (λ input. left ≡ Some (after_line input)) → IfSome left (λ rest. all ≡ rest) → IfSome known (λ input. after_line input ≡ all)
 behind_line None left all is read = tt
 behind_line (Some input) left all is read = sym (subst (λ (l : Option (List ℕ)). IfSome l (λ rest. all ≡ rest)) is read)

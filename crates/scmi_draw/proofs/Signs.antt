@@ -49,7 +49,7 @@ taken_same : (b a token : ℕ) (is : Bool) (w : Wording) → (if is then notifie
 taken_same b a token true w = refl
 taken_same b a token false w = refl
 
--- what stands of a step whose agent is served later
+-- what is shown of a step whose agent is served later
 turned_by : (board : Board) (b : ℕ) (x later : Bool) (s : Step) (l : StepLine) → signs_of board (x || is_lane (lane (line_agent l)) (Some b)) later s l ≡ served_so_far (Some b) (signs_of board x later s l)
 turned_by board b x later s (line.Token a token) = refl
 turned_by board b x later s (line.Posted a) = refl

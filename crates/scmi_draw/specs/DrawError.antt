@@ -10,7 +10,7 @@ use Rattle.scmi_plan.specs.PlanError.{number}
 use Rattle.scmi_plan.specs.declared.plan_error.PlanError.{PlanError}
 use Rattle.scmi_plan.specs.declared.plan_error.PlanError.TheVariants as plan
 
--- 1 for a failed output, 4 for want of memory, and 2 for a refused input (own)
+-- 1 for a failed output, 4 for out of memory, and 2 for a rejected input (own)
 abbrev pub status_of : DrawError → ℕ
 status_of Write = 1
 status_of Memory = 4
@@ -22,7 +22,7 @@ fault_of_input input.Size = Size
 fault_of_input input.Read = Read
 fault_of_input input.Memory = Memory
 
--- a text that is refused, by its line
+-- a text that is rejected, by its line
 abbrev pub fault_of_text : TextError → DrawError
 fault_of_text (text.Board line) = Board line
 fault_of_text (text.Script line) = Script line

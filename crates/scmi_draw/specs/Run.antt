@@ -38,7 +38,7 @@ abbrev pub shows_close : Kind → CallerView → Result Closing CloseError → T
 shows_close Rings = ShowsClose ring_caller_view ring_close_shows
 shows_close Words = ShowsClose word_caller_view CloseShows
 
--- the chart's marks are those of a run of these steps on this board: of each line that they give what it says, in order, with the words of its message, and nothing else; and its lifelines are those of the board's agents, in order, with their names
+-- the chart's marks are those of a run of these steps on this board: for each line that they give what it shows, in order, with the words of its message, and nothing else; and its lifelines are those of the board's agents, in order, with their names
 pub record ShowsRun (full : Bool) (Shows : CallerView → Result Closing CloseError → Type 0) (board : Board) (steps : List Step) (chart : Chart) : Type 0 where
   pub lines : List StepLine
   pub last : SessionView
@@ -51,18 +51,18 @@ abbrev pub MayHave : Mode → Step → Type 0
 MayHave (Steps kind) step = IsWithoutHardware step
 MayHave (Hardware kind) step = Unit {0}
 
--- the steps of the lines of a script in this mode; else the number of the first line that is none
+-- the steps of the lines of a script in this mode; else the number of the first line that isn't one
 abbrev pub script_of_lines : Mode → ℕ → List Line → Result (List Step) ℕ
 script_of_lines (Steps kind) agents lines = steps_of_lines agents lines
 script_of_lines (Hardware kind) agents lines = hardware_steps_of_lines agents lines
 
--- what stands behind the first line of an input is this board and these steps, in this mode
+-- what follows the first line of an input is this board and these steps, in this mode
 pub record StandsFor (mode : Mode) (input : List ℕ) (board : Board) (steps : List Step) : Type 0 where
   pub script : List Line
   pub is_board : board_left (record { rest = input; number = 1 }) ≡ Ok (board, script)
   pub are_steps : script_of_lines mode (length board.agents) script ≡ Ok steps
 
--- the chart shows the run of what stands behind the first line of an input: its board, and its steps, of which there are 2,000 at most, and each of which a script of this mode may have, over its kind of channel
+-- the chart shows the run of what follows the first line of an input: its board, and its steps, of which there are 2,000 at most, and each of which a script of this mode may have, over its kind of channel
 pub record ShowsScript (mode : Mode) (input : List ℕ) (chart : Chart) : Type 0 where
   pub board : Board
   pub steps : List Step
@@ -71,7 +71,7 @@ pub record ShowsScript (mode : Mode) (input : List ℕ) (chart : Chart) : Type 0
   pub allowed : All (MayHave mode) steps
   pub shown : ShowsRun (may_be_full (kind_of mode)) (shows_close (kind_of mode)) board steps chart
 
--- what is written is the picture of the run of an input, which is this one where it is known
+-- what is written is the picture of the run of an input, which is this one if it is known
 pub record IsPicture (known old new : Option (List ℕ)) : Type 0 where
   pub mode : Mode
   pub rest : List ℕ

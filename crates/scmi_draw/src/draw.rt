@@ -45,8 +45,8 @@ pub fn draw_input<R: CountedRead + Drop, W: Write>(
 }
 
 /// Reads a board and a script, runs it, and writes the chart of the run. `Mode`, `Size`, `Read`,
-/// `Board`, `Script` and `Plan` where the input is refused, and `Memory` where memory is refused: after
-/// each of these nothing is written. `Write` where the output fails: a part may then be written.
+/// `Board`, `Script` and `Plan` if the input is rejected, and `Memory` if out of memory: after each
+/// of these nothing is written. `Write` if the output fails: a part may then be written.
 pub fn draw<R: CountedRead + Drop, W: Write>(
     alloc: Global,
     input: &mut Input<R>,

@@ -31,7 +31,7 @@ pub enum DrawError {
     /// The board breaks this rule.
     #[error("plan {0}")]
     Plan(u8),
-    /// Memory was refused.
+    /// Out of memory.
     #[error("memory")]
     Memory,
     /// The output failed.
@@ -40,8 +40,8 @@ pub enum DrawError {
 }
 
 impl DrawError {
-    /// The exit status of a run that ends so: 1 for a failed output, 2 for a refused input, 4 for want
-    /// of memory.
+    /// The exit status of a run that ends so: 1 for a failed output, 2 for a rejected input, 4 for
+    /// out of memory.
     pub fn status(&self) -> u8
         ensures { result ≡ status_of self.now }
     {

@@ -1,8 +1,8 @@
 //! A script in, the sequence chart of its run out, as an SVG.
 //!
-//! The main type is `Mode`, which steps a script may have and what its channels are made of. The main
-//! theorem is the contract of `run_draw`: where the status is 0, what was written is the picture of a
-//! chart whose marks are those of the lines of the input's steps on its board, in order.
+//! The main type is `Mode`, which steps a script may have and what its channels are made of. The
+//! main theorem is the contract of `run_draw`: if the status is 0, what was written is the picture
+//! of a chart whose marks are those of the lines of the input's steps on its board, in order.
 #![tactic(auto)]
 
 mod draw;

@@ -25,8 +25,8 @@ use std::alloc::{AllocError, Global};
 /// The most lines of a script.
 pub const STEPS: usize = 2_000;
 
-/// The chart of the run of a board and a script in this mode. `Board`, `Script`, `Size` and `Plan`, in
-/// this order, where the input is refused; `Memory` where memory is refused.
+/// The chart of the run of a board and a script in this mode. `Board`, `Script`, `Size` and `Plan`,
+/// in this order, if the input is rejected; `Memory` if out of memory.
 pub fn chart_of(alloc: Global, mode: Mode, bytes: &[u8]) -> Result<Chart, DrawError>
     ensures shown { IfOk result (ShowsScript mode bytes.now) }
 {
@@ -46,7 +46,7 @@ pub fn chart_of(alloc: Global, mode: Mode, bytes: &[u8]) -> Result<Chart, DrawEr
     }
 }
 
-/// The board and the steps that stand behind the first line, in a script of this mode.
+/// The board and the steps after the first line, in a script of this mode.
 fn read_input(alloc: Global, mode: Mode, bytes: &[u8]) -> Result<(RawPlan, StepList), DrawError>
     ensures agents { IfOk result (λ read.
         All (IsStepOf (length (asked_board read.0).agents)) read.1) }
@@ -133,7 +133,7 @@ fn next_text<'a>(lines: &mut Lines<'a>) -> TextLine<'a> {
     }
 }
 
-/// What stands behind a noun of which there are so many.
+/// What follows a noun of which there are this many.
 fn plural(count: usize) -> &'static str {
     if count == 1 { "" } else { "s" }
 }

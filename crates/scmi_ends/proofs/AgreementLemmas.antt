@@ -1,4 +1,4 @@
--- The controller's ends go on keeping what ties them to the history.
+-- The controller's endpoints go on keeping what ties them to the history.
 use Rattle.std.proofs.Common.{◌≡◌, ◌≢◌, inl, inr, ℕ, zero, suc, ◌+◌, ◌<◌, List, [], ◌∷◌, ◌++◌, length, map, get_or, set, arith, ◌∙◌, sym, ap, subst, refl, true, false, ◌||◌, Bool, Option, Some, None, Result, Ok, Err, OnErr, OnOk, IfOk}
 use Rattle.std.specs.Prelude.{is_some}
 use Rattle.std.specs.Option.{option_or}
@@ -89,7 +89,7 @@ open_before v e = neither v.closed v.told e where
 -- SERVE
 
 module _ {D : Type 0} (f : D → CalleeView) (board : Board) (a i : ℕ) (ds : List D) (cs : List CallerView) (ps : List (Option ℕ)) (x d : D) (h : List Event) (e : a ≡ 1 + i) (lt : i < length ds) (is : x ≡ get_or ds i x) (kept : EndsAgree board h (map f ds) cs ps) where
-  -- the ends that have closed, as one goes on
+  -- the endpoints that have closed, as one goes on
   same_places : (f d).closed ≡ (f x).closed → map (λ v. v.closed) (map f (set ds i d)) ≡ map is_some ps
   same_places c =
       let below : i < length (map f ds) = omega (arith, lt, length-map ds f) in

@@ -10,12 +10,12 @@ use Rattle.scmi_ends.specs.Each.{AllFrom}
 use Rattle.scmi_core.specs.declared.event.Event.{Event}
 use Rattle.scmi_ends.specs.Agreement.{ExecutesNoneAfter, IsServed, IsDelivered, EndsAgree}
 
--- new ends of A2P
+-- new endpoints of A2P
 served_new : (board : Board) (n k : ℕ) → AllFrom (IsServed board []) n (replicate k new_callee)
 served_new board n zero = tt
 served_new board n (suc k) = (record { taken = sym (frames_empty n); answered = sym (answers_empty board n) }, served_new board (n + 1) k)
 
--- new ends of P2A
+-- new endpoints of P2A
 delivers_new : (board : Board) (n k : ℕ) → AllFrom (IsDelivered board []) n (replicate k new_caller)
 delivers_new board n zero = tt
 delivers_new board n (suc k) = (ap (map Good) (sym (delivered_empty board n)), delivers_new board (n + 1) k)

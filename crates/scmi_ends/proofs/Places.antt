@@ -1,4 +1,4 @@
--- What a call on the ends at one place is of the whole controller.
+-- What a call on the endpoints at one place is of the whole controller.
 use Rattle.std.proofs.Common.{◌≡◌, ℕ, ◌-◌, ◌<◌, List, length, map, get_or, set, ◌∙◌, sym, ap, refl, Bool, true, Result}
 use Rattle.std.proofs.lemmas.List.{get_or-map, get_or_read}
 use Rattle.std.proofs.lemmas.Bool.{false≢true}
@@ -25,7 +25,7 @@ use Rattle.scmi_ends.proofs.Lists.{map_at_set, name_at}
 pub view_at : {D V : Type 0} (f : D → V) (ds : List D) (i : ℕ) (x : D) (v : V) → i < length ds → x ≡ get_or ds i x → get_or (map f ds) i v ≡ f x
 view_at f ds i x v lt is = get_or-map f ds i x v lt ∙ ap f (sym is)
 
--- the item at a place, whatever stands for one beyond the last
+-- the item at a place, whatever the value for one beyond the last
 pub item_at : {D : Type 0} (ds : List D) (i : ℕ) (x d : D) → i < length ds → x ≡ get_or ds i x → get_or ds i d ≡ x
 item_at ds i x d lt is = sym (get_or_read ds i x lt is d)
 

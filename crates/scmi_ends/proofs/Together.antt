@@ -1,4 +1,4 @@
--- The ends of both sides, one agent at a time.
+-- The endpoints of both sides, one agent at a time.
 use Rattle.std.proofs.Common.{◌≡◌, ℕ, ◌<◌, List, length, get_or, set, ◌∙◌, length-set}
 use Rattle.scmi_ends.specs.declared.link.Link.{Link}
 use Rattle.scmi_ends.specs.AgentView.{AgentView, IsOfLink, HasSameIdentities}

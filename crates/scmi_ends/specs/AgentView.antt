@@ -11,7 +11,7 @@ pub record AgentView : Type 0 where
   pub a2p_identity : List ℕ
   pub p2a_identity : List ℕ
 
--- the agent's ends are those of the channels with these names
+-- the agent's endpoints are those of the channels with these names
 pub record IsOfLink (a2p_identity p2a_identity : List ℕ) (agent : AgentView) : Type 0 where
   pub of_a2p : agent.a2p_identity ≡ a2p_identity
   pub of_p2a : agent.p2a_identity ≡ p2a_identity

@@ -1,4 +1,4 @@
--- What ties the platform's ends to its history, between any two of its calls.
+-- What ties the platform's endpoints to its history, between any two of its calls.
 use Rattle.std.specs.Prelude.{◌≡◌, ℕ, ◌≤◌, List, length, map, take, Option, Some, None, is_some}
 use Rattle.scmi_codec.specs.declared.frame.Frame.TheVariants.{Good}
 use Rattle.scmi_link.specs.View.{CallerView, CalleeView}
@@ -29,7 +29,7 @@ pub record StayShut (h : List Event) (callees : List CalleeView) (closed_at : Li
   pub places : map (λ callee. callee.closed) callees ≡ map is_some closed_at
   pub none_after : AllFrom (ExecutesNoneAfter h) 1 closed_at
 
--- the history is legal, and each agent's ends have done what it says
+-- the history is legal, and each agent's endpoints have done what it gives
 pub record EndsAgree (board : Board) (h : List Event) (callees : List CalleeView) (callers : List CallerView) (closed_at : List (Option ℕ)) : Type 0 where
   pub legal : IsLegal board h
   pub callees_count : length callees ≡ length board.agents

@@ -21,14 +21,16 @@ pub record PostsFirst (board : Board) (a : ℕ) (h : List Event) (old : CallerVi
   pub event : h' ≡ h ++ Sent a ∷ []
   pub end : new ≡ record old { posted = old.posted ++ Good message ∷ []; posts = one_more old.posts }
 
--- what follows the `collect` at the end of an agent's P2A channel: no post, where one is still outstanding or else the outbox is empty; or one post, which finds the channel closed, or without a place, or is made
+-- what follows the `collect` at the endpoint of an agent's P2A channel: no post, if one is still
+-- outstanding or else the outbox is empty; or one post, which finds the channel closed, or without
+-- a place, or is made
 abbrev pub FlushesOne : Bool → Board → ℕ → List Event → CallerView → Flushed → List Event → CallerView → Type 0
 FlushesOne full board a h old flushed.Waiting h' new = (h' ≡ h) × ((IsOutstanding old × (new ≡ old)) ⊎ (FindsNoPlace full old new × (0 < length (outbox board a h))))
 FlushesOne full board a h old flushed.Nothing h' new = (h' ≡ h) × (new ≡ old) × (¬ (IsOutstanding old)) × (outbox board a h ≡ [])
 FlushesOne full board a h old flushed.Closed h' new = (h' ≡ h) × IsRefused old new × (¬ (IsOutstanding old)) × (0 < length (outbox board a h))
 FlushesOne full board a h old flushed.Posted h' new = PostsFirst board a h old h' new
 
--- one `collect` at the end of an agent's P2A channel, and then this
+-- one `collect` at the endpoint of an agent's P2A channel, and then this
 pub record CollectsAndFlushes (full : Bool) (board : Board) (a : ℕ) (h : List Event) (old : CallerView) (result : Flushed) (h' : List Event) (new : CallerView) : Type 0 where
   pub answer : Collected
   pub collected : CallerView

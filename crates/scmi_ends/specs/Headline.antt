@@ -1,4 +1,4 @@
--- What the history says of what the agents did, once all ends are gathered.
+-- What the history says about what the agents did, once all endpoints are gathered.
 use Rattle.std.specs.Prelude.{◌≡◌, ℕ, ◌+◌, ◌≤◌, ◌⊎◌, true, false, List, [], ◌∷◌, ◌++◌, length, map}
 use Rattle.scmi_codec.specs.declared.frame.Frame.{Frame}
 use Rattle.scmi_codec.specs.declared.frame.Frame.TheVariants.{Good}
@@ -10,7 +10,8 @@ use Rattle.scmi_core.specs.History.{delivered_messages, outbox, made_for}
 use Rattle.scmi_core.specs.declared.event.Event.{Event}
 use Rattle.scmi_ends.specs.AgentView.{AgentView}
 
--- the commands of agent a, its replies, and the closes of its A2P channel, whose ends are the agent's `caller` and the platform's `callee`
+-- the commands of agent a, its replies, and the closes of its A2P channel, whose endpoints are the
+-- agent's `caller` and the platform's `callee`
 pub record CommandsAgree (board : Board) (h : List Event) (a : ℕ) (caller : CallerView) (callee : CalleeView) : Type 0 where
   -- the commands executed are those posted, in order, each once, at most the last left out
   pub executed : (frames_of a h ≡ caller.posted) ⊎ IsAllButLast (frames_of a h) caller.posted
@@ -20,7 +21,7 @@ pub record CommandsAgree (board : Board) (h : List Event) (a : ℕ) (caller : Ca
   pub left : caller.left ≡ true → IsAllButLast (frames_of a h) caller.posted × (caller.read ≡ answers_to board a h)
   -- after the agent's close with nothing left, all that was posted was executed and its reply read
   pub idle : caller.closed ≡ true → caller.left ≡ false → (frames_of a h ≡ caller.posted) × (caller.read ≡ answers_to board a h)
-  -- an end was told of a close only where the other end has closed
+  -- an endpoint was notified of a close only if the other endpoint has closed
   pub agent_told : caller.told ≡ true → callee.closed ≡ true
   pub platform_told : callee.told ≡ true → caller.closed ≡ true
 
@@ -29,7 +30,8 @@ abbrev pub IsAllMade : Board → List Event → ℕ → List Frame → Type 0
 IsAllMade board h a taken =
     (waiting : List Frame) × (length waiting ≤ 1) × (taken ++ (waiting ++ map Good (outbox board a h)) ≡ map Good (made_for board a h))
 
--- the messages to agent a and the closes of its P2A channel, whose ends are the platform's `caller` and the agent's `callee`
+-- the messages to agent a and the closes of its P2A channel, whose endpoints are the platform's
+-- `caller` and the agent's `callee`
 pub record MessagesAgree (board : Board) (h : List Event) (a : ℕ) (caller : CallerView) (callee : CalleeView) : Type 0 where
   -- the messages that the agent took are those delivered to it, at most the last left out
   pub taken : (callee.taken ≡ map Good (delivered_messages board a h)) ⊎ IsAllButLast callee.taken (map Good (delivered_messages board a h))
@@ -39,11 +41,12 @@ pub record MessagesAgree (board : Board) (h : List Event) (a : ℕ) (caller : Ca
   pub left : caller.left ≡ true → IsAllButLast callee.taken (map Good (delivered_messages board a h))
   -- after the platform's close with nothing left, all that was delivered was taken
   pub idle : caller.closed ≡ true → caller.left ≡ false → callee.taken ≡ map Good (delivered_messages board a h)
-  -- an end was told of a close only where the other end has closed
+  -- an endpoint was notified of a close only if the other endpoint has closed
   pub agent_told : callee.told ≡ true → caller.closed ≡ true
   pub platform_told : caller.told ≡ true → callee.closed ≡ true
 
--- both channels of agent a agree with the history; `callee` and `caller` are the platform's ends of A2P and P2A
+-- both channels of agent a agree with the history; `callee` and `caller` are the platform's
+-- endpoints of A2P and P2A
 pub record Headline (board : Board) (h : List Event) (a : ℕ) (agent : AgentView) (callee : CalleeView) (caller : CallerView) : Type 0 where
   pub commands : CommandsAgree board h a agent.caller callee
   pub messages : MessagesAgree board h a caller agent.callee
@@ -55,7 +58,7 @@ Headlines board h n (agent ∷ agents) [] callers = ⊥
 Headlines board h n (agent ∷ agents) (callee ∷ callees) [] = ⊥
 Headlines board h n (agent ∷ agents) (callee ∷ callees) (caller ∷ callers) = Headline board h n agent callee caller × Headlines board h (n + 1) agents callees callers
 
--- what the gathering of a channel's two ends shows
+-- what the gathering of a channel's two endpoints shows
 abbrev pub AreGathered : CallerView → CalleeView → Type 0
 AreGathered caller callee = Agree caller callee × Closed caller callee
 

@@ -1,4 +1,4 @@
--- Which ends are those of which links, whatever the channels are made of.
+-- Which endpoints are those of which links, whatever the channels are made of.
 use Rattle.std.specs.Prelude.{◌≡◌, ℕ, List, length, map}
 use Rattle.scmi_ends.specs.declared.link.Link.{Link}
 use Rattle.scmi_ends.specs.AgentView.{AgentView}
@@ -14,15 +14,16 @@ module _ {C Caller Callee Rest : Type 0} (identity : C → List ℕ) (links : Li
   abbrev pub identities_of_p2a : List (List ℕ)
   identities_of_p2a = map (λ link. identity link.p2a) links
 
-  -- the platform's ends are those of the links, in order
+  -- the platform's endpoints are those of the links, in order
   abbrev pub HasLinks : ControllerView → Type 0
   HasLinks platform = IsOfLinks identities_of_a2p identities_of_p2a platform
 
-  -- the agents' ends are those of the links, in order
+  -- the agents' endpoints are those of the links, in order
   abbrev pub AreEndsOf : List AgentView → Type 0
   AreEndsOf agents = (map (λ agent. agent.a2p_identity) agents ≡ identities_of_a2p) × (map (λ agent. agent.p2a_identity) agents ≡ identities_of_p2a)
 
--- the platform's ends and the agents' are those of the links, in order, and each agent of the board has its ends
+-- the platform's endpoints and the agents' are those of the links, in order, and each agent of the
+-- board has its endpoints
 pub record BelongTogether {C Caller Callee Rest : Type 0} (identity : C → List ℕ) (links : List (Link C Caller Callee Rest)) (platform : ControllerView) (agents : List AgentView) : Type 0 where
   pub platform_ends : HasLinks identity links platform
   pub agents_ends : AreEndsOf identity links agents

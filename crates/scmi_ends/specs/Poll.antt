@@ -21,19 +21,20 @@ more_calls (suc n) calls = one_more (more_calls n calls)
 abbrev pub after_polls : ℕ → CallerView → CallerView
 after_polls n old = record old { collects = more_calls n old.collects }
 
--- at most so many calls of `collect`, all but the last of which gave `Nothing`; `Nothing` only after all of them
+-- at most this many calls of `collect`, all but the last of which gave `Nothing`; `Nothing` only
+-- after all of them
 abbrev pub Waits : ℕ → CallerView → Collected → CallerView → Type 0
 Waits turns old collected.Nothing new = new ≡ after_polls turns old
 Waits turns old (collected.Got answer) new = (n : ℕ) × (n < turns) × Collects (after_polls n old) (collected.Got answer) new
 Waits turns old collected.Closed new = (n : ℕ) × (n < turns) × Collects (after_polls n old) collected.Closed new
 
--- how many looks a wait had that ended so: all that it may have where there was nothing, else at least one and at most so many
+-- how many polls a wait had with this result: all that it may have if there was nothing, else at least one, at most this many
 abbrev pub EndsAfter : ℕ → Collected → ℕ → Type 0
 EndsAfter turns collected.Nothing looks = looks ≡ turns
 EndsAfter turns (collected.Got answer) looks = (1 ≤ looks) × (looks ≤ turns)
 EndsAfter turns collected.Closed looks = (1 ≤ looks) × (looks ≤ turns)
 
--- a wait had so many looks, and each was one `collect`
+-- a wait had this many polls, and each was one `collect`
 pub record Looks (turns : ℕ) (answer : Collected) (looks : ℕ) (old new : CallerView) : Type 0 where
   pub many : EndsAfter turns answer looks
   pub counted : new.collects ≡ more_calls looks old.collects

@@ -18,7 +18,7 @@ pub record Executes (board : Board) (a : ℕ) (h : List Event) (old : CalleeView
   pub event : h' ≡ h ++ Command a frame ∷ []
   pub end : new ≡ record old { taken = old.taken ++ frame ∷ []; answered = old.answered ++ answer_to board a frame h ∷ []; takes = one_more old.takes }
 
--- one `take` at the end of an agent's A2P channel; where it gave nothing, the history stays
+-- one `take` at the endpoint of an agent's A2P channel; if it gave nothing, the history stays
 abbrev pub ServesOne : Board → ℕ → List Event → CalleeView → Served → List Event → CalleeView → Type 0
 ServesOne board a h old served.Nothing h' new = (h' ≡ h) × TakesNone old new
 ServesOne board a h old served.Done h' new = Executes board a h old h' new

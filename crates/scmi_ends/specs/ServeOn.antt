@@ -20,7 +20,8 @@ pub record TakesAndExecutes (board : Board) (a : ℕ) (h : List Event) (applied 
   pub executes : ExecutesOn board a frame answer h applied h' applied'
   pub end : new ≡ record old { taken = old.taken ++ frame ∷ []; answered = old.answered ++ answer ∷ []; takes = one_more old.takes }
 
--- one `take` at the end of an agent's A2P channel; where it gave nothing, the history and the hardware stay
+-- one `take` at the endpoint of an agent's A2P channel; if it gave nothing, the history and the
+-- hardware stay
 abbrev pub ServesOneOn : Board → ℕ → List Event → Option (List Effect) → CalleeView → Served → List Event → Option (List Effect) → CalleeView → Type 0
 ServesOneOn board a h applied old served.Nothing h' applied' new = (h' ≡ h) × (applied' ≡ applied) × TakesNone old new
 ServesOneOn board a h applied old served.Done h' applied' new = TakesAndExecutes board a h applied old h' applied' new

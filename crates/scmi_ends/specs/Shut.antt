@@ -24,14 +24,15 @@ module _ (Shows : CallerView → Result Closing CloseError → Type 0) where
       ((¬ (IsOutstanding old)) × (new ≡ record old { closed = true }) × Shows new (Ok Idle))
       ⊎ (IsOutstanding old × (new ≡ record old { closed = true; left = true }) × Shows new (Ok Withdrawn))
 
-  -- what follows the `collect` at the end of an agent's P2A channel: it closes, or a post is still outstanding
+  -- what follows the `collect` at the endpoint of an agent's P2A channel: it closes, or a post is
+  -- still outstanding
   abbrev pub ShutsOne : CallerView → Result (Unit {0}) ShutError → CallerView → Type 0
   ShutsOne old (Ok done) new = Closes old new
   ShutsOne old (Err shut.NoAgent) new = ⊥
   ShutsOne old (Err shut.InService) new = IsOutstanding old × (new ≡ old) × Shows new (Err InService)
   ShutsOne old (Err shut.ReplyWaiting) new = IsOutstanding old × (new ≡ old) × Shows new (Err ReplyWaiting)
 
-  -- one `collect` at the end of an agent's P2A channel, and then this
+  -- one `collect` at the endpoint of an agent's P2A channel, and then this
   pub record CollectsAndShuts (old : CallerView) (result : Result (Unit {0}) ShutError) (new : CallerView) : Type 0 where
     pub answer : Collected
     pub collected : CallerView

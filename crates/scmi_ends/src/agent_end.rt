@@ -15,7 +15,7 @@ use scmi_codec::{Answer, Frame, Header, Message, Payload, TOKENS};
 use scmi_link::{Channel, CloseError, Closing, Collected, Looked, PostError};
 use std::marker::Model;
 
-/// What one agent holds: its ends of its two channels, its number, and the token of its next
+/// What one agent holds: its endpoints of its two channels, its number, and the token of its next
 /// command.
 ///
 /// Condition of each call that is given a link: it is the agent's own. No call takes memory, and
@@ -68,7 +68,7 @@ impl<C: Channel> AgentEnd<C> {
         }
     }
 
-    // The ends of A2P and of P2A.
+    // The endpoints of A2P and of P2A.
     pub(crate) fn into_ends(self) -> (C::Caller, C::Callee)
         ensures views { (C.caller_view result.0 ≡ self.caller) ×
             (C.callee_view result.1 ≡ self.callee) }
@@ -89,9 +89,9 @@ impl<C: Channel> AgentEnd<C> {
     /// 1,023.
     ///
     /// Tokens are counted from 0, and only a successful call moves them on, by one modulo 1,024
-    /// (own). It is one post, whatever it answers. The first that applies: `Outstanding` where the
-    /// answer to the post before was not collected; `Closed` where the agent has closed, or is now
-    /// told that the platform has; `Full` where the channel has no place. After `Closed` the agent
+    /// (own). It is one post, whatever it answers. The first that applies: `Outstanding` if the
+    /// answer to the post before was not collected; `Closed` if the agent has closed, or is now
+    /// notified that the platform has; `Full` if the channel has no place. After `Closed` the agent
     /// knows of the close; nothing else changed.
     pub fn call(
         &mut self,
@@ -122,8 +122,8 @@ impl<C: Channel> AgentEnd<C> {
         Ok(token)
     }
 
-    /// Posts a message on A2P as it stands, with its own token; that of the next `call` stays. It
-    /// is one post, and refused as `call` is.
+    /// Posts a message on A2P as it is, with its own token; that of the next `call` stays. It is
+    /// one post, and refused as `call` is.
     pub fn post(&mut self, link: &Link<C>, message: &Message) -> Result<(), PostError>
         requires { IsOfLink (C.identity link.now.a2p) (C.identity link.now.p2a) self.old }
         ensures same { self.new ≡ record self.old { caller = self.new.caller } }
@@ -134,9 +134,9 @@ impl<C: Channel> AgentEnd<C> {
 
     /// Posts a frame on A2P whose length in bytes is not well formed (own).
     ///
-    /// The length is that of header and payload in bytes. `WellFormed` where it is 4 + 4k with k
-    /// from 0 to `PAYLOAD_WORDS`, and then nothing changed. Else it is one post, and refused as
-    /// `call` is.
+    /// The length is that of header and payload in bytes. `WellFormed` if it is 4 + 4k with k from
+    /// 0 to `PAYLOAD_WORDS`, and then nothing changed. Else it is one post, and refused as `call`
+    /// is.
     pub fn post_malformed(
         &mut self,
         link: &Link<C>,
@@ -153,9 +153,9 @@ impl<C: Channel> AgentEnd<C> {
         link.a2p.post_malformed(&mut self.caller, length, header)
     }
 
-    /// Looks once for the answer to the post on A2P; an answer that stands is given first.
+    /// Polls once for the answer to the post on A2P; an answer that waits is given first.
     ///
-    /// `Closed`: one of the two sides has closed and no answer stands; an outstanding command is
+    /// `Closed`: one of the two sides has closed and no answer waits; an outstanding command is
     /// then given up, and was not executed. After one `Closed` every later call gives `Closed`.
     pub fn collect(&mut self, link: &Link<C>) -> Collected
         requires { IsOfLink (C.identity link.now.a2p) (C.identity link.now.p2a) self.old }
@@ -167,8 +167,8 @@ impl<C: Channel> AgentEnd<C> {
         link.a2p.collect(&mut self.caller)
     }
 
-    /// Looks once for the answer to the post on A2P, as `collect`, and reads it into `answer`,
-    /// which stays where there is none.
+    /// Polls once for the answer to the post on A2P, as `collect`, and reads it into `answer`,
+    /// which stays unchanged if there is none.
     pub fn collect_into(&mut self, link: &Link<C>, answer: &mut Answer) -> Looked
         requires { IsOfLink (C.identity link.now.a2p) (C.identity link.now.p2a) self.old }
         ensures same { self.new ≡ record self.old { caller = self.new.caller } }
@@ -181,8 +181,8 @@ impl<C: Channel> AgentEnd<C> {
         link.a2p.collect_into(&mut self.caller, answer)
     }
 
-    /// Takes the platform's message off P2A, if one is posted, and releases it at once. `None`
-    /// where none is posted, or one of the two sides has closed.
+    /// Takes the platform's message off P2A, if one is posted, and releases it at once. `None` if
+    /// none is posted, or one of the two sides has closed.
     pub fn next_p2a(&mut self, link: &Link<C>) -> Option<Frame>
         requires { IsOfLink (C.identity link.now.a2p) (C.identity link.now.p2a) self.old }
         ensures same { self.new ≡ record self.old { callee = self.new.callee } }
@@ -196,8 +196,8 @@ impl<C: Channel> AgentEnd<C> {
         }
     }
 
-    /// Takes the platform's message off P2A, as `next_p2a`, into `frame`, and says whether there
-    /// was one; where there was none, `frame` stays.
+    /// Takes the platform's message off P2A, as `next_p2a`, into `frame`, and returns whether there
+    /// was one; if there was none, `frame` stays unchanged.
     pub fn next_p2a_into(&mut self, link: &Link<C>, frame: &mut Frame) -> bool
         requires { IsOfLink (C.identity link.now.a2p) (C.identity link.now.p2a) self.old }
         ensures same { self.new ≡ record self.old { callee = self.new.callee } }
@@ -213,10 +213,9 @@ impl<C: Channel> AgentEnd<C> {
 
     /// Closes A2P, and then P2A.
     ///
-    /// `Withdrawn` where the outstanding command was not executed and never will be; `Idle` where
-    /// none was outstanding. `InService` and `ReplyWaiting` come only where a command is
-    /// outstanding: it was taken or cannot be taken back, or its answer stands. After an error
-    /// nothing changed.
+    /// `Withdrawn` if the outstanding command was not executed and never will be; `Idle` if none
+    /// was outstanding. `InService` and `ReplyWaiting` come only if a command is outstanding: it
+    /// was taken or cannot be taken back, or its answer waits. After an error nothing changed.
     pub fn close(&mut self, link: &Link<C>) -> Result<Closing, CloseError>
         requires { IsOfLink (C.identity link.now.a2p) (C.identity link.now.p2a) self.old }
         ensures closes { ClosesCaller self.old.caller result self.new.caller }
@@ -232,7 +231,7 @@ impl<C: Channel> AgentEnd<C> {
 }
 
 // Releases the message that was taken. A function clears its locals at its entry, so the answer is
-// none of those of `next_p2a_into`, which mostly finds nothing.
+// not one of those of `next_p2a_into`, which mostly finds nothing.
 #[inline(never)]
 fn release<C: Channel>(p2a: &C, callee: &mut C::Callee)
     requires identity { C.callee_identity callee.old ≡ C.identity p2a.now }

@@ -1,4 +1,4 @@
-//! Where a command and its answer stand while they are served.
+//! The buffers of a command and its answer while they are served.
 use scmi_codec::{Answer, Frame, Message};
 
 // The frame taken last, the last reply, and what an agent released a message with last. The next

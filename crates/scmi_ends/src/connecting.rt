@@ -14,11 +14,11 @@ use scmi_core::Core;
 use scmi_link::{Channel, LinkError};
 use std::alloc::Global;
 
-/// Makes two channels for each agent of the board, and gives out their ends. Item i of the links
-/// and of the agents' ends is agent i + 1's.
+/// Makes two channels for each agent of the board, and gives out their endpoints. Item i of the
+/// links and of the agents' endpoints is agent i + 1's.
 ///
-/// Condition: nothing is in the core's history. Want of memory is the only error, and it hands the
-/// core back as it was.
+/// Condition: nothing is in the core's history. Running out of memory is the only error, and it
+/// hands the core back as it was.
 pub fn connect<C: Channel>(
     alloc: Global,
     core: Core,
@@ -76,7 +76,8 @@ pub fn connect<C: Channel>(
     ))
 }
 
-// The channels of one agent: its link, its own ends, and the platform's ends of A2P and P2A.
+// The channels of one agent: its link, its own endpoints, and the platform's endpoints of A2P and
+// P2A.
 fn make_one<C: Channel>(
     alloc: Global,
     id: u32,

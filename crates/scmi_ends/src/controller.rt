@@ -21,12 +21,12 @@ use scmi_core::{Core, Hardware};
 use scmi_link::Channel;
 use std::marker::Model;
 
-/// The platform: its core, and its ends of each agent's two channels.
+/// The platform: its core, and its endpoints of each agent's two channels.
 ///
 /// Condition of each call that is given links: they are the whole list of `connect`, in order.
 /// Agents are numbered from 1. Between any two calls the commands taken off each agent's A2P
-/// channel are those of the history, each answered as the history says, and the messages posted on
-/// its P2A channel are those delivered to it. No call waits, and `close` takes no memory.
+/// channel are those of the history, each answered as the history requires, and the messages posted
+/// on its P2A channel are those delivered to it. No call waits, and `close` takes no memory.
 #[derive(Drop)]
 pub struct Controller<C: Channel> {
     pub(crate) core: Core,
@@ -73,7 +73,7 @@ impl<C: Channel> Controller<C> {
     ghost use Rattle.scmi_ends.specs.Flush.{Flushes};
     ghost use Rattle.scmi_ends.specs.Shut.{Shuts, ShowsClose};
 
-    /// The platform itself: its board, its history, and where it stands.
+    /// The platform itself: its board, its history, and its state.
     pub fn core(&self) -> &Core
         ensures board { result.now.board ≡ self.now.board }
         ensures history { result.now.history ≡ self.now.history }
@@ -85,9 +85,9 @@ impl<C: Channel> Controller<C> {
     /// it.
     ///
     /// `Done` adds the command to the history, and never comes once the channel is closed.
-    /// `Nothing` where the take gave none, and then the history stays. `NoAgent`, looked at first,
-    /// where the board lacks the agent (own); `Memory` where the trace could not grow. After either
-    /// nothing was taken, and nothing changed.
+    /// `Nothing` if the take gave none, and then the history stays. `NoAgent`, checked first, if
+    /// the board lacks the agent (own); `Memory` if the trace could not grow. After either nothing
+    /// was taken, and nothing changed.
     pub fn serve(&mut self, links: &[Link<C>], agent: u32) -> Result<Served, ServeError>
         requires { HasLinks C.identity links.now self.old }
         ensures links { HasLinks C.identity links.now self.new }
@@ -112,9 +112,9 @@ impl<C: Channel> Controller<C> {
         ))
     }
 
-    /// As `serve`, beside the hardware: what the command changes of it is made first, and where the
-    /// hardware refuses that the command has failed, and its reply is HARDWARE_ERROR. The hardware is
-    /// not asked where the call is refused.
+    /// As `serve`, beside the hardware: what the command changes of it is made first, and if the
+    /// hardware refuses that, the command has failed, and its reply is HARDWARE_ERROR. The hardware
+    /// is not asked if the call is refused.
     pub fn serve_on<H: Hardware>(
         &mut self,
         links: &[Link<C>],
@@ -153,8 +153,8 @@ impl<C: Channel> Controller<C> {
         ))
     }
 
-    /// As `advance`, beside the hardware: what the completion changes of it is made first, and where
-    /// the hardware refuses that the set ends as failed. The hardware is not asked where the call is
+    /// As `advance`, beside the hardware: what the completion changes of it is made first, and if
+    /// the hardware refuses that, the set ends as failed. The hardware is not asked if the call is
     /// refused.
     pub fn advance_on<H: Hardware>(&mut self, hardware: &mut H) -> Result<bool, ServeError>
         ensures agrees { IsInStep self.new }
@@ -186,9 +186,9 @@ impl<C: Channel> Controller<C> {
         }
     }
 
-    /// Completes the first pending set and adds that to the history (own); `Ok(false)` where
-    /// nothing is pending. `Memory` where a set is pending and the trace could not grow is the only
-    /// refusal. After it, and after `Ok(false)`, nothing changed.
+    /// Completes the first pending set and adds that to the history (own); `Ok(false)` if nothing
+    /// is pending. `Memory` if a set is pending and the trace could not grow is the only refusal.
+    /// After it, and after `Ok(false)`, nothing changed.
     pub fn advance(&mut self) -> Result<bool, ServeError>
         ensures agrees { IsInStep self.new }
         ensures board { self.new.board ≡ self.old.board }
@@ -214,11 +214,11 @@ impl<C: Channel> Controller<C> {
     /// Makes room in the trace, collects a release on an agent's P2A channel, and then posts the
     /// first message of its outbox, which adds the posting to the history.
     ///
-    /// The first that applies: `Waiting` where the message before is still outstanding; `Nothing`
-    /// where the outbox is empty; `Closed` where the channel is; `Waiting` where it has no place.
-    /// It posts only where a message is in the outbox and none is outstanding, and then once.
-    /// `NoAgent`, looked at first, where the board lacks the agent (own); `Memory` where the trace
-    /// could not grow. After either nothing was collected or posted, and nothing changed.
+    /// The first that applies: `Waiting` if the message before is still outstanding; `Nothing` if
+    /// the outbox is empty; `Closed` if the channel is closed; `Waiting` if it has no place. It
+    /// posts only if a message is in the outbox and none is outstanding, and then once. `NoAgent`,
+    /// checked first, if the board lacks the agent (own); `Memory` if the trace could not grow.
+    /// After either nothing was collected or posted, and nothing changed.
     pub fn flush(&mut self, links: &[Link<C>], agent: u32) -> Result<Flushed, ServeError>
         requires { HasLinks C.identity links.now self.old }
         ensures links { HasLinks C.identity links.now self.new }
@@ -244,9 +244,9 @@ impl<C: Channel> Controller<C> {
     /// Closes an agent's A2P channel, so that no further command of it is executed, and notes after
     /// how many events it first did; collects once on its P2A channel, and closes that.
     ///
-    /// `NoAgent`, looked at first, where the board lacks the agent; then nothing changed (own).
-    /// `InService` and `ReplyWaiting` come only where a message is outstanding on P2A: A2P is
-    /// closed then, P2A is not, and the call may be repeated.
+    /// `NoAgent`, checked first, if the board lacks the agent; then nothing changed (own).
+    /// `InService` and `ReplyWaiting` come only if a message is outstanding on P2A: A2P is closed
+    /// then, P2A is not, and the call may be repeated.
     pub fn close(&mut self, links: &[Link<C>], agent: u32) -> Result<(), ShutError>
         requires { HasLinks C.identity links.now self.old }
         ensures links { HasLinks C.identity links.now self.new }

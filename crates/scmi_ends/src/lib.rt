@@ -1,10 +1,10 @@
-//! Both sides of SCMI (DEN0056B, version 2.0) over any kind of channel: the agents' ends, and the
-//! platform's controller.
+//! Both sides of SCMI (DEN0056B, version 2.0) over any kind of channel: the agents' endpoints, and
+//! the platform's controller.
 //!
 //! The main types are `AgentEnd` and `Controller`. The main theorem is the contract of `retire`:
-//! once all ends are gathered, the commands executed for each agent are those that it posted, in
-//! order, each once, at most the last left out, and each reply that it read is the answer at that
-//! command's place in one legal history.
+//! once all endpoints are gathered, the commands executed for each agent are those that it posted,
+//! in order, each once, at most the last left out, and each reply that it read is the answer at
+//! that command's place in one legal history.
 #![tactic(auto)]
 
 mod agent_end;

@@ -5,12 +5,12 @@ use std::sync::Wait;
 use std::thread::{Parker, yield_now};
 use std::time::Duration;
 
-/// Waits that only spin, at first. Together they are many times what an exchange takes where each
+/// Waits that only spin, at first. Together they are many times what an exchange takes if each
 /// thread has a processor (own).
 const SPINS: u32 = 100;
 
 /// Waits that sleep, after those: what is waited for has lost its processor to others. A thread
-/// that sleeps runs soon once it wakes, where one that yields waits for its turn among all (own).
+/// that sleeps runs soon once it wakes; one that yields waits for its turn among all (own).
 const SLEEPS: u32 = 1_000;
 
 /// How long each of these is, at least, in microseconds (own).

@@ -12,11 +12,12 @@ impl<C: Channel> Controller<C> {
     ghost use Rattle.scmi_ends.specs.Agreement.{IsInStep};
 
     /// Ends what an agent asked for that restarted without the platform, and adds that to the
-    /// history: its requests for notifications, the messages in its outbox, and its wish for delayed
-    /// responses to its pending sets (own). What stands in its channels stays, a command that is not
-    /// served and a message that it did not take; so do permissions, values and the pending sets.
+    /// history: its requests for notifications, the messages in its outbox, and its wish for
+    /// delayed responses to its pending sets (own). What its channels contain stays, a command that
+    /// is not served and a message that it did not take; so do permissions, values and the pending
+    /// sets.
     ///
-    /// `NoAgent`, looked at first, where the board lacks the agent; `Memory` where the trace could not
+    /// `NoAgent`, checked first, if the board lacks the agent; `Memory` if the trace could not
     /// grow. After either nothing changed.
     pub fn restart(&mut self, agent: u32) -> Result<(), ServeError>
         ensures agrees { IsInStep self.new }

@@ -1,4 +1,4 @@
-//! How the ends of all channels are gathered.
+//! How the endpoints of all channels are gathered.
 ghost use Rattle.std.specs.Prelude.{◌≡◌, List, map, Option};
 ghost use Rattle.std.specs.List.{AllZip};
 ghost use Rattle.scmi_core.specs.Channels.{KeepsChannels};
@@ -21,10 +21,10 @@ use scmi_link::Channel;
 impl<C: Channel> Controller<C> {
     /// Gathers all channels, and gives the one history of the platform. It takes no memory.
     ///
-    /// Condition: the links and the agents' ends are the whole lists of `connect`, in order. The
-    /// history is legal. The commands that it has of each agent are those the agent posted, in
+    /// Condition: the links and the agents' endpoints are the whole lists of `connect`, in order.
+    /// The history is legal. The commands that it has of each agent are those the agent posted, in
     /// order, each once, at most the last left out; each reply that the agent read is the answer at
-    /// its command's place; a command that was withdrawn or given up was not executed; where the
+    /// its command's place; a command that was withdrawn or given up was not executed; if the
     /// platform has closed the agent's A2P channel, what it had executed then is all that was
     /// executed; and the messages that the agent took are those delivered to it, at most the last
     /// left out. With its outbox they are all that was made for it, but for what a restart of it
@@ -34,6 +34,7 @@ impl<C: Channel> Controller<C> {
         requires links { HasLinks C.identity links.items self }
         requires ends { AreEndsOf C.identity links.items agents.items }
         ensures history { result.events ≡ self.history }
+        ensures room { result.room ≡ self.room }
         ensures legal { IsLegal self.board result.events }
         ensures bounds { HasBounds self.board (deeds self.board result.events) }
         ensures responses { HasResponses self.board (deeds self.board result.events) }
@@ -54,6 +55,7 @@ impl<C: Channel> Controller<C> {
         requires ends { AreEndsOf C.identity links.items agents.items }
         ensures board { result.board ≡ self.board }
         ensures history { result.history ≡ self.history }
+        ensures room { result.room ≡ self.room }
         ensures headline { Headlines self.board self.history 1 agents.items self.callees
             self.callers }
         ensures shut { StayShut self.history self.callees self.closed_at }
@@ -69,7 +71,7 @@ impl<C: Channel> Controller<C> {
     }
 }
 
-// Gathers each channel with its two ends.
+// Gathers each channel with its two endpoints.
 fn gather_all<C: Channel>(
     mut links: Vec<Link<C>>,
     mut agents: Vec<AgentEnd<C>>,

@@ -42,7 +42,7 @@ pub(crate) fn serve_one<C: Channel>(
 }
 
 // Answers a frame that was malformed. A function clears its locals at its entry, so the answer is
-// none of those of `serve_one`.
+// not one of those of `serve_one`.
 #[inline(never)]
 pub(crate) fn answer_malformed<C: Channel>(a2p: &C, callee: &mut C::Callee)
     requires identity { C.callee_identity callee.old ≡ C.identity a2p.now }

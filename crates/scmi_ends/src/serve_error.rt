@@ -2,7 +2,7 @@
 use thiserror::Error;
 
 /// Why `serve`, `advance` or `flush` was refused. Nothing was taken, executed or posted. `NoAgent`
-/// is looked at first (own).
+/// is checked first (own).
 #[derive(Clone, Copy, PartialEq, Eq, Debug, Error)]
 pub enum ServeError {
     /// A growth of the trace was refused.

@@ -9,8 +9,8 @@ use crate::shut_error::ShutError;
 use scmi_codec::Answer;
 use scmi_link::{Channel, CloseError};
 
-// Closes A2P, where no answer is owed, and notes after how many events it first did; collects on
-// P2A, and closes that.
+// Closes A2P, if no answer is owed, and notes after how many events it first did; collects on P2A,
+// and closes that.
 pub(crate) fn shut_one<C: Channel>(
     link: &Link<C>,
     callee: &mut C::Callee,

@@ -12,11 +12,11 @@ impl<C: Channel> AgentEnd<C> {
     ghost use Rattle.scmi_ends.specs.AgentView.{IsOfLink};
     ghost use Rattle.scmi_ends.specs.Poll.{Looks, Waits};
 
-    /// Collects on A2P until there is an answer or `Closed`, at most `turns` times, and says how
+    /// Collects on A2P until there is an answer or `Closed`, at most `turns` times, and returns how
     /// often it did.
     ///
-    /// `Nothing` where each of `turns` looks gave `Nothing`; with 0 turns nothing changes. Any other
-    /// answer comes after at least one look. After each look that gave `Nothing` the thread pauses
+    /// `Nothing` if each of `turns` polls gave `Nothing`; with 0 `turns` nothing changes. Any other
+    /// answer comes after at least one poll. After each poll that gave `Nothing` the thread pauses
     /// (own).
     #[tactic(auto, unfolding(crate::specs::Poll::more_calls))]
     pub fn wait_counted<R: Wait>(&mut self, rt: &R, link: &Link<C>, turns: u32) -> Waited

@@ -1,4 +1,4 @@
-//! Lines that are none of a board.
+//! Lines that are not of a board.
 
 use crate::fit::{Fit, begins_as, fit_of};
 use crate::forms::{Form, HARDWARE_STEPS, HEADINGS, ORDERS, ROWS, STEPS};
@@ -15,7 +15,7 @@ use std::str::from_utf8;
 /// The first words of a board's rows.
 const ROW_WORDS: [&str; 5] = ["agent", "domain", "clock", "device", "end"];
 
-/// What is wrong with the line of a number, which is none of a board where one has to stand.
+/// What is wrong with the line of a number, which is not one of a board, where one is required.
 pub(crate) fn board_cause(alloc: Global, input: &[u8], number: u32) -> (What<'_>, Option<Slip>) {
     if number <= 1 {
         return (What::NoBoard, None);
@@ -88,7 +88,7 @@ fn word_of(forms: &[Form], line: &[u8]) -> Option<&'static str> {
     None
 }
 
-/// The slip of a line whose first word is none of these.
+/// The slip of a line whose first word is not one of these.
 pub(crate) fn slip_of_word(alloc: Global, words: &[&'static str], line: &[u8]) -> Option<Slip> {
     let Ok(word) = from_utf8(first_word(line)) else {
         return Some(Slip::OtherByte);

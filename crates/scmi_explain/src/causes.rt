@@ -17,7 +17,7 @@ use crate::what::What;
 use std::alloc::Global;
 
 /// What is wrong with an input that a program refused with this fault, of which the first bytes are
-/// given, in whole lines. Where memory is refused a likely word may be left out.
+/// given, in whole lines. When out of memory, a likely word may be left out.
 pub fn explain(alloc: Global, expected: Expected, input: &[u8], fault: Fault) -> Explanation<'_>
     ensures line { IfSome (line_of fault) (λ line. result.line ≡ Some line) }
 {

@@ -21,7 +21,7 @@ pub(crate) fn dumps_cause(input: &[u8]) -> (What<'_>, Option<Slip>) {
     (What::NoDump, slip_of_dumps(input))
 }
 
-/// The slip behind an input without an area.
+/// The slip in an input without an area.
 fn slip_of_dumps(input: &[u8]) -> Option<Slip> {
     let line = first_line(input);
     if input.contains(&0) {
@@ -36,7 +36,7 @@ fn slip_of_dumps(input: &[u8]) -> Option<Slip> {
     has_halfwords(line).then_some(Slip::Halfwords)
 }
 
-/// Whether a line looks like a row of numbers of 16 bits behind an address.
+/// Whether a line looks like a row of numbers of 16 bits after an address.
 fn has_halfwords(line: &[u8]) -> bool {
     let mut items = Items::new(line);
     is_digits(items.next_item().unwrap_or(&[]), ADDRESS_DIGITS)

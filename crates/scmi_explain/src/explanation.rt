@@ -4,10 +4,10 @@ use crate::slip::Slip;
 use crate::what::What;
 use std::fmt;
 
-/// What is wrong with an input, where, and the slip that is likely behind it.
+/// What is wrong with an input, where, and the slip that probably caused it.
 #[derive(Clone, Copy)]
 pub struct Explanation<'a> {
-    /// The line that is wrong, from 1; `None` where it is none alone.
+    /// The line that is wrong, from 1; `None` if it is no single line.
     pub line: Option<u32>,
     /// What is wrong.
     pub what: What<'a>,
@@ -15,7 +15,7 @@ pub struct Explanation<'a> {
     pub slip: Option<Slip>,
 }
 
-/// The text behind the name of the input: `:LINE: what; slip`.
+/// The text after the name of the input: `:LINE: what; slip`.
 impl fmt::Display for Explanation<'_> {
     fn fmt<W: fmt::Write>(&self, f: &mut fmt::Formatter<W>) -> fmt::Result {
         if let Some(line) = self.line {

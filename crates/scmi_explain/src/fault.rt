@@ -2,7 +2,7 @@
 
 use scmi_board::Items;
 
-/// Why a program refused its input or stopped, as its last line says.
+/// Why a program refused its input or stopped, by its last line.
 #[derive(Clone, Copy, PartialEq, Eq)]
 pub enum Fault {
     /// The first line names no mode.
@@ -11,7 +11,7 @@ pub enum Fault {
     Size,
     /// A read failed.
     Read,
-    /// What was to be an area is none.
+    /// What should be an area is not one.
     Area,
     /// The line of this number is no line of a board.
     Board(u32),
@@ -21,12 +21,12 @@ pub enum Fault {
     Plan(u8),
     /// A script met a limit.
     Limit,
-    /// Memory was refused.
+    /// Out of memory.
     Memory,
 }
 
 impl Fault {
-    /// The fault that a line says, without its line feed; `None` of any other line.
+    /// The fault that a line reports, without its line feed; `None` of any other line.
     pub fn of_line(line: &[u8]) -> Option<Fault> {
         let mut items = Items::new(line);
         if items.next_item().ok()? != b"fault".as_slice() {

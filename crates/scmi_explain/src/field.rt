@@ -27,7 +27,7 @@ pub(crate) enum Field {
 }
 
 impl Field {
-    /// What is wrong with an item that stands here, of a board of so many agents.
+    /// What is wrong with an item that is here, of a board of this many agents.
     pub(crate) fn wrong(self, item: &[u8], agents: u32) -> Option<Wrong> {
         match self {
             Field::Name => from_utf8(item).is_err().then_some(Wrong::NotUtf8),

@@ -15,7 +15,7 @@ pub(crate) enum Fit<'a> {
     Unknown,
 }
 
-/// How a line fits forms, of a board of so many agents.
+/// How a line fits forms, of a board of this many agents.
 pub(crate) fn fit_of<'a>(forms: &[Form], line: &'a [u8], agents: u32) -> Fit<'a> {
     let mut best = Fit::Unknown;
     for form in forms {

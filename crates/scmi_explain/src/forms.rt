@@ -7,7 +7,7 @@ use crate::wrong::Wrong;
 use scmi_board::Items;
 use scmi_codec::PAYLOAD_WORDS;
 
-/// The form of a line: its first word, what the items behind it are, and whether payload words may
+/// The form of a line: its first word, what the items after it are, and whether payload words may
 /// follow.
 #[derive(Clone, Copy)]
 pub(crate) struct Form {
@@ -83,8 +83,8 @@ pub(crate) const ORDERS: [Form; 5] = forms![
 ];
 
 impl Form {
-    /// The first item that is wrong in a line that begins with the word of this form, of a board of so
-    /// many agents.
+    /// The first item that is wrong in a line that begins with the word of this form, of a board of
+    /// this many agents.
     pub(crate) fn fault_in<'a>(&self, line: &'a [u8], agents: u32) -> Option<ItemFault<'a>> {
         let mut items = Items::new(line);
         let mut number = 1u32;
@@ -110,7 +110,7 @@ impl Form {
         fault(number, item, wrong)
     }
 
-    /// The first item that is wrong behind the fields, the last of which has this number.
+    /// The first item that is wrong after the fields, the last of which has this number.
     fn fault_behind<'a>(
         &self,
         items: &mut Items<'a>,

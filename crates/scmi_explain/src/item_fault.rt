@@ -9,7 +9,7 @@ use std::fmt;
 pub struct ItemFault<'a> {
     /// Its number in the line, from 1.
     pub number: u32,
-    /// What stands there; empty where nothing does.
+    /// What is there; empty if nothing is.
     pub item: &'a [u8],
     /// What is wrong with it.
     pub wrong: Wrong,

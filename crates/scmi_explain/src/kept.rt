@@ -7,7 +7,7 @@ use std::io::{Error, Read, Result};
 use std::marker::Model;
 
 /// A reader of which the first `INPUT_BYTES` bytes are kept, and the last error. A contract sees what
-/// the reader will give. Where memory is refused nothing more is kept.
+/// the reader will give. When out of memory, nothing more is kept.
 #[derive(Drop)]
 pub struct Kept<R: Read + Drop> {
     reader: R,
@@ -37,7 +37,7 @@ impl<R: Read + Drop> Kept<R> {
         }
     }
 
-    /// The bytes that were kept; where there were more, up to before the last line feed among them.
+    /// The bytes that were kept; if there were more, up to before the last line feed among them.
     pub fn bytes(&self) -> &[u8] {
         let bytes = self.bytes.as_slice();
         if self.is_whole {
@@ -54,7 +54,7 @@ impl<R: Read + Drop> Kept<R> {
         self.error
     }
 
-    /// Keeps bytes where there is room for them.
+    /// Keeps bytes if there is room for them.
     fn keep(&mut self, bytes: &[u8])
         ensures { self.new ≡ self.old }
     {

@@ -17,7 +17,7 @@ pub struct LastLine<W: Write + Drop> {
     error: Option<Error>,
 }
 
-/// The first bytes of a line, and whether its line feed stands behind them.
+/// The first bytes of a line, and whether its line feed follows them.
 #[derive(Drop)]
 struct Line {
     bytes: ArrayVec<u8, LINE_BYTES>,
@@ -59,7 +59,7 @@ impl<W: Write + Drop> LastLine<W> {
 }
 
 impl Line {
-    /// Makes it the last line of what stands in it and these bytes behind.
+    /// Makes it the last line of what is in it, followed by these bytes.
     fn keep(&mut self, bytes: &[u8]) {
         for byte in bytes {
             if self.has_ended {

@@ -1,10 +1,10 @@
-//! What is wrong with an input that a program refused, for a person: line, item, what is wanted, and
-//! the likely slip.
+//! What is wrong with an input that a program refused, for a person: line, item, what is expected,
+//! and the likely slip.
 //!
-//! The main type is `Explanation`, whose text is what it prints. The main theorem is the contract of
-//! `explain`: where the fault has a line, the explanation is of that line. That the texts are right is
-//! tested. `Kept` and `LastLine` keep what an explanation needs of a run's input and output, and are to
-//! the run the reader and the writer that they stand before.
+//! The main type is `Explanation`, whose text is what it prints. The main theorem is the contract
+//! of `explain`: if the fault has a line, the explanation is of that line. That the texts are right
+//! is tested. `Kept` and `LastLine` keep what an explanation needs of a run's input and output, and
+//! are for the run the reader and the writer that they wrap.
 #![tactic(auto)]
 
 mod area;

@@ -37,7 +37,7 @@ pub(crate) fn mode_cause(
     (What::NoMode(line, expected), slip_of_mode(alloc, line))
 }
 
-/// The slip that is likely behind a first line that is no mode.
+/// The slip that probably caused a first line that is no mode.
 fn slip_of_mode(alloc: Global, line: &[u8]) -> Option<Slip> {
     if is_mode(line) {
         return Some(Slip::OnlyRun);

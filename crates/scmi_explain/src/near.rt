@@ -1,12 +1,13 @@
-//! The word that a misspelt one may stand for.
+//! The word that a misspelt one may mean.
 
 use std::alloc::Global;
 use strsim::osa_distance;
 
-/// The most letters that are put in, left out, changed or swapped: one in so many of the word's.
+/// The most letters that are put in, left out, changed or swapped: one in this many of the word's.
 const LETTERS_FOR_AN_EDIT: usize = 3;
 
-/// The first of the words that are nearest to a text, if one is near; `None` too where memory is refused.
+/// The first of the words that are nearest to a text, if one is near; `None` too when out of
+/// memory.
 pub fn nearest(alloc: Global, words: &[&'static str], text: &str) -> Option<&'static str> {
     let mut found = None;
     let mut fewest = usize::MAX;

@@ -1,4 +1,4 @@
-//! Why an item is no number of so many bits.
+//! Why an item is no number of this many bits.
 
 use scmi_board::{byte, number, word};
 
@@ -29,12 +29,12 @@ impl Width {
     }
 }
 
-/// Why an item is no number of so many bits.
+/// Why an item is no number of this many bits.
 #[derive(Clone, Copy)]
 pub enum NumberFault {
     /// It is a number of more bits than these.
     TooLarge(Width),
-    /// A zero stands before other digits.
+    /// A zero comes before other digits.
     LeadingZero,
     /// It begins with `0X`.
     UpperMark,
@@ -82,7 +82,7 @@ impl NumberFault {
     }
 }
 
-/// Why digits behind `0x` are no number of this width.
+/// Why digits after `0x` are no number of this width.
 fn hexadecimal_fault(digits: &[u8], width: Width) -> NumberFault {
     if are_hexadecimal(digits) {
         NumberFault::TooLarge(width)

@@ -12,7 +12,7 @@ use scmi_codec::Name;
 use scmi_plan::{AGENTS, CLOCKS, DEVICES, DOMAINS};
 use std::str::from_utf8;
 
-/// A fault, and the line that has it, where one has.
+/// A fault, and the line that has it, if one has.
 type Found<'a> = (Option<u32>, PlanFault<'a>);
 
 /// What is wrong with a board that breaks the rule of this number.
@@ -71,7 +71,7 @@ fn count_fault(board: &[u8]) -> Option<Found<'_>> {
     None
 }
 
-/// The line of the first row of a kind behind so many of them.
+/// The line of the first row of a kind after this many of them.
 fn line_behind(board: &[u8], kind: Kind, most: u32) -> Option<u32> {
     let mut count = 0u32;
     for row in Rows::of_board(board) {
@@ -94,7 +94,7 @@ fn name_fault(board: &[u8]) -> Option<Found<'_>> {
     None
 }
 
-/// The first name of a row that is none.
+/// The first name of a row that is not a name.
 fn bad_name(row: TextLine<'_>) -> Option<&[u8]> {
     let mut items = Items::new(row.text);
     let word = items.next_item().ok()?;
@@ -153,7 +153,7 @@ fn device_fault(board: &[u8]) -> Option<Found<'_>> {
     None
 }
 
-/// The first domain or clock of a device's line that a board with so many lacks.
+/// The first domain or clock of a device's line that a board with this many lacks.
 fn held_beyond(line: &[u8], domains: u32, clocks: u32) -> Option<(Kind, u8, u32)> {
     let mut items = Items::new(line);
     let _ = items.next_item().ok()?;

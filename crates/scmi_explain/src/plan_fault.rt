@@ -1,4 +1,4 @@
-//! The rule of a lawful board that a line breaks.
+//! The rule of a valid board that a line breaks.
 
 use crate::quoted::Quoted;
 use crate::rates_fault::RatesFault;
@@ -34,23 +34,23 @@ impl Kind {
     }
 }
 
-/// The rule of a lawful board that a line breaks.
+/// The rule of a valid board that a line breaks.
 #[derive(Clone, Copy)]
 pub enum PlanFault<'a> {
-    /// There are so many of a kind, and at most so many may be.
+    /// The number of a kind, and the most that are allowed.
     Count(Kind, u32, u32),
     /// This is no name.
     Name(&'a [u8]),
     /// The rates of a clock.
     Rates(RatesFault),
-    /// The device holds a domain or clock of this number, and the board has so many.
+    /// The device holds a domain or clock of this number, and the board has this many.
     Holds {
         device: u32,
         kind: Kind,
         number: u8,
         count: u32,
     },
-    /// This agent is trusted, and the board has so many.
+    /// This agent is trusted, and the board has this many.
     Trusted(u32, u32),
     /// The rule of this number, of a line that is not found.
     Rule(u8),

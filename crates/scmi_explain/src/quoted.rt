@@ -6,8 +6,8 @@ use std::fmt::Write;
 /// The most bytes that are shown.
 const SHOWN_BYTES: usize = 60;
 
-/// Bytes in quotes: those that are not printed stand as `\t`, `\r` or `\x` and two digits, and of many
-/// the first ones alone are shown.
+/// Bytes in quotes: those that are not printed are written as `\t`, `\r` or `\x` and two digits,
+/// and of many the first ones alone are shown.
 #[derive(Clone, Copy)]
 pub(crate) struct Quoted<'a>(pub &'a [u8]);
 

@@ -7,11 +7,11 @@ use std::fmt;
 /// What is wrong with the rates of a clock, in Hz.
 #[derive(Clone, Copy)]
 pub enum RatesFault {
-    /// The list has so many rates.
+    /// The list has this many rates.
     Many(usize),
     /// The second of these follows the first, and does not rise.
     Falls(u64, u64),
-    /// The starting rate is none of the list.
+    /// The starting rate is not in the list.
     NotListed(u64),
     /// The step is 0.
     NoStep,
@@ -21,7 +21,7 @@ pub enum RatesFault {
     Unmet { low: u64, high: u64, step: u64 },
     /// The starting rate is not from the lowest to the highest.
     Outside { rate: u64, low: u64, high: u64 },
-    /// The starting rate stands between two steps.
+    /// The starting rate is between two steps.
     Between { rate: u64, low: u64, step: u64 },
 }
 

@@ -1,11 +1,11 @@
-//! The rows of a board, and all lines, in the order in which they stand.
+//! The rows of a board, and all lines, in their order.
 ghost use Rattle.std.specs.Prelude.{length};
 ghost use Rattle.std.specs.Iterator.{at_most};
 
 use scmi_board::{Lines, TextLine};
 
-/// The lines that are left of an input behind its first one, but for remarks and empty ones: all, or
-/// those of the board, from its line `board` to before its line `end`.
+/// The lines that are left of an input after its first one, but for comments and empty ones: all,
+/// or those of the board, from its line `board` to before its line `end`.
 #[derive(Drop)]
 pub(crate) struct Rows<'a> {
     lines: Lines<'a>,
@@ -21,7 +21,7 @@ impl<'a> Rows<'a> {
         }
     }
 
-    /// All lines behind the first one.
+    /// All lines after the first one.
     pub(crate) fn all(behind_first: &'a [u8]) -> Rows<'a> {
         Rows {
             lines: Lines::new(behind_first),

@@ -1,4 +1,4 @@
-//! Lines that are none of a script.
+//! Lines that are not of a script.
 
 use crate::board::slip_of_word;
 use crate::fit::{Fit, begins_as, fit_of, fits_well};
@@ -43,7 +43,7 @@ impl Script {
         }
     }
 
-    /// How a line fits the forms of such a script, of a board of so many agents.
+    /// How a line fits the forms of such a script, of a board of this many agents.
     fn fits<'a>(self, line: &'a [u8], agents: u32) -> Fit<'a> {
         match self {
             Script::Steps => fit_of(&STEPS, line, agents),
@@ -86,7 +86,7 @@ const OTHERS: [(Script, &[Form], &str); 3] = [
     (Script::Orders, &ORDERS, "threads"),
 ];
 
-/// What is wrong with the line of a number, which is none of a script.
+/// What is wrong with the line of a number, which is not one of a script.
 pub(crate) fn script_cause(alloc: Global, input: &[u8], number: u32) -> (What<'_>, Option<Slip>) {
     let Some(line) = line_at(input, number) else {
         return (What::NotKept, None);
@@ -120,7 +120,7 @@ fn slip_of_items(script: Script, line: &[u8], agents: u32, wrong: Wrong) -> Opti
     None
 }
 
-/// The slip of a line whose first word is none of these scripts.
+/// The slip of a line whose first word is not one of these scripts.
 fn slip_of_unknown(alloc: Global, script: Script, line: &[u8]) -> Option<Slip> {
     for (other, forms, modes) in OTHERS {
         if other != script && begins_as(forms, line) {

@@ -1,11 +1,11 @@
-//! The slips that are likely behind a fault.
+//! The slips that probably caused a fault.
 
 use std::fmt;
 
-/// The slip that is likely behind a fault.
+/// The slip that probably caused a fault.
 #[derive(Clone, Copy)]
 pub enum Slip {
-    /// A byte order mark stands before the first line.
+    /// A byte order mark comes before the first line.
     ByteOrderMark,
     /// The line ends in a carriage return.
     CarriageReturn,
@@ -15,19 +15,19 @@ pub enum Slip {
     SpaceBefore,
     /// It ends in a space.
     SpaceBehind,
-    /// A remark stands behind it.
+    /// A comment follows it.
     Remark,
     /// It has a byte that is not ASCII.
     OtherByte,
-    /// It has upper case where lower case is wanted.
+    /// It has upper case, but lower case is expected.
     Case,
-    /// The mode is missing, and the board stands first.
+    /// The mode is missing, and the board comes first.
     BoardFirst,
-    /// The mode is missing, and a remark or an empty line stands first.
+    /// The mode is missing, and a comment or an empty line comes first.
     RemarkFirst,
-    /// The mode is missing, and an area stands first.
+    /// The mode is missing, and an area comes first.
     AreaFirst,
-    /// The kind of channel is missing behind the mode.
+    /// The kind of channel is missing after the mode.
     NoKind,
     /// It is what a run writes.
     Output,
@@ -35,17 +35,17 @@ pub enum Slip {
     Picture,
     /// It is a mode that is run and not drawn.
     OnlyRun,
-    /// It is a session's input, where dumps are wanted.
+    /// It is a session's input, but dumps are expected.
     SessionFirst,
     /// It is a step, and the line `end` may be missing before it.
     EndMissing(&'static str),
-    /// It is no text, where dumps are wanted.
+    /// It is no text, but dumps are expected.
     NoText,
     /// It has numbers of 16 bits.
     Halfwords,
     /// The board has a line `board` already.
     SecondBoard,
-    /// The mode stands a second time.
+    /// The mode is there a second time.
     SecondMode,
     /// It is a row of the board, which has ended.
     BoardEnded,

@@ -5,12 +5,12 @@ pub(crate) fn first_line(input: &[u8]) -> &[u8] {
     split_first(input).0
 }
 
-/// What stands behind the first line.
+/// What follows the first line.
 pub(crate) fn behind_first(input: &[u8]) -> &[u8] {
     split_first(input).1
 }
 
-/// The line of a number, without its line feed; `None` where the input does not have so many.
+/// The line of a number, without its line feed; `None` if the input does not have that many lines.
 pub(crate) fn line_at(input: &[u8], number: u32) -> Option<&[u8]> {
     let mut at = 0u32;
     for line in input.split(|byte| *byte == b'\n') {
@@ -22,7 +22,7 @@ pub(crate) fn line_at(input: &[u8], number: u32) -> Option<&[u8]> {
     None
 }
 
-/// The first word of a line: what stands before its first space.
+/// The first word of a line: what comes before its first space.
 pub(crate) fn first_word(line: &[u8]) -> &[u8] {
     for item in line.split(|byte| *byte == b' ') {
         return item;

@@ -22,7 +22,7 @@ pub enum What<'a> {
     NoRow(&'a [u8]),
     /// The last line of the input comes before the line `end`.
     NoEnd,
-    /// This line is none of a script, whose lines begin with these words.
+    /// This line is not one of a script, whose lines begin with these words.
     NoStep(&'a [u8], &'static str),
     /// An item of the line is wrong.
     Item(ItemFault<'a>),
@@ -36,7 +36,7 @@ pub enum What<'a> {
     NoArea,
     /// A second line follows the mode `once`.
     SecondArea,
-    /// An area has so many digits.
+    /// An area has this many digits.
     AreaDigits(usize),
     /// A byte of an area is no digit: the byte, and its place from 1.
     AreaByte(&'a [u8], usize),
@@ -46,17 +46,17 @@ pub enum What<'a> {
     LongLine,
     /// It is too long.
     LongInput,
-    /// What stands behind the first line is too long.
+    /// What follows the first line is too long.
     Long,
-    /// The script has so many steps, more than a chart may have.
+    /// The script has this many steps, more than a chart may have.
     ManySteps(usize),
     /// A read failed.
     NotRead,
     /// A script met a limit.
     Limit,
-    /// Memory was refused.
+    /// Out of memory.
     Memory,
-    /// The line lies behind what was kept of the input.
+    /// The line is after what was kept of the input.
     NotKept,
 }
 

@@ -6,13 +6,13 @@ use std::fmt;
 /// What is wrong with an item of a line.
 #[derive(Clone, Copy)]
 pub enum Wrong {
-    /// There is none.
+    /// There is no item.
     Missing,
     /// There is nothing to be here.
     Extra,
     /// A 65th payload word.
     TooManyWords,
-    /// It is no number that may stand here.
+    /// It is no number that is allowed here.
     Number(NumberFault),
     /// It is the number 0, and agents are numbered from 1.
     AgentZero,
@@ -28,7 +28,7 @@ pub enum Wrong {
     NotRates(NumberFault),
     /// It is neither `-` nor numbers from 0 to 31 with commas between them.
     NotPlaces,
-    /// One of its numbers stands twice.
+    /// One of its numbers is there twice.
     PlaceTwice,
     /// It is not this word.
     NotWord(&'static str),

@@ -27,7 +27,7 @@ kept_more input n x rest rest' line seen took other =
       first = ap (λ (xs : List ℕ). xs ++ x ∷ []) seen.first ∙ sym next.seen;
     }
 
--- a line, what the reader has left behind it, and whether a line feed ended it
+-- a line, what the reader has left after it, and whether a line feed ended it
 pub record IsLine (input : List ℕ) (rest : Option (List ℕ)) (kept : List ℕ) (has_end : Bool) : Type 0 where
   pub line : kept ≡ first_line input
   pub left : rest ≡ Some (after_line input)

@@ -14,6 +14,6 @@ first_line input = before_first is_line_feed input
 abbrev pub after_line : List ℕ → List ℕ
 after_line input = after_first is_line_feed input
 
--- whether a line feed stands in an input
+-- whether a line feed is in an input
 abbrev pub has_line_feed : List ℕ → Bool
 has_line_feed input = nat_lt (position_or_len is_line_feed input) (length input)

@@ -9,7 +9,7 @@ use crate::read_error::ReadError;
 /// A reader whose reads are seen by contracts: how many there were, and how many from the first one on
 /// that failed. What is generic over it has no other way to read.
 pub trait CountedRead {
-    // The bytes that reads will give from here on, where they are known.
+    // The bytes that reads will give from here on, if they are known.
     ghost remaining: { Self → Option (List ℕ) };
 
     ghost reads: { Self → ℕ };

@@ -18,7 +18,7 @@ pub const INPUT_BYTES: usize = 1_048_576;
 /// The most bytes of a first line that are kept: more than any mode's text has.
 pub const KEPT_BYTES: usize = 16;
 
-/// A reader, and the bytes that were read ahead. It is itself a reader, of what is left behind the
+/// A reader, and the bytes that were read ahead. It is itself a reader, of what is left after the
 /// first line.
 #[derive(Drop)]
 pub struct Input<R: CountedRead + Drop> {
@@ -52,7 +52,7 @@ impl<R: CountedRead + Drop> Input<R> {
         }
     }
 
-    /// The next byte, or `None` at the end. So many reads may be tried for it.
+    /// The next byte, or `None` at the end. At most `tries` reads may be tried for it.
     pub(crate) fn next_byte(&mut self, tries: &mut usize) -> Result<Option<u8>, InputError>
         ensures reads { self.new.reads + tries.new ≤ self.old.reads + tries.old }
         ensures stops { StopsAtFailure result self.old.since_failure self.new.since_failure }
@@ -67,10 +67,10 @@ impl<R: CountedRead + Drop> Input<R> {
         Ok(self.ahead.take_byte())
     }
 
-    /// The first bytes of the first line, at most `KEPT_BYTES` of them, by at most `INPUT_BYTES + 1`
-    /// reads. What is left is what stands behind its line feed. `Size` where the line is longer than
-    /// `INPUT_BYTES`; `Read` at a read that fails, or where reads are interrupted so often that these
-    /// are not enough.
+    /// The first bytes of the first line, at most `KEPT_BYTES` of them, by at most
+    /// `INPUT_BYTES + 1` reads. What is left is what comes after its line feed. `Size` if the line
+    /// is longer than `INPUT_BYTES`; `Read` at a read that fails, or if reads are interrupted so
+    /// often that these are not enough.
     pub fn read_first_line(&mut self) -> Result<ArrayVec<u8, KEPT_BYTES>, InputError>
         ensures reads { self.new.reads ≤ self.old.reads + (INPUT_BYTES + 1) }
         ensures stops { StopsAtFailure result self.old.since_failure self.new.since_failure }
@@ -112,8 +112,8 @@ impl<R: CountedRead + Drop> CountedRead for Input<R> {
     }
 }
 
-/// Reads ahead where nothing is left from before, by so many tries. `Read` at a read that fails, and
-/// where each try was interrupted.
+/// Reads ahead if nothing is left from before, by at most `tries` tries. `Read` at a read that
+/// fails, and if each try was interrupted.
 fn refill<R: CountedRead>(
     ahead: &mut Ahead,
     reader: &mut R,

@@ -10,7 +10,7 @@ pub enum InputError {
     /// A read failed, or reads were interrupted too often.
     #[error("read")]
     Read,
-    /// Memory was refused.
+    /// Out of memory.
     #[error("memory")]
     Memory,
 }

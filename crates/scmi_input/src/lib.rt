@@ -1,9 +1,10 @@
-//! What is read of an input: its first line, and what stands behind it; or a line at a time.
+//! What is read of an input: its first line, and what comes after it; or a line at a time.
 //!
-//! The main type is `Input`, a reader whose first line is read before the rest. The main theorem is the
-//! contract of `Input::read_first_line` with that of `read_rest`: the line and all that stands behind
-//! its line feed are those of the reader, by at most `INPUT_BYTES + 1` reads each, and a read that fails
-//! is the last. `Input::read_line` gives one line after the other, at any length of the whole.
+//! The main type is `Input`, a reader whose first line is read before the rest. The main theorem is
+//! the contract of `Input::read_first_line` with that of `read_rest`: the line and all that comes
+//! after its line feed are those of the reader, by at most `INPUT_BYTES + 1` reads each, and a read
+//! that fails is the last. `Input::read_line` gives one line after the other, at any length of the
+//! whole.
 #![tactic(auto)]
 
 mod ahead;

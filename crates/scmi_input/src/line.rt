@@ -8,10 +8,10 @@ use crate::input::{INPUT_BYTES, Input};
 use crate::input_error::InputError;
 
 impl<R: CountedRead + Drop> Input<R> {
-    /// The next line, without its line feed, in place of what `line` has; and whether a line feed ended
-    /// it: where none did, it is the last. By at most `INPUT_BYTES + 1` reads. `Size` where the line is
-    /// longer than `INPUT_BYTES`; `Read` at a read that fails, or where reads are interrupted so often
-    /// that these are not enough; `Memory` where memory is refused.
+    /// The next line, without its line feed, in place of what `line` has; and whether a line feed
+    /// ended it: if none did, it is the last. By at most `INPUT_BYTES + 1` reads. `Size` if the
+    /// line is longer than `INPUT_BYTES`; `Read` at a read that fails, or if reads are interrupted
+    /// so often that these are not enough; `Memory` when out of memory.
     pub fn read_line(&mut self, line: &mut Vec<u8>) -> Result<bool, InputError>
         ensures reads { self.new.reads ≤ self.old.reads + (INPUT_BYTES + 1) }
         ensures stops { StopsAtFailure result self.old.since_failure self.new.since_failure }

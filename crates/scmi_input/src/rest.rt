@@ -12,9 +12,9 @@ use std::alloc::Global;
 /// The most bytes that are read at once.
 const PIECE_BYTES: usize = 4096;
 
-/// All that is left to read, by at most `INPUT_BYTES + 1` reads. `Size` where it is longer than
-/// `INPUT_BYTES`; `Read` at a read that fails, or where reads are interrupted so often that these are
-/// not enough; `Memory` where memory is refused.
+/// All that is left to read, by at most `INPUT_BYTES + 1` reads. `Size` if it is longer than
+/// `INPUT_BYTES`; `Read` at a read that fails, or if reads are interrupted so often that these are
+/// not enough; `Memory` when out of memory.
 pub fn read_rest<R: CountedRead>(alloc: Global, reader: &mut R) -> Result<Vec<u8>, InputError>
     ensures reads { R.reads reader.new ≤ R.reads reader.old + (INPUT_BYTES + 1) }
     ensures stops { StopsAtFailure result (R.since_failure reader.old)

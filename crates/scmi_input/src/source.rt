@@ -40,7 +40,7 @@ impl<'a, R: Read> Source<'a, R> {
         }
     }
 
-    /// Reads once. No contract of a `Read` says how often it was read, so that this body calls
+    /// Reads once. No contract of a `Read` states how often it was read, so that this body calls
     /// `self.reader` once, and hands on what that gave, is to be read here.
     pub(crate) fn read_once(&mut self, buffer: &mut [u8]) -> Result<usize>
         ensures bound { ReadsAtMost result buffer.new }

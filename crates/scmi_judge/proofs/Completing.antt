@@ -31,7 +31,7 @@ fewer-of (p ∷ ps) qs is some = rw is (omega arith)
 pub fewer-pending : (board : Board) (h : List Event) → ¬ (IsIdle board h) → length (pending_sets board (deeds board (h ++ Advance ∷ []))) < length (pending_sets board (deeds board h))
 fewer-pending board h some = fewer-of (pending_sets board (deeds board h)) (pending_sets board (deeds board (h ++ Advance ∷ []))) (pending-after board h) some
 
--- where no set is pending, none completes
+-- if no set is pending, none completes
 pub none-idle : (board : Board) (a : ℕ) (h : List Event) → IsIdle board h → completions_shown board a h ≡ []
 unfolding completions_shown
 none-idle board a h idle = ap (λ ps. completions_of board a ps h) idle
@@ -41,7 +41,7 @@ none-of board a h m [] ms is first = refl
 none-of board a h m (p ∷ ps) [] is first = absurd (cc)
 none-of board a h m (p ∷ ps) (n ∷ ms) is first = ap (λ ws. where_nothing_waits ws (Advance ∷ completions_of board a ps (h ++ Advance ∷ []))) is
 
--- where a message waits, none completes
+-- if a message waits, none completes
 pub none-waiting : (board : Board) (a : ℕ) (h : List Event) (m : Message) → slice_get (outbox board a h) 0 ≡ Some m → completions_shown board a h ≡ []
 unfolding completions_shown
 none-waiting board a h m first = none-of board a h m (pending_sets board (deeds board h)) (outbox board a h) refl first
@@ -61,7 +61,7 @@ more-of board a h (p ∷ ps) is some nothing =
     = ap (λ qs. completions_of board a qs h) is ∙ ap (λ ws. where_nothing_waits ws (Advance ∷ completions_of board a ps next)) nothing in
     ap (λ es. next ++ es) later ∙ append_assoc h (Advance ∷ []) (completions_of board a ps next) ∙ ap (λ es. h ++ es) (sym now)
 
--- a completion where no message waits is one of those that a message shows
+-- a completion when no message waits is one of those that a message shows
 pub one-more : (board : Board) (a : ℕ) (h : List Event) → ¬ (IsIdle board h) → slice_get (outbox board a h) 0 ≡ None → shown_to board a (h ++ Advance ∷ []) ≡ shown_to board a h
 one-more board a h some none = more-of board a h (pending_sets board (deeds board h)) refl some (nothing-first (outbox board a h) none)
 

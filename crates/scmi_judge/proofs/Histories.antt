@@ -1,4 +1,4 @@
--- A record whose entries are all what the definitions say is one that has a legal history, and the other way round.
+-- A record with all entries as the definitions give them is one that has a legal history, and the other way round.
 use Rattle.std.proofs.Common.{◌≡◌, ◌↔◌, ℕ, zero, suc, ◌<◌, List, [], ◌∷◌, ◌++◌, length, slice_get, Some, refl, sym, ap, ◌∙◌, subst, arith}
 use Rattle.std.specs.Prelude.{replicate}
 use Rattle.std.specs.List.{All}
@@ -25,7 +25,7 @@ use Rattle.scmi_judge.proofs.Laws.{law}
 use Rattle.scmi_judge.proofs.Records.{AreShown, all_same}
 use Rattle.scmi_judge.proofs.Verdicts.{agent_decides, answered-events, same_says, taken-events}
 
--- completions that are so many, before each of which no message waited for an agent
+-- completions that are this many, before each of which no message waited for an agent
 record AreWaited (board : Board) (a : ℕ) (h events : List Event) : Type 0 where
   count : ℕ
   are : events ≡ replicate count Advance
@@ -55,12 +55,12 @@ waited-of board a (p ∷ ps) h [] is =
       at count nothing zero less = ap (outbox board a) (append-nil h) ∙ is
       at count nothing (suc k) less = ap (outbox board a) (one-first h k) ∙ nothing k (omega (arith, less))
 
--- the completions that a message shows are so many
+-- the completions that a message shows are this many
 waited : (board : Board) (a : ℕ) (h : List Event) → AreWaited board a h (completions_shown board a h)
 unfolding completions_shown
 waited board a h = waited-of board a (pending_sets board (deeds board h)) h (outbox board a h) refl
 
--- in a legal history, completions before each of which nothing waited, and behind which a message waits, are those that it shows
+-- in a legal history, completions before each of which nothing waited, and after which a message waits, are those that it shows
 shown-by : (board : Board) (a : ℕ) (m : Message) (total rest : List Event) → IsLegal board total → (k : ℕ) (h : List Event) → total ≡ h ++ (replicate k Advance ++ rest)
     → ((j : ℕ) → j < k → outbox board a (h ++ replicate j Advance) ≡ []) → slice_get (outbox board a (h ++ replicate k Advance)) 0 ≡ Some m
     → shown_to board a h ≡ h ++ replicate k Advance
@@ -81,7 +81,7 @@ takes : (a : ℕ) (m : Message) (waiting : List Message) → slice_get waiting 0
 takes a m [] first = absurd (cc)
 takes a m (n ∷ waiting) first = refl
 
--- an entry that is what the definitions say shows a piece, which is what it stands for
+-- an entry that is what the definitions give shows a piece, which is what it encodes
 piece-of : (board : Board) (h : List Event) (entry : Entry) → IsShown board h entry → IsPiece board h entry (events_of board h entry)
 piece-of board h (Answered a f x) is = record { are = answered-events board h a f x ((agent_decides board a).1 is.0); due = is.1 }
 piece-of board h (Delivered a m) is =
@@ -95,7 +95,7 @@ piece-of board h (Delivered a m) is =
       message-piece : events_of board h (Delivered a m) ≡ completions_shown board a h ++ Sent a ∷ []
       message-piece = taken-events board h a m ((agent_decides board a).1 is.0) ∙ ap (λ es. completions_shown board a h ++ es) (takes a m (outbox board a (shown_to board a h)) is.1)
 
--- what entries that are all what the definitions say stand for
+-- what entries that are all what the definitions give encode
 record HasPieces (board : Board) (h : List Event) (entries : List Entry) : Type 0 where
   events : List Event
   are : history_from board h entries ≡ h ++ events
@@ -112,7 +112,7 @@ pieces-of board h (e ∷ entries) shown =
       pieces = record { piece = now; rest = later.events; are = refl; shown = piece-of board h e (shown [] entries e refl); on = later.pieces };
     }
 
--- a piece of a legal history is what its entry stands for, and the entry is what the definitions say
+-- a piece of a legal history is what its entry encodes, and the entry is what the definitions give
 piece-shown : (board : Board) (total rest : List Event) → IsLegal board total → (h : List Event) (entry : Entry) (piece : List Event) → total ≡ h ++ (piece ++ rest)
     → IsPiece board h entry piece → IsShown board h entry × (events_of board h entry ≡ piece)
 piece-shown board total rest legal h (Answered a f x) piece is shown =
@@ -131,7 +131,7 @@ piece-shown board total rest legal h (Delivered a m) piece is shown =
           ∙ ap (λ es. es ++ Sent a ∷ []) (append_cancel_left h (completions_shown board a h) done to) ∙ sym shown.are,
     )
 
--- entries whose pieces are a legal history's are all said to be the same, and the history is the one that they stand for
+-- entries whose pieces are a legal history's are all `Same`, and the history is the one that they encode
 pieces-same : (board : Board) (total : List Event) → IsLegal board total → (h : List Event) (entries : List Entry) (events : List Event) → total ≡ h ++ events
     → ArePieces board h entries events → All (λ v. v ≡ Same) (verdicts_from board h entries) × (history_from board h entries ≡ total)
 pieces-same board total legal h [] events is pieces = (All-nil (λ v. v ≡ Same), sym (is ∙ ap (λ es. h ++ es) pieces ∙ append-nil h))
@@ -155,6 +155,6 @@ all_split board entries verdicts are = (
   λ has. subst (λ vs. All (λ v. v ≡ Same) vs) (sym are) (pieces-same board has.0 has.1.legal [] entries has.0 refl has.1.pieces).0,
 )
 
--- and it is the one that the record stands for
+-- and it is the one that the record encodes
 pub only : (board : Board) (entries : List Entry) (h : List Event) → IsSplitBy board entries h → h ≡ history_of board entries
 only board entries h split = sym (pieces-same board h split.legal [] entries h refl split.pieces).1

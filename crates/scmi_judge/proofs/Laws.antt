@@ -1,4 +1,4 @@
--- A record whose entries are all what the definitions say is one of a legal history, with each agent's frames, answers and messages.
+-- A record with all entries as the definitions give them is one of a legal history, with each agent's frames, answers and messages.
 use Rattle.std.proofs.Common.{◌≡◌, ◌≢◌, ◌⊎◌, inl, inr, ◌==◌, ℕ, ◌<◌, true, false, List, [], ◌∷◌, ◌++◌, length, drop, slice_get, Option, Some, None, refl, sym, ap, ◌∙◌, subst, arith, if◌then◌else◌}
 use Rattle.std.specs.List.{filter_map, cons_option}
 use Rattle.std.proofs.lemmas.List.{append_assoc, append-nil}

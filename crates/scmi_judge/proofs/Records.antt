@@ -1,4 +1,4 @@
--- All entries of a record are said to be the same exactly where each is what the definitions say.
+-- All entries of a record are the same if and only if each is what the definitions give.
 use Rattle.std.proofs.Common.{◌≡◌, ◌↔◌, ℕ, suc, ◌<◌, List, [], ◌∷◌, ◌++◌, length, drop, get_or, refl, sym, ap, ◌∙◌, subst, arith}
 use Rattle.std.specs.List.{All}
 use Rattle.std.proofs.Math.Seq.{drop-cons}
@@ -13,7 +13,7 @@ use Rattle.scmi_judge.specs.declared.verdict.Verdict.{Verdict}
 use Rattle.scmi_judge.specs.declared.verdict.Verdict.TheVariants.{Same}
 use Rattle.scmi_judge.proofs.Verdicts.{same_says}
 
--- each entry is what the definitions say, from a history on
+-- each entry is what the definitions give, from a history on
 abbrev pub AreShown : Board → List Event → List Entry → Type 0
 AreShown board h entries = (before after : List Entry) (entry : Entry) → entries ≡ before ++ entry ∷ after → IsShown board (history_from board h before) entry
 

@@ -1,4 +1,4 @@
--- What is said of an entry, by whether the board has its agent; and it is Same exactly where the entry is what the definitions say.
+-- The verdict on an entry, by whether the board has its agent: Same if and only if the entry is what the definitions give.
 use Rattle.std.proofs.Common.{◌≡◌, ◌↔◌, ◌⊎◌, inl, inr, ℕ, ◌<◌, ◌≤◌, nat_le, true, false, List, [], ◌∷◌, ◌++◌, length, slice_get, Some, None, refl, sym, ap, ◌∙◌, arith, if◌then◌else◌}
 use Rattle.std.proofs.lemmas.Bool.{cases_Bool}
 use Rattle.std.proofs.lemmas.List.{append_assoc, append-nil}
@@ -86,7 +86,7 @@ message-again board h k a m here same = (
   message-events board k a m here ∙ ap (λ s. s ++ taking a (outbox board a s)) same ∙ sym (message-events board h a m here),
 )
 
--- where no message waits, none was to come
+-- if no message waits, none was to come
 pub none-came : (board : Board) (h k : List Event) (a : ℕ) (m : Message) → is_agent board a ≡ true → k ≡ shown_to board a h → slice_get (outbox board a k) 0 ≡ None
     → (verdict.NoMessage ≡ verdict_of board h (Delivered a m)) × (k ≡ h ++ events_of board h (Delivered a m))
 none-came board h k a m here shown none =
@@ -100,7 +100,7 @@ first-of : (a : ℕ) (ms : List Message) (due m : Message) → slice_get ms 0 �
 first-of a [] due m first = absurd (cc)
 first-of a (n ∷ ms) due m first = let same : due ≡ n = cc in (ap (λ d. verdict_on_message (d ∷ []) m) same, refl)
 
--- where a message waits, it was to come
+-- if a message waits, it was to come
 pub one-came : (board : Board) (h k : List Event) (a : ℕ) (m due : Message) → is_agent board a ≡ true → k ≡ shown_to board a h → slice_get (outbox board a k) 0 ≡ Some due
     → (verdict_on_message (due ∷ []) m ≡ verdict_of board h (Delivered a m)) × (k ++ Sent a ∷ [] ≡ h ++ events_of board h (Delivered a m))
 one-came board h k a m due here shown first =
@@ -129,7 +129,7 @@ message_on (due ∷ later) m = by (cases_Bool (is_same_message due m)) where
     λ s. absurd (let one : due ≡ m = cc in let here = (same_message_decides due m).1 one in cc),
   )
 
--- an entry is said to be the same exactly where it is what the definitions say
+-- an entry is the same if and only if it is what the definitions give
 pub same_says : (board : Board) (h : List Event) (entry : Entry) → (verdict_of board h entry ≡ verdict.Same) ↔ IsShown board h entry
 same_says board h (Answered a f x) = by (cases_Bool (is_agent board a)) where
   by : (is_agent board a ≡ true) ⊎ (is_agent board a ≡ false) → (verdict_of board h (Answered a f x) ≡ verdict.Same) ↔ IsShown board h (Answered a f x)

@@ -1,4 +1,4 @@
--- The history that a record stands for. Each entry is judged at its prefix: what the entries before it stand for.
+-- The history that a record encodes. Each entry is judged at its prefix: what the entries before it encode.
 use Rattle.std.specs.Prelude.{◌≡◌, ℕ, List, [], ◌∷◌, ◌++◌, length, slice_get, Bool, ◌&&◌, nat_le, if◌then◌else◌, Some}
 use Rattle.scmi_plan.specs.Agent.{IsAgent}
 use Rattle.scmi_plan.specs.Board.{Board}
@@ -20,7 +20,7 @@ IsAnswer (Delivered a message) = ⊥
 abbrev pub is_agent : Board → ℕ → Bool
 is_agent board a = nat_le 1 a && nat_le a (length board.agents)
 
--- these events where no message waits, and else none
+-- these events if no message waits, and else none
 abbrev pub where_nothing_waits : List Message → List Event → List Event
 where_nothing_waits [] events = events
 where_nothing_waits (m ∷ ms) events = []
@@ -39,32 +39,33 @@ completions_shown board a h = completions_of board a (pending_sets board (deeds 
 abbrev pub shown_to : Board → ℕ → List Event → List Event
 shown_to board a h = h ++ completions_shown board a h
 
--- an agent's taking of a message, where one waits
+-- an agent's taking of a message, if one waits
 abbrev pub taking : ℕ → List Message → List Event
 taking a [] = []
 taking a (m ∷ ms) = Sent a ∷ []
 
--- what an entry stands for after a history; an entry of no agent stands for nothing
+-- what an entry encodes after a history; an entry of no agent encodes nothing
 unfoldable pub events_of : Board → List Event → Entry → List Event
 events_of board h (Answered a frame answer) = if is_agent board a then Command a frame ∷ [] else []
 events_of board h (Delivered a message) =
     if is_agent board a then completions_shown board a h ++ taking a (outbox board a (shown_to board a h)) else []
 
--- the history that a record stands for, after a history
+-- the history that a record encodes, after a history
 abbrev pub history_from : Board → List Event → List Entry → List Event
 history_from board h [] = h
 history_from board h (entry ∷ entries) = history_from board (h ++ events_of board h entry) entries
 
--- the history that a record stands for
+-- the history that a record encodes
 abbrev pub history_of : Board → List Entry → List Event
 history_of board entries = history_from board [] entries
 
--- an entry is what the definitions say after a history: the answer is the one to the frame, and the message is the next to its agent
+-- an entry is what the definitions give after a history: the answer is the one to the frame, and
+-- the message is the next to its agent
 abbrev pub IsShown : Board → List Event → Entry → Type 0
 IsShown board h (Answered a frame answer) = IsAgent (length board.agents) a × (answer ≡ answer_to board a frame h)
 IsShown board h (Delivered a message) =
     IsAgent (length board.agents) a × (slice_get (outbox board a (shown_to board a h)) 0 ≡ Some message)
 
--- each entry is what the definitions say, after what those before it stand for
+-- each entry is what the definitions give, after what those before it encode
 pub record IsRecordOf (board : Board) (entries : List Entry) : Type 0 where
   pub each : (before after : List Entry) (entry : Entry) → entries ≡ before ++ entry ∷ after → IsShown board (history_of board before) entry

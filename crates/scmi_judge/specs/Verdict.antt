@@ -12,11 +12,11 @@ use Rattle.scmi_judge.specs.declared.entry.Entry.TheVariants.{Answered, Delivere
 use Rattle.scmi_judge.specs.declared.verdict.Verdict.{Verdict}
 use Rattle.scmi_judge.specs.declared.verdict.Verdict.TheVariants as verdict
 
--- what is said of an answer, where this one was due
+-- the verdict on an answer, if this one was due
 abbrev pub verdict_on_answer : Answer → Answer → Verdict
 verdict_on_answer due answer = if is_same_answer due answer then verdict.Same else verdict.Answer due
 
--- what is said of a message, where these wait for its agent
+-- the verdict on a message, if these wait for its agent
 abbrev pub verdict_on_message : List Message → Message → Verdict
 verdict_on_message [] message = verdict.NoMessage
 verdict_on_message (due ∷ later) message = if is_same_message due message then verdict.Same else verdict.Message due

@@ -1,6 +1,9 @@
 //! The judge of a platform by a record of its channels.
-ghost use Rattle.std.specs.Prelude.{◌≡◌, ◌<◌, ◌++◌, [], ◌↔◌, IsOk, IfOk, OnOk, OnErr, IfErr};
+ghost use Rattle.std.specs.Prelude.{◌≡◌, ◌<◌, ◌≤◌, ◌++◌, [], ◌↔◌, length, IsOk, IfOk, OnOk, OnErr, IfErr};
+ghost use Rattle.scmi_clock.specs.declared.discovery.TheConstants.{PENDING_SETS};
+ghost use Rattle.scmi_core.specs.History.{deeds, is_pending_after};
 ghost use Rattle.scmi_core.specs.Legal.{IsLegal};
+ghost use Rattle.scmi_core.specs.Pending.{pending_sets};
 ghost use Rattle.scmi_judge.specs.Record.{IsAnswer, IsShown, events_of};
 ghost use Rattle.scmi_judge.specs.Verdict.{verdict_of};
 ghost use Rattle.scmi_judge.specs.declared.verdict.Verdict.TheVariants.{Same};
@@ -8,13 +11,13 @@ ghost use Rattle.scmi_judge.specs.declared.verdict.Verdict.TheVariants.{Same};
 use crate::entry::Entry;
 use crate::judging::{judge_answer, judge_message};
 use crate::verdict::Verdict;
-use scmi_core::{Core, CoreError};
-use scmi_plan::Plan;
+use scmi_core::{Core, CoreError, PendingSet};
+use scmi_plan::{Plan, Resource};
 use std::alloc::Global;
 use std::marker::Model;
 
 /// A judge of a platform of a board. Contracts see the board, the history that the entries so far
-/// stand for, and for how many more events there is memory.
+/// encode, and for how many more events there is memory.
 #[derive(Drop, Debug)]
 pub struct Judge {
     core: Core,
@@ -42,12 +45,12 @@ impl Judge {
         Judge { core }
     }
 
-    /// Judges the next entry, and goes on from what it stands for, also after a difference: a
-    /// command is executed, and a message that was due is taken, whatever the record shows. For a
-    /// message, pending sets complete until one waits for its agent, and no more; where none comes,
-    /// all have completed. `Memory` is the only refusal, of an answer only where there is no room;
-    /// then no event was added but completions that the entry shows, and the same entry can be
-    /// judged again.
+    /// Judges the next entry, and goes on from what it encodes, also after a difference: a command
+    /// is executed, and a message that was due is taken, whatever the record shows. For a message,
+    /// pending sets complete until one waits for its agent, and no more; if none comes, all have
+    /// completed. `Memory` is the only refusal, of an answer only if there is no room; then no
+    /// event was added but completions that the entry shows, and the same entry can be judged
+    /// again.
     pub fn judge(&mut self, entry: &Entry) -> Result<Verdict, CoreError>
         ensures verdict { IfOk result (λ verdict.
             verdict ≡ verdict_of self.old.board self.old.history entry.now) }
@@ -74,6 +77,33 @@ impl Judge {
                 answer,
             } => judge_answer(&mut self.core, *agent, frame, answer),
             Entry::Delivered { agent, message } => judge_message(&mut self.core, *agent, message),
+        }
+    }
+
+    /// The board.
+    pub fn board(&self) -> &Plan
+        ensures { result.now ≡ self.now.board }
+    {
+        self.core.board()
+    }
+
+    /// The sets that are pending after the entries so far, in order of acceptance.
+    pub fn pending_sets(&self) -> &[PendingSet]
+        ensures sets { result.now
+            ≡ pending_sets self.now.board (deeds self.now.board self.now.history) }
+        ensures few { length result.now ≤ PENDING_SETS }
+    {
+        let _trace = self.core.trace();
+        self.core.pending_sets()
+    }
+
+    /// Whether a domain or clock has a pending set after the entries so far.
+    pub fn is_pending(&self, resource: Resource) -> bool
+        ensures { result ≡ is_pending_after self.now.board resource self.now.history }
+    {
+        match resource {
+            Resource::Domain(domain) => self.core.is_domain_pending(domain),
+            Resource::Clock(clock) => self.core.is_clock_pending(clock),
         }
     }
 }

@@ -1,4 +1,4 @@
-//! What every record keeps whose entries are all what the definitions say.
+//! What every record keeps whose entries are all what the definitions give.
 ghost use Rattle.std.specs.Prelude.{◌≡◌, List};
 ghost use Rattle.scmi_plan.specs.Board.{Board};
 ghost use Rattle.scmi_core.specs.declared.event.Event.{Event};
@@ -6,11 +6,11 @@ ghost use Rattle.scmi_judge.specs.Law.{IsHistoryOf, IsSplitBy};
 ghost use Rattle.scmi_judge.specs.Record.{IsRecordOf, history_of};
 ghost use Rattle.scmi_judge.specs.declared.entry.Entry.{Entry};
 
-/// What every record keeps whose entries are all what the definitions say, whoever made it: the
-/// history that it stands for is legal, and in it each agent posted just the recorded commands, got
-/// just the recorded answers, and took just the recorded messages, in order. It is also the only
-/// legal history that splits into one piece for each entry. The function does nothing: its clauses are
-/// the laws.
+/// What every record keeps whose entries are all what the definitions give, whoever made it: the
+/// history that it encodes is legal, and in it each agent posted exactly the recorded commands, got
+/// exactly the recorded answers, and took exactly the recorded messages, in order. It is also the
+/// only legal history that splits into one piece for each entry. The function does nothing: its
+/// clauses are the laws.
 pub fn every_record()
     ensures law { (board : Board) (entries : List Entry) → IsRecordOf board entries
         → IsHistoryOf board entries (history_of board entries) }

@@ -2,8 +2,8 @@
 //! judged against the definitions of `scmi_core`.
 //!
 //! The main type is `Judge`, which is given one entry after the other. The main theorem is the
-//! contract of `Judge::judge`: an entry is said to be the same exactly where it is what the
-//! definitions say after the history that the entries before it stand for (specs/Record.antt). By
+//! contract of `Judge::judge`: the verdict on an entry is `Same` if and only if it is what the
+//! definitions give after the history that the entries before it encode (specs/Record.antt). By
 //! `judge_record` all are the same if and only if the record has a legal history (specs/Law.antt).
 #![tactic(auto)]
 

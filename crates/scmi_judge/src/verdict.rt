@@ -1,14 +1,14 @@
-//! What is said of an entry.
+//! The verdict on an entry.
 ghost use Rattle.std.specs.Prelude.{◌≡◌, ◌∷◌, []};
 ghost use Rattle.scmi_judge.specs.Verdict.{verdict_on_answer, verdict_on_message};
 
 use crate::same::{is_same_answer, is_same_message};
 use scmi_codec::{Answer, Message};
 
-/// What the definitions say of an entry of a record, after what the entries before it stand for.
+/// The verdict of the definitions on an entry of a record, after what the entries before it encode.
 #[derive(Clone, PartialEq, Eq, Debug, Drop)]
 pub enum Verdict {
-    /// The entry is what the definitions say.
+    /// The entry is what the definitions give.
     Same,
     /// The board lacks the agent.
     NoAgent,
@@ -21,7 +21,7 @@ pub enum Verdict {
 }
 
 impl Verdict {
-    /// What is said of an answer, where this one was due.
+    /// The verdict on an answer, if this one was due.
     pub(crate) fn on_answer(due: Answer, answer: &Answer) -> Verdict
         ensures { result ≡ verdict_on_answer due answer.now }
     {
@@ -32,7 +32,7 @@ impl Verdict {
         }
     }
 
-    /// What is said of a message, where this one was due.
+    /// The verdict on a message, if this one was due.
     pub(crate) fn on_message(due: &Message, message: &Message) -> Verdict
         ensures { result ≡ verdict_on_message (due.now ∷ []) message.now }
     {

@@ -58,7 +58,7 @@ fn of_the_status_bit_0_alone_frees_a_channel(rt: HostRuntime) {
     }
 }
 
-/// Whether a length is told from the malformed ones, and its frame too.
+/// Whether a length is distinguished from the malformed ones, and its frame too.
 fn is_told(length: u32) -> bool {
     let wanted = length % 4 == 0 && length != 0 && length <= 260;
     is_well_formed(length) == wanted && is_malformed(length) != wanted

@@ -156,7 +156,7 @@ fn a_denied_agent_is_denied_until_a_reset(rt: HostRuntime) -> Result<(), Fail> {
     Ok(())
 }
 
-/// Whether an agent may change a domain; `None` where the board lacks one of them.
+/// Whether an agent may change a domain; `None` if the board lacks one of them.
 fn may_change(bench: &Bench, agent: u32, domain: u32) -> Option<bool> {
     let Bench { plan, base, .. } = bench;
     if agent == 0 || agent > plan.agents() || domain >= plan.domains() {

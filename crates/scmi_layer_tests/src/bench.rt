@@ -61,7 +61,7 @@ pub enum Left {
     StateLater(u32, u32),
     /// The rate of this clock later, and whether a delayed response is wanted.
     RateLater(u32, u64, bool),
-    /// The message carries no command, or its agent is none of the board's.
+    /// The message carries no command, or its agent is not one of the board's.
     NoCommand,
 }
 

@@ -7,7 +7,7 @@ use scmi_svg::{
 use std::alloc::{AllocError, Global};
 use std::test::Fail;
 
-/// What stands between the styles and the legend.
+/// What is between the styles and the legend.
 const PICTURE: &[u8] = b"\
 <rect class=\"paper\" width=\"100%\" height=\"100%\"/>\n\
 <text class=\"title\" x=\"24\" y=\"34\" dx=\"0\" dy=\"0\">T</text>\n\
@@ -141,7 +141,7 @@ fn add_column(alloc: Global, columns: &mut Vec<Column>) -> Result<(), AllocError
     Ok(())
 }
 
-/// Whether a text has this part right behind the first `mark`.
+/// Whether a text has this part right after the first `mark`.
 fn has_behind(text: &[u8], mark: &[u8], part: &[u8]) -> bool {
     for start in 0..text.len() {
         if text[start..].starts_with(mark) {
@@ -173,7 +173,7 @@ fn a_command_and_its_reply_are_drawn_between_two_lifelines(rt: HostRuntime) -> R
     Ok(())
 }
 
-/// Texts from outside, and the same as they stand in a picture.
+/// Texts from outside, and the same as a picture contains them.
 const ESCAPES: [(&[u8], &[u8]); 4] = [
     (b"<>&\"", b"&lt;&gt;&amp;&quot;"),
     (b" 'a-z~", b" 'a-z~"),

@@ -218,14 +218,14 @@ fn an_asynchronous_set_waits_for_its_completion(rt: HostRuntime) -> Result<(), F
     Ok(())
 }
 
-/// Both agents ask to be told of domain 0.
+/// Both agents ask to be notified of domain 0.
 const SUBSCRIPTIONS: [Row<'static>; 3] = [
     (2, FREE, 0x11, 0x6, &[0, 1], &[SUCCESS], Left::Nothing),
     (1, FREE, 0x11, 0x6, &[0, 1], &[SUCCESS], Left::Nothing),
     (1, FREE, 0x11, 0x6, &[0, 1], &[SUCCESS], Left::Nothing),
 ];
 
-/// Agent 2 is told of domain 2 instead.
+/// Agent 2 is notified of domain 2 instead.
 const CHANGES: [Row<'static>; 6] = [
     (
         2,
@@ -243,7 +243,7 @@ const CHANGES: [Row<'static>; 6] = [
     (1, FREE, 0x11, 0x6, &[1, 1], &[NOT_SUPPORTED], Left::Nothing),
 ];
 
-/// The agents that are told of domains 0 and 2.
+/// The agents that are notified of domains 0 and 2.
 fn subscribers(power: &PowerState) -> [u8; 2] {
     [power.subscribers(0), power.subscribers(2)]
 }

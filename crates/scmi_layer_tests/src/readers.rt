@@ -81,7 +81,7 @@ fn a_lawful_board_is_read_back(rt: HostRuntime) -> Result<(), Fail> {
     Ok(())
 }
 
-/// Whether the clocks are those of the reference board, and the last is none of these rates.
+/// Whether the clocks are those of the reference board, and the last is not one of these rates.
 fn clocks(plan: &Plan, core: &Rates, pix: &Rates) -> [bool; 4] {
     let bus = steps(1000, 4000, 500);
     [
@@ -101,7 +101,7 @@ fn clocks_are_read_back(rt: HostRuntime) -> Result<(), Fail> {
     Ok(())
 }
 
-/// Whether a device holds a resource; `None` where the board lacks one of them.
+/// Whether a device holds a resource; `None` if the board lacks one of them.
 fn holds(plan: &Plan, device: u32, resource: Resource) -> Option<bool> {
     let known = match resource {
         Resource::Domain(domain) => domain < plan.domains(),
@@ -113,7 +113,7 @@ fn holds(plan: &Plan, device: u32, resource: Resource) -> Option<bool> {
     None
 }
 
-/// Devices, resources, and whether the one holds the other.
+/// Devices, resources, and whether the device holds the resource.
 const HOLDINGS: [(u32, Resource, Option<bool>); 6] = [
     (0, Resource::Domain(0), Some(true)),
     (0, Resource::Domain(1), Some(false)),

@@ -1,11 +1,11 @@
-//! Rates that stand for an asked one.
+//! Rates that a requested rate is rounded to.
 
 use crate::boards::reference_plan;
 use scmi_clock::{Rounding, round};
 use scmi_plan::{Plan, Rates};
 use std::test::Fail;
 
-/// A rate of clock 0, which has 100, 200 and 300 Hz; `None` also where there is no such clock.
+/// A rate of clock 0, which has 100, 200 and 300 Hz; `None` also if there is no such clock.
 fn of_three_rates(plan: &Plan, asked: u64, rounding: Rounding) -> Option<u64> {
     if plan.clocks() == 0 {
         return None;
@@ -33,7 +33,7 @@ fn of_the_ends(asked: u64, rounding: Rounding) -> Option<u64> {
     round(&rates, asked, rounding)
 }
 
-/// Asked rates, and those of 100, 200 and 300 Hz that stand for them.
+/// Requested rates, and those of 100, 200 and 300 Hz that they are rounded to.
 const OF_THREE: [(u64, Rounding, Option<u64>); 9] = [
     (250, Rounding::Down, Some(200)),
     (250, Rounding::Up, Some(300)),
@@ -58,7 +58,7 @@ fn lists_round_to_their_rates(rt: HostRuntime) -> Result<(), Fail> {
     Ok(())
 }
 
-/// Asked rates, and those of 1000, 1500 and so on that stand for them.
+/// Requested rates, and those of 1000, 1500 and so on that they are rounded to.
 const OF_EIGHT: [(u64, Rounding, Option<u64>); 8] = [
     (1250, Rounding::Nearest, Some(1000)),
     (1251, Rounding::Nearest, Some(1500)),
@@ -79,7 +79,7 @@ fn steps_round_to_their_rates(rt: HostRuntime) {
 
 const HIGHEST: u64 = 18_446_744_073_709_551_615;
 
-/// Asked rates, and the end that stands for each.
+/// Requested rates, and the end of the range that each is rounded to.
 const OF_THE_ENDS: [(u64, Rounding, Option<u64>); 3] = [
     (9_223_372_036_854_775_807, Rounding::Nearest, Some(0)),
     (9_223_372_036_854_775_808, Rounding::Nearest, Some(HIGHEST)),

@@ -15,7 +15,7 @@ const TOP: u64 = u64::MAX;
 enum Change<'a> {
     /// No rows, and the names `a`.
     Empty,
-    /// So many agents, domains, clocks and devices more, each named `a`, the devices empty.
+    /// This many agents, domains, clocks and devices more, each named `a`, the devices empty.
     Rows(usize, usize, usize, usize),
     /// An agent of this name more.
     Agent(&'a str),

@@ -73,7 +73,7 @@ fn a_status_is_a_code_in_twos_complement(rt: HostRuntime) {
     }
 }
 
-/// Whether a payload has these words, and says success as wanted.
+/// Whether a payload has these words, and reports success as expected.
 fn is_payload(payload: &Payload, words: &[u32], success: bool) -> bool {
     payload.as_slice() == words && is_success(payload) == success
 }
@@ -90,7 +90,7 @@ fn a_payload_begins_with_its_status(rt: HostRuntime) {
     assert!(rt; [empty, success, denied, refused] == [true; 4]);
 }
 
-/// Flags, and what they say.
+/// Flags, and what they mean.
 const FLAGS: [(u32, Result<bool, Status>); 6] = [
     (0, Ok(false)),
     (1, Ok(true)),
@@ -107,7 +107,7 @@ fn of_a_single_flag_no_other_bit_is_set(rt: HostRuntime) {
     }
 }
 
-/// The words of a name; `None` where the text is none.
+/// The words of a name; `None` if the text is not one.
 fn words_of(text: &str) -> Option<[u32; 4]> {
     let name = Name::new(text)?;
     Some(name_words(&name))

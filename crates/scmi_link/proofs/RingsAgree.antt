@@ -45,7 +45,7 @@ small_bit : (b : Bool) → (bit b ≡ 0) ⊎ (bit b ≡ 1)
 small_bit true = inr refl
 small_bit false = inl refl
 
--- what was pushed into each ring is what was popped and what stands in it
+-- what was pushed into each ring is what was popped and what is in it
 module _ (p : CallerRings) (q : CalleeRings) (es : List (Box Envelope Global)) (ms : List Note) (envelopes : received q.frames ++ es ≡ sent p.frames) (notes : received p.answers ++ ms ≡ sent q.answers) where
   said_all : answers_among (received p.answers) ++ answers_among ms ≡ answers_among (sent q.answers)
   said_all = sym (answers_among-append (received p.answers) ms) ∙ ap answers_among notes
@@ -62,7 +62,7 @@ module _ (p : CallerRings) (q : CalleeRings) (es : List (Box Envelope Global)) (
   other_closed : p.told ≡ true → q.closed ≡ true
   other_closed t = q.noted (ap has_closing (sym notes) ∙ has_closing-front (received p.answers) ms (sym p.heard ∙ t))
 
-  -- once the closing note was taken, nothing stands in the ring of answers
+  -- once the closing note was taken, nothing is in the ring of answers
   nothing_more : p.told ≡ true → ms ≡ []
   nothing_more t = all_seen (received p.answers) ms (ap ends_well notes ∙ q.last) (sym p.heard ∙ t)
 

@@ -14,11 +14,11 @@ use Rattle.scmi_link.specs.declared.close_error.CloseError.{CloseError}
 use Rattle.scmi_link.specs.declared.close_error.CloseError.TheVariants.{InService, ReplyWaiting}
 use Rattle.scmi_link.specs.View.{CallerView, CalleeView, IsOutstanding, Owes, knows_close, callee_knows_close, one_more}
 
--- a caller that was answered `Closed`: where it had not closed, it was told that the callee has
+-- a caller that was answered `Closed`: where it had not closed, it was notified that the callee has
 abbrev pub with_word : CallerView → CallerView
 with_word v = record v { told = v.told || not v.closed }
 
--- a caller's post is refused as `Closed`: it has closed, or was told that the callee has
+-- a caller's post is refused as `Closed`: it has closed, or was notified that the callee has
 pub record IsRefused (old new : CallerView) : Type 0 where
   pub told : new ≡ record (with_word old) { posts = one_more old.posts }
   pub known : knows_close new ≡ true
@@ -89,7 +89,7 @@ pub record TakesFrame (old : CalleeView) (frame : Frame) (new : CalleeView) : Ty
   pub owed_nothing : length old.taken ≡ length old.answered
   pub taken : new ≡ record old { taken = old.taken ++ frame ∷ []; takes = one_more old.takes }
 
--- a callee takes nothing: it may have been told that the caller has closed
+-- a callee takes nothing: it may have been notified that the caller has closed
 pub record TakesNone (old new : CalleeView) : Type 0 where
   pub same : new ≡ record old { told = new.told; takes = one_more old.takes }
   pub kept : old.told ≡ true → new.told ≡ true
@@ -99,7 +99,7 @@ abbrev pub Takes : CalleeView → Option Frame → CalleeView → Type 0
 Takes old None new = TakesNone old new
 Takes old (Some frame) new = TakesFrame old frame new
 
--- what a callee's close leaves: it is refused exactly where an answer is owed, and then nothing changed
+-- what a callee's close leaves: it is refused if and only if an answer is owed, and then nothing changed
 abbrev pub ClosesCallee : CalleeView → Result (Unit {0}) CloseError → CalleeView → Type 0
 ClosesCallee old (Ok done) new = (¬ (Owes old)) × (new ≡ record old { closed = true })
 ClosesCallee old (Err InService) new = Owes old × (new ≡ old)

@@ -25,6 +25,6 @@ pub record Closed (caller : CallerView) (callee : CalleeView) : Type 0 where
   pub left : caller.left ≡ true → IsAllButLast callee.taken caller.posted × (caller.read ≡ callee.answered)
   -- a caller that closed and left no post behind has read the answer to each
   pub idle : caller.closed ≡ true → caller.left ≡ false → (callee.taken ≡ caller.posted) × (caller.read ≡ callee.answered)
-  -- an end that was told of the other's close was told the truth
+  -- an end that was notified of the other's close was notified of the truth
   pub caller_told : caller.told ≡ true → callee.closed ≡ true
   pub callee_told : callee.told ≡ true → caller.closed ≡ true

@@ -38,11 +38,11 @@ pub record IsOutstanding (v : CallerView) : Type 0 where
 abbrev pub Owes : CalleeView → Type 0
 Owes v = length v.taken ≡ length v.answered + 1
 
--- whether the caller has closed, or was told that the callee has
+-- whether the caller has closed, or was notified that the callee has
 abbrev pub knows_close : CallerView → Bool
 knows_close v = v.closed || v.told
 
--- whether the callee has closed, or was told that the caller has
+-- whether the callee has closed, or was notified that the caller has
 abbrev pub callee_knows_close : CalleeView → Bool
 callee_knows_close v = v.closed || v.told
 

@@ -1,4 +1,4 @@
-//! The callee's ends of a pair of rings, and what the callee has done.
+//! The callee's endpoints of a pair of rings, and what the callee has done.
 ghost use Rattle.std.specs.Prelude.{◌≡◌, ◌+◌, ◌<◌, true, false, length, IsSome};
 ghost use Rattle.rtrb.specs.Ring.{sent, received, known_free};
 ghost use Rattle.scmi_link.specs.Envelope.{frames_in};
@@ -11,7 +11,7 @@ use crate::note::Note;
 use rtrb::{Consumer, Producer};
 use scmi_codec::{Answer, Frame, Message};
 
-/// The callee's ends of a pair of rings, and what the callee has done.
+/// The callee's endpoints of a pair of rings, and what the callee has done.
 #[derive(Drop)]
 pub struct CalleeRings {
     pub(crate) frames: Consumer<Box<Envelope>>,
@@ -39,7 +39,7 @@ impl CalleeRings {
     ghost use Rattle.scmi_link.specs.Calls.{Takes, ClosesCallee, frame_if};
     ghost use Rattle.scmi_link.specs.CalleeRings.{callee_rings_view, SameCalleeRings};
 
-    // A frame is taken only where a place for its answer is known to be free.
+    // A frame is taken only if a place for its answer is known to be free.
     pub(crate) fn take_into(&mut self, frame: &mut Frame) -> bool
         ensures rings { SameCalleeRings self.old self.new }
         ensures takes { Takes (callee_rings_view self.old) (frame_if result frame.new)
@@ -57,7 +57,7 @@ impl CalleeRings {
         true
     }
 
-    // Puts the answer that is owed into the ring, where it has a place.
+    // Puts the answer that is owed into the ring, if it has a place.
     pub(crate) fn answer(&mut self, answer: &Answer)
         requires { Owes (callee_rings_view self.old) }
         ensures rings { SameCalleeRings self.old self.new }
@@ -85,7 +85,7 @@ impl CalleeRings {
         self.owing = false;
     }
 
-    // The close holds also where the ring takes no note.
+    // The close holds also if the ring takes no note.
     pub(crate) fn close(&mut self) -> Result<(), CloseError>
         ensures rings { SameCalleeRings self.old self.new }
         ensures closes { ClosesCallee (callee_rings_view self.old) result

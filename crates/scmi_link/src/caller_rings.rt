@@ -1,4 +1,4 @@
-//! The caller's ends of a pair of rings, and what the caller has done.
+//! The caller's endpoints of a pair of rings, and what the caller has done.
 ghost use Rattle.std.specs.Prelude.{◌≡◌, ◌<◌, ◌+◌, ◌++◌, ◌∷◌, [], true, false, length, IsSome};
 ghost use Rattle.rtrb.specs.Ring.{sent, received, known_free, SameProducer};
 ghost use Rattle.scmi_link.specs.Envelope.{frames_in};
@@ -15,7 +15,7 @@ use crate::post_error::PostError;
 use rtrb::{Consumer, Producer};
 use scmi_codec::{Answer, Header, Payload};
 
-/// The caller's ends of a pair of rings, and what the caller has done.
+/// The caller's endpoints of a pair of rings, and what the caller has done.
 #[derive(Drop)]
 pub struct CallerRings {
     pub(crate) frames: Producer<Box<Envelope>>,
@@ -79,7 +79,7 @@ impl CallerRings {
         Ok(())
     }
 
-    // Counts a post, and says whether the caller may and there is a place for it.
+    // Counts a post, and returns whether the caller may and there is a place for it.
     fn may_post(&mut self) -> Result<(), PostError>
         ensures rings { SameCallerRings self.old self.new }
         ensures counts { OnOk result (caller_rings_view self.new ≡
@@ -104,8 +104,8 @@ impl CallerRings {
         Ok(())
     }
 
-    // What the ring of answers has for the caller. An answer is copied where it stands in the ring, and
-    // dropped there.
+    // What the ring of answers has for the caller. An answer is copied from its place in the
+    // ring, and dropped there.
     pub(crate) fn collect_into(&mut self, answer: &mut Answer) -> Looked
         ensures rings { SameCallerRings self.old self.new }
         ensures collects { Collects (caller_rings_view self.old) (collected_by result answer.new)
@@ -141,7 +141,7 @@ impl CallerRings {
         }
     }
 
-    // Takes the closing note where it stands first, and says whether it was ever taken. With nothing
+    // Takes the closing note if it is first, and returns whether it was ever taken. With nothing
     // outstanding no other note is taken out of the ring.
     fn see_closing_note(&mut self) -> bool
         requires { self.old.waiting ≡ false }

@@ -20,35 +20,37 @@ use std::alloc::Global;
 
 /// A channel of one place between a caller and a callee (own).
 ///
-/// The channel is shared, and each of its two ends belongs to one thread. Condition of every call:
-/// the end was made by this channel. None of the calls but `make` takes memory, and none waits.
+/// The channel is shared, and each of its two endpoints belongs to one thread. Condition of every
+/// call: the endpoint was made by this channel. None of the calls but `make` takes memory, and none
+/// waits.
 ///
-/// A contract sees an end as what it has done: the frames and answers that went through it, whether
-/// it has closed, whether it was told that the other end has, and how often it posted or looked.
-/// Where the ends share words, the loads, stores and exchanges that one call makes are counted.
+/// A contract sees an endpoint as what it has done: the frames and answers that went through it,
+/// whether it has closed, whether it was notified that the other endpoint has, and how often it
+/// posted or polled. If the endpoints share words, the loads, stores and exchanges that one call
+/// makes are counted.
 pub trait Channel: Sync + Drop {
-    /// The end that posts frames and collects their answers.
+    /// The endpoint that posts frames and collects their answers.
     type Caller: Send + Drop;
 
-    /// The end that takes frames and answers them.
+    /// The endpoint that takes frames and answers them.
     type Callee: Send + Drop;
 
-    /// What is left once both ends are gathered.
+    /// What is left once both endpoints are gathered.
     type Rest: Send + Drop;
 
     ghost FULL: { Bool };
 
-    /// Whether a post may find no place. Where it is false, no post answers `Full`.
+    /// Whether a post may find no place. If it is false, no post answers `Full`.
     const FULL: bool;
 
-    // An end has the identity of the channel that made it.
+    // An endpoint has the identity of the channel that made it.
     ghost identity: { Self → List ℕ };
 
     ghost caller_identity: { Self.Caller → List ℕ };
 
     ghost callee_identity: { Self.Callee → List ℕ };
 
-    // What an end has done.
+    // What an endpoint has done.
     ghost caller_view: { Self.Caller → CallerView };
 
     ghost callee_view: { Self.Callee → CalleeView };
@@ -56,18 +58,18 @@ pub trait Channel: Sync + Drop {
     ghost use Rattle.scmi_link.specs.declared.closing.Closing.{Closing};
     ghost use Rattle.scmi_link.specs.declared.close_error.CloseError.{CloseError};
 
-    // What a close of the caller's end shows by its answer: each kind of channel says it.
+    // What a close of the caller's endpoint shows by its answer: each kind of channel defines it.
     ghost close_shows: { Self.Caller → Result Closing CloseError → Type 0 };
 
     ghost use Rattle.scmi_link.specs.Steps.{CallerCall, CalleeCall};
 
-    // How many accesses to shared words one call makes: each kind of channel says it. Two calls are
-    // not one, whatever they answer.
+    // How many accesses to shared words one call makes: each kind of channel defines it. Two calls
+    // are not one, whatever they answer.
     ghost caller_steps: { Self.Caller → CallerCall → Self.Caller → Type 0 };
 
     ghost callee_steps: { Self.Callee → CalleeCall → Self.Callee → Type 0 };
 
-    /// A channel and its two ends, with nothing posted. `Memory` where there was none for it.
+    /// A channel and its two endpoints, with nothing posted. `Memory` if out of memory.
     fn make(alloc: Global) -> Result<(Self, Self::Caller, Self::Callee), LinkError>
         ensures made { IfOk result (λ r.
             (caller_identity r.1 ≡ identity r.0) × (callee_identity r.2 ≡ identity r.0)) }
@@ -76,8 +78,8 @@ pub trait Channel: Sync + Drop {
 
     /// Posts a message.
     ///
-    /// The first that applies: `Outstanding` where the answer to the post before was not collected;
-    /// `Closed` where the caller has closed, or is now told that the callee has; `Full` where the
+    /// The first that applies: `Outstanding` if the answer to the previous post was not collected;
+    /// `Closed` if the caller has closed, or is now notified that the callee has; `Full` if the
     /// representation has no place. Every call counts as one post. After `Closed` the caller knows
     /// of the close, if it did not close itself, and nothing else changed; after the others nothing
     /// did.
@@ -107,7 +109,7 @@ pub trait Channel: Sync + Drop {
 
     /// Posts a frame whose length in bytes is not well formed.
     ///
-    /// `WellFormed` where the length is well formed, and then nothing changed, nor is a post counted.
+    /// `WellFormed` if the length is well formed, and then nothing changed, nor is a post counted.
     /// Else as `post`.
     fn post_malformed(
         &self,
@@ -131,11 +133,11 @@ pub trait Channel: Sync + Drop {
     fn outstanding(caller: &Self::Caller) -> bool
         ensures { IsTrue result ↔ IsOutstanding (caller_view caller.now) };
 
-    /// What the channel has for the caller. An answer that stands is given first.
+    /// What the channel has for the caller. An available answer is given first.
     ///
-    /// `Closed`: an end has closed and no answer stands to be read. An outstanding post is then given
-    /// up: it counts as left untaken, and is outstanding no more. After one `Closed` every later call
-    /// gives `Closed`.
+    /// `Closed`: an endpoint has closed and there is no answer to read. An outstanding post is then
+    /// given up: it counts as left untaken, and is outstanding no more. After one `Closed` every
+    /// later call gives `Closed`.
     fn collect(&self, caller: &mut Self::Caller) -> Collected
         requires { caller_identity caller.old ≡ identity self.now }
         ensures identity { caller_identity caller.new ≡ caller_identity caller.old }
@@ -152,8 +154,8 @@ pub trait Channel: Sync + Drop {
         }
     }
 
-    /// What the channel has for the caller, as `collect`, the answer read into `answer`. Where it gives
-    /// no answer, `answer` stays.
+    /// What the channel has for the caller, as `collect`, the answer read into `answer`. If it
+    /// gives no answer, `answer` stays.
     fn collect_into(&self, caller: &mut Self::Caller, answer: &mut Answer) -> Looked
         requires { caller_identity caller.old ≡ identity self.now }
         ensures identity { caller_identity caller.new ≡ caller_identity caller.old }
@@ -165,7 +167,7 @@ pub trait Channel: Sync + Drop {
         ensures steps { caller_steps caller.old (call_collect (collected_by result answer.new))
             caller.new };
 
-    /// The frame that is posted. `None` where nothing is posted, an end has closed, or the callee
+    /// The frame that is posted. `None` if nothing is posted, an endpoint has closed, or the callee
     /// still owes an answer.
     fn take(&self, callee: &mut Self::Callee) -> Option<Frame>
         requires { callee_identity callee.old ≡ identity self.now }
@@ -184,8 +186,8 @@ pub trait Channel: Sync + Drop {
         }
     }
 
-    /// Takes the frame that is posted, as `take`, into `frame`, and says whether there was one. Where
-    /// there was none, `frame` stays.
+    /// Takes the frame that is posted, as `take`, into `frame`, and returns whether there was one.
+    /// If there was none, `frame` stays.
     fn take_into(&self, callee: &mut Self::Callee, frame: &mut Frame) -> bool
         requires { callee_identity callee.old ≡ identity self.now }
         ensures identity { callee_identity callee.new ≡ callee_identity callee.old }
@@ -221,13 +223,13 @@ pub trait Channel: Sync + Drop {
         self.answer(callee, &Answer::Reply(message.copy()));
     }
 
-    /// Closes the caller's end.
+    /// Closes the caller's endpoint.
     ///
-    /// `Idle` where nothing was outstanding or the end is closed already; `Withdrawn` where the
-    /// outstanding frame was not taken and never will be: it is outstanding no more. `InService`
-    /// where the outstanding frame was taken, or the channel cannot take it back; `ReplyWaiting`
-    /// where its answer stands to be collected. After a refusal the end is not closed. What tells one
-    /// answer from another is said by each kind of channel.
+    /// `Idle` if nothing was outstanding or the endpoint is closed already; `Withdrawn` if the
+    /// outstanding frame was not taken and never will be: it is outstanding no more. `InService` if
+    /// the outstanding frame was taken, or the channel cannot take it back; `ReplyWaiting` if its
+    /// answer is waiting to be collected. After a refusal the endpoint is not closed. Each kind of
+    /// channel defines what distinguishes one answer from another.
     fn close_caller(&self, caller: &mut Self::Caller) -> Result<Closing, CloseError>
         requires { caller_identity caller.old ≡ identity self.now }
         ensures identity { caller_identity caller.new ≡ caller_identity caller.old }
@@ -235,15 +237,16 @@ pub trait Channel: Sync + Drop {
         ensures shows { close_shows caller.new result }
         ensures steps { caller_steps caller.old (call_close result) caller.new };
 
-    /// Closes the callee's end. `InService` where the callee owes an answer, and then the end is not
-    /// closed. Closing twice is `Ok`.
+    /// Closes the callee's endpoint. `InService` if the callee owes an answer, and then the
+    /// endpoint is not closed. Closing twice is `Ok`.
     fn close_callee(&self, callee: &mut Self::Callee) -> Result<(), CloseError>
         requires { callee_identity callee.old ≡ identity self.now }
         ensures identity { callee_identity callee.new ≡ callee_identity callee.old }
         ensures closes { ClosesCallee (callee_view callee.old) result (callee_view callee.new) }
         ensures steps { callee_steps callee.old (call_close_callee result) callee.new };
 
-    /// Ends the channel, with both of its ends at hand: what each has done is then known to agree.
+    /// Ends the channel, with both of its endpoints at hand: what each has done is then known to
+    /// agree.
     fn gather(self, caller: Self::Caller, callee: Self::Callee) -> Self::Rest
         requires caller { caller_identity caller ≡ identity self }
         requires callee { callee_identity callee ≡ identity self }

@@ -1,4 +1,4 @@
-//! What goes round between the ends of a ring channel.
+//! What goes round between the endpoints of a ring channel.
 ghost use Rattle.std.specs.Prelude.{◌≡◌};
 ghost use Rattle.scmi_codec.specs.declared.frame.Frame.TheVariants.{Good};
 ghost use Rattle.scmi_codec.specs.declared.frame.Answer.TheVariants.{Reply};
@@ -15,7 +15,7 @@ pub struct Envelope {
 }
 
 impl Envelope {
-    /// An envelope that no frame was put into. The only error is want of memory.
+    /// An envelope that no frame was put into. The only error is out of memory.
     pub(crate) fn make(alloc: Global) -> Result<Box<Envelope>, AllocError> {
         let frame = Frame::Malformed {
             length: 0,
@@ -26,7 +26,7 @@ impl Envelope {
     }
 }
 
-/// Makes a frame one of this header and payload, where it stands.
+/// Makes a frame one of this header and payload, in place.
 pub(crate) fn set_message(frame: &mut Frame, header: Header, payload: &Payload)
     ensures { frame.new ≡ Good (record { header = header; payload = payload.now }) }
 {
@@ -39,7 +39,7 @@ pub(crate) fn set_message(frame: &mut Frame, header: Header, payload: &Payload)
     }
 }
 
-// A function clears its locals at its entry, so the message is none of those of `set_message`.
+// A function clears its locals at its entry, so the message is not a local of `set_message`.
 #[inline(never)]
 fn set_new_message(frame: &mut Frame, header: Header, payload: &Payload)
     ensures { frame.new ≡ Good (record { header = header; payload = payload.now }) }
@@ -50,7 +50,7 @@ fn set_new_message(frame: &mut Frame, header: Header, payload: &Payload)
     *frame = Frame::Good(message);
 }
 
-/// Makes an answer a reply of this message, where it stands.
+/// Makes an answer a reply of this message, in place.
 pub(crate) fn set_reply(answer: &mut Answer, message: &Message)
     ensures { answer.new ≡ Reply message.now }
 {

@@ -1,9 +1,9 @@
 //! A channel of one place between a caller and a callee, and its form over two ring buffers.
 //!
 //! The main type is the trait `Channel`: what each of its calls answers and leaves, in words that
-//! every kind of channel meets. The main theorem is the contract of `gather`: once both ends are at
-//! hand, what was taken is what was posted, at most its last left out, what was read is a prefix of
-//! what was answered, and a close holds. `RingChannel` meets it over `rtrb`.
+//! every kind of channel meets. The main theorem is the contract of `gather`: once both endpoints
+//! are at hand, what was taken is what was posted, at most its last left out, what was read is a
+//! prefix of the answers given, and a close holds. `RingChannel` meets it over `rtrb`.
 #![tactic(auto)]
 
 mod callee_rings;

@@ -1,12 +1,12 @@
-//! What a look for an answer found.
+//! What a poll for an answer found.
 
-/// What a caller finds when it looks for an answer, the answer itself left elsewhere.
+/// What a caller finds when it polls for an answer, the answer itself left elsewhere.
 #[derive(Clone, Copy, PartialEq, Eq, Debug)]
 pub enum Looked {
-    /// No answer stands, and the channel is open as far as the caller was told.
+    /// No answer is available, and the channel is open as far as the caller was notified.
     Nothing,
     /// The answer to the caller's post.
     Got,
-    /// An end has closed, and no answer stands to be read.
+    /// An endpoint has closed, and there is no answer to read.
     Closed,
 }

@@ -4,10 +4,10 @@ use thiserror::Error;
 /// Why a frame was not posted.
 #[derive(Clone, Copy, PartialEq, Eq, Debug, Error)]
 pub enum PostError {
-    /// The answer to the post before was not collected.
+    /// The answer to the previous post was not collected.
     #[error("a post is outstanding")]
     Outstanding = 1,
-    /// One of the two ends has closed.
+    /// One of the two endpoints has closed.
     #[error("the channel is closed")]
     Closed = 2,
     /// The representation has no place for the frame.

@@ -1,13 +1,13 @@
-//! The caller's end of a ring channel.
+//! The caller's endpoint of a ring channel.
 ghost use Rattle.scmi_link.specs.CallerRings.{IsCallerOf};
 
 use crate::caller_rings::CallerRings;
 use boxcar::tag::Tag;
 
-/// The end of a `RingChannel` that posts frames and collects their answers.
+/// The endpoint of a `RingChannel` that posts frames and collects their answers.
 #[derive(Drop)]
 pub struct RingCaller {
-    // The identity of the channel that made this end. It has no bytes.
+    // The identity of the channel that made this endpoint. It has no bytes.
     pub(crate) identity: Tag,
     pub(crate) rings: CallerRings,
     ghost identified: { ∥ IsCallerOf identity.numbers rings ∥₁ },

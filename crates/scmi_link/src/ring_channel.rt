@@ -28,11 +28,11 @@ const ANSWER_PLACES: usize = 2;
 
 /// A channel of two rings: one place for frames, and two for answers and the callee's closing note.
 ///
-/// A callee learns of the caller's close by no message, and need not: a caller closes only where
-/// nothing is outstanding. Until the caller has seen the closing note of a callee that closed, `post`
-/// may succeed and `collect` be `Nothing`. A caller's close is `Idle` or `InService` only.
+/// A callee learns of the caller's close by no message, and need not: a caller closes only if
+/// nothing is outstanding. Until the caller has seen the closing note of a callee that closed,
+/// `post` may succeed and `collect` be `Nothing`. A caller's close is `Idle` or `InService` only.
 ///
-/// It has no bytes, since the ends hold the rings: to a contract it is an identity.
+/// It has no bytes, since the endpoints hold the rings: to a contract it is an identity.
 #[derive(Drop)]
 pub struct RingChannel {
     pub(crate) identity: Tag,

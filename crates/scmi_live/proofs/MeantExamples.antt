@@ -1,4 +1,4 @@
--- Lines with names, and the steps that they stand for, computed.
+-- Lines with names, and the steps that they mean, computed.
 use Rattle.std.proofs.Common.{ℕ, ◌≡◌, List, [], ◌∷◌, map, Option, Some, None, replicate, refl}
 use Rattle.std.specs.Prelude.{codes}
 use Rattle.scmi_board.specs.Items.{behind_spaces, first_number, item_at, items_up_to}

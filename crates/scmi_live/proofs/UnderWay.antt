@@ -62,7 +62,7 @@ module _ (full : Bool) (Shows : CallerView → Result Closing CloseError → Typ
         text = subst (λ bytes. Appends now end bytes) (sym (append_assoc answer others (trace_text rest.last))) both;
       }
 
-  -- the steps of a line that means this, and of those behind it
+  -- the steps of a line that means this, and of those after it
   abbrev asked_from : LiveView → Meant → List (List ℕ) → List Asked
   asked_from before meant texts = asked_by before.described meant (asked_of before.board before.agents (described_behind before.described meant) texts)
 
@@ -111,7 +111,7 @@ module _ (full : Bool) (Shows : CallerView → Result Closing CloseError → Typ
   no_feed : (rest : List ℕ) → false ≡ has_line_feed rest → length rest ≤ position_or_len is_line_feed rest
   no_feed rest e = grind (arith, nat_tests)
 
-  -- a line, and those behind it
+  -- a line, and those after it
   on_line : (board : Board) (input rest line : List ℕ) (texts : List (List ℕ)) (before after : LiveView) (old now now' end : Option (List ℕ)) → IsOnItsWay board input rest before old now → slice_split is_line_feed rest ≡ line ∷ texts
       → Answers full Shows line before after now now' → IsRestOf texts after now' end → IsTextOfLive full Shows board input old end
   on_line board input rest line texts before after old now now' end way split by more =

@@ -44,14 +44,14 @@ abbrev pub asked_by : Bool → Meant → List Asked → List Asked
 asked_by described (Does step) others = (step, described) ∷ others
 asked_by described other others = others
 
--- the steps that lines stand for, in order: a line that stands for none is left out
+-- the steps that lines encode, in order: a line that encodes none is left out
 abbrev pub asked_of : Board → ℕ → Bool → List (List ℕ) → List Asked
 asked_of board agents described [] = []
 asked_of board agents described (text ∷ texts) =
     let meant = line_meant board agents text in
     asked_by described meant (asked_of board agents (described_behind described meant) texts)
 
--- the steps that an input stands for, in which replies are not described at first
+-- the steps that an input encodes, in which replies are not described at first
 abbrev pub asked : Board → List ℕ → List Asked
 asked board input = asked_of board (length board.agents) false (slice_split is_line_feed input)
 
@@ -79,7 +79,7 @@ module _ (full : Bool) (Shows : CallerView → Result Closing CloseError → Typ
   abbrev pub Answers : List ℕ → LiveView → LiveView → Option (List ℕ) → Option (List ℕ) → Type 0
   Answers text before after old new = AnswersAs (line_meant before.board before.agents text) before after old new
 
-  -- what is written is the answers to all steps that the input stands for, on the board, and then the length of the history that they leave
+  -- what is written is the answers to all steps that the input encodes, on the board, and then the length of the history that they leave
   pub record IsTextOfLive (board : Board) (input : List ℕ) (old new : Option (List ℕ)) : Type 0 where
     pub lines : List StepLine
     pub last : SessionView

@@ -18,7 +18,7 @@ only_step [] = None
 only_step (step ∷ []) = Some step
 only_step (step ∷ next ∷ more) = None
 
--- the one step of a text that stands for one
+-- the one step of a text that encodes one
 abbrev pub one_step : Result (List Step) ℕ → Option Step
 one_step (Ok steps) = only_step steps
 one_step (Err line) = None
@@ -36,7 +36,7 @@ abbrev pub or_step : Option Step → Option Step → Option Step
 or_step (Some step) named = Some step
 or_step None named = named
 
--- the step that a line stands for, on a board with this number of agents
+-- the step that a line encodes, on a board with this number of agents
 abbrev pub step_meant : Board → ℕ → List ℕ → Option Step
 step_meant board agents text = or_step (step_by_numbers agents text) (step_by_names board agents text)
 

@@ -17,11 +17,11 @@ protocol_named item =
     if bytes_eq item BASE.now then Some 0x10 else if bytes_eq item POWER.now then Some 0x11
     else if bytes_eq item CLOCK.now then Some 0x14 else None
 
--- the protocol that an item stands for
+-- the protocol that an item encodes
 abbrev pub protocol_of : List ℕ → Option ℕ
 protocol_of item = or_named (number_of 8 item) (protocol_named item)
 
--- the message id that an item stands for in a protocol
+-- the message id that an item encodes in a protocol
 abbrev pub id_of : ℕ → List ℕ → Option ℕ
 id_of protocol item = or_named (number_of 8 item) (id_in item (rows_of protocol))
 

@@ -1,4 +1,4 @@
--- The steps that lines with names stand for.
+-- The steps that lines with names encode.
 use Rattle.std.specs.Prelude.{ℕ, ◌&&◌, nat_le, if◌then◌else◌, List, [], ◌∷◌, Option, Some, None}
 use Rattle.std.specs.Option.{option_map}
 use Rattle.scmi_board.specs.Items.{◌>>=◌}
@@ -17,12 +17,12 @@ use Rattle.scmi_live.specs.Payload.{numbers, payload_meant}
 use Rattle.scmi_live.specs.declared.form.Form.{Form}
 use Rattle.scmi_live.specs.declared.form.Form.TheVariants as form
 
--- the agent that an item stands for, on a board with this number of agents
+-- the agent that an item encodes, on a board with this number of agents
 abbrev pub agent_of : Board → ℕ → List ℕ → Option ℕ
 agent_of board agents item =
     or_named (number_of 32 item) (number_from 1 item board.agents) >>= λ number. if nat_le 1 number && nat_le number agents then Some number else None
 
--- the command with a payload that items stand for
+-- the command with a payload that items encode
 abbrev pub call_of_message : Board → ℕ → ℕ → List (List ℕ) → Option Call
 call_of_message board protocol id items = option_map (call_with protocol id) (payload_meant board protocol id items)
 
@@ -35,12 +35,12 @@ call_of_protocol board protocol (message ∷ items) = id_of protocol message >>=
 abbrev pub call_of_name : Board → List ℕ → List (List ℕ) → Option Call
 call_of_name board name items = message_named name >>= λ ids. call_of_message board ids.0 ids.1 items
 
--- by the protocol, where the first item stands for one
+-- by the protocol, where the first item encodes one
 abbrev pub call_by : Board → Option ℕ → List ℕ → List (List ℕ) → Option Call
 call_by board (Some protocol) first items = call_of_protocol board protocol items
 call_by board None first items = call_of_name board first items
 
--- the command that items stand for
+-- the command that items encode
 abbrev pub call_of : Board → List (List ℕ) → Option Call
 call_of board [] = None
 call_of board (first ∷ items) = call_by board (protocol_of first) first items

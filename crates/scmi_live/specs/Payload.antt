@@ -1,4 +1,4 @@
--- The payload words that the items of a line stand for.
+-- The payload words that the items of a line encode.
 use Rattle.std.specs.Prelude.{ℕ, ◌+◌, ◌==◌, ◌&&◌, nat_le, Bool, true, false, if◌then◌else◌, List, [], ◌∷◌, ◌++◌, length, map, Option, Some, None}
 use Rattle.std.specs.Option.{option_map}
 use Rattle.std.specs.Str.{bytes_eq}
@@ -15,11 +15,11 @@ use Rattle.scmi_live.specs.Names.{number_from, or_named}
 use Rattle.scmi_live.specs.Messages.{id_in, protocol_named}
 use Rattle.scmi_live.specs.declared.word.TheConstants.{ON, OFF, OFF_STATE}
 
--- `on` or `off`, by the words that they stand for
+-- `on` or `off`, by the words that they mean
 abbrev pub switched : ℕ → ℕ → List ℕ → Option ℕ
 switched on off item = if bytes_eq item ON.now then Some on else if bytes_eq item OFF.now then Some off else None
 
--- the word that a name stands for where a message of a protocol has this part
+-- the word that a name means where a message of a protocol has this part
 abbrev pub word_named : Board → ℕ → Part → List ℕ → Option ℕ
 word_named board protocol part.Agent item = number_from 1 item board.agents
 word_named board protocol part.Domain item = number_from 0 item (map (λ domain. domain.name) board.domains)
@@ -31,11 +31,11 @@ word_named board protocol part.Enable item = switched 1 0 item
 word_named board protocol part.ClockAttributes item = switched 1 0 item
 word_named board protocol part item = None
 
--- the word that an item stands for
+-- the word that an item encodes
 abbrev pub word_meant : Board → ℕ → Part → List ℕ → Option ℕ
 word_meant board protocol part item = or_named (number_of 32 item) (word_named board protocol part item)
 
--- the words that an item stands for: two of a rate, the lower one first, and one of all else
+-- the words that an item encodes: two of a rate, the lower one first, and one of all else
 abbrev pub words_of_item : Board → ℕ → Part → List ℕ → Option (List ℕ)
 words_of_item board protocol part.Rate item = option_map rate_words (number_of 64 item)
 words_of_item board protocol part item = option_map (λ word. word ∷ []) (word_meant board protocol part item)
@@ -59,18 +59,18 @@ first_words board protocol part behind items =
     if is_flags part && (length items == behind) then Some (0 ∷ [], items)
     else first_left items >>= λ found. option_map (λ words. (words, found.1)) (words_of_item board protocol part found.0)
 
--- words behind others, where a payload has room for them
+-- words after others, where a payload has room for them
 abbrev pub joined : List ℕ → List ℕ → Option (List ℕ)
 joined words more = if nat_le (length words + length more) PAYLOAD_WORDS then Some (words ++ more) else None
 
--- the words that items stand for, part by part, behind others
+-- the words that items encode, part by part, after others
 abbrev pub words_behind : Board → ℕ → List ℕ → List Part → List (List ℕ) → Option (List ℕ)
 words_behind board protocol words [] [] = Some words
 words_behind board protocol words [] (item ∷ items) = None
 words_behind board protocol words (part ∷ parts) items =
     first_words board protocol part (length parts) items >>= λ found. joined words found.0 >>= λ more. words_behind board protocol more parts found.1
 
--- a number behind others, where a payload has room for it
+-- a number after others, where a payload has room for it
 abbrev pub with_number : List ℕ → List ℕ → Option (List ℕ)
 with_number words item = number_of 32 item >>= λ word. joined words (word ∷ [])
 
@@ -78,7 +78,7 @@ with_number words item = number_of 32 item >>= λ word. joined words (word ∷ [
 abbrev pub numbers : List (List ℕ) → Option (List ℕ)
 numbers items = after_each with_number [] items
 
--- the payload that items stand for: part by part where the message is known, else numbers
+-- the payload that items encode: part by part where the message is known, else numbers
 abbrev pub payload_by : Board → ℕ → Option Said → List (List ℕ) → Option (List ℕ)
 payload_by board protocol None items = numbers items
 payload_by board protocol (Some row) items = words_behind board protocol [] row.asks items

@@ -1,4 +1,4 @@
--- Replies in words, as remarks behind their lines.
+-- Replies in words, as comments after their lines.
 use Rattle.std.specs.Prelude.{ℕ, ◌==◌, Bool, true, false, List, [], ◌∷◌, ◌++◌, Option, Some, None}
 use Rattle.std.specs.Option.{option_map_or}
 use Rattle.scmi_codec.specs.declared.frame.Frame.{Frame}

@@ -12,8 +12,9 @@ use scmi_plan::{AGENTS, DOMAINS, Plan};
 use scmi_text::{AgentStep, Call, Step, StepLine};
 use std::array;
 
-/// The notifications that were dropped, since the outbox of their agent had no room. A second platform
-/// does what the first one does: its replies say who asked for notifications of which domain.
+/// The notifications that were dropped, since the outbox of their agent had no room. A second
+/// platform does what the first one does: its replies show who asked for notifications of which
+/// domain.
 #[derive(Drop)]
 pub(crate) struct Drops {
     second: Platform,
@@ -43,8 +44,8 @@ impl Drops {
         self.count
     }
 
-    /// Does on the second platform what a step gave on the first one, and says each notification that
-    /// was dropped by it.
+    /// Does on the second platform what a step gave on the first one, and reports each notification
+    /// that was dropped by it.
     pub(crate) fn see<L: Listener>(&mut self, step: &Step, line: &StepLine, listener: &mut L) {
         match line {
             StepLine::Token { agent, .. } | StepLine::Posted { agent } => self.post(*agent, step),
@@ -127,8 +128,8 @@ impl Drops {
         }
     }
 
-    /// Says each notification that belonged to what happened since, and did not come into its outbox;
-    /// the delayed response for one agent may have.
+    /// Reports each notification that belonged to what happened since, and did not come into its
+    /// outbox; the delayed response for one agent may have.
     fn say<L: Listener>(&mut self, before: &Standing, responded: Option<u32>, listener: &mut L) {
         let after = Standing::of(&self.second);
         for domain in 0..DOMAINS {

@@ -4,7 +4,7 @@ ghost use Rattle.scmi_live.specs.Forms.{form_in, said};
 
 use scmi_text::PlatformStep;
 
-/// What stands behind the agent.
+/// What follows the agent.
 #[derive(Clone, Copy)]
 pub(crate) enum Form {
     /// A message by its name, or a protocol and a message, and the payload; to be served at once.
@@ -23,7 +23,7 @@ pub(crate) enum Form {
 
 /// The first word of a line, and its form.
 ///
-/// It is generic because a constant has a name in definitions only where its struct holds no reference
+/// It is generic because a constant has a name in definitions only if its struct holds no reference
 /// of its own.
 #[derive(Clone, Copy)]
 pub(crate) struct FormRow<W> {

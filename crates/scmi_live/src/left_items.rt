@@ -41,7 +41,7 @@ impl<'a, 'b> LeftItems<'a, 'b> {
         self.rest.is_empty()
     }
 
-    /// The first of them, which is taken off; `None` where none is left.
+    /// The first of them, which is taken off; `None` if none is left.
     pub(crate) fn take_first(&mut self) -> Option<&'b [u8]>
         ensures { option_map (λ item. (item.now, self.new)) result ≡ first_left self.old }
     {

@@ -1,8 +1,8 @@
-//! Sessions whose lines are answered one by one, and in which names may stand for numbers.
+//! Sessions whose lines are answered one by one, and in which names may replace numbers.
 //!
-//! The main theorems are the contract of `step_meant`, the step that a line stands for: that of its
-//! numbers, as a script has it, or else that of its names; and that of `run_live`: what is written is the
-//! lines that these steps give, one after the other, and in the end the length of the history.
+//! The main theorems are the contract of `step_meant`, the step that a line encodes: that of its
+//! numbers, as a script has it, or else that of its names; and that of `run_live`: what is written
+//! is the lines that these steps give, in order, and at the end the length of the history.
 #![tactic(auto)]
 
 mod drops;

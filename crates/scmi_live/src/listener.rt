@@ -1,8 +1,8 @@
-//! What is said beside the answers of a session.
+//! What is reported beside the answers of a session.
 
-/// Who is given what a session says beside its answers.
+/// Who is given what a session reports beside its answers.
 pub trait Listener {
-    /// The line of this number, from 1, stands for no step, and nothing was done.
+    /// The line of this number, from 1, encodes no step, and nothing was done.
     fn unknown(&mut self, number: usize, text: &[u8]);
 
     /// The notification of a domain's state for an agent was dropped, since its outbox had no room.

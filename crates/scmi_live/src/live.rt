@@ -86,8 +86,8 @@ impl<'a, C: Channel> Live<'a, C> {
         self.drops.count()
     }
 
-    /// Answers a line: makes the step that it stands for, and writes what came of it, and the reply in
-    /// words where that was asked for. A line that stands for no step leaves the session as it is. What
+    /// Answers a line: makes the step that it encodes, and writes what came of it, and the reply in
+    /// words if that was asked for. A line that encodes no step leaves the session as it is. What
     /// is written is flushed.
     pub(crate) fn answer<W: Write, L: Listener>(
         &mut self,
@@ -127,7 +127,7 @@ impl<'a, C: Channel> Live<'a, C> {
         Ok(())
     }
 
-    /// Ends the session: gathers all ends, and writes the length of the history.
+    /// Ends the session: gathers all endpoints, and writes the length of the history.
     pub(crate) fn end<W: Write>(self, writer: &mut W) -> Result<(), LiveError>
         ensures gathered { IsGathered self.entry.session }
         ensures text { OnOk result (Appends (W.contents writer.old) (W.contents writer.new)
@@ -139,7 +139,7 @@ impl<'a, C: Channel> Live<'a, C> {
     }
 }
 
-/// Writes a line, and its message in words where that is asked for, and flushes what was written.
+/// Writes a line, and its message in words if that is asked for, and flushes what was written.
 fn write_answer<W: Write>(
     alloc: Global,
     writer: &mut W,

@@ -25,8 +25,8 @@ pub enum LiveError {
 }
 
 impl LiveError {
-    /// The exit status of a session that ends so: 1 for a failed output, 2 for a refused input, 4 where
-    /// memory was refused.
+    /// The exit status of a session that ends in this way: 1 for a failed output, 2 for a rejected
+    /// input, 4 if memory was refused.
     pub fn status(&self) -> u8
         ensures { result ≡ status_of self.now }
     {

@@ -19,13 +19,13 @@ pub(crate) const WORDS_OFF: &[u8] = b"words off";
 /// What a line means.
 #[derive(Drop)]
 pub(crate) enum Meant {
-    /// Nothing: it is empty or a remark.
+    /// Nothing: it is empty or a comment.
     Nothing,
     /// From here on replies are described in words, or are not.
     Describe(bool),
     /// This step.
     Does(Step),
-    /// It stands for nothing.
+    /// It encodes nothing.
     Unknown,
 }
 
@@ -52,7 +52,7 @@ pub(crate) fn line_meant(
     }
 }
 
-/// Whether replies are described behind a line that says so.
+/// Whether replies are described after a line that sets this.
 fn described_by(text: &[u8]) -> Option<bool>
     ensures { result ≡ described_by text.now }
 {
@@ -65,7 +65,7 @@ fn described_by(text: &[u8]) -> Option<bool>
     None
 }
 
-/// The step that a line stands for: the one of its numbers, as a script has it, or else that of its
+/// The step that a line encodes: the one of its numbers, as a script has it, or else that of its
 /// names.
 pub fn step_meant(
     alloc: Global,

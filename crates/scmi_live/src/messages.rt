@@ -17,7 +17,7 @@ pub(crate) const POWER: &[u8] = b"power";
 
 pub(crate) const CLOCK: &[u8] = b"clock";
 
-/// The protocol that an item stands for: its number, or its name.
+/// The protocol that an item encodes: its number, or its name.
 pub(crate) fn protocol_of(item: &[u8]) -> Option<u8>
     ensures { result ≡ protocol_of item.now }
 {
@@ -43,7 +43,7 @@ pub(crate) fn protocol_named(item: &[u8]) -> Option<u8>
     None
 }
 
-/// The message id that an item stands for in a protocol: its number, or its name.
+/// The message id that an item encodes in a protocol: its number, or its name.
 pub(crate) fn id_of(protocol: u8, item: &[u8]) -> Option<u8>
     ensures { result ≡ id_of protocol item.now }
 {
@@ -53,7 +53,8 @@ pub(crate) fn id_of(protocol: u8, item: &[u8]) -> Option<u8>
     }
 }
 
-/// The protocol and id of the message of this name; `None` where more than one protocol has it, or none.
+/// The protocol and id of the message of this name; `None` if more than one protocol has it, or
+/// none.
 pub(crate) fn message_named(item: &[u8]) -> Option<(u8, u8)>
     ensures { result ≡ message_named item.now }
 {

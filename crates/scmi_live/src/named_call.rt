@@ -1,4 +1,4 @@
-//! The commands that items stand for.
+//! The commands that items encode.
 ghost use Rattle.std.specs.Prelude.{◌≡◌, map};
 ghost use Rattle.scmi_plan.specs.RawPlan.{asked_board};
 ghost use Rattle.scmi_live.specs.NamedStep.{call_by, call_of, call_of_message, call_of_name, call_of_protocol};
@@ -18,7 +18,7 @@ pub(crate) fn call_of(board: &RawPlan, items: &[&[u8]]) -> Option<Call>
     }
 }
 
-/// The command of a protocol where the first item stands for one, and else of the message of that name.
+/// The command of a protocol if the first item encodes one, and else of the message of that name.
 fn call_by(board: &RawPlan, protocol: Option<u8>, first: &[u8], items: &[&[u8]]) -> Option<Call>
     ensures { result ≡ call_by (asked_board board.now) protocol first.now
         (map (λ item. item.now) items.now) }
@@ -29,7 +29,7 @@ fn call_by(board: &RawPlan, protocol: Option<u8>, first: &[u8], items: &[&[u8]])
     }
 }
 
-/// The command of a protocol, of which the message stands first.
+/// The command of a protocol, of which the message comes first.
 fn call_of_protocol(board: &RawPlan, protocol: u8, items: &[&[u8]]) -> Option<Call>
     ensures { result ≡ call_of_protocol (asked_board board.now) protocol
         (map (λ item. item.now) items.now) }

@@ -1,4 +1,4 @@
-//! The steps that lines with names stand for.
+//! The steps that lines with names encode.
 ghost use Rattle.std.specs.Prelude.{◌≡◌, map, IfSome, List, ℕ, Some};
 ghost use Rattle.std.specs.Option.{option_map};
 ghost use Rattle.scmi_plan.specs.Agent.{IsAgent};
@@ -15,8 +15,8 @@ use scmi_codec::{Header, Message};
 use scmi_plan::RawPlan;
 use scmi_text::{AgentStep, Step};
 
-/// The step of items of which the first is the form's word and the second the agent, on a board with this
-/// number of agents; `None` where they stand for none.
+/// The step of items of which the first is the form's word and the second the agent, on a board
+/// with this number of agents; `None` if they encode no step.
 pub(crate) fn named_step(board: &RawPlan, agents: u32, items: &[&[u8]]) -> Option<Step>
     ensures agent { IfSome result (IsStepOf agents) }
     ensures step { result ≡ named_step (asked_board board.now) agents
@@ -32,7 +32,7 @@ pub(crate) fn named_step(board: &RawPlan, agents: u32, items: &[&[u8]]) -> Optio
     }
 }
 
-/// The agent that an item stands for, on a board with this number of agents.
+/// The agent that an item encodes, on a board with this number of agents.
 pub(crate) fn agent_of(board: &RawPlan, agents: u32, item: &[u8]) -> Option<u32>
     ensures within { IfSome result (IsAgent agents) }
     ensures agent { result ≡ agent_of (asked_board board.now) agents item.now }
@@ -48,7 +48,7 @@ pub(crate) fn agent_of(board: &RawPlan, agents: u32, item: &[u8]) -> Option<u32>
     }
 }
 
-/// What an agent does, by its form and the items behind the agent.
+/// What an agent does, by its form and the items after the agent.
 fn step_behind(board: &RawPlan, form: Form, agent: u32, items: &[&[u8]]) -> Option<Step>
     ensures agent { IfSome result (λ step. step_agent step ≡ Some agent) }
     ensures step { result ≡ step_behind (asked_board board.now) form agent
@@ -78,7 +78,7 @@ fn of_agent(agent: u32, step: AgentStep) -> Step
     Step::Agent { agent, step }
 }
 
-/// A step behind which nothing stands.
+/// A step that nothing follows.
 fn alone(step: Step, items: &[&[u8]]) -> Option<Step>
     ensures { result ≡ alone step (map (λ item. item.now) items.now) }
 {

@@ -1,4 +1,4 @@
-//! The payload words that items stand for.
+//! The payload words that items encode.
 ghost use Rattle.std.specs.Prelude.{◌≡◌, [], map};
 ghost use Rattle.std.specs.Option.{option_map};
 ghost use Rattle.scmi_plan.specs.RawPlan.{asked_board};
@@ -12,8 +12,8 @@ use scmi_board::word;
 use scmi_codec::{Part, Payload};
 use scmi_plan::RawPlan;
 
-/// The payload words that items stand for in a message: part by part where the message is known, and
-/// else numbers. `None` where an item stands for nothing there, or they are too few or too many.
+/// The payload words that items encode in a message: part by part if the message is known, and else
+/// numbers. `None` if an item encodes nothing there, or they are too few or too many.
 pub(crate) fn payload_meant(
     board: &RawPlan,
     protocol: u8,
@@ -42,7 +42,7 @@ pub(crate) fn numbers(items: &[&[u8]]) -> Option<Payload>
     Some(payload)
 }
 
-/// The words that items stand for, part by part.
+/// The words that items encode, part by part.
 fn words_of_parts(
     board: &RawPlan,
     protocol: u8,
@@ -62,7 +62,7 @@ fn words_of_parts(
     if left.is_empty() { Some(payload) } else { None }
 }
 
-/// The words of a part behind which this number of parts stand; flags that have no item are 0.
+/// The words of a part that this number of parts follow; flags that have no item are 0.
 fn first_words(
     board: &RawPlan,
     protocol: u8,

@@ -1,4 +1,4 @@
-//! Replies in words, as remarks behind their lines.
+//! Replies in words, as comments after their lines.
 ghost use Rattle.std.specs.Prelude.{◌≡◌, OnOk, true};
 ghost use Rattle.std.specs.Option.{option_map_or};
 ghost use Rattle.std.specs.Io.KnownBytes.{Appends};
@@ -15,8 +15,8 @@ use std::alloc::Global;
 use std::io;
 use std::io::Write;
 
-/// Writes what a line gives in words, each line of it behind a mark that makes it a remark; nothing of a
-/// line that gives no message.
+/// Writes what a line gives in words, each line of it after a mark that makes it a comment; nothing
+/// of a line that gives no message.
 pub(crate) fn write_remark<W: Write>(
     alloc: Global,
     writer: &mut W,
@@ -90,7 +90,7 @@ fn described_response(message: Message) -> Description
     }
 }
 
-/// Writes lines, each behind a mark.
+/// Writes lines, each after a mark.
 fn write_marked<W: Write>(writer: &mut W, text: &[u8]) -> io::Result<()>
     ensures { OnOk result (Appends (W.contents writer.old) (W.contents writer.new)
         (marked true text.now)) }
@@ -103,7 +103,7 @@ fn write_marked<W: Write>(writer: &mut W, text: &[u8]) -> io::Result<()>
     Ok(())
 }
 
-/// Writes a byte, behind a mark where a line begins with it.
+/// Writes a byte, after a mark if a line begins with it.
 fn write_byte<W: Write>(writer: &mut W, begins: bool, byte: u8) -> io::Result<()>
     ensures { OnOk result (Appends (W.contents writer.old) (W.contents writer.new)
         (marked_byte begins byte)) }

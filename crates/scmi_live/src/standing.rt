@@ -1,4 +1,4 @@
-//! Where a platform stands, as far as notifications tell it.
+//! The state of a platform, as far as notifications report it.
 
 use scmi_core::Platform;
 use scmi_plan::{AGENTS, DOMAINS};
@@ -11,7 +11,7 @@ pub(crate) struct Standing {
 }
 
 impl Standing {
-    /// Where a platform stands now.
+    /// The state of a platform now.
     pub(crate) fn of(platform: &Platform) -> Standing {
         let mut standing = Standing {
             states: [None; DOMAINS],
@@ -34,7 +34,8 @@ impl Standing {
         }
     }
 
-    /// Whether more messages wait for the agent of this index than so many more than at another time.
+    /// Whether more messages wait for the agent of this index than this many more than at another
+    /// time.
     pub(crate) fn has_more_waiting(&self, other: &Standing, index: usize, more: usize) -> bool {
         match (self.waiting.get(index), other.waiting.get(index)) {
             (Some(now), Some(before)) => *now > before.saturating_add(more),

@@ -1,4 +1,4 @@
-//! Why a line with names stands for no step.
+//! Why a line with names encodes no step.
 
 use crate::form::{FORMS, Form, form_in};
 use crate::items::items_of;
@@ -10,7 +10,7 @@ use scmi_codec::{BASE_MESSAGES, CLOCK_MESSAGES, HeldRow, POWER_MESSAGES, Part};
 use scmi_plan::RawPlan;
 use std::alloc::Global;
 
-/// Why a line stands for no step, where its names are looked up.
+/// Why a line encodes no step, when its names are looked up.
 #[derive(Clone, Copy)]
 pub enum Unknown<'a> {
     /// This item is no agent of the board.
@@ -19,14 +19,14 @@ pub enum Unknown<'a> {
     Message(&'a [u8]),
     /// More protocols than one have this message.
     Shared(&'a [u8]),
-    /// This item, of this number in the line, does not stand for this part of the message.
+    /// This item, of this number in the line, does not encode this part of the message.
     Part(usize, &'a [u8], Part),
     /// The message, of this name, has these parts, and there are more or fewer items.
     Count(&'static str, &'static [Part]),
 }
 
-/// Why a line stands for no step, where it has names: `None` where its form is not known, all its items
-/// are numbers, or a byte of it is no printable character, as a carriage return at its end is none.
+/// Why a line encodes no step, if it has names: `None` if its form is not known, all its items are
+/// numbers, or a byte of it is not a printable character, such as a carriage return at its end.
 pub fn unknown_in<'a>(
     alloc: Global,
     board: &RawPlan,
@@ -58,7 +58,7 @@ pub fn unknown_in<'a>(
     }
 }
 
-/// Why items stand for no command.
+/// Why items encode no command.
 fn unknown_command<'a>(board: &RawPlan, items: &[&'a [u8]]) -> Option<Unknown<'a>> {
     match items {
         [first, rest @ ..] => match (protocol_of(*first), rest) {
@@ -73,7 +73,7 @@ fn unknown_command<'a>(board: &RawPlan, items: &[&'a [u8]]) -> Option<Unknown<'a
     }
 }
 
-/// The same where the first item is to be the name of a message.
+/// The same if the first item is to be the name of a message.
 fn unknown_name<'a>(board: &RawPlan, name: &'a [u8], items: &[&'a [u8]]) -> Option<Unknown<'a>> {
     if let Some((protocol, id)) = message_named(name) {
         return unknown_payload(board, protocol, id, 4, items);

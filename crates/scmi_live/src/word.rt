@@ -1,4 +1,4 @@
-//! The words that an item stands for, by the part of a message that it is.
+//! The words that an item encodes, by the part of a message that it is.
 ghost use Rattle.std.specs.Prelude.{◌≡◌, ◌∷◌, []};
 ghost use Rattle.std.specs.Option.{option_map};
 ghost use Rattle.scmi_plan.specs.RawPlan.{asked_board};
@@ -22,8 +22,8 @@ pub(crate) const OFF_STATE: u32 = 0x4000_0000;
 /// The words of one part of a payload.
 pub(crate) type PartWords = ArrayVec<u32, 2>;
 
-/// The words that an item stands for where a message of a protocol has this part; `None` where it stands
-/// for none.
+/// The words that an item encodes as this part of a message of a protocol; `None` if it encodes
+/// none.
 pub(crate) fn words_of_item(
     board: &RawPlan,
     protocol: u8,
@@ -48,7 +48,7 @@ pub(crate) fn one_word(word: u32) -> PartWords
     words
 }
 
-/// The word that an item stands for: its number, or what its name stands for.
+/// The word that an item encodes: its number, or what its name encodes.
 pub(crate) fn word_meant(board: &RawPlan, protocol: u8, part: Part, item: &[u8]) -> Option<u32>
     ensures { result ≡ word_meant (asked_board board.now) protocol part item.now }
 {
@@ -58,7 +58,7 @@ pub(crate) fn word_meant(board: &RawPlan, protocol: u8, part: Part, item: &[u8])
     }
 }
 
-/// The word that a name stands for.
+/// The word that a name encodes.
 fn word_named(board: &RawPlan, protocol: u8, part: Part, item: &[u8]) -> Option<u32>
     ensures { result ≡ word_named (asked_board board.now) protocol part item.now }
 {
@@ -74,7 +74,7 @@ fn word_named(board: &RawPlan, protocol: u8, part: Part, item: &[u8]) -> Option<
     }
 }
 
-/// `on` or `off`, by the words that they stand for.
+/// `on` or `off`, by the words that they encode.
 fn switched(on: u32, off: u32, item: &[u8]) -> Option<u32>
     ensures { result ≡ switched on off item.now }
 {

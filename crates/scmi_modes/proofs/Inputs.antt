@@ -1,4 +1,4 @@
--- What an input stands for, as it is read part by part.
+-- What an input encodes, as it is read part by part.
 use Rattle.std.proofs.Common.{ℕ, ◌^◌, ◌<◌, ◌≤◌, ◌≡◌, ◌≢◌, nat_le, Bool, true, false, cond, List, length, Option, Some, None, IfSome, IfErr, Result, Ok, Err, refl, sym, ap, ◌∙◌, ◌⊎◌, inl, inr, subst, arith}
 use Rattle.std.proofs.lemmas.Bool.Decides.{nat_tests}
 use Rattle.scmi_board.specs.BoardText.{FailsBoard, board_left}
@@ -148,7 +148,7 @@ module _ {A : Type 0} (bytes : List ℕ) (there : Result A RunError) where
   run_fault value Write is other = (value, is)
 
 module _ {A : Type 0} (stands_for : List ℕ → Result A RunError) (known : Option (List ℕ)) where
-  -- what bytes that were read stand for, of a known input
+  -- what bytes that were read encode, of a known input
   pub known_stands : {value : A} (given bytes : List ℕ) → given ≡ bytes → IfSome known (λ input. bytes ≡ input) → stands_for given ≡ Ok value → IfSome known (λ input. stands_for input ≡ Ok value)
   known_stands given bytes same read is = known_so known read (λ input all. ap stands_for (sym all) ∙ ap stands_for (sym same) ∙ is)
 

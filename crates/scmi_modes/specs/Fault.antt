@@ -24,21 +24,21 @@ IsFaultOfOnce input Memory = ⊤
 IsFaultOfOnce input Write = ⊤
 IsFaultOfOnce input _ = ⊥
 
--- a fault of what stands behind the first line, in a mode
+-- a fault of what follows the first line, in a mode
 abbrev pub IsFaultIn : AnyMode → List ℕ → RunError → Type 0
 IsFaultIn (any.Plain mode.Once) input fault = IsFaultOfOnce input fault
 IsFaultIn (any.Plain (mode.Steps kind)) input fault = IsFaultOf input (steps_of_input Plain input) fault
 IsFaultIn (any.Plain (mode.Threads kind)) input fault = IsFaultOrLimit input (scripts_of_input input) fault
 IsFaultIn (any.Hardware kind) input fault = IsFaultOf input (steps_of_input Hardware input) fault
 
--- the first line names a mode among these, in which this is a fault of what stands behind it
+-- the first line names a mode among these, in which this is a fault of what follows it
 pub record IsFaultBehind (modes : Modes) (input : List ℕ) (fault : RunError) : Type 0 where
   pub mode : AnyMode
   pub takes : Takes modes mode
   pub named : first_line input ≡ any_text_of mode
   pub fault_in : IsFaultIn mode (after_line input) fault
 
--- a fault of an input: it names no mode among these, or is too long, or has another fault behind its first line. That a read failed or that memory was refused says nothing of the input
+-- a fault of an input: it names no mode among these, or is too long, or has another fault after its first line. That a read failed or that memory was refused says nothing about the input
 abbrev pub IsFaultOfRun : Modes → List ℕ → RunError → Type 0
 IsFaultOfRun modes input Mode = (mode : AnyMode) → Takes modes mode → first_line input ≢ any_text_of mode
 IsFaultOfRun modes input Size = (INPUT_BYTES < length (first_line input)) ⊎ IsFaultBehind modes input Size

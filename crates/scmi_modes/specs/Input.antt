@@ -1,4 +1,4 @@
--- What stands behind the first line of an input: a board and its scripts.
+-- What follows the first line of an input: a board and its scripts.
 use Rattle.std.specs.Prelude.{◌≡◌, ℕ, ◌^◌, ◌<◌, nat_le, ⊤, if◌then◌else◌, List, [], length, Some, None, Result, Ok, Err}
 use Rattle.scmi_board.specs.BoardText.{board_left}
 use Rattle.scmi_board.specs.Lines.{Line, LinesView}
@@ -19,7 +19,7 @@ abbrev pub behind_mode : List ℕ → LinesView
 behind_mode input = record { rest = input; number = 1 }
 
 module _ {A : Type 0} where
-  -- a board with what stands behind it, where it keeps every rule; else the first rule that it breaks
+  -- a board with what follows it, where it keeps every rule; else the first rule that it breaks
   unfoldable pub lawful : Board → A → Result (Board × A) RunError
   lawful board script = elim (first_fault board) [ None ↦ Ok (board, script) | Some rule ↦ Err (PlanFault (number rule)) ]
 
@@ -38,7 +38,7 @@ module _ {A : Type 0} where
     | Ok found ↦ with_scripts scripts found.0 found.1
   ]
 
-  -- a text that stands for a board and scripts, or for neither, is refused so, unless memory is refused
+  -- a text that encodes a board and scripts, or for neither, is refused so, unless memory is refused
   abbrev pub FailsInput : RunError → Result A RunError → Type 0
   FailsInput (BoardFault line) there = there ≡ Err (BoardFault line)
   FailsInput (ScriptFault line) there = there ≡ Err (ScriptFault line)
@@ -46,7 +46,7 @@ module _ {A : Type 0} where
   FailsInput Memory there = ⊤
   FailsInput _ there = ⊥
 
-  -- a fault of a run of an input that stands for this: its length, or its first fault; a failed output comes only of an input without a fault. That a read failed or that memory was refused says nothing of the input
+  -- a fault of a run of an input that encodes this: its length, or its first fault; a failed output comes only of an input without a fault. That a read failed or that memory was refused says nothing about the input
   abbrev pub IsFaultOf : List ℕ → Result A RunError → RunError → Type 0
   IsFaultOf input there Size = INPUT_BYTES < length input
   IsFaultOf input there Read = ⊤
@@ -58,19 +58,19 @@ module _ {A : Type 0} where
   IsFaultOrLimit input there Limit = (value : A) × (there ≡ Ok value)
   IsFaultOrLimit input there fault = IsFaultOf input there fault
 
--- the steps of the lines of a script of this kind; else the number of the first line that is none
+-- the steps of the lines of a script of this kind; else the number of the first invalid line
 abbrev pub script_of_lines : ScriptKind → ℕ → List Line → Result (List Step) ℕ
 script_of_lines Plain agents lines = steps_of_lines agents lines
 script_of_lines Hardware agents lines = hardware_steps_of_lines agents lines
 
--- the scripts of lines; else the number of the first line that is none of them
+-- the scripts of lines; else the number of the first invalid line
 abbrev pub scripts_of_lines : ℕ → List Line → Result (List AgentScript) ℕ
 scripts_of_lines agents lines = after_lines (with_line agents) [] lines
 
--- the board and the steps that an input stands for; else its first fault
+-- the board and the steps that an input encodes; else its first fault
 abbrev pub steps_of_input : ScriptKind → List ℕ → Result (Board × List Step) RunError
 steps_of_input script input = input_of (script_of_lines script) input
 
--- the board and the scripts that an input stands for; else its first fault
+-- the board and the scripts that an input encodes; else its first fault
 abbrev pub scripts_of_input : List ℕ → Result (Board × List AgentScript) RunError
 scripts_of_input input = input_of scripts_of_lines input

@@ -48,11 +48,11 @@ module _ (full : Bool) (board : Board) (scripts : List Script) where
     pub outcome : Outcome
     pub told : IsTextOfOutcome outcome old new
 
--- an input, where it is known, stands for this board and these scripts
+-- an input, where it is known, encodes this board and these scripts
 abbrev pub AreScriptsOfInput : Option (List ℕ) → Board → List Script → Type 0
 AreScriptsOfInput known board scripts = IfSome known (λ input. scripts_of_input input ≡ Ok (board, scripts_of scripts))
 
--- what is written is the text of a run, to their ends, of the scripts that the input stands for, on its board
+-- what is written is the text of a run, to their ends, of the scripts that the input encodes, on its board
 abbrev pub IsTextOfRun : Bool → Option (List ℕ) → Option (List ℕ) → Option (List ℕ) → Type 0
 IsTextOfRun full known old new = (board : Board) × (scripts : List Script) × AreScriptsOfInput known board scripts × IsTextOfEndedRun full board scripts old new
 

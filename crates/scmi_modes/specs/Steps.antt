@@ -52,24 +52,24 @@ abbrev pub MayHave : ScriptKind → Step → Type 0
 MayHave Plain step = IsWithoutHardware step
 MayHave Hardware step = Unit {0}
 
--- an input, where it is known, stands for this board and these steps of a script of this kind
+-- an input, where it is known, encodes this board and these steps of a script of this kind
 abbrev pub AreStepsOf : ScriptKind → Option (List ℕ) → Board → List Step → Type 0
 AreStepsOf script known board steps = IfSome known (λ input. steps_of_input script input ≡ Ok (board, steps))
 
--- what is written is the text of all steps that the input stands for, on its board, in a script of this kind
+-- what is written is the text of all steps that the input encodes, on its board, in a script of this kind
 abbrev pub WritesScript : ScriptKind → Option (List ℕ) → Kind → Option (List ℕ) → Option (List ℕ) → Type 0
 WritesScript script known kind old new =
     (board : Board) × (steps : List Step) × AreStepsOf script known board steps × All (MayHave script) steps × IsTextOfSteps (may_be_full kind) (shows_close kind) board steps old new
 
--- what is written is the text of all steps that the input stands for, none of them beside hardware
+-- what is written is the text of all steps that the input encodes, none of them beside hardware
 abbrev pub WritesSteps : Option (List ℕ) → Kind → Option (List ℕ) → Option (List ℕ) → Type 0
 WritesSteps known kind old new = WritesScript Plain known kind old new
 
--- what is written is the text of all steps that the input stands for, beside hardware that refuses where a step says so
+-- what is written is the text of all steps that the input encodes, beside hardware that refuses where a step says so
 abbrev pub WritesHardware : Option (List ℕ) → Kind → Option (List ℕ) → Option (List ℕ) → Type 0
 WritesHardware known kind old new = WritesScript Hardware known kind old new
 
--- nothing is written, or the lines of the first steps that the input stands for, on its board
+-- nothing is written, or the lines of the first steps that the input encodes, on its board
 abbrev pub WritesFirstSteps : ScriptKind → Option (List ℕ) → Kind → Option (List ℕ) → Option (List ℕ) → Type 0
 WritesFirstSteps script known kind old new =
     (new ≡ old) ⊎ ((board : Board) × (steps : List Step) × AreStepsOf script known board steps × AreStepLines (may_be_full kind) (shows_close kind) board steps old new)

@@ -29,7 +29,7 @@ pub fn answer_area(alloc: Global, area: &mut [u8; AREA_BYTES]) -> Result<(), Run
     Ok(())
 }
 
-/// The plan of the reference board, which is lawful, so that the only error is `Memory`.
+/// The plan of the reference board, which is valid, so that the only error is `Memory`.
 fn reference_plan(alloc: Global) -> Result<Plan, RunError>
     ensures plan { IfOk result (λ plan. plan ≡ board_b) }
     ensures errors { IfErr result (λ e. e ≡ RunError.Memory) }

@@ -1,9 +1,9 @@
 //! The modes of a run: a platform controller and its agents, from bytes in to bytes out.
 //!
 //! The first line of the input names a mode. The main types are `Mode` and `Modes`, those that a
-//! program takes; the main theorem is the contract of `run_program`: where the status is 0, what was
-//! written is what the mode makes of the board and the scripts that the input stands for, or in the mode
-//! `once` of its area; and where it is not, the line of a fault of this input, which has that status.
+//! program takes; the main theorem is the contract of `run_program`: if the status is 0, what was
+//! written is what the mode makes of the board and the scripts that the input encodes, or in the
+//! mode `once` of its area; else the line of a fault of this input, which has that status.
 #![tactic(auto)]
 
 mod answer;

@@ -5,7 +5,7 @@ ghost use Rattle.scmi_modes.specs.Lines.{only, significant_lines};
 
 use scmi_board::is_significant;
 
-/// The line of an input that has just one that counts.
+/// The line of an input that has exactly one that counts.
 pub fn only_line(input: &[u8]) -> Option<&[u8]>
     ensures { option_copied result ≡ only (significant_lines input.now) }
 {

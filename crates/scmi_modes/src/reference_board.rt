@@ -7,7 +7,7 @@ use scmi_plan::{Device, RateList, Rates, RawClock, RawDomain, RawPlan};
 use std::alloc::{AllocError, Global};
 
 /// The board that the mode `once` runs on (own): two agents, of which the first is trusted, three
-/// power domains, three clocks, and two devices. The only error is want of memory.
+/// power domains, three clocks, and two devices. The only error is out of memory.
 pub fn reference_board(alloc: Global) -> Result<RawPlan, AllocError>
     ensures { IfOk result (λ raw. asked_board raw ≡ board_b) }
 {

@@ -1,4 +1,4 @@
-//! Why a run is refused or stops.
+//! Why a run is rejected or stops.
 ghost use Rattle.std.specs.Prelude.{◌≡◌};
 ghost use Rattle.scmi_modes.specs.RunError.{status_of, fault_of_input, fault_of_text, fault_of_plan};
 
@@ -9,7 +9,7 @@ use std::alloc::AllocError;
 use std::error::Error;
 use std::fmt;
 
-/// Why a run is refused or stops. Its text is what follows the word `fault`.
+/// Why a run is rejected or stops. Its text is what follows the word `fault`.
 #[derive(Clone, Copy, PartialEq, Eq)]
 pub enum RunError {
     /// The first line names no mode.
@@ -35,8 +35,8 @@ pub enum RunError {
 }
 
 impl RunError {
-    /// The exit status of a run that ends so: 1 for a failed output, 2 for a refused input, 3 for a
-    /// limit, 4 for want of memory.
+    /// The exit status of a run that ends in this way: 1 for a failed output, 2 for a rejected
+    /// input, 3 for a limit, 4 for out of memory.
     pub fn status(&self) -> u8
         ensures { result ≡ status_of self.now }
     {

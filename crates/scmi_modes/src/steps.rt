@@ -27,10 +27,10 @@ use scmi_words::WordChannel;
 use std::alloc::Global;
 use std::io::Write;
 
-/// Reads a board and a script, makes its steps one by one, and writes the line of each, and then the
-/// length of the history. `Size`, `Read`, `Board`, `Script` and `Plan` where the input is refused; after
-/// each of these nothing is written. `Memory` where memory is refused, and `Write` where the output
-/// fails: after these the lines of the steps before are written, one for each of them.
+/// Reads a board and a script, makes its steps one by one, and writes the line of each, and then
+/// the length of the history. `Size`, `Read`, `Board`, `Script` and `Plan` if the input is
+/// rejected; after each of these nothing is written. `Memory` if memory is refused, and `Write` if
+/// the output fails: after these the lines of the steps before are written, one for each of them.
 pub fn run_steps<R: CountedRead, W: Write>(
     alloc: Global,
     reader: &mut R,
@@ -102,7 +102,7 @@ fn run_script<R: CountedRead, W: Write>(
     step_over(alloc, kind, plan, &steps, writer)
 }
 
-/// The board and the steps that stand behind the first line, in a script of this kind.
+/// The board and the steps that follow the first line, in a script of this kind.
 fn read_input(alloc: Global, bytes: &[u8], script: ScriptKind) -> Result<(Plan, StepList), RunError>
     ensures agents { IfOk result (λ read. All (IsStepOf (length read.0.agents)) read.1) }
     ensures kinds { IfOk result (λ read. All (MayHave script) read.1) }

@@ -26,9 +26,9 @@ use std::sync::Wait;
 use std::thread::Threads;
 
 /// Reads a board and the scripts of its agents, runs them all at once, and writes the lines of each
-/// agent, by rising number. `Size`, `Read`, `Board`, `Script` and `Plan` where the input is refused;
-/// after each of these nothing is written. `Limit` where a script met a limit, and `Memory`, which goes
-/// before it, where memory was refused: after these the lines so far are written. `Write` where the
+/// agent, by rising number. `Size`, `Read`, `Board`, `Script` and `Plan` if the input is rejected;
+/// after each of these nothing is written. `Limit` if a script met a limit, and `Memory`, which
+/// goes before it, if memory was refused: after these the lines so far are written. `Write` if the
 /// output fails.
 pub fn run_threads<T: Threads + Wait + Sync, G: Gate, R: CountedRead, W: Write>(
     rt: &T,
@@ -58,7 +58,7 @@ pub fn run_threads<T: Threads + Wait + Sync, G: Gate, R: CountedRead, W: Write>(
     run_over(rt, alloc, gate, kind, plan, &scripts, writer)
 }
 
-/// The board and the scripts that stand behind the first line.
+/// The board and the scripts that follow the first line.
 fn read_input(alloc: Global, bytes: &[u8]) -> Result<(Plan, Vec<Script>), RunError>
     ensures scripts { IfOk result (λ read. AreScriptsOf (length read.0.agents) read.1.items) }
     ensures input { MatchResult result
@@ -140,7 +140,7 @@ fn write_logs<W: Write>(writer: &mut W, agents: u32, logs: &[AgentLog]) -> Resul
     Ok(())
 }
 
-/// What is to be said in the end: that memory was refused, or else that a limit was met.
+/// What is to be reported at the end: that memory was refused, or else that a limit was met.
 fn verdict(outcome: &Outcome) -> Result<(), RunError>
     ensures ok { OnOk result (All (λ log. log.stopped ≡ None) outcome.now.logs.items) }
     ensures errors { IfErr result (λ e. ¬ (status_of e ≡ 2)) }

@@ -1,4 +1,4 @@
--- The tests of a board's rules decide what a lawful board is.
+-- The tests of a board's rules decide what a valid board is.
 use Rattle.std.proofs.Common.{◌≡◌, ◌⊎◌, inl, inr, ◌↔◌, ℕ, zero, suc, ◌+◌, ◌-◌, ◌*◌, ◌/◌, ◌%◌, ◌^◌, ◌<◌, ◌≤◌, ◌==◌, nat_le, nat_lt, Bool, true, false, not, ◌&&◌, if◌then◌else◌, List, [], ◌∷◌, length, map, get_or, replicate, Some, None, refl, sym, ap, subst, ◌∙◌, arith, Decides, Contains, mod-lt, string_bytes}
 use Rattle.std.specs.List.{All, list_all, list_any, range_with_len, IsAllAdjacentAnswer}
 use Rattle.std.specs.List.Sorted.{IsStrictlyIncreasing}
@@ -212,7 +212,7 @@ module _ (board : Board) (each : length board.channels ≡ AGENTS) (channels : A
       ))
       (Decides-and _ _ (Decides-and _ _ (Decides-and _ _ (Decides-and _ _ Decides-counts Decides-names) Decides-clocks) Decides-devices) Decides-trusted)
 
--- no rule is broken exactly where each test passes
+-- no rule is broken if and only if each test passes
 Decides-none : (a b c d e : Bool)
     → (if not a then Some error.Count else if not b then Some error.Name else if not c then Some error.Rates else if not d then Some error.Device else if not e then Some error.Trusted else None) ≡ None
     ↔ (a && b && c && d && e) ≡ true
@@ -223,18 +223,18 @@ Decides-none true true false d e = (λ h. cc, λ h. cc)
 Decides-none true true true false e = (λ h. cc, λ h. cc)
 Decides-none true true true true false = (λ h. cc, λ h. cc)
 
--- a board whose channels are lawful breaks no rule if and only if it is lawful
+-- a board whose channels are valid breaks no rule if and only if it is valid
 lawful_but : (board : Board) → length board.channels ≡ AGENTS → All IsChannel board.channels → (first_fault board ≡ None) ↔ IsLawful board
 lawful_but board each channels =
     let none = Decides-none (has_lawful_counts board) (has_lawful_names board) (has_lawful_clocks board) (has_lawful_devices board) (has_trusted_agent board) in
     let law = Decides-tests board each channels in
     (λ h. law.0 (none.0 h), λ w. none.1 (law.1 w))
 
--- whole channels are lawful
+-- whole channels are valid
 whole_channels : All IsChannel (replicate AGENTS whole_channel)
 whole_channels = All-replicate IsChannel AGENTS whole_channel (omega arith, omega arith)
 
--- a board that was written down breaks no rule if and only if it is lawful
+-- a board that was written down breaks no rule if and only if it is valid
 pub lawful : (raw : RawPlan) → (first_fault (asked_board raw) ≡ None) ↔ IsLawful (asked_board raw)
 lawful raw = lawful_but (asked_board raw) refl whole_channels
 
@@ -257,7 +257,7 @@ Decides-below set p some = Decides-like (set / p == 0) to from (Decides-eqb (set
 All-of_map : {X Y : Type 0} (P : Y → Type 0) (f : X → Y) (xs : List X) → All P (map f xs) → All (λ x. P (f x)) xs
 All-of_map P f xs all k d small = subst P (get_or-map f xs k d (f d) small) (all k (f d) (subst (λ n. k < n) (sym (length-map xs f)) small))
 
--- the names of a lawful board's agents, domains and clocks as they were written down
+-- the names of a valid board's agents, domains and clocks as they were written down
 pub named_agents : (raw : RawPlan) → IsLawful (asked_board raw) → All (λ agent. IsName (string_bytes agent)) raw.agents.items
 named_agents raw law = All-of_map IsName string_bytes raw.agents.items law.agent_names
 

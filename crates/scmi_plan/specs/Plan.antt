@@ -1,4 +1,4 @@
--- A lawful board, and what a plan holds of one.
+-- A valid board, and what a plan holds of one.
 use Rattle.std.specs.Prelude.{ℕ, ◌<◌, ◌≤◌, ◌^◌, ◌≡◌, length}
 use Rattle.std.specs.List.{All}
 use Rattle.scmi_codec.specs.Name.{IsName}

@@ -34,7 +34,7 @@ rises _ = true
 abbrev pub is_lawful_list : List ℕ → Bool
 is_lawful_list list = nat_le 1 (length list) && nat_le (length list) RATES && rises list
 
--- a lawful list, or steps that end at the highest rate (own)
+-- a valid list, or steps that end at the highest rate (own)
 abbrev pub is_lawful : Rates → Bool
 is_lawful (rates.List list) = is_lawful_list list
 is_lawful (rates.Steps low high step) = nat_le 1 step && nat_le low high && (high - low) % step == 0
@@ -44,7 +44,7 @@ abbrev pub supports : Rates → ℕ → Bool
 supports (rates.List list) rate = list_any (λ r. r == rate) list
 supports (rates.Steps low high step) rate = nat_le low rate && nat_le rate high && (rate - low) % step == 0
 
--- each clock has lawful rates, and starts at one of them (own)
+-- each clock has valid rates, and starts at one of them (own)
 abbrev pub has_lawful_clocks : Board → Bool
 has_lawful_clocks board = list_all (λ clock. is_lawful clock.rates && supports clock.rates clock.rate) board.clocks
 

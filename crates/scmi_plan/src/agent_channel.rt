@@ -5,7 +5,7 @@ use scmi_codec::{LEAST_PAYLOAD_WORDS, PAYLOAD_WORDS};
 /// The fewest payload words of a channel (own): every reply but a list of rates fits them.
 pub const LEAST_CHANNEL_WORDS: u32 = LEAST_PAYLOAD_WORDS as u32;
 
-/// The channels of an agent of whom nothing else is said: 64 words of payload, both ways.
+/// The channels of an agent for which nothing else was set: 64 words of payload, both ways.
 pub const WHOLE_CHANNEL: AgentChannel = AgentChannel {
     words: PAYLOAD_WORDS as u32,
     one_way: false,

@@ -1,4 +1,4 @@
-//! Builds the rows of a lawful board. The only error is a growth of memory that was refused.
+//! Builds the rows of a valid board. The only error is out of memory.
 ghost use Rattle.std.specs.Prelude.{◌≡◌, map, IfOk, All, string_bytes};
 ghost use Rattle.scmi_codec.specs.Name.{IsName};
 ghost use Rattle.scmi_plan.specs.RawPlan.{asked_domain, asked_clock};

@@ -1,6 +1,6 @@
 //! A device of a board.
 
-/// A set of domains and clocks, bit i standing for domain or clock i.
+/// A set of domains and clocks, bit i for domain or clock i.
 #[derive(Clone, Copy, PartialEq, Eq, Debug)]
 pub struct Device {
     pub domains: u32,

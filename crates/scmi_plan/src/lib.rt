@@ -1,8 +1,8 @@
 //! The board that a platform controller serves: agents, power domains, clocks and devices.
 //!
-//! The main type is `Plan`, a board that keeps the limits and rules of the profile. The main theorem
-//! is the contract of `Plan::check`: it answers the plan of a lawful board, and of another board the
-//! first rule that it breaks; want of memory comes last.
+//! The main type is `Plan`, a board that keeps the limits and rules of the profile. The main
+//! theorem is the contract of `Plan::check`: it returns the plan of a valid board, and for another
+//! board the first rule that it breaks; out of memory comes last.
 #![tactic(auto)]
 
 mod agent_channel;

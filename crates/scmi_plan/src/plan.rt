@@ -1,4 +1,4 @@
-//! A lawful board.
+//! A valid board.
 ghost use Rattle.std.specs.Prelude.{◌≡◌, ◌≢◌, ◌↔◌, ◌<◌, ◌≤◌, ◌-◌, ◌⊎◌, length, get_or, [], None, Some, Err, IfOk, IfErr, OnOk, OnErr, IsOkUnless, IsErrOf};
 ghost use Rattle.scmi_codec.specs.declared.payload.TheConstants.{PAYLOAD_WORDS};
 ghost use Rattle.scmi_plan.specs.Agent.{IsAgent, IsNoAgent};
@@ -52,10 +52,9 @@ impl Model for Plan {
 }
 
 impl Plan {
-    /// The plan of a board that was written down. Where the board breaks rules of the profile, the
+    /// The plan of a board that was written down. If the board breaks rules of the profile, the
     /// error is the first of them in the order of the numbers of `PlanError` (own). `Memory` comes
-    /// only where the board keeps every rule and a growth of memory was refused. The board stays
-    /// with the caller.
+    /// only if the board keeps every rule and memory ran out. The board stays with the caller.
     pub fn check(alloc: Global, raw: &RawPlan) -> Result<Plan, PlanError>
         ensures ok { IfOk result (λ plan. plan ≡ asked_board raw.now) }
         ensures no_fault { OnOk result (first_fault (asked_board raw.now) ≡ None) }
@@ -63,7 +62,7 @@ impl Plan {
             → first_fault (asked_board raw.now) ≡ Some e) }
         ensures memory { IsErrOf result Memory → first_fault (asked_board raw.now) ≡ None }
         ensures accepted { IsLawful (asked_board raw.now) → IsOkUnless result Memory }
-        // The rules and a lawful board are one thing.
+        // The rules and a valid board are one thing.
         ensures rules { (first_fault (asked_board raw.now) ≡ None)
             ↔ IsLawful (asked_board raw.now) }
     {
@@ -146,9 +145,9 @@ impl Plan {
         self.channels[agent as usize - 1]
     }
 
-    /// Says what an agent's channels are (own). `NoAgent` where the board lacks the agent, and then
-    /// `Words` where they have fewer than 8 words of payload or more than 64; nothing changed then.
-    /// It takes no memory.
+    /// Sets what an agent's channels are (own). `NoAgent` if the board lacks the agent, and then
+    /// `Words` if they have fewer than 8 words of payload or more than 64; nothing changed then. It
+    /// takes no memory.
     pub fn set_channel(&mut self, agent: u32, channel: AgentChannel) -> Result<(), ChannelError>
         ensures ok { OnOk result (self.new ≡ with_channel self.old agent channel) }
         ensures no_agent { (result ≡ Err ChannelError.NoAgent)

@@ -6,13 +6,13 @@ ghost use Rattle.scmi_plan.specs.declared.plan_error.PlanError.TheVariants.{Memo
 use std::alloc::{AllocError, AllocFailed};
 use thiserror::Error;
 
-/// The first rule that a board breaks, or a growth of memory that was refused (own).
+/// The first rule that a board breaks, or out of memory (own).
 #[derive(Clone, Copy, PartialEq, Eq, Debug, Error)]
 pub enum PlanError {
     /// Not 1 to 8 agents, or more than 32 domains, clocks or devices.
     #[error("a board has 1 to 8 agents and at most 32 domains, clocks and devices")]
     Count = 1,
-    /// A name of the vendor, sub-vendor, an agent, a domain or a clock is none.
+    /// A name of the vendor, sub-vendor, an agent, a domain or a clock is not valid.
     #[error("a name has 1 to 15 bytes, each 0x21 to 0x7E")]
     Name = 2,
     /// A list that does not have 1 to 64 rising rates, steps that are 0 or do not lead from the
@@ -22,10 +22,10 @@ pub enum PlanError {
     /// A device holds a domain or clock that the board lacks.
     #[error("a device holds only domains and clocks of the board")]
     Device = 4,
-    /// The trusted agent is none of the board's.
+    /// The trusted agent is not an agent of the board.
     #[error("the trusted agent is one of the board's agents")]
     Trusted = 5,
-    /// A growth of memory was refused; the board keeps every rule.
+    /// Out of memory; the board keeps every rule.
     #[error("out of memory")]
     Memory = 6,
 }

@@ -1,4 +1,4 @@
-//! A board as it was written down, before any rule was looked at.
+//! A board as it was written down, before any rule was checked.
 ghost use Rattle.std.specs.Prelude.{◌≡◌, ◌≤◌, ◌↔◌, ◌^◌, length, Err, IfOk, IfErr};
 
 use crate::device::Device;

@@ -1,4 +1,4 @@
--- One bit of a mask of agents: bit a - 1 stands for agent a.
+-- One bit of a mask of agents: bit a - 1 encodes agent a.
 use Rattle.std.proofs.Common.{◌≡◌, ◌≢◌, ◌⊎◌, inl, inr, ℕ, ◌-◌, ◌*◌, ◌%◌, ◌^◌, ◌==◌, ◌≤◌, true, false, if◌then◌else◌, bit_or, bit_and, w8, ap, arith}
 use Rattle.std.specs.Int.{bit_at}
 use Rattle.std.proofs.lemmas.Bool.Decides.{eqb_tells}

@@ -13,7 +13,7 @@ use Rattle.scmi_plan.specs.declared.load.Load.{Load}
 use Rattle.scmi_plan.specs.declared.resource.Resource.TheVariants as resource
 use Rattle.scmi_base.specs.Permission.{Permissions, may, is_allowed}
 
--- the state of each domain, and who is told of its changes, bit a - 1 for agent a
+-- the state of each domain, and who is notified of its changes, bit a - 1 for agent a
 pub record PowerTables : Type 0 where
   pub states : List ℕ
   pub subscribers : List ℕ
@@ -27,7 +27,7 @@ pub record IsTable (table : PowerTables) : Type 0 where
 abbrev pub state_at : PowerTables → ℕ → ℕ
 state_at table d = get_or table.states d 0
 
--- whether an agent is told of a domain's changes
+-- whether an agent is notified of a domain's changes
 abbrev pub is_subscribed : PowerTables → ℕ → ℕ → Bool
 is_subscribed table a d = bit_at (get_or table.subscribers d 0) (a - 1) == 1
 
@@ -68,7 +68,7 @@ abbrev pub set_later : PowerCommand → Option (ℕ × ℕ)
 set_later (power.Set flags d state) = if bit_0 flags then Some (d, state) else None
 set_later _ = None
 
--- what a caller's successful command says of the subscription of agent a to domain d
+-- what a caller's successful command says about the subscription of agent a to domain d
 abbrev pub notification : ℕ → ℕ → ℕ → PowerCommand → Option Bool
 notification a d caller (power.Notify domain enable) = if caller == a && domain == d then Some (bit_0 enable) else None
 notification a d caller _ = None
@@ -97,7 +97,7 @@ notify_words board permissions caller d enable = notify_reply board (channel_of 
 abbrev pub HasSet : Option (ℕ × ℕ) → PowerTables → PowerTables → Type 0
 HasSet set table after = (d : ℕ) → d < DOMAINS → state_at after d ≡ set_to set d (state_at table d)
 
--- who is told of changes after this reply to a caller's command
+-- who is notified of changes after this reply to a caller's command
 abbrev pub HasNotified : List ℕ → ℕ → PowerCommand → PowerTables → PowerTables → Type 0
 HasNotified words caller command table after =
     (a d : ℕ) → 1 ≤ a → a ≤ AGENTS → d < DOMAINS

@@ -15,7 +15,7 @@ use scmi_codec::{Status, single_flag};
 use scmi_plan::{AgentChannel, Domain, Load, Plan, Resource};
 
 /// The checks of 0x4 (DEN0056B, power domain management protocol): domain, flags, state, kind of
-/// set, permission, pending sets. Answers whether the set is asynchronous.
+/// set, permission, pending sets. Returns whether the set is asynchronous.
 pub(crate) fn check_set(
     plan: &Plan,
     base: &BaseState,
@@ -46,7 +46,7 @@ pub(crate) fn check_set(
 }
 
 /// The checks of 0x6 (DEN0056B, power domain management protocol): domain, flags, support,
-/// permission. Answers whether notifications are to be enabled.
+/// permission. Returns whether notifications are to be enabled.
 pub(crate) fn check_notify(
     plan: &Plan,
     base: &BaseState,
@@ -71,7 +71,7 @@ pub(crate) fn check_notify(
     Ok(enabled)
 }
 
-/// NOT_FOUND where the board has no such domain.
+/// NOT_FOUND if the board has no such domain.
 pub(crate) fn check_domain(plan: &Plan, domain: u32) -> Result<(), Status>
     ensures first { result ≡ (if no_domain plan.now domain then Err NotFound else Ok tt) }
     ensures known { IfOk result (λ u. domain < length plan.now.domains) }
@@ -84,7 +84,7 @@ pub(crate) fn check_domain(plan: &Plan, domain: u32) -> Result<(), Status>
     Ok(())
 }
 
-/// NOT_SUPPORTED where a domain has no sets of a kind for an agent.
+/// NOT_SUPPORTED if a domain has no sets of a kind for an agent.
 fn check_kind(channel: AgentChannel, row: &Domain, asynchronous: bool) -> Result<(), Status>
     ensures { result ≡ (if supports channel row.now asynchronous then Ok tt else Err NotSupported) }
 {
@@ -99,7 +99,7 @@ fn check_kind(channel: AgentChannel, row: &Domain, asynchronous: bool) -> Result
     Ok(())
 }
 
-/// NOT_SUPPORTED where a domain has no notifications for an agent.
+/// NOT_SUPPORTED if a domain has no notifications for an agent.
 fn check_notifications(channel: AgentChannel, row: &Domain) -> Result<(), Status>
     ensures { result
         ≡ (if has_notifications channel row.now then Ok tt else Err NotSupported) }
@@ -110,7 +110,7 @@ fn check_notifications(channel: AgentChannel, row: &Domain) -> Result<(), Status
     Ok(())
 }
 
-/// DENIED where the caller may not change a domain.
+/// DENIED if the caller may not change a domain.
 fn check_permission(plan: &Plan, base: &BaseState, caller: u32, domain: u32) -> Result<(), Status>
     requires first { 1 ≤ caller }
     requires last { caller ≤ length plan.now.agents }
@@ -123,7 +123,7 @@ fn check_permission(plan: &Plan, base: &BaseState, caller: u32, domain: u32) -> 
     Ok(())
 }
 
-/// BUSY where a domain has a pending set, or where an asynchronous set has no room.
+/// BUSY if a domain has a pending set, or if an asynchronous set has no room.
 fn check_free(domain: u32, asynchronous: bool, load: Load) -> Result<(), Status>
     requires { domain < DOMAINS }
     ensures { result

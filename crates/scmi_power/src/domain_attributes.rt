@@ -22,14 +22,14 @@ pub(crate) fn attributes_of(channel: AgentChannel, row: &Domain) -> u32
         + flag(row.synchronous, SYNCHRONOUS)
 }
 
-/// Whether a domain has notifications for an agent: none where the platform can't send to it (own).
+/// Whether a domain has notifications for an agent: none if the platform can't send to it (own).
 pub(crate) fn has_notifications(channel: AgentChannel, row: &Domain) -> bool
     ensures { result ≡ has_notifications channel row.now }
 {
     !channel.one_way && row.notify
 }
 
-/// Whether a domain has asynchronous sets for an agent: none where the platform can't send to it
+/// Whether a domain has asynchronous sets for an agent: none if the platform can't send to it
 /// (own).
 pub(crate) fn has_asynchronous(channel: AgentChannel, row: &Domain) -> bool
     ensures { result ≡ has_asynchronous channel row.now }

@@ -20,7 +20,7 @@ pub(crate) fn starting_state(row: &Domain) -> u32
     if row.on { ON } else { OFF }
 }
 
-/// INVALID_PARAMETERS where a word is no state.
+/// INVALID_PARAMETERS if a word is not a state.
 pub(crate) fn check_state(state: u32) -> Result<(), Status>
     ensures { result ≡ (if is_state state then Ok tt else Err InvalidParameters) }
 {

@@ -1,6 +1,6 @@
 //! What a command of the power domain protocol set.
 
-/// The domain and state that a command set now, be it to an equal state; and the domain and state
+/// The domain and state that a command set now, even to an equal state; and the domain and state
 /// that it accepted for later. A command that is refused has neither.
 #[derive(Clone, Copy)]
 pub struct PowerDone {

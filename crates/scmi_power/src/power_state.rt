@@ -1,4 +1,4 @@
-//! The state of each power domain, and who is told of its changes.
+//! The state of each power domain, and who is notified of its changes.
 ghost use Rattle.std.specs.Prelude.{◌≡◌, ◌≤◌, ◌<◌, ◌-◌, ◌==◌, ℕ, length, true, false, not, if◌then◌else◌, Some, IfSome};
 ghost use Rattle.std.specs.Int.{bit_at};
 ghost use Rattle.scmi_codec.specs.Payload.{begins_with_success};
@@ -18,8 +18,8 @@ use scmi_codec::{Payload, PowerCommand, SUCCESS, set_payload, set_refusal};
 use scmi_plan::{DOMAINS, Load, Plan};
 use std::marker::Model;
 
-/// The state of each domain, as the word that a reply has, and the agents that are told of its
-/// changes: bit a - 1 stands for agent a.
+/// The state of each domain, as the word that a reply has, and the agents that are notified of its
+/// changes: bit a - 1 is for agent a.
 #[derive(Drop, Debug)]
 pub struct PowerState {
     states: [u32; DOMAINS],
@@ -37,7 +37,7 @@ impl Model for PowerState {
 }
 
 impl PowerState {
-    /// The state of a board at the start: each domain as the plan says, and no agent told of
+    /// The state of a board at the start: each domain as in the plan, and no agent notified of
     /// changes.
     pub fn new(plan: &Plan) -> PowerState
         ensures states { (d : ℕ) → d < length plan.now.domains
@@ -57,11 +57,12 @@ impl PowerState {
 
     /// Executes a command of a caller and writes the reply, which begins with a status: NOT_FOUND
     /// for an unknown domain or message id; then INVALID_PARAMETERS for flag bits besides bit 0 or
-    /// for a word that is no state; then NOT_SUPPORTED for a kind of set, or notifications, that
-    /// the domain lacks, or that would send to a caller to which the platform can't (own); then DENIED for a domain that the caller may not change; then BUSY for a
-    /// set of a domain that has a pending set, or for an asynchronous set without room. A command
-    /// that is refused changes nothing. A synchronous set takes effect here; an asynchronous one is
-    /// only named, for `complete`.
+    /// for a word that is not a state; then NOT_SUPPORTED for a kind of set, or notifications, that
+    /// the domain lacks, or that would send to a caller to which the platform can't (own); then
+    /// DENIED for a domain that the caller may not change; then BUSY for a set of a domain that has
+    /// a pending set, or for an asynchronous set without room. A command that is refused changes
+    /// nothing. A synchronous set takes effect here; an asynchronous one is only named, for
+    /// `complete`.
     #[tactic(auto, unfolding(crate::specs::PowerReply::power_reply))]
     pub fn execute(
         &mut self,
@@ -106,7 +107,7 @@ impl PowerState {
         NOTHING
     }
 
-    /// Gives a domain the state of a set that takes effect now, and answers whether it was another
+    /// Gives a domain the state of a set that takes effect now, and returns whether it was another
     /// before.
     pub fn complete(&mut self, domain: u32, state: u32) -> bool
         requires { domain < DOMAINS }
@@ -120,7 +121,7 @@ impl PowerState {
         changed
     }
 
-    /// Who is told of a domain's changes: bit a - 1 stands for agent a.
+    /// Who is notified of a domain's changes: bit a - 1 is for agent a.
     pub fn subscribers(&self, domain: u32) -> u8
         requires { domain < DOMAINS }
         ensures { (a : ℕ) → (bit_at result (a - 1) == 1) ≡ is_subscribed self.now a domain }
@@ -152,7 +153,7 @@ impl PowerState {
         self.states[domain as usize]
     }
 
-    /// The domain and state that a command of a caller sets at once, as `execute` does; `None` where
+    /// The domain and state that a command of a caller sets at once, as `execute` does; `None` if
     /// it sets none, or is refused.
     #[tactic(auto, unfolding(crate::specs::PowerReply::power_reply))]
     pub fn change_of(

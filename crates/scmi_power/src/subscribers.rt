@@ -1,9 +1,9 @@
-//! Who is told of a domain's changes: bit a - 1 of a mask stands for agent a.
+//! Who is notified of a domain's changes: bit a - 1 of a mask is for agent a.
 ghost use Rattle.std.specs.Prelude.{◌≡◌, ◌≤◌, ◌-◌, ◌==◌, ℕ, if◌then◌else◌};
 ghost use Rattle.std.specs.Int.{bit_at};
 ghost use Rattle.scmi_plan.specs.declared.limits.TheConstants.{AGENTS};
 
-/// The mask with one agent told, or told no more, and every other agent as it was.
+/// The mask with one agent notified, or no longer notified, and every other agent as it was.
 pub(crate) fn with_subscriber(mask: u8, agent: u32, is_told: bool) -> u8
     requires first { 1 ≤ agent }
     requires last { agent ≤ AGENTS }

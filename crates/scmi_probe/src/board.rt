@@ -3,7 +3,7 @@
 use scmi_plan::{Device, RateList, Rates, RawClock, RawDomain, RawPlan};
 use std::alloc::{AllocError, Global};
 
-/// The board of the mode `once`. The only error is want of memory.
+/// The board of the mode `once`. The only error is running out of memory.
 pub fn raw_board(alloc: Global) -> Result<RawPlan, AllocError> {
     Ok(RawPlan {
         vendor: String::from_str(alloc, "Acme")?,

@@ -9,7 +9,7 @@ use scmi_link::Channel;
 use std::alloc::Global;
 use std::io::Write;
 
-/// A channel is made. Where memory is refused it is made again.
+/// A channel is made. If memory is refused it is made again.
 pub fn make_channel<C: Channel, W: Write>(alloc: Global, lines: &mut Lines<'_, W>) {
     if !is_made::<C, W>(alloc, lines) {
         is_made::<C, W>(alloc, lines);
@@ -23,7 +23,7 @@ fn is_made<C: Channel, W: Write>(alloc: Global, lines: &mut Lines<'_, W>) -> boo
     made
 }
 
-/// A command is served. Where memory is refused it is served again.
+/// A command is served. If memory is refused it is served again.
 pub fn serve_again<C: Channel, W: Write>(alloc: Global, lines: &mut Lines<'_, W>) {
     let Some(mut session) = open::<C, W>(alloc, lines) else {
         return;
@@ -36,7 +36,7 @@ pub fn serve_again<C: Channel, W: Write>(alloc: Global, lines: &mut Lines<'_, W>
     session.retire(lines);
 }
 
-/// A command is served. Where memory is refused its agent withdraws it.
+/// A command is served. If memory is refused its agent withdraws it.
 pub fn withdraw<C: Channel, W: Write>(alloc: Global, lines: &mut Lines<'_, W>) {
     let Some(mut session) = open::<C, W>(alloc, lines) else {
         return;
@@ -50,7 +50,7 @@ pub fn withdraw<C: Channel, W: Write>(alloc: Global, lines: &mut Lines<'_, W>) {
     session.retire(lines);
 }
 
-/// Both sides of the board. Where memory is refused the core comes back, and is connected again.
+/// Both sides of the board. If memory is refused the core comes back, and is connected again.
 pub fn open<C: Channel, W: Write>(alloc: Global, lines: &mut Lines<'_, W>) -> Option<Session<C>>
     ensures { IfSome result (λ session. 1 ≤ session) }
 {

@@ -19,7 +19,7 @@ enum Beside {
 }
 
 /// What the arguments `command platform COUNT PROTOCOL MESSAGE WORD ..` ask for; with `core` the
-/// platform keeps its history, and with `+none` or `+driver` behind that word the commands are
+/// platform keeps its history, and with `+none` or `+driver` after that word the commands are
 /// executed beside hardware that does nothing, or that writes a register for each change.
 #[derive(Drop)]
 pub struct Commands {
@@ -30,7 +30,7 @@ pub struct Commands {
 }
 
 impl Commands {
-    /// What is asked for. `None` for other arguments, or where there was no memory to read them.
+    /// What is asked for. `None` for other arguments, or if there was no memory to read them.
     pub fn asked_for<R: Env + Alloc>(rt: &R) -> Option<Commands> {
         let mut arguments = env::args(rt).ok()?;
         let _program = arguments.next()?;
@@ -47,7 +47,7 @@ impl Commands {
     }
 
     /// Has them executed. The lines are of the board, the last reply, and the length of the
-    /// history, where it is kept.
+    /// history, if it is kept.
     pub fn make<W: Write>(&self, alloc: Global, lines: &mut Lines<'_, W>) {
         let Some(plan) = new_plan(alloc, lines) else {
             return;

@@ -1,4 +1,4 @@
-//! The calls of a core, each made again where memory is refused.
+//! The calls of a core, each made again if memory is refused.
 ghost use Rattle.std.specs.Prelude.{◌<◌, ◌≤◌, length};
 ghost use Rattle.scmi_codec.specs.declared.header.TheConstants.{TOKENS};
 ghost use Rattle.scmi_codec.specs.declared.payload.TheConstants.{PAYLOAD_WORDS};
@@ -32,7 +32,7 @@ const OTHER_EVENT: u16 = 3;
 
 const LONGEST_EVENT: u16 = 3 + PAYLOAD_WORDS as u16;
 
-// So many reads that the first completion finds room for one longest event less than it needs, and
+// Enough reads that the first completion finds room for one longest event less than it needs, and
 // the last posting too, once the room was doubled twice.
 const READS: u16 = (LONGEST_EVENT - NOTIFY_EVENT) / GET_EVENT;
 
@@ -64,7 +64,7 @@ fn set_state<W: Write>(lines: &mut Lines<'_, W>, core: &mut Core, token: u16, st
     post(lines, core);
 }
 
-/// So many reads of a power domain's state.
+/// This many reads of a power domain's state.
 fn read_states<W: Write>(lines: &mut Lines<'_, W>, core: &mut Core, count: u16) {
     'reads: for _ in 0..count {
         execute(lines, core, 3, STATE_GET, &[0]);

@@ -18,7 +18,7 @@ pub struct Exchanges {
 }
 
 impl Exchanges {
-    /// What is asked for. `None` for other arguments, or where there was no memory to read them.
+    /// What is asked for. `None` for other arguments, or if there was no memory to read them.
     pub fn asked_for<R: Env + Alloc>(rt: &R) -> Option<Exchanges> {
         let mut arguments = env::args(rt).ok()?;
         let _program = arguments.next()?;

@@ -6,7 +6,7 @@ use scmi_plan::{Plan, PlanError, RawPlan};
 use std::alloc::Global;
 use std::io::Write;
 
-/// The plan of the board. Where memory is refused it is made again.
+/// The plan of the board. If memory is refused it is made again.
 pub fn new_plan<W: Write>(alloc: Global, lines: &mut Lines<'_, W>) -> Option<Plan> {
     let raw = written_board(alloc, lines)?;
     match check(alloc, lines, &raw) {

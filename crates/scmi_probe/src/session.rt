@@ -34,7 +34,7 @@ impl<C: Channel> Model for Session<C> {
 impl<C: Channel> Session<C> {
     ghost use Rattle.std.specs.Prelude.{◌≡◌, ◌≤◌, [], length, IfOk, IfErr};
 
-    /// Both sides, over new channels. The error hands the core back for want of memory.
+    /// Both sides, over new channels. The error hands the core back when out of memory.
     pub fn open(alloc: Global, core: Core) -> Result<Session<C>, Core>
         requires { core.history ≡ [] }
         ensures agents { IfOk result (λ session. session ≡ length core.board.agents) }
@@ -59,7 +59,7 @@ impl<C: Channel> Session<C> {
         }
     }
 
-    /// Serves agent 1, and says whether memory was there for it.
+    /// Serves agent 1, and returns whether there was memory for it.
     pub fn serve<W: Write>(&mut self, lines: &mut Lines<'_, W>) -> bool
         ensures { self.new ≡ self.old }
     {
@@ -73,7 +73,7 @@ impl<C: Channel> Session<C> {
         answer.is_ok()
     }
 
-    /// Agent 1 looks for its reply.
+    /// Agent 1 polls for its reply.
     pub fn collect<W: Write>(&mut self, lines: &mut Lines<'_, W>)
         requires { 1 ≤ self.old }
         ensures { self.new ≡ self.old }
@@ -107,7 +107,7 @@ impl<C: Channel> Session<C> {
         }
     }
 
-    /// Gathers all ends. The line is the length of the history.
+    /// Gathers all endpoints. The line is the length of the history.
     pub fn retire<W: Write>(self, lines: &mut Lines<'_, W>) {
         let Session {
             controller,

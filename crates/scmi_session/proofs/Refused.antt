@@ -26,12 +26,12 @@ pub made_none : (change : Option Effect) → Some [] ≡ and_made (Some []) chan
 made_none None is = refl
 made_none (Some effect) is = cc
 
--- where a set is pending, its completion changes something
+-- if a set is pending, its completion changes something
 completion_changes : (sets : List PendingSet) → 0 < length sets → option_map effect_of (option_or (option_map completion (slice_get sets 0)) None) ≡ None → ⊥
 completion_changes [] some none = omega (arith, some)
 completion_changes (set ∷ sets) some none = cc
 
--- a pending set ends as failed where the hardware has made nothing
+-- a pending set ends as failed if the hardware has made nothing
 ends_failed : (board : Board) (h h' : List Event) → 0 < length (pending_sets board (deeds board h)) → HappensOn board IsEnd h (Some []) h' (Some []) → h' ≡ h ++ AdvanceFailed ∷ []
 ends_failed board h h' some happens =
     elim happens.is_one [

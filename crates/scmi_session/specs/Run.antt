@@ -36,7 +36,7 @@ module _ (full : Bool) (Shows : CallerView → Result Closing CloseError → Typ
     pub new : IsNewSession board first
     pub made : AllSteps steps lines first last
 
--- once all ends are gathered: the history is legal, and says of each agent what that agent did
+-- once all endpoints are gathered: the history is legal, and says about each agent what that agent did
 pub record IsGathered (session : SessionView) : Type 0 where
   pub legal : IsLegal session.platform.board session.platform.history
   pub headline : Headlines session.platform.board session.platform.history 1 session.agents session.platform.callees session.platform.callers

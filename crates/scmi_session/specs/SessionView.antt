@@ -3,7 +3,7 @@ use Rattle.std.specs.Prelude.{List}
 use Rattle.scmi_ends.specs.AgentView.{AgentView}
 use Rattle.scmi_ends.specs.ControllerView.{ControllerView}
 
--- the platform's side, and the ends of each agent, in order
+-- the platform's side, and the endpoints of each agent, in order
 pub record SessionView : Type 0 where
   pub platform : ControllerView
   pub agents : List AgentView

@@ -9,7 +9,7 @@ use Rattle.scmi_text.specs.declared.step.Step.TheVariants.{Agent, Platform, Do, 
 use Rattle.scmi_text.specs.declared.step_line.StepLine.{StepLine}
 use Rattle.scmi_text.specs.declared.step_line.StepLine.TheVariants as line
 
--- the line says what came of this call of the agent
+-- the line reports what came of this call of the agent
 abbrev pub IsAgentLine : ℕ → AgentStep → StepLine → Type 0
 IsAgentLine a (Call call) (line.Token b token) = b ≡ a
 IsAgentLine a (Call call) (line.NotPosted b refusal) = b ≡ a
@@ -22,14 +22,14 @@ IsAgentLine a P2a (line.P2a b frame) = b ≡ a
 IsAgentLine a Close (line.Closed b closing) = b ≡ a
 IsAgentLine a _ _ = ⊥
 
--- the line says what came of this call of the platform
+-- the line reports what came of this call of the platform
 abbrev pub IsPlatformLine : ℕ → PlatformStep → StepLine → Type 0
 IsPlatformLine a Serve (line.Served b served) = b ≡ a
 IsPlatformLine a Flush (line.Flushed b flushed) = b ≡ a
 IsPlatformLine a Shut (line.Shut b closing) = b ≡ a
 IsPlatformLine a _ _ = ⊥
 
--- the line says what came of the step, and names its agent
+-- the line reports what came of the step, and names its agent
 abbrev pub IsLineOf : Step → StepLine → Type 0
 IsLineOf (Agent a step) l = IsAgentLine a step l
 IsLineOf (Platform a step) l = IsPlatformLine a step l

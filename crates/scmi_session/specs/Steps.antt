@@ -1,4 +1,4 @@
--- What each step of a session leaves, and what its line says of it.
+-- What each step of a session leaves, and what its line says about it.
 use Rattle.std.specs.Prelude.{◌≡◌, ◌≢◌, ℕ, ◌+◌, ◌-◌, ◌%◌, ◌<◌, Bool, true, false, List, [], ◌∷◌, ◌++◌, length, slice_get, slice_set, Option, Some, None, Result, Ok, Err}
 use Rattle.scmi_codec.specs.Area.{is_well_formed}
 use Rattle.scmi_codec.specs.Command.{protocol_header}
@@ -56,13 +56,13 @@ pub record PostsMalformed (old : AgentView) (len header : ℕ) (new : AgentView)
   pub malformed : is_well_formed len ≡ false
   pub posts : PostsAt old (frame.Malformed len header) new
 
--- one `collect` on A2P, and nothing else changes; where a close is known and nothing is outstanding, it says `Closed`
+-- one `collect` on A2P, and nothing else changes; if a close is known and nothing is outstanding, it gives `Closed`
 pub record CollectsAt (old : AgentView) (answer : Collected) (new : AgentView) : Type 0 where
   pub collects : Collects old.caller answer new.caller
   pub known : knows_close old.caller ≡ true → ¬ (IsOutstanding old.caller) → answer ≡ collected.Closed
   pub same : new ≡ record old { caller = new.caller }
 
--- one look at P2A, and nothing else changes
+-- one poll of P2A, and nothing else changes
 pub record ReceivesAt (old : AgentView) (frame : Option Frame) (new : AgentView) : Type 0 where
   pub receives : Receives old.callee frame new.callee
   pub same : new ≡ record old { callee = new.callee }
@@ -166,7 +166,7 @@ pub record OnlyCalls (a : ℕ) (call : Call) (old new : SessionView) : Type 0 wh
   pub token : ℕ
   pub calls : AtAgent a (λ before after. CallsAt before call token after) old new
 
--- what is left where memory was refused: nothing was taken, executed or posted but the command of a `do` or a `fail`
+-- what is left if memory was refused: nothing was taken, executed or posted but the command of a `do` or a `fail`
 abbrev pub StopsFor : Step → SessionView → SessionView → Type 0
 StopsFor (Do a call) old new = OnlyCalls a call old new
 StopsFor (Fail a call) old new = OnlyCalls a call old new

@@ -1,4 +1,5 @@
-//! What one agent does in a step, and the line that is written for it, by its own end and link.
+//! What one agent does in a step, and the line that is written for it, by its own endpoint and
+//! link.
 ghost use Rattle.scmi_ends.specs.AgentView.{IsOfLink, HasSameIdentities};
 ghost use Rattle.scmi_text.specs.declared.step.AgentStep.TheVariants as step;
 ghost use Rattle.scmi_ends.specs.Shut.{ShowsClose};

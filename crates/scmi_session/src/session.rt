@@ -11,7 +11,7 @@ use std::alloc::{AllocError, Global};
 use std::marker::Model;
 
 /// The controller of a board, its agents, and the channels between them. A contract sees the
-/// platform's side and each agent's ends.
+/// platform's side and each agent's endpoints.
 #[derive(Drop)]
 pub struct Session<C: Channel> {
     controller: Controller<C>,
@@ -53,7 +53,7 @@ impl<C: Channel> Session<C> {
         }
     }
 
-    /// The platform of the session: its board, its history, and where it stands.
+    /// The platform of the session: its board, its history, and its state.
     pub fn core(&self) -> &Core
         ensures board { result.now.board ≡ self.now.platform.board }
         ensures history { result.now.history ≡ self.now.platform.history }
@@ -86,7 +86,7 @@ impl<C: Channel> Session<C> {
         }
     }
 
-    /// Gathers all ends, and gives the history.
+    /// Gathers all endpoints, and gives the history.
     pub fn retire(self) -> Trace
         ensures history { result.events ≡ self.platform.history }
         ensures gathered { IsGathered self }

@@ -1,7 +1,7 @@
 -- What a reader of XML makes of a text from outside.
 use Rattle.std.specs.Prelude.{ℕ, ◌==◌, ◌&&◌, not, nat_le, Bool, true, false, if◌then◌else◌, List, [], ◌∷◌}
 
--- a byte that does not end the text that it stands in, between tags or in quotes
+-- a byte that does not end the text that it is in, between tags or in quotes
 abbrev pub is_plain : ℕ → Bool
 is_plain byte = not (byte == 60) && not (byte == 62) && not (byte == 34)
 
@@ -9,7 +9,7 @@ is_plain byte = not (byte == 60) && not (byte == 62) && not (byte == 34)
 abbrev pub shown_byte : ℕ → ℕ
 shown_byte byte = if nat_le 32 byte && nat_le byte 126 then byte else 63
 
--- the character of an entity by what stands behind its `&`: `lt;`, `gt;`, `amp;` or `quot;`
+-- the character of an entity by what follows its `&`: `lt;`, `gt;`, `amp;` or `quot;`
 abbrev pub entity_character : List ℕ → ℕ
 entity_character [] = 38
 entity_character (letter ∷ rest) = if letter == 108 then 60 else if letter == 103 then 62 else if letter == 97 then 38 else 34

@@ -14,7 +14,7 @@ unfoldable pub execution_text : Layout → ℕ → ℕ → List ℕ
 execution_text l slot until =
     box_text (codes "run") (record { x = platform_x l - 4; y = line_y slot - 4 }) 8 (line_y until - line_y slot + 8)
 
--- the width of a pill with these words behind its own
+-- the width of a pill with these words after its own
 abbrev pub pill_width : List ℕ → ℕ
 pill_width text = 76 + width_in text 11
 
@@ -62,7 +62,7 @@ closed_text l agent slot by text = cross_text (codes "shut") (record { x = close
 abbrev pub fault_x : Layout → ℕ → ℕ → ℕ
 fault_x l agent distance = if is_left l agent then platform_x l + distance else platform_x l - distance
 
--- a change that the hardware refused: a cross beside the platform's lifeline, away from the agent's, and words behind it
+-- a change that the hardware refused: a cross beside the platform's lifeline, away from the agent's, and words after it
 unfoldable pub fault_text : Layout → ℕ → ℕ → List ℕ → List ℕ
 fault_text l agent slot text =
     cross_text (codes "lost") (record { x = fault_x l agent 14; y = line_y slot - 4 })

@@ -1,4 +1,4 @@
--- What stands around the marks: the head of the file, title, script, border and legend.
+-- What is drawn around the marks: the head of the file, title, script, border and legend.
 use Rattle.std.specs.Prelude.{ℕ, ◌+◌, ◌-◌, ◌*◌, ◌%◌, ◌==◌, if◌then◌else◌, List, [], ◌∷◌, ◌++◌, codes, flat_map, length, get_or, nat_le, zero, suc, take, min}
 use Rattle.scmi_svg.specs.Piece.{fixed, number, outside, parts_text}
 use Rattle.scmi_svg.specs.Shape.{words_text}
@@ -18,7 +18,7 @@ sized_text width height =
     fixed (codes "\" viewBox=\"0 0 ") ∷ number width ∷ fixed (codes " ") ∷ number height ∷
     fixed (codes "\" font-family=\"Inter,'Helvetica Neue','DejaVu Sans',sans-serif\" font-size=\"12\" role=\"img\" aria-labelledby=\"title below\">\n") ∷ [])
 
--- the title and what stands below it, for a reader of the screen, and the style
+-- the title and the text below it, for a screen reader, and the style
 unfoldable pub named_text : List ℕ → List ℕ → List ℕ
 named_text title below =
     parts_text (fixed (codes "<title id=\"title\">") ∷ outside title ∷ fixed (codes "</title>\n<desc id=\"below\">SCMI sequence chart: ") ∷ outside below ∷
@@ -53,7 +53,7 @@ number_text y line =
     parts_text (fixed (codes "<text class=\"mono line\" x=\"46\" dy=\"20\" y=\"") ∷ number y ∷ fixed (codes "\">") ∷ number line ∷
     fixed (codes "</text>\n") ∷ [])
 
--- how many bytes stand before the last space up to a place
+-- how many bytes there are before the last space up to a place
 abbrev pub cut_at : List ℕ → ℕ → ℕ
 cut_at text zero = min CUT (length text - 1)
 cut_at text (suc place) = if get_or text (suc place) 0 == 32 then suc place else cut_at text place
@@ -64,11 +64,11 @@ beginning_text at text =
     parts_text (fixed (codes "<text class=\"mono\" x=\"") ∷ number at.x ∷ fixed (codes "\" y=\"") ∷ number at.y ∷ fixed (codes "\" dy=\"20\">") ∷
     outside text ∷ fixed (codes " &#8230;</text>\n") ∷ [])
 
--- the words of a line of the script: whole words, and a sign, where there are more than are shown
+-- the words of a line of the script: whole words, and a sign, if there are more than are shown
 unfoldable pub shown_text : Point → List ℕ → List ℕ
 shown_text at text = if nat_le (length text) SHOWN then words_text (codes "mono") at 0 20 text else beginning_text at (take (cut_at text CUT) text)
 
--- the line of the script behind its number
+-- the line of the script after its number
 unfoldable pub script_text : Step → List ℕ
 script_text s = number_text (slot_y s.slot) s.line ++ shown_text (record { x = 56; y = slot_y s.slot }) s.text.items
 

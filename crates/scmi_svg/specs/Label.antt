@@ -1,4 +1,4 @@
--- What messages say, as words.
+-- What messages report, as words.
 use Rattle.std.specs.Prelude.{ℕ, ◌*◌, ◌/◌, List, [], ◌∷◌, ◌++◌, codes, min, max}
 use Rattle.scmi_svg.specs.Needs.{label_width}
 use Rattle.scmi_svg.specs.declared.needs.TheConstants.{WIDE_GAP}
@@ -21,19 +21,19 @@ if_any_text start (byte ∷ bytes) = parts_text (fixed start ∷ outside (byte �
 unfoldable pub front_text : Label → List ℕ
 front_text l = if_any_text (codes "<tspan class=\"name\">") l.name.items ++ if_any_text (codes "<tspan class=\"object\" dx=\"6\">") l.object.items
 
--- the value of a message behind an arrow
+-- the value of a message after an arrow
 unfoldable pub value_text : List ℕ → List ℕ
 value_text value = if_any_text (codes "<tspan class=\"object\" dx=\"4\">&#8594; ") value
 
--- the remark of a message
+-- the comment of a message
 unfoldable pub tag_text : List ℕ → List ℕ
 tag_text tag = if_any_text (codes "<tspan class=\"tag\" dx=\"6\">") tag
 
--- the value of a message, and the remark
+-- the value of a message, and the comment
 unfoldable pub back_text : Label → List ℕ
 back_text l = value_text l.value.items ++ tag_text l.tag.items
 
--- where words stand, and their size
+-- where words are, and their size
 unfoldable pub place_text : Spot → ℕ → List ℕ
 place_text spot size =
     parts_text (fixed (codes "<text x=\"") ∷ number spot.x ∷ fixed (codes "\" y=\"") ∷ number spot.y ∷ fixed (codes "\" font-size=\"") ∷ number size ∷
@@ -54,10 +54,10 @@ turn_by (turn.Up hundredths) spot = turned_text (codes " transform=\"rotate(-") 
 abbrev pub turn_text : Spot → List ℕ
 turn_text spot = turn_by spot.turn spot
 
--- where words stand, their size, and how they are turned
+-- where words are, their size, and how they are turned
 unfoldable pub start_text : Spot → ℕ → List ℕ
 start_text spot size = place_text spot size ++ turn_text spot
 
--- what a message says
+-- the words of a message
 unfoldable pub label_text : Spot → Label → List ℕ
 label_text spot l = start_text spot (font_size spot.room (label_width l)) ++ front_text l ++ back_text l ++ parts_text (fixed (codes "</text>\n") ∷ [])

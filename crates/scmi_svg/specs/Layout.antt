@@ -1,4 +1,4 @@
--- Where things stand, in pixels.
+-- Where things are, in pixels.
 use Rattle.std.specs.Prelude.{ℕ, ◌+◌, ◌-◌, ◌*◌, ◌/◌, nat_le, Bool, if◌then◌else◌, List, [], ◌∷◌, vec_len, min, max}
 use Rattle.scmi_svg.specs.declared.layout.TheConstants.{AGENTS, SHOWN, SLOT, TOP}
 use Rattle.scmi_svg.specs.declared.needs.TheConstants.{MARGIN}
@@ -13,7 +13,7 @@ use Rattle.scmi_svg.specs.declared.chart.Step.{Step}
 abbrev pub shown_length : Step → ℕ
 shown_length s = min (vec_len s.text) SHOWN
 
--- the most characters that are shown of a step, or so many if none has more
+-- the most characters that are shown of a step, or this many if none has more
 abbrev pub longest_from : ℕ → List Step → ℕ
 longest_from most [] = most
 longest_from most (s ∷ steps) = longest_from (max most (shown_length s)) steps
@@ -27,7 +27,7 @@ unfoldable pub layout_of : Chart → Layout
 layout_of c =
     record { left = 144 + 6 * longest_from 14 c.steps.items; gap = gap_of c.marks.items; head = head_of c.lifelines.items; column = column_of c.columns.items; least = least_of c; agents = min (vec_len c.lifelines) AGENTS; columns = min (vec_len c.columns) 255; slots = c.slots }
 
--- how many agents stand to the left of the platform
+-- how many agents are to the left of the platform
 abbrev pub left_agents : Layout → ℕ
 left_agents l = (l.agents + 1) / 2
 
@@ -35,7 +35,7 @@ left_agents l = (l.agents + 1) / 2
 unfoldable pub platform_x : Layout → ℕ
 platform_x l = l.left + l.gap * left_agents l
 
--- whether an agent stands to the left of the platform
+-- whether an agent is to the left of the platform
 unfoldable pub is_left : Layout → ℕ → Bool
 is_left l agent = nat_le agent (left_agents l)
 
@@ -75,7 +75,7 @@ width l = max (columns_x l + l.column * l.columns + 6) l.least
 unfoldable pub slot_y : ℕ → ℕ
 slot_y slot = TOP + SLOT * slot
 
--- the line of a slot on which its mark stands
+-- the line of a slot on which its mark is drawn
 unfoldable pub line_y : ℕ → ℕ
 line_y slot = slot_y slot + 21
 

@@ -68,7 +68,7 @@ abbrev pub is_used : Chart → Entry → Bool
 is_used c entry.Held = is_held c.columns.items
 is_used c e = is_marked c.marks.items e
 
--- the width of what is said of a line or a sign
+-- the width of the explanation of a line or a sign
 abbrev pub entry_width : Entry → ℕ
 entry_width entry.Command = 103
 entry_width entry.Refusal = 103
@@ -93,7 +93,7 @@ entry_class entry.Delayed = codes "delayed"
 entry_class entry.Notification = codes "notification"
 entry_class _ = codes "sign"
 
--- a line or a sign, and what is said of it
+-- a line or a sign, and its explanation
 abbrev pub entry_text : Entry → List ℕ
 entry_text entry.Command = codes "<line class=\"head\" x1=\"0\" y1=\"12\" x2=\"26\" y2=\"12\"/>\n<text x=\"34\" y=\"16\">command</text>\n"
 entry_text entry.Lost = codes "<path class=\"lost\" d=\"M5 7l10 10m0 -10l-10 10\"/>\n<text x=\"22\" y=\"16\">not executed</text>\n"

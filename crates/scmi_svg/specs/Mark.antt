@@ -53,7 +53,7 @@ unfoldable pub detail_text : List ℕ → List ℕ
 detail_text [] = []
 detail_text (byte ∷ bytes) = parts_text (fixed (codes "<title>") ∷ outside (byte ∷ bytes) ∷ fixed (codes "</title>\n") ∷ [])
 
--- what is shown where a reader points at a mark: the header and words of its message
+-- what is shown when a reader points at a mark: the header and words of its message
 abbrev pub hover_text : Mark → List ℕ
 hover_text (mark.Command m token) = detail_text m.detail.items
 hover_text (mark.Withdrawn m token) = detail_text m.detail.items

@@ -35,7 +35,7 @@ abbrev pub token_text : Layout → ℕ → ℕ → Option ℕ → List ℕ
 token_text l agent slot None = []
 token_text l agent slot (Some token) = given_token_text (record { x = agent_x l agent; y = line_y slot }) agent token
 
--- the way of a message, and what it says
+-- the way of a message, and its words
 unfoldable pub way_text : Route → Message → List ℕ
 way_text r m = route_text r ++ label_text (spot_of r) m.label
 
@@ -52,7 +52,7 @@ unfoldable pub cut_way : Layout → ℕ → ℕ → ℕ → List ℕ
 cut_way l agent slot way =
     line_text (codes "way") (record { x = agent_x l agent; y = line_y slot }) (cut_end l agent slot way) ++ cross_text (codes "lost") (cut_end l agent slot way)
 
--- a way from an agent that ends in a cross, and what the message says
+-- a way from an agent that ends in a cross, and the words of the message
 unfoldable pub cut_text : Layout → Message → ℕ → List ℕ
 cut_text l m way = cut_way l m.agent m.slot way ++ label_text (spot_of (to_platform l m.agent m.slot m.slot)) m.label
 

@@ -1,4 +1,4 @@
--- How much room the parts of a chart want, in pixels.
+-- How much room the parts of a chart need, in pixels.
 use Rattle.std.specs.Prelude.{ℕ, ◌+◌, ◌*◌, ◌/◌, nat_lt, if◌then◌else◌, List, [], ◌∷◌, fold, max, min}
 use Rattle.scmi_svg.specs.Measure.{width_of, width_in}
 use Rattle.scmi_svg.specs.declared.needs.TheConstants.{GAP, WIDE_GAP, MARGIN, SMALL, HEAD, WIDE_HEAD, COLUMN, WIDE_COLUMN}
@@ -12,7 +12,7 @@ use Rattle.scmi_svg.specs.declared.mark.Message.{Message}
 use Rattle.scmi_svg.specs.declared.mark.Mark.{Mark}
 use Rattle.scmi_svg.specs.declared.mark.Mark.TheVariants as mark
 
--- how wide a part of a label is with what stands before it, in hundredths of its size
+-- how wide a part of a label is with the space before it, in hundredths of its size
 abbrev pub part_width : ℕ → List ℕ → ℕ
 part_width before [] = 0
 part_width before (byte ∷ bytes) = before + width_of (byte ∷ bytes)
@@ -21,11 +21,11 @@ part_width before (byte ∷ bytes) = before + width_of (byte ∷ bytes)
 abbrev pub label_width : Label → ℕ
 label_width l = part_width 0 l.name.items + part_width 50 l.object.items + part_width 190 l.value.items + part_width 50 l.tag.items
 
--- the room that the words of a message want between two lifelines
+-- the room that the words of a message need between two lifelines
 abbrev pub message_width : Message → ℕ
 message_width m = MARGIN + label_width m.label * SMALL / 100 + 1
 
--- the room that the words of a mark want between two lifelines
+-- the room that the words of a mark need between two lifelines
 abbrev pub mark_width : Mark → ℕ
 mark_width (mark.Command m token) = message_width m
 mark_width (mark.Withdrawn m token) = message_width m
@@ -41,7 +41,7 @@ mark_width (mark.Remark agent slot beside text) = MARGIN + width_in text.items 1
 mark_width (mark.Failed slot text) = 0
 mark_width (mark.Fault agent slot text) = MARGIN + width_in text.items 11
 
--- the distance between two lifelines: as wide as the words of the marks want, within bounds
+-- the distance between two lifelines: as wide as the words of the marks need, within bounds
 abbrev pub gap_of : List Mark → ℕ
 gap_of marks = min (fold (λ widest m. max widest (mark_width m)) GAP marks) WIDE_GAP
 
@@ -49,11 +49,11 @@ gap_of marks = min (fold (λ widest m. max widest (mark_width m)) GAP marks) WID
 abbrev pub head_of : List Lifeline → ℕ
 head_of lifelines = min (fold (λ widest l. max widest (28 + width_in l.name.items 14)) HEAD lifelines) WIDE_HEAD
 
--- the room that a rate wants
+-- the room that a rate needs
 abbrev pub rate_width : ℕ → ℕ
 rate_width hertz = if nat_lt hertz 1000000000 then 76 else if nat_lt hertz 10000000000000 then 112 else 170
 
--- the room that the words of a state want
+-- the room that the words of a state need
 abbrev pub state_width : State → ℕ
 state_width state.On = 0
 state_width state.Off = 0
@@ -61,11 +61,11 @@ state_width (state.Rate hertz enabled) = 28 + rate_width hertz
 state_width (state.Waiting count) = 0
 state_width state.Pending = 0
 
--- the room that the words of a state want, along the time that it lasted
+-- the room that the words of a state need, along the time that it lasted
 abbrev pub span_width : Span → ℕ
 span_width s = state_width s.state
 
--- the room that a column wants
+-- the room that a column needs
 abbrev pub column_width : Column → ℕ
 column_width c = fold (λ widest s. max widest (span_width s)) (20 + width_in c.name.items 12) c.spans.items
 

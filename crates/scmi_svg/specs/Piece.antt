@@ -20,7 +20,7 @@ piece_text (piece.Number n) = decimal n
 piece_text (piece.Long n) = decimal n
 piece_text (piece.Outside bytes) = escaped_text bytes.now
 
--- pieces, one behind the other
+-- pieces, one after another
 abbrev pub pieces_text : List Piece → List ℕ
 pieces_text pieces = flat_map piece_text pieces
 
@@ -36,6 +36,6 @@ part_text (fixed text) = text
 part_text (number n) = decimal n
 part_text (outside bytes) = escaped_text bytes
 
--- parts, one behind the other
+-- parts, one after another
 abbrev pub parts_text : List Part → List ℕ
 parts_text parts = flat_map part_text parts

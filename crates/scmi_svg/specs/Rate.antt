@@ -2,18 +2,18 @@
 use Rattle.std.specs.Prelude.{ℕ, ◌/◌, ◌%◌, ◌==◌, ◌&&◌, nat_le, nat_lt, if◌then◌else◌, List, [], ◌∷◌, ◌++◌, codes, decimal}
 use Rattle.scmi_svg.specs.Piece.{fixed, number, parts_text}
 
--- thousandths behind a point, without the zeros at their end
+-- thousandths after a point, without the zeros at their end
 abbrev pub fraction_text : ℕ → List ℕ
 fraction_text t =
     if t == 0 then [] else if t % 100 == 0 then parts_text (fixed (codes ".") ∷ number (t / 100) ∷ [])
     else if t % 10 == 0 then parts_text (fixed (codes ".") ∷ number (t / 100) ∷ number (t / 10 % 10) ∷ [])
     else parts_text (fixed (codes ".") ∷ number (t / 100) ∷ number (t / 10 % 10) ∷ number (t % 10) ∷ [])
 
--- so many thousandths of a unit
+-- this many thousandths of a unit
 unfoldable pub scaled_text : ℕ → List ℕ → List ℕ
 scaled_text thousandths unit = decimal (thousandths / 1000) ++ fraction_text (thousandths % 1000) ++ unit
 
--- a rate in the largest unit of which it has one or more and at most three digits behind the point
+-- a rate in the largest unit of which it has one or more and at most three digits after the point
 abbrev pub rate_text : ℕ → List ℕ
 rate_text hertz =
     if nat_le 1000000000 hertz && (hertz % 1000000 == 0) then scaled_text (hertz / 1000000) (codes " GHz")

@@ -20,7 +20,7 @@ unfoldable pub to_agent : Layout → ℕ → ℕ → ℕ → Route
 to_agent l agent slot taken =
     record { from = beside_platform l agent 5; bend = beside_agent l agent 22; to = agent_x l agent; words = beside_platform l agent (l.gap / 2); room = room l; slot = slot; taken = taken }
 
--- a way to where a message waits, down, and on
+-- a way to the place where a message waits, down, and on
 unfoldable pub bent_text : Point → Point → ℕ → List ℕ
 bent_text from to bend =
     line_text (codes "way") from (record { x = bend; y = from.y }) ++ line_text (codes "wait") (record { x = bend; y = from.y }) (record { x = bend; y = to.y })
@@ -34,7 +34,7 @@ start_of r = record { x = r.from; y = line_y r.slot }
 abbrev pub end_of : Route → Point
 end_of r = record { x = r.to; y = line_y r.taken }
 
--- the way of a message: straight where it is taken in its slot or the next one
+-- the way of a message: straight if it is taken in its slot or the next one
 unfoldable pub route_text : Route → List ℕ
 route_text r = if nat_le r.taken (r.slot + 1) then line_text (codes "head") (start_of r) (end_of r) else bent_text (start_of r) (end_of r) r.bend
 
@@ -46,11 +46,11 @@ distance from to = if nat_lt from to then to - from else from - to
 abbrev pub turn_of : Route → ℕ → Turn
 turn_of r way = if nat_lt r.from r.to then turn.Down (5730 * SLOT / way) else turn.Up (5730 * SLOT / way)
 
--- where words stand over a way that goes down by a slot
+-- where words are over a way that goes down by a slot
 unfoldable pub slanted_spot : Route → Spot
 slanted_spot r =
     record { x = r.words; y = line_y r.slot - 6 + SLOT * min (distance r.from r.words) 4096 / max (distance r.from r.to) 1; room = r.room; turn = turn_of r (max (distance r.from r.to) 1) }
 
--- where the words of a way stand: over it, in the gap beside the platform
+-- where the words of a way are: over it, in the gap beside the platform
 unfoldable pub spot_of : Route → Spot
 spot_of r = if r.taken == r.slot + 1 then slanted_spot r else record { x = r.words; y = line_y r.slot - 6; room = r.room; turn = turn.Level }

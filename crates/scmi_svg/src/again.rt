@@ -10,7 +10,7 @@ use crate::shape::{Point, write_words};
 use std::io;
 use std::io::Write;
 
-/// After how many steps the names stand again.
+/// After how many steps the names are written again.
 pub(crate) const STRETCH: u16 = 20;
 
 /// Writes the names again over each step that begins a stretch.

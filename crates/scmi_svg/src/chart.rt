@@ -4,12 +4,12 @@ use crate::mark::Mark;
 /// What happened in a run. The time axis is divided into slots of equal height: a step of a script
 /// takes one, or two if a command is posted in it and its reply read. A script of 2,000 lines takes
 /// 4,000 slots at most; there is room for 65,535. What names an agent without a lifeline, or a slot
-/// past the last, is drawn where that would stand.
+/// past the last, is drawn where that would be.
 #[derive(Drop)]
 pub struct Chart {
     /// The board's name.
     pub title: Vec<u8>,
-    /// What stands below the title, as the mode of the run.
+    /// The text below the title, such as the mode of the run.
     pub subtitle: Vec<u8>,
     /// How many slots the axis has.
     pub slots: u16,
@@ -80,7 +80,7 @@ pub enum State {
     Off,
     /// A clock's rate in Hz, and whether the clock is enabled.
     Rate { hertz: u64, is_enabled: bool },
-    /// So many messages wait in the outbox.
+    /// This many messages wait in the outbox.
     Waiting(u8),
     /// A set is pending.
     Pending,

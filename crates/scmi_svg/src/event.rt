@@ -82,14 +82,14 @@ fn write_sign<W: Write>(writer: &mut W, center: Point, text: &[u8]) -> io::Resul
     )
 }
 
-/// The width of a pill with these words behind its own.
+/// The width of a pill with these words after its own.
 fn pill_width(text: &[u8]) -> u32
     ensures { result ≡ pill_width text.now }
 {
     76 + width_in(text, 11)
 }
 
-/// Writes a close, on the lifeline of the end that closes.
+/// Writes a close, on the lifeline of the endpoint that closes.
 #[tactic(auto, unfolding(crate::specs::Event::closed_text))]
 pub(crate) fn write_closed<W: Write>(
     writer: &mut W,
@@ -110,7 +110,7 @@ pub(crate) fn write_closed<W: Write>(
     write_remark(writer, layout, agent, slot, by, text)
 }
 
-/// The lifeline of an end.
+/// The lifeline of an endpoint.
 fn closed_x(layout: &Layout, agent: u8, by: Side) -> u32
     ensures { result ≡ closed_x layout.now agent by }
 {
@@ -162,7 +162,7 @@ fn remark_class(layout: &Layout, agent: u8, beside: Side) -> &'static str
 }
 
 /// Writes that the hardware refused what an agent's command was to change, beside the platform's
-/// lifeline and away from the agent's, where no arrow of the command stands.
+/// lifeline and away from the agent's, where the command has no arrow.
 #[tactic(auto, unfolding(crate::specs::Event::fault_text))]
 pub(crate) fn write_fault<W: Write>(
     writer: &mut W,

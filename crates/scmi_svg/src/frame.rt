@@ -1,4 +1,4 @@
-//! What stands around the marks: the head of the file, title, script, border and legend.
+//! What is drawn around the marks: the head of the file, title, script, border and legend.
 ghost use Rattle.std.specs.Prelude.{◌≡◌, ◌<◌, OnOk, length};
 ghost use Rattle.std.specs.Io.KnownBytes.{Appends};
 ghost use Rattle.scmi_svg.specs.Frame.{head_text, sized_text, named_text, title_text, paper_text, steps_text, step_text, band_text, shade_text, script_text, shown_text, cut_at, beginning_text, number_text, border_text, legend_text, opened_text};
@@ -24,7 +24,7 @@ pub(crate) fn write_head<W: Write>(writer: &mut W, layout: &Layout, chart: &Char
     write_named(writer, &chart.title, &chart.subtitle)
 }
 
-/// Writes the title and what stands below it for a reader of the screen, and the style.
+/// Writes the title and the text below it for a screen reader, and the style.
 #[tactic(auto, unfolding(crate::specs::Frame::named_text))]
 fn write_named<'a, W: Write>(writer: &mut W, title: &'a [u8], below: &'a [u8]) -> io::Result<()>
     ensures { OnOk result (Appends (W.contents writer.old) (W.contents writer.new)
@@ -149,8 +149,8 @@ fn write_shade<W: Write>(writer: &mut W, layout: &Layout, step: &Step) -> io::Re
     )
 }
 
-/// Writes the line of the script behind its number; of a line with more characters than are shown the
-/// words that there is room for, and a sign.
+/// Writes the line of the script after its number. Of a line with more characters than are shown:
+/// the words that there is room for, and a sign.
 #[tactic(auto, unfolding(crate::specs::Frame::script_text))]
 fn write_script<W: Write>(writer: &mut W, step: &Step) -> io::Result<()>
     ensures { OnOk result (Appends (W.contents writer.old) (W.contents writer.new)
@@ -177,8 +177,8 @@ fn write_shown<W: Write>(writer: &mut W, at: Point, text: &[u8]) -> io::Result<(
     write_cut(writer, at, &text[..end])
 }
 
-/// How many bytes stand before the last space up to a place; so many as there are up to a place where
-/// there is none.
+/// How many bytes there are before the last space up to a place; if there is no space, how many
+/// there are up to the place.
 fn cut_at(text: &[u8], place: usize) -> usize
     requires { place < length text.now }
     ensures value { result ≡ cut_at text.now place }

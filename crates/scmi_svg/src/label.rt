@@ -1,4 +1,4 @@
-//! What messages say, as words.
+//! What messages report, as words.
 ghost use Rattle.std.specs.Prelude.{◌≡◌, OnOk};
 ghost use Rattle.std.specs.Io.KnownBytes.{Appends};
 ghost use Rattle.scmi_svg.specs.Label.{label_text, front_text, back_text, value_text, tag_text, font_size, if_any_text, start_text, place_text, turn_text, turned_text};
@@ -10,7 +10,7 @@ use crate::route::{Spot, Turn};
 use std::io;
 use std::io::Write;
 
-/// Writes what a message says.
+/// Writes the words of a message.
 #[tactic(auto, unfolding(crate::specs::Label::label_text))]
 pub(crate) fn write_label<W: Write>(writer: &mut W, spot: &Spot, label: &Label) -> io::Result<()>
     ensures { OnOk result (Appends (W.contents writer.old) (W.contents writer.new)
@@ -32,7 +32,7 @@ fn write_front<W: Write>(writer: &mut W, label: &Label) -> io::Result<()>
     write_part(writer, "<tspan class=\"object\" dx=\"6\">", &label.object)
 }
 
-/// Writes the value of a message behind an arrow, and the remark.
+/// Writes the value of a message after an arrow, and the comment.
 #[tactic(auto, unfolding(crate::specs::Label::back_text))]
 fn write_back<W: Write>(writer: &mut W, label: &Label) -> io::Result<()>
     ensures { OnOk result (Appends (W.contents writer.old) (W.contents writer.new)

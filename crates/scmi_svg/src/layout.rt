@@ -1,4 +1,4 @@
-//! Where things stand, in pixels.
+//! Where things are, in pixels.
 //!
 //! Slots, agents and columns are numbered by `u16` and `u8`, and distances are bounded: so no sum of
 //! these can wrap.
@@ -21,7 +21,7 @@ pub(crate) const SLOT: u32 = 32;
 /// The upper edge of the first slot.
 pub(crate) const TOP: u32 = 150;
 
-/// Where the lifelines stand, and how far down they go.
+/// Where the lifelines are, and how far down they go.
 #[derive(Clone, Copy)]
 pub(crate) struct Layout {
     /// The first lifeline.
@@ -87,7 +87,7 @@ fn shown_length(step: &Step) -> u8
 }
 
 impl Layout {
-    /// How many agents stand to the left of the platform.
+    /// How many agents are to the left of the platform.
     fn left_agents(&self) -> u32
         ensures value { result ≡ left_agents self.now }
         ensures bound { result < 2 ^ 8 }
@@ -103,7 +103,7 @@ impl Layout {
         u32::from(self.left) + u32::from(self.gap) * self.left_agents()
     }
 
-    /// Whether an agent stands to the left of the platform.
+    /// Whether an agent is to the left of the platform.
     #[tactic(auto, unfolding(crate::specs::Layout::is_left))]
     pub fn is_left(&self, agent: u8) -> bool
         ensures { result ≡ is_left self.now agent }
@@ -210,7 +210,7 @@ pub(crate) fn slot_y(slot: u16) -> u32
     TOP + SLOT * u32::from(slot)
 }
 
-/// The line of a slot on which its mark stands.
+/// The line of a slot on which its mark is drawn.
 #[tactic(auto, unfolding(crate::specs::Layout::line_y))]
 pub(crate) fn line_y(slot: u16) -> u32
     ensures value { result ≡ line_y slot }

@@ -127,7 +127,7 @@ fn is_used(chart: &Chart, entry: Entry) -> bool
     }
 }
 
-/// The width of what is said of a line or a sign.
+/// The width of the explanation of a line or a sign.
 fn entry_width(entry: Entry) -> u32
     ensures value { result ≡ entry_width entry }
     ensures bound { result ≤ 160 }
@@ -162,7 +162,7 @@ fn entry_class(entry: Entry) -> &'static str
     }
 }
 
-/// A line or a sign, and what is said of it.
+/// A line or a sign, and its explanation.
 fn entry_text(entry: Entry) -> &'static str
     ensures { result.now ≡ entry_text entry }
 {

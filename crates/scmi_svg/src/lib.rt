@@ -1,9 +1,9 @@
 //! The sequence chart of a run, as an SVG: lifelines of agents and platform, messages by name and
 //! status between them, and beside them the states of domains, clocks and outboxes on the same axis.
 //!
-//! The main type is `Chart`, which says what happened; `write_chart` draws it. The main theorem is its
-//! contract: the picture is the definition's to its last byte. By the contract of `write_escaped` no
-//! text of a board or a script in it can be read as a part of the drawing.
+//! The main type is `Chart`, which holds what happened; `write_chart` draws it. The main theorem is
+//! its contract: the picture is the definition's to its last byte. By the contract of
+//! `write_escaped` no text of a board or a script in it can be read as a part of the drawing.
 #![tactic(auto)]
 
 mod again;

@@ -1,7 +1,7 @@
 //! The marks of a chart.
 
-/// What a message says: its name (DEN0056B), what it is about, the value that this gets, and a remark.
-/// An empty part is left out.
+/// The words of a message: its name (DEN0056B), what it is about, the value that this gets, and a
+/// comment. An empty part is left out.
 #[derive(Drop)]
 pub struct Label {
     pub name: Vec<u8>,
@@ -18,7 +18,8 @@ pub struct Message {
     pub slot: u16,
     pub taken: u16,
     pub label: Label,
-    /// What is shown of it where a reader points at it: its header and words. Empty where there is none.
+    /// What is shown of it when a reader points at it: its header and words. Empty if there is
+    /// nothing.
     pub detail: Vec<u8>,
 }
 
@@ -38,7 +39,7 @@ pub enum Side {
     Platform,
 }
 
-/// What stands on the lifelines.
+/// What is drawn on the lifelines.
 #[derive(Drop)]
 pub enum Mark {
     /// A command that was executed, with its token if its frame was well formed.

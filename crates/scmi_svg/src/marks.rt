@@ -55,7 +55,7 @@ fn write_opening<W: Write>(writer: &mut W, kind: &str) -> io::Result<()>
     )
 }
 
-/// Writes what is shown where a reader points at a mark: the header and words of its message.
+/// Writes what is shown when a reader points at a mark: the header and words of its message.
 fn write_hover<W: Write>(writer: &mut W, mark: &Mark) -> io::Result<()>
     ensures { OnOk result (Appends (W.contents writer.old) (W.contents writer.new)
         (hover_text mark.now)) }

@@ -28,7 +28,7 @@ pub(crate) fn write_command<W: Write>(
     write_token(writer, layout, message.agent, message.slot, token)
 }
 
-/// Writes the way of a message, and what it says.
+/// Writes the way of a message, and its words.
 #[tactic(auto, unfolding(crate::specs::Message::way_text))]
 fn write_way<W: Write>(writer: &mut W, route: &Route, message: &Message) -> io::Result<()>
     ensures { OnOk result (Appends (W.contents writer.old) (W.contents writer.new)
@@ -65,7 +65,7 @@ pub(crate) fn write_refused<W: Write>(
     write_cut(writer, layout, message, 24)
 }
 
-/// Writes a way from an agent that ends in a cross, and what the message says.
+/// Writes a way from an agent that ends in a cross, and the words of the message.
 #[tactic(auto, unfolding(crate::specs::Message::cut_text))]
 fn write_cut<W: Write>(
     writer: &mut W,

@@ -1,4 +1,4 @@
-//! How much room the parts of a chart want, in pixels.
+//! How much room the parts of a chart need, in pixels.
 ghost use Rattle.std.specs.Prelude.{◌≡◌, ◌≤◌, ◌<◌};
 ghost use Rattle.scmi_svg.specs.Needs.{part_width, label_width, mark_width, gap_of, head_of, rate_width, span_width, column_width, column_of};
 
@@ -23,7 +23,8 @@ pub(crate) const COLUMN: u32 = 104;
 
 pub(crate) const WIDE_COLUMN: u32 = 260;
 
-/// How wide a part of a label is with what stands before it, in hundredths of its size; 0 if it is empty.
+/// How wide a part of a label is with the space before it, in hundredths of its size; 0 if it is
+/// empty.
 fn part_width(before: u32, text: &[u8]) -> u32
     requires { before < 256 }
     ensures value { result ≡ part_width before text.now }
@@ -44,7 +45,7 @@ pub(crate) fn label_width(label: &Label) -> u32
     front + part_width(190, &label.value) + part_width(50, &label.tag)
 }
 
-/// The room that the words of a mark want between two lifelines.
+/// The room that the words of a mark need between two lifelines.
 fn mark_width(mark: &Mark) -> u32
     ensures { result ≡ mark_width mark.now }
 {
@@ -85,7 +86,7 @@ pub(crate) fn head_of(lifelines: &[Lifeline]) -> u16
     widest.min(WIDE_HEAD) as u16
 }
 
-/// The room that a rate wants.
+/// The room that a rate needs.
 fn rate_width(hertz: u64) -> u32
     ensures { result ≡ rate_width hertz }
 {
@@ -98,7 +99,7 @@ fn rate_width(hertz: u64) -> u32
     }
 }
 
-/// The room that the words of a state want.
+/// The room that the words of a state need.
 fn span_width(span: &Span) -> u32
     ensures { result ≡ span_width span.now }
 {
@@ -108,7 +109,7 @@ fn span_width(span: &Span) -> u32
     }
 }
 
-/// The room that a column wants.
+/// The room that a column needs.
 fn column_width(column: &Column) -> u32
     ensures { result ≡ column_width column.now }
 {

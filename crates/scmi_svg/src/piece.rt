@@ -19,7 +19,7 @@ pub(crate) enum Piece<'a> {
     Outside(&'a [u8]),
 }
 
-/// Writes pieces, one behind the other.
+/// Writes pieces, one after another.
 pub(crate) fn write_pieces<W: Write>(writer: &mut W, pieces: &[Piece]) -> io::Result<()>
     ensures { OnOk result (Appends (W.contents writer.old) (W.contents writer.new)
         (pieces_text pieces.now)) }
@@ -49,7 +49,7 @@ fn write_piece<W: Write>(writer: &mut W, piece: &Piece) -> io::Result<()>
 pub fn write_escaped<W: Write>(writer: &mut W, bytes: &[u8]) -> io::Result<()>
     ensures text { OnOk result (Appends (W.contents writer.old) (W.contents writer.new)
         (escaped_text bytes.now)) }
-    // None of its bytes ends what it stands in, be it between tags or in quotes.
+    // None of its bytes ends the text that it is in, whether between tags or in quotes.
     ensures plain { IsTrue (list_all is_plain (escaped_text bytes.now)) }
     ensures read { read_text false (escaped_text bytes.now) ≡ map shown_byte bytes.now }
 {

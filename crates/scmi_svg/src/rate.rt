@@ -7,8 +7,8 @@ use crate::piece::{Piece, write_pieces};
 use std::io;
 use std::io::Write;
 
-/// Writes a rate in Hz, in the largest unit of which it has one or more and at most three digits behind
-/// the point: 19.2 MHz, 32.768 kHz. The error is the writer's; a part may then be written.
+/// Writes a rate in Hz, in the largest unit of which it has one or more and at most three digits
+/// after the point: 19.2 MHz, 32.768 kHz. The error is the writer's; a part may then be written.
 pub fn write_rate<W: Write>(writer: &mut W, hertz: u64) -> io::Result<()>
     ensures { OnOk result (Appends (W.contents writer.old) (W.contents writer.new)
         (rate_text hertz)) }
@@ -24,7 +24,7 @@ pub fn write_rate<W: Write>(writer: &mut W, hertz: u64) -> io::Result<()>
     }
 }
 
-/// Writes so many thousandths of a unit.
+/// Writes this many thousandths of a unit.
 #[tactic(auto, unfolding(crate::specs::Rate::scaled_text))]
 fn write_scaled<W: Write>(writer: &mut W, thousandths: u64, unit: &str) -> io::Result<()>
     ensures { OnOk result (Appends (W.contents writer.old) (W.contents writer.new)
@@ -36,7 +36,7 @@ fn write_scaled<W: Write>(writer: &mut W, thousandths: u64, unit: &str) -> io::R
     writer.write_all(unit.as_bytes())
 }
 
-/// Writes thousandths behind a point, without the zeros at their end.
+/// Writes thousandths after a point, without the zeros at their end.
 fn write_fraction<W: Write>(writer: &mut W, thousandths: u32) -> io::Result<()>
     ensures { OnOk result (Appends (W.contents writer.old) (W.contents writer.new)
         (fraction_text thousandths)) }

@@ -15,7 +15,7 @@ pub(crate) struct Route {
     /// Where it waits, if it is not taken at once.
     pub bend: u32,
     pub to: u32,
-    /// Where the middle of its words stands, and how much room they have.
+    /// Where the middle of its words is, and how much room they have.
     pub words: u32,
     pub room: u32,
     pub slot: u16,
@@ -54,8 +54,8 @@ pub(crate) fn to_agent(layout: &Layout, agent: u8, slot: u16, taken: u16) -> Rou
     }
 }
 
-/// Writes the way of a message: straight where it is taken in its slot or the next one, and else to
-/// where it waits, down, and on.
+/// Writes the way of a message: straight if it is taken in its slot or the next one, else to the
+/// place where it waits, down, and on.
 #[tactic(auto, unfolding(crate::specs::Route::route_text))]
 pub(crate) fn write_route<W: Write>(writer: &mut W, route: &Route) -> io::Result<()>
     ensures { OnOk result (Appends (W.contents writer.old) (W.contents writer.new)
@@ -92,13 +92,13 @@ fn write_bent<W: Write>(writer: &mut W, from: Point, to: Point, bend: u32) -> io
 #[derive(Clone, Copy)]
 pub(crate) enum Turn {
     Level,
-    /// By so many hundredths of a degree, clockwise.
+    /// By this many hundredths of a degree, clockwise.
     Down(u32),
-    /// By so many hundredths of a degree, the other way.
+    /// By this many hundredths of a degree, counterclockwise.
     Up(u32),
 }
 
-/// Where words stand, around their middle.
+/// Where words are, around their middle.
 #[derive(Clone, Copy)]
 pub(crate) struct Spot {
     pub x: u32,
@@ -108,7 +108,7 @@ pub(crate) struct Spot {
     pub turn: Turn,
 }
 
-/// Where the words of a route stand: over it, in the gap beside the platform.
+/// Where the words of a route are: over it, in the gap beside the platform.
 #[tactic(auto, unfolding(crate::specs::Route::spot_of))]
 pub(crate) fn spot_of(route: &Route) -> Spot
     ensures { result ≡ spot_of route.now }
@@ -125,7 +125,7 @@ pub(crate) fn spot_of(route: &Route) -> Spot
     }
 }
 
-/// Where words stand over a route that goes down by a slot.
+/// Where words are over a route that goes down by a slot.
 #[tactic(auto, unfolding(crate::specs::Route::slanted_spot))]
 fn slanted_spot(route: &Route) -> Spot
     ensures { result ≡ slanted_spot route.now }

@@ -108,7 +108,7 @@ done_of words [] true none = no_word words true
 done_of words [] false none = absurd cc
 done_of words (item ∷ items) whole none = absurd cc
 
--- one word more, which stands behind those that were there before
+-- one word more, which follows those that were there before
 pub word_behind : (before words after : List ℕ) (view rest : ItemsView) (word : ℕ) (total : Option (List ℕ)) → after ≡ words ++ word ∷ [] → length before ≤ length words → first_number 32 view ≡ Some (word, rest) → length (drop (length before) words) < PAYLOAD_WORDS → payload_behind (drop (length before) words) view ≡ total → payload_behind (drop (length before) after) rest ≡ total
 word_behind before words after view rest word total pushed kept is few so_far =
     let cut : drop (length before) after ≡ drop (length before) words ++ word ∷ [] = ap (drop (length before)) pushed ∙ drop-append-le (length before) words (word ∷ []) kept in

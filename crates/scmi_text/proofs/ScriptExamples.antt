@@ -1,4 +1,4 @@
--- Texts of scripts in threads, and the scripts that they stand for, computed.
+-- Texts of scripts in threads, and the scripts that they mean, computed.
 use Rattle.std.proofs.Common.{◌≡◌, [], ◌∷◌, map, Ok, Err, refl}
 use Rattle.std.specs.Prelude.{codes}
 use Rattle.scmi_board.specs.Items.{behind_spaces, first_number, item_at, items_up_to}

@@ -1,4 +1,4 @@
--- Texts of scripts on one thread, and the steps that they stand for, computed.
+-- Texts of scripts on one thread, and the steps that they mean, computed.
 use Rattle.std.proofs.Common.{ℕ, ◌≡◌, List, [], ◌∷◌, map, Option, Some, None, Ok, Err, replicate, refl}
 use Rattle.std.specs.Prelude.{codes}
 use Rattle.scmi_board.specs.Items.{behind_spaces, first_number, item_at, items_up_to}
@@ -40,7 +40,7 @@ beside_hardware : map (step_of_line WithoutHardware 2) (codes "fail 1 0x11 4" �
 unfolding behind_spaces first_number item_at items_up_to number_of first_agent first_message payload_behind with_word advance_head agent_head command_head first_head head_of payload_of step_of_line
 beside_hardware = refl
 
--- a script from line 9 on, whose remarks and blank lines are counted
+-- a script from line 9 on, whose comments and blank lines are counted
 whole_script : steps_left WithoutHardware 2 (record { rest = codes "\n# served\nserve 2\n\ncollect  2"; number = 8 }) ≡ Ok (Platform 2 Serve ∷ Agent 2 agent.Collect ∷ [])
 unfolding behind_spaces first_number item_at items_up_to number_of first_agent first_message payload_behind with_word agent_head command_head first_head head_of payload_of step_of_line with_step after_each_line lines_of lines_behind
 whole_script = refl

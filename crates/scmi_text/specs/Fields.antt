@@ -18,7 +18,7 @@ first_message view = do
   id ← first_number 8 protocol.1
   Some ((protocol.0, id.0), id.1)
 
--- a payload word behind others, of which there is room for one more
+-- a payload word after others, of which there is room for one more
 unfoldable pub with_word : List ℕ → List ℕ → Option (List ℕ)
 with_word words item = do
   word ← number_of 32 item

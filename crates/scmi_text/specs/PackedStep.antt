@@ -37,7 +37,7 @@ step_with AdvanceFailed words = step.AdvanceFailed
 abbrev pub step_of : List ℕ → PackedStep → Step
 step_of words packed = step_with packed.head (take packed.count (drop packed.first words))
 
--- a step's payload stands in these words, and is none that is too long
+-- a step's payload is in these words, and is none that is too long
 pub record IsPacked (words : List ℕ) (packed : PackedStep) : Type 0 where
   pub few : packed.count ≤ PAYLOAD_WORDS
   pub within : packed.first + packed.count ≤ length words

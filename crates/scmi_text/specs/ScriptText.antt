@@ -1,4 +1,4 @@
--- The scripts of agents that a text stands for.
+-- The scripts of agents that a text encodes.
 use Rattle.std.specs.Prelude.{ℕ, ◌++◌, if◌then◌else◌, List, [], ◌∷◌, map, nat_eq, Option, Some, None, Result}
 use Rattle.std.specs.List.{list_any}
 use Rattle.scmi_board.specs.Items.{◌>>=◌, ItemsView, first_item, first_number, items_left, no_item}
@@ -69,7 +69,7 @@ with_order (script ∷ next ∷ scripts) order = do
   later ← with_order (next ∷ scripts) order
   Some (script ∷ later)
 
--- the scripts with what stands behind the first word of a line
+-- the scripts with what follows the first word of a line
 unfoldable pub with_form : ℕ → List AgentScript → ScriptForm → ItemsView → Option (List AgentScript)
 with_form agents scripts script.Script view = agent_at agents view >>= λ agent. with_script scripts agent
 with_form agents scripts (script.Order form) view = order_at form view >>= λ order. with_order scripts order
@@ -85,6 +85,6 @@ with_line agents scripts text = do
   form ← form_in word.0 script_forms
   with_form agents scripts form word.1
 
--- the scripts of the lines that are left, in the order of their first lines; else the number of the first line that is none
+-- the scripts of the lines that are left, in the order of their first lines; else the number of the first invalid line
 abbrev pub scripts_left : ℕ → LinesView → Result (List AgentScript) ℕ
 scripts_left agents lines = after_lines (with_line agents) [] (lines_left lines)

@@ -1,4 +1,4 @@
--- The steps that a text stands for.
+-- The steps that a text encodes.
 use Rattle.std.specs.Prelude.{ℕ, ◌++◌, Bool, true, false, if◌then◌else◌, List, [], ◌∷◌, map, Option, Some, None, Result}
 use Rattle.std.specs.Str.{bytes_eq}
 use Rattle.scmi_board.specs.Items.{◌>>=◌, ItemsView, first_item, first_number, items_left, no_item}
@@ -49,7 +49,7 @@ command_head kinds command.Fail agent view = do
   ids ← first_message view
   Some (Fail agent ids.0.0 ids.0.1, ids.1)
 
--- what stands behind the agent: P M, H, LENGTH H, or nothing
+-- what follows the agent: P M, H, LENGTH H, or nothing
 unfoldable pub agent_head : StepKinds → AgentForm → ℕ → ItemsView → Option (Head × ItemsView)
 agent_head kinds (form.Command command) agent view = command_head kinds command agent view
 agent_head kinds form.Raw agent view = do
@@ -64,7 +64,7 @@ agent_head kinds form.P2a agent view = Some (P2a agent, view)
 agent_head kinds form.Close agent view = Some (Close agent, view)
 agent_head kinds (form.Platform call) agent view = Some (Platform agent call, view)
 
--- what stands behind the first word
+-- what follows the first word
 unfoldable pub head_of : StepKinds → ℕ → StepForm → ItemsView → Option (Head × ItemsView)
 head_of kinds agents step.Advance view = advance_head kinds view
 head_of kinds agents (step.Of form) view = do
@@ -101,7 +101,7 @@ step_of_line kinds agents text = do
   words ← payload_of head.0 head.1
   Some (step_with head.0 words)
 
--- the step of a line, which is none beside hardware
+-- the step of a line; a line of hardware has none
 abbrev pub plain_step_of_line : ℕ → List ℕ → Option Step
 plain_step_of_line agents text = step_of_line WithoutHardware agents text
 
@@ -111,7 +111,7 @@ with_step kinds agents steps text = do
   step ← step_of_line kinds agents text
   Some (steps ++ step ∷ [])
 
--- the steps of the lines that are left; else the number of the first line that is none
+-- the steps of the lines that are left; else the number of the first invalid line
 abbrev pub steps_left : StepKinds → ℕ → LinesView → Result (List Step) ℕ
 steps_left kinds agents lines = after_lines (with_step kinds agents) [] (lines_left lines)
 

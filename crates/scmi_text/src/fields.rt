@@ -1,4 +1,4 @@
-//! What the lines of scripts have behind their first word.
+//! What the lines of scripts have after their first word.
 ghost use Rattle.std.specs.Prelude.{◌≡◌, ◌≤◌, ◌+◌, drop, length, IfOk};
 ghost use Rattle.scmi_board.specs.Items.{items_left};
 ghost use Rattle.scmi_board.specs.LineError.{Gives, GivesUnless};
@@ -11,8 +11,8 @@ use arrayvec::ArrayVec;
 use scmi_board::{Items, LineError};
 use scmi_codec::{PAYLOAD_WORDS, Payload};
 
-/// The next item as the number of an agent of a board that has this many, numbered from 1. `Form` where
-/// it is none.
+/// The next item as the number of an agent of a board that has this many, numbered from 1. `Form`
+/// if it is not such a number.
 #[tactic(auto, unfolding(crate::specs::Fields::first_agent))]
 pub fn read_agent(items: &mut Items<'_>, agents: u32) -> Result<u32, LineError>
     ensures within { IfOk result (IsAgent agents) }
@@ -37,8 +37,8 @@ pub(crate) fn read_message(items: &mut Items<'_>) -> Result<(u8, u8), LineError>
     Ok((protocol, message))
 }
 
-/// All items that are left, as payload words. `Form` where there are more than `PAYLOAD_WORDS`, or one
-/// is no word.
+/// All items that are left, as payload words. `Form` if there are more than `PAYLOAD_WORDS`, or if
+/// one is not a word.
 pub fn read_payload(items: &mut Items<'_>) -> Result<Payload, LineError>
     ensures { Gives (λ payload. payload.items) result (payload_left (items_left items.old)) }
 {
@@ -53,7 +53,7 @@ pub fn read_payload(items: &mut Items<'_>) -> Result<Payload, LineError>
     Ok(payload)
 }
 
-/// The same, added behind other words. It gives how many they were.
+/// The same, added after other words. It gives how many were added.
 pub(crate) fn read_words(items: &mut Items<'_>, words: &mut Vec<u32>) -> Result<usize, LineError>
     ensures rest { IsStartOf words.old.items words.new.items }
     ensures few { IfOk result (λ count. count ≤ PAYLOAD_WORDS) }

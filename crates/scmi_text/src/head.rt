@@ -13,7 +13,7 @@ use crate::step_kinds::StepKinds;
 use crate::word_row::form_in;
 use scmi_board::{Items, LineError};
 
-/// What stands first in the line of a step of these kinds: all but its payload words.
+/// What comes first in the line of a step of these kinds: all but its payload words.
 #[tactic(auto, unfolding(crate::specs::StepText::first_head))]
 pub(crate) fn read_head(
     items: &mut Items<'_>,
@@ -31,7 +31,7 @@ pub(crate) fn read_head(
     read_head_of(form, items, agents, kinds)
 }
 
-/// What stands behind the first word.
+/// What follows the first word.
 #[tactic(auto, unfolding(crate::specs::StepText::head_of))]
 fn read_head_of(
     form: StepForm,

@@ -1,10 +1,10 @@
 //! The program's text: scripts as they are read, and the lines of a run as they are written.
 //!
 //! The main types are `StepList`, the steps of a script, and `StepLine`, a line of a run's output.
-//! The main theorems are the contracts of `read_steps`, `read_hardware_steps` and `read_scripts`, which
-//! give exactly what a text stands for, and else the number of the first line that is none of it, unless
-//! memory is refused; and of `write_step_line` and `write_script_line`: what is written is the text of
-//! the line, to the last byte.
+//! The main theorems are the contracts of `read_steps`, `read_hardware_steps` and `read_scripts`,
+//! which give exactly what a text encodes, or else the number of the first invalid line, unless
+//! memory is refused; and of `write_step_line` and `write_script_line`: what is written is the text
+//! of the line, to the last byte.
 #![tactic(auto)]
 
 mod fields;

@@ -1,4 +1,4 @@
-//! What calls answered, each as one item of a line.
+//! The results of calls, each as one item of a line.
 ghost use Rattle.std.specs.Prelude.{◌≡◌};
 ghost use Rattle.scmi_text.specs.Names.{refusal_text, served_text, flushed_text, closing_text, close_error_text, shut_error_text, close_text, shut_text, advanced_text, failed_text};
 

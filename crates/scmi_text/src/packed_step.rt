@@ -52,7 +52,7 @@ pub(crate) enum Head {
     AdvanceFailed,
 }
 
-/// A step whose payload is so many words of a list, from a place on.
+/// A step whose payload is this many words of a list, from an index on.
 #[derive(Clone, Copy)]
 pub(crate) struct PackedStep {
     pub head: Head,
@@ -111,7 +111,7 @@ fn set_do(step: &mut Step, agent: u32, protocol: u8, message: u8, payload: &[u32
     }
 }
 
-// A function clears its locals at its entry, so a whole step is none of those of `set_step`.
+// A function clears its locals at its entry, so `set_step` has no local that is a whole step.
 #[inline(never)]
 fn replace_step(step: &mut Step, head: Head, payload: &[u32])
     requires { length payload.now ≤ PAYLOAD_WORDS }

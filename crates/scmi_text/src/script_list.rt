@@ -48,7 +48,7 @@ impl ScriptList {
         self.agents
     }
 
-    /// Begins the script of an agent of the board. `Form` where it was begun before.
+    /// Begins the script of an agent of the board. `Form` if it was begun before.
     pub(crate) fn begin(&mut self, alloc: Global, agent: u32) -> Result<(), LineError>
         requires { IsAgent self.old.agents agent }
         ensures agents { self.new.agents ≡ self.old.agents }
@@ -69,7 +69,7 @@ impl ScriptList {
         Ok(())
     }
 
-    /// Adds an order at the end of the script that was begun last. `Form` where none was begun.
+    /// Adds an order at the end of the script that was begun last. `Form` if no script was begun.
     pub(crate) fn add(&mut self, order: Order) -> Result<(), LineError>
         ensures agents { self.new.agents ≡ self.old.agents }
         ensures order { GivesUnless (λ _. scripts_of self.new.scripts.items) result

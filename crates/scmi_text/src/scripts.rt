@@ -17,12 +17,12 @@ use scmi_board::{Items, LineError, Lines, TextError};
 use scmi_threads::{Order, Script};
 use std::alloc::Global;
 
-/// The scripts that all lines that are left stand for, in the order of their first lines (own). Each is
-/// of an agent of the board, which has this many, numbered from 1, and no two are of one agent.
+/// The scripts that all remaining lines encode, in the order of their first lines (own). Each is of
+/// an agent of the board, which has this many, numbered from 1, and no two are of one agent.
 ///
-/// `Script` gives the number of the first line of another form, of an order before the first `script`,
-/// with more payload words than `PAYLOAD_WORDS`, or of a script of an agent that the board lacks or
-/// that has one already. `Memory` where memory is refused.
+/// `Script` gives the number of the first line of another form, of an order before the first
+/// `script`, with more payload words than `PAYLOAD_WORDS`, or of a script of an agent that the
+/// board lacks or that has one already. `Memory` if memory is refused.
 pub fn read_scripts(
     alloc: Global,
     lines: &mut Lines<'_>,
@@ -91,7 +91,7 @@ fn read_script_agent(items: &mut Items<'_>, agents: u32) -> Result<u32, LineErro
     Ok(agent)
 }
 
-/// An order of this form, and nothing behind it.
+/// An order of this form, and nothing after it.
 #[tactic(auto, unfolding(crate::specs::ScriptText::order_at))]
 fn read_order(form: OrderForm, items: &mut Items<'_>) -> Result<Order, LineError>
     ensures { Gives (λ order. order) result (order_at form (items_left items.old)) }

@@ -31,7 +31,7 @@ pub enum AgentStep {
     Collect,
     /// It takes a P2A message.
     P2a,
-    /// It closes its end.
+    /// It closes its endpoint.
     Close,
 }
 
@@ -42,7 +42,7 @@ pub enum PlatformStep {
     Serve,
     /// It posts the first message of the agent's outbox.
     Flush,
-    /// It closes its end of the agent's channels.
+    /// It closes its endpoint of the agent's channels.
     Shut,
 }
 

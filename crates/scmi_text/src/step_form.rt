@@ -6,7 +6,7 @@ use crate::word_row::{HeldRow, WordRow};
 #[derive(Clone, Copy)]
 pub(crate) enum StepForm {
     Advance,
-    /// The agent's number stands behind the first word.
+    /// The agent's number follows the first word.
     Of(AgentForm),
 }
 
@@ -52,5 +52,5 @@ pub(crate) const STEP_FORMS: [HeldRow<StepForm>; 12] = rows![
     b"advance" StepForm::Advance;
 ];
 
-/// The word behind `advance`, where the hardware refuses.
+/// The word after `advance`, if the hardware refuses.
 pub(crate) const FAILED: &[u8] = b"failed";

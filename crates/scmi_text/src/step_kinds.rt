@@ -13,7 +13,7 @@ pub(crate) enum StepKinds {
 }
 
 impl StepKinds {
-    /// `Form` where a script of these kinds has no step beside hardware that refuses.
+    /// `Form` if a script of these kinds has no step beside hardware that refuses.
     pub fn need_hardware(self) -> Result<(), LineError>
         ensures allowed { OnOk result (self ≡ StepKinds.All) }
         ensures hardware { Gives (λ _. tt) result (with_hardware self) }

@@ -40,11 +40,11 @@ pub enum StepLine {
         agent: u32,
         collected: Collected,
     },
-    /// The platform was to complete a pending set; `more` says whether there was one.
+    /// The platform was to complete a pending set; `more` is whether there was one.
     Advanced {
         more: bool,
     },
-    /// The platform was to end a pending set, whose change the hardware refuses; `more` says whether
+    /// The platform was to end a pending set, whose change the hardware refuses; `more` is whether
     /// there was one.
     AdvanceFailed {
         more: bool,
@@ -59,17 +59,17 @@ pub enum StepLine {
         agent: u32,
         frame: Option<Frame>,
     },
-    /// The agent's end was to be closed.
+    /// The agent's endpoint was to be closed.
     Closed {
         agent: u32,
         closing: Result<Closing, CloseError>,
     },
-    /// The platform's end of the agent's channels was to be closed.
+    /// The platform's endpoint of the agent's channels was to be closed.
     Shut {
         agent: u32,
         result: Result<(), ShutError>,
     },
-    /// The run has ended, with so many events in its trace.
+    /// The run has ended, with this many events in its trace.
     Trace {
         events: usize,
     },

@@ -61,9 +61,9 @@ impl StepList {
         set_step(step, packed.head, payload);
     }
 
-    /// Adds the step of a line. `Form` where the line is none of a script of these kinds of steps,
+    /// Adds the step of a line. `Form` if the line is not one of a script of these kinds of steps,
     /// has more payload words than `PAYLOAD_WORDS`, or is of an agent that the board lacks, which
-    /// has this many. `Memory` where memory is refused.
+    /// has this many. `Memory` if memory is refused.
     pub(crate) fn add(
         &mut self,
         text: &[u8],

@@ -19,11 +19,11 @@ use crate::step_list::StepList;
 use scmi_board::{Items, LineError, Lines, TextError};
 use std::alloc::Global;
 
-/// The steps that all lines that are left stand for (own). Each names an agent of the board, which has
-/// this many, numbered from 1, and none is one beside hardware.
+/// The steps that all remaining lines encode (own). Each names an agent of the board, which has
+/// this many, numbered from 1, and no step is one beside hardware.
 ///
 /// `Script` gives the number of the first line of another form, with more payload words than
-/// `PAYLOAD_WORDS`, or of an agent that the board lacks. `Memory` where memory is refused.
+/// `PAYLOAD_WORDS`, or of an agent that the board lacks. `Memory` if memory is refused.
 pub fn read_steps(alloc: Global, lines: &mut Lines<'_>, agents: u32) -> Result<StepList, TextError>
     ensures agents { IfOk result (λ steps. All (IsStepOf agents) steps) }
     ensures kinds { IfOk result (λ steps. All IsWithoutHardware steps) }
@@ -49,8 +49,9 @@ pub fn read_hardware_steps(
     read_steps_of(alloc, lines, agents, StepKinds::All)
 }
 
-/// The step of one line, of a board that has this many agents (own). `Form` where the line is none, has
-/// more payload words than `PAYLOAD_WORDS`, or is one beside hardware; `Memory` where memory is refused.
+/// The step of one line, of a board that has this many agents (own). `Form` if the line is not a
+/// step, has more payload words than `PAYLOAD_WORDS`, or is one beside hardware; `Memory` if memory
+/// is refused.
 pub fn read_one_step(alloc: Global, text: &[u8], agents: u32) -> Result<Step, LineError>
     ensures agent { IfOk result (IsStepOf agents) }
     ensures step { GivesUnless (λ step. step) result
@@ -85,7 +86,7 @@ fn read_steps_of(
     Ok(steps)
 }
 
-/// The step of a line, whose payload words are added behind others.
+/// The step of a line, whose payload words are added after others.
 pub(crate) fn read_step(
     text: &[u8],
     agents: u32,
@@ -106,8 +107,8 @@ pub(crate) fn read_step(
     Ok(PackedStep { head, first, count })
 }
 
-/// Adds the payload words of a step with this head behind others, where it has some, and gives how many
-/// they were.
+/// Adds the payload words of a step with this head after others, if it has some, and gives how many
+/// were added.
 #[tactic(auto, unfolding(crate::specs::StepText::payload_of))]
 fn read_payload_of(
     head: Head,

@@ -7,7 +7,7 @@ use scmi_board::LineError;
 
 /// A word, and the form of a line that begins with it.
 ///
-/// It is generic because a constant has a name in definitions only where its struct holds no reference
+/// It is generic because a constant has a name in definitions only if its struct holds no reference
 /// of its own.
 #[derive(Clone, Copy)]
 pub struct WordRow<W, F> {
@@ -18,7 +18,7 @@ pub struct WordRow<W, F> {
 /// A row of a table.
 pub type HeldRow<F> = WordRow<&'static [u8], F>;
 
-/// The form of a line that begins with this word. `Form` where no row has it.
+/// The form of a line that begins with this word. `Form` if no row has it.
 pub fn form_in<F: Copy>(mut rows: &[HeldRow<F>], word: &[u8]) -> Result<F, LineError>
     ensures { Gives (λ form. form) result (form_in word.now (map said rows.entry.now)) }
 {

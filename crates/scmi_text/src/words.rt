@@ -8,8 +8,8 @@ use scmi_codec::Message;
 use std::io;
 use std::io::Write;
 
-/// Writes the header word and the payload words, each behind a space (own). The error is the writer's;
-/// some words may then be written.
+/// Writes the header word and the payload words, each after a space (own). The error is the
+/// writer's; some words may then be written.
 pub fn write_message_text<W: Write>(writer: &mut W, message: &Message) -> io::Result<()>
     ensures { OnOk result
         (Appends (W.contents writer.old) (W.contents writer.new) (message_text message.now)) }
@@ -18,7 +18,7 @@ pub fn write_message_text<W: Write>(writer: &mut W, message: &Message) -> io::Re
     write_words(writer, message.payload.as_slice())
 }
 
-/// Writes each word behind a space.
+/// Writes each word after a space.
 pub(crate) fn write_words<W: Write>(writer: &mut W, words: &[u32]) -> io::Result<()>
     ensures { OnOk result (Appends (W.contents writer.old) (W.contents writer.new)
         (words_text words.now)) }
@@ -29,7 +29,7 @@ pub(crate) fn write_words<W: Write>(writer: &mut W, words: &[u32]) -> io::Result
     Ok(())
 }
 
-/// Writes a word behind a space.
+/// Writes a word after a space.
 fn write_word<W: Write>(writer: &mut W, word: u32) -> io::Result<()>
     ensures { OnOk result (Appends (W.contents writer.old) (W.contents writer.new)
         (word_text word)) }

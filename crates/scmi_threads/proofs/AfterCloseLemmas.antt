@@ -26,7 +26,7 @@ use Rattle.scmi_threads.specs.declared.stop.Stop.{Stop}
 use Rattle.scmi_threads.proofs.LineLemmas.{or_again}
 use Rattle.scmi_threads.proofs.OrderLemmas.{stays_still}
 
--- the parts behind the close
+-- the parts after the close
 
 says_nothing : (o : Order) (s : Option Stop) (part : Part) → ClosedWrites o s part → All SaysNothing part.lines
 says_nothing _ _ _ (call_refused protocol id payload) = All-cons SaysNothing (line.NotPosted post.Closed) [] refl (All-nil SaysNothing)
@@ -106,7 +106,7 @@ end_silent full n (order.Until domain state) why part w = until_silent full n do
 end_silent full n (order.P2a count) why part w = p2a_silent count (Some why) part w
 end_silent full n order.Close why part w = ended_silent why part w
 
--- the parts up to the close, and those behind it
+-- the parts up to the close, and those after it
 record IsCut (full : Bool) (n : ℕ) (orders : List Order) (parts : List Part) : Type 0 where
   pub first : List Part
   pub rest : List Part
@@ -166,7 +166,7 @@ pub all_end_at_close : (full : Bool) (orders : ℕ → List Order) (board : Boar
 all_end_at_close full orders board h a [] scripts headlines = tt
 all_end_at_close full orders board h a (log ∷ logs) scripts headlines = (done_at_close full (orders a) board h a log scripts.0 headlines.0, all_end_at_close full orders board h (a + 1) logs scripts.1 headlines.1)
 
--- a call behind the close posts nothing: a log with its frame follows no script that closes before it
+-- a call after the close posts nothing: a log with its frame follows no script that closes before it
 pub no_call_after_close : (full : Bool) (orders : List Order) (log : AgentLog) → IsScriptLog full (order.Close ∷ orders) log → log.posted.items ≡ []
 no_call_after_close full orders log script = script.made.posted ∙ go log.stopped script.parts script.follows where
   close_ended : (why : Stop) (part : Part) → CloseWrites (Some why) part → flat_map (λ p. p.posted) (part ∷ []) ≡ []

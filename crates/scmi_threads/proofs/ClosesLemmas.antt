@@ -36,13 +36,13 @@ refusal_of full post.Closed v w r rest told = by_word v.told v.closed (sym (ap (
 refusal_of full post.Full v w r rest told = (neither v.closed v.told r.unclosed, r.may)
 refusal_of full post.WellFormed v w r rest told = absurd r
 
--- the end is open, and neither closes nor is told of a close
+-- the endpoint is open, and neither closes nor is notified of a close
 pub stays_open : (closing : Option Closing) (v w : CallerView) → v.closed ≡ false → w.closed ≡ v.closed → w.told ≡ v.told → w.left ≡ v.left → IsClosedAs closing v → IsClosedAs closing w
 stays_open None v w o c t l is = (c ∙ is.0, λ h. l ∙ is.1 (sym t ∙ h))
 stays_open (Some Idle) v w o c t l is = absurd (not_both is.0 o)
 stays_open (Some Withdrawn) v w o c t l is = absurd (not_both is.0 o)
 
--- the end is open, and is told of a close
+-- the endpoint is open, and is notified of a close
 pub is_told : (closing : Option Closing) (v w : CallerView) → v.closed ≡ false → w.closed ≡ v.closed → w.told ≡ true → IsClosedAs closing v → IsClosedAs closing w
 is_told None v w o c t is = (c ∙ is.0, λ h. absurd (not_both t h))
 is_told (Some Idle) v w o c t is = absurd (not_both is.0 o)

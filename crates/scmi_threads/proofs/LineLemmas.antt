@@ -21,7 +21,7 @@ first_push : (ls : List Line) (l : Line) → first_closing (ls ++ l ∷ []) ≡ 
 first_push [] l = or_none (closing_of l)
 first_push (x ∷ ls) l = ap (option_or (closing_of x)) (first_push ls l) ∙ sym (or_again (closing_of x) (first_closing ls) (closing_of l))
 
--- a line that says nothing of a close
+-- a line that says nothing about a close
 pub closing_stays : (ls ls' : List Line) (l : Line) (closing : Option Closing) → closing ≡ first_closing ls → closing_of l ≡ None → ls' ≡ ls ++ l ∷ [] → closing ≡ first_closing ls'
 closing_stays ls ls' l closing is none e = is ∙ sym (ap first_closing e ∙ first_push ls l ∙ ap (option_or (first_closing ls)) none ∙ or_none (first_closing ls))
 

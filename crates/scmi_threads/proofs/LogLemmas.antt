@@ -14,7 +14,7 @@ use Rattle.scmi_threads.specs.declared.agent_log.AgentLog.{AgentLog}
 use Rattle.scmi_threads.specs.Closes.{IsClosedAs}
 use Rattle.scmi_threads.specs.Logs.{IsLogOf, LogHeadline}
 
--- where the platform's end is open, the agent was told of no close
+-- if the platform's endpoint is open, the agent was notified of no close
 pub never_told : (told closed : Bool) → (told ≡ true → closed ≡ true) → closed ≡ false → told ≡ false
 never_told false closed h o = refl
 never_told true closed h o = absurd (search (rules, h refl, o))

@@ -1,4 +1,4 @@
--- How often an agent has looked.
+-- How often an agent has polled.
 use Rattle.std.proofs.Common.{◌≡◌, ℕ, ◌+◌, ◌%◌, ◌^◌, ◌<◌, ◌≤◌, Option, Some, None, Result, Ok, Err, arith, refl, sym, ap, subst, ◌∙◌}
 use Rattle.scmi_codec.specs.declared.frame.Frame.{Frame}
 use Rattle.scmi_codec.specs.declared.frame.Answer.TheVariants.{Reply, Released, ChannelError}
@@ -44,7 +44,7 @@ no_waits = record { least = omega arith; most = omega arith }
 pub one_wait_more : (waits a b : ℕ) → AreLooksOf waits a → AreLooksOf 1 b → AreLooksOf (waits + 1) (a + b)
 one_wait_more waits a b first last = record { least = omega (arith, first.least, last.least); most = omega (arith, first.most, last.most) }
 
--- a post, and a close, are no look for a reply
+-- a post, and a close, are no poll for a reply
 pub post_looks : {T : Type 0} (full : _) (v w : CallerView) (frame : Frame) (r : Result T PostError) → Posts full v frame r w → w.collects ≡ v.collects
 post_looks full v w frame (Ok done) p = ap (λ x. x.collects) p.posted
 post_looks full v w frame (Err post.Outstanding) p = ap (λ x. x.collects) p.1
@@ -56,12 +56,12 @@ pub close_looks : (closing : Closing) (v w : CallerView) → ClosesCaller v (Ok 
 close_looks Idle v w closes = ap (λ u. u.collects) closes.closed
 close_looks Withdrawn v w closes = ap (λ u. u.collects) closes.closed
 
--- a look for a message is one
+-- a poll for a message is one
 pub look_counted : (v w : CalleeView) (frame : Option Frame) → Receives v frame w → w.takes ≡ one_more v.takes
 look_counted v w None s = ap (λ u. u.takes) s.same
 look_counted v w (Some frame) s = ap (λ u. u.takes) s.1
 
--- a wait for a message that the next look ended
+-- a wait for a message that the next poll ended
 pub message_came : (n : ℕ) (before mid after : AgentLog) → n < TURNS → mid.message_looks ≡ more_calls n before.message_looks → after.message_looks ≡ one_more mid.message_looks → HasLookedFor (Ok tt) before after
 message_came n before mid after below so_far last = record {
   looks = n + 1;
@@ -69,7 +69,7 @@ message_came n before mid after below so_far last = record {
   counted = next_counted n before.message_looks mid.message_looks after.message_looks so_far last;
 }
 
--- memory was refused before a look
+-- memory was refused before a poll
 pub not_looked : (r : Result (Unit {0}) Stop) (before after : AgentLog) → r ≡ Err stop.Memory → after.message_looks ≡ before.message_looks → HasLookedFor r before after
 not_looked r before after is same = subst (λ x. HasLookedFor x before after) (sym is) (record { looks = 0; many = refl; counted = none_counted before.message_looks after.message_looks same })
 

@@ -32,6 +32,6 @@ serves_on_open a c b r c' b' s o = subst (λ ds. All is_open ds) (sym (ap (λ u.
 pub flushes_open : (full : Bool) (a : ℕ) (c c' : ControllerView) (r : Flushed) → Flushes full a c r c' → IsOpenToAll c → IsOpenToAll c'
 flushes_open full a c c' r s o = subst (λ ds. All is_open ds) (sym (ap (λ u. u.callees) s.same)) o
 
--- the platform's ends as they are made
+-- the platform's endpoints as they are made
 pub new_open : (n : ℕ) → All is_open (replicate n new_callee)
 new_open n = All-replicate is_open n new_callee refl

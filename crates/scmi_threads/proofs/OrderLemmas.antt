@@ -56,7 +56,7 @@ not_both false t f = no_true t
 while_open : (full closed : Bool) (n : ℕ) (o : Order) (s : Option Stop) (part : Part) → closed ≡ false → Writes full false n o s part → Writes full closed n o s part
 while_open full closed n o s part is w = subst (λ b. Writes full b n o s part) (sym is) w
 
--- nothing, for want of memory
+-- nothing, when out of memory
 no_room : (full closed : Bool) (n : ℕ) (o : Order) → ¬ (IsForNothing o) → Writes full closed n o (Some stop.Memory) (only_lines [])
 no_room full true n o some = line_had_no_room o some
 no_room full false n (order.Call protocol id payload) some = call_had_no_room
@@ -78,14 +78,14 @@ close_writes : (full closed : Bool) (n : ℕ) → Writes full closed n order.Clo
 close_writes full true n = closed_again
 close_writes full false n = close_done
 
--- the looks of waits that were each answered
+-- the polls of waits that were each answered
 same_waits : (m n looks : ℕ) → m ≡ n → AreLooksOf n looks → AreLooksOf m looks
 same_waits m n looks is of_each = subst (λ k. AreLooksOf k looks) (sym is) of_each
 
 no_looks : (n looks : ℕ) → n ≡ 0 → AreLooksOf n looks → looks ≡ 0
 no_looks n looks is of_each = omega (arith, is, of_each.most)
 
--- so many messages, and then none where the script has closed
+-- this many messages, and then none if the script has closed
 module _ (full : Bool) (n count taken looks : ℕ) where
   messages_write : (closed : Bool) (messages : List Frame) → (closed ≡ true → taken ≡ 0) → length messages ≡ taken → AreLooksOf taken looks → taken ≡ count → Writes full closed n (order.P2a count) None (of_messages messages (map line.P2a messages) looks)
   messages_write false messages unclosed many of_each is = messages_taken messages (many ∙ is) looks (same_waits (length messages) taken looks many of_each)
@@ -102,7 +102,7 @@ module _ (full : Bool) (n count taken looks : ℕ) where
   memory_writes true [] unclosed many of_each below = subst (λ k. ClosedWrites (order.P2a count) (Some stop.Memory) (of_messages [] [] k)) (sym (no_looks taken looks (unclosed refl) of_each)) (line_had_no_room (order.P2a count) (λ none. absurd (omega (arith, none, below))))
   memory_writes true (m ∷ messages) unclosed many of_each below = absurd (omega (arith, many, unclosed refl))
 
--- so many calls that asked for a state, none of them once the script has closed
+-- this many calls that asked for a state, none of them once the script has closed
 module _ (full : Bool) (n domain state k looks : ℕ) where
   refused_look : (closed : Bool) (others : List Message) (error : PostError) → (closed ≡ true → k ≡ 0) → length others ≡ k → AreLooksOf k looks → k < CALLS → All (λ reply. ¬ (HasState state reply)) others → IsRefusal full closed error → Writes full closed n (order.Until domain state) (Some stop.Limit) (of_calls (state_commands n domain (length others)) (map Reply others) (line.UntilLimit ∷ []) looks)
   refused_look false others post.Full unclosed many of_each below none why = state_found_no_place others (omega (arith, many, below)) none why.1 looks (same_waits (length others) k looks many of_each)
@@ -135,7 +135,7 @@ stays_still _ _ _ (none_came count some) = record { posted = refl; read = refl; 
 stays_still _ _ _ closed_again = record { posted = refl; read = refl; taken = refl }
 stays_still _ _ _ (line_had_no_room o some) = record { posted = refl; read = refl; taken = refl }
 
--- nothing is outstanding where each post has its answer
+-- nothing is outstanding if each post has its answer
 pub rests : (v : CallerView) → length v.posted ≡ length v.read → ¬ (IsOutstanding v)
 rests v h out = absurd (omega (arith, h, out.unread))
 
@@ -202,7 +202,7 @@ noted_since l before mid after same noted = record {
 noted_more : (l : Line) (before mid after : AgentLog) → mid.lines.items ≡ before.lines.items → IsNoted l mid after → after.lines.items ≡ before.lines.items ++ l ∷ []
 noted_more l before mid after same noted = noted.lines ∙ ap (λ ls. ls ++ l ∷ []) same
 
--- a call's looks, and none for a message
+-- a call's polls, and none for a message
 
 module _ (full : Bool) (protocol id : ℕ) (payload : ArrayVec ℕ) (v w : CallerView) (before mid after : AgentLog) (rest : LeavesRest v w before mid) where
   no_message_looks : HasSameLooks mid after → after.message_looks ≡ more_calls 0 before.message_looks
@@ -294,7 +294,8 @@ close_noted full Idle v w before after noted idle withdrawn rest = record {
 
 -- messages
 
--- so many messages were taken, none of them by an end that has closed, and each has its line and its looks
+-- this many messages were taken, none of them by an endpoint that has closed, and each has its line
+-- and its polls
 pub record HasTakenMany (closed : Bool) (count : ℕ) (before after : AgentLog) : Type 0 where
   pub messages : List Frame
   pub many : length messages ≡ count
@@ -420,7 +421,7 @@ next_frame domain state k protocol id payload before mid so_far p i w =
     ∙ ap (λ x. command (length before.posted.items + k) 0x11 x payload) i
     ∙ ap (λ ws. command (length before.posted.items + k) 0x11 0x5 (record { items = ws })) w
 
--- so many calls asked, and a further one was posted
+-- this many calls asked, and a further one was posted
 module _ (full : Bool) (domain state k protocol id : ℕ) (payload : ArrayVec ℕ) (closed : Bool) (before mid after : AgentLog) (so_far : HasAskedFor closed domain state k before mid) (p : protocol ≡ 0x11) (i : id ≡ 0x5) (w : payload.items ≡ domain ∷ []) where
   further : after.posted.items ≡ mid.posted.items ++ command (length mid.posted.items) protocol id payload ∷ [] → after.posted.items ≡ before.posted.items ++ state_commands (length before.posted.items) domain (k + 1)
   further e = e ∙ ap (λ f. mid.posted.items ++ f ∷ []) (next_frame domain state k protocol id payload before mid so_far p i w) ∙ ap (λ xs. xs ++ command (length before.posted.items + k) 0x11 0x5 (record { items = domain ∷ [] }) ∷ []) so_far.posted ∙ append_assoc before.posted.items (state_commands (length before.posted.items) domain k) (command (length before.posted.items + k) 0x11 0x5 (record { items = domain ∷ [] }) ∷ []) ∙ ap (λ xs. before.posted.items ++ xs) (sym (state_commands_more (length before.posted.items) domain k))
@@ -501,7 +502,7 @@ looked_without_room full closed domain state k r before mid after below is so_fa
   counted = same.looks.replies ∙ so_far.counted;
 })
 
--- an order to wait for a state takes no message, and looks for none
+-- an order to wait for a state takes no message, and polls for none
 record IsNoTake (part : Part) : Type 0 where
   pub taken : part.taken ≡ []
   pub message_looks : part.message_looks ≡ 0

@@ -57,7 +57,7 @@ module _ {C Caller Callee Rest : Type 0} (identity : C → List ℕ) (links : Li
     made = λ before made. subst (λ k. HasMade before k c'.history b) (sym same) (flushed_made full c.board a c.history c'.history flushes.step.collected flushes.caller r b before flushes.step.step (so_far.made before made));
   }
 
--- the rounds of a whole run, of which the history at the end is told by another name
+-- the rounds of a whole run, of which the history at the end has another name
 pub made_of_run : (plan b b' : Board) (h h' k : List Event) (applied applied' : Option (List Effect)) → b ≡ plan → h ≡ [] → b' ≡ b → k ≡ h'
     → ((before : List Effect) → HasMade before b h applied → HasMade before b' h' applied')
     → (before : List Effect) → HasMade before plan [] applied → HasMade before plan k applied'

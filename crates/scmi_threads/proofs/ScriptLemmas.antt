@@ -79,7 +79,7 @@ one_more f ps p old new is e = e ∙ ap (λ xs. xs ++ f p) is ∙ sym (flat_map-
 one_sum : (f : Part → ℕ) (p : Part) → sum_by f (p ∷ []) ≡ f p
 one_sum f p = omega arith
 
--- more looks, modulo 2^64
+-- more polls, modulo 2^64
 more_looks : (f : Part → ℕ) (ps : List Part) (p : Part) (old new : ℕ) → old ≡ sum_by f ps % 2 ^ 64 → new ≡ more_calls (f p) old → new ≡ sum_by f (ps ++ p ∷ []) % 2 ^ 64
 more_looks f ps p old new is e = e ∙ ap (more_calls (f p)) is ∙ calls_of_sum (f p) (sum_by f ps) ∙ ap (λ n. n % 2 ^ 64) (sym (sum_by-append f ps (p ∷ []) ∙ ap (λ n. sum_by f ps + n) (one_sum f p)))
 

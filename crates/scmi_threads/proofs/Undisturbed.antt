@@ -53,7 +53,7 @@ all_first : {X : Type 0} (P : X → Type 0) (xs ys : List X) → All P (xs ++ ys
 all_first P [] ys h = All-nil P
 all_first P (x ∷ xs) ys h = All-cons P x xs (All-head P x (xs ++ ys) h) (all_first P xs ys (All-tail P x (xs ++ ys) h))
 
--- one frame more, where there is one
+-- one frame more, if there is one
 abbrev with_frame : Option Frame → List Frame
 with_frame None = []
 with_frame (Some f) = f ∷ []

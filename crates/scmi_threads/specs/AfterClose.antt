@@ -17,7 +17,8 @@ abbrev pub up_to_close : List Order → List Order
 up_to_close [] = []
 up_to_close (order ∷ orders) = if is_close order then order ∷ [] else order ∷ up_to_close orders
 
--- the line says that nothing came of its order: a post was refused as closed, turns ran out, or the end was closed already
+-- the line says that nothing came of its order: a post was refused as closed, polls ran out, or the
+-- endpoint was closed already
 abbrev pub SaysNothing : Line → Type 0
 SaysNothing (line.NotPosted error) = error ≡ post.Closed
 SaysNothing line.Limit = Unit {0}

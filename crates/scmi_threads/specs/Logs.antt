@@ -25,7 +25,7 @@ pub record IsEmptyLog (log : AgentLog) : Type 0 where
   pub reply_looks : log.reply_looks ≡ 0
   pub message_looks : log.message_looks ≡ 0
 
--- both logs count the same looks
+-- both logs count the same polls
 pub record HasSameLooks (old new : AgentLog) : Type 0 where
   pub replies : new.reply_looks ≡ old.reply_looks
   pub messages : new.message_looks ≡ old.message_looks
@@ -40,7 +40,7 @@ pub record IsSameLog (old new : AgentLog) : Type 0 where
   pub stopped : new.stopped ≡ old.stopped
   pub looks : HasSameLooks old new
 
--- the log says what the agent has done at its ends
+-- the log says what the agent has done at its endpoints
 pub record IsLogOf (agent : AgentView) (log : AgentLog) : Type 0 where
   pub posted : log.posted.items ≡ agent.caller.posted
   pub read : log.read.items ≡ agent.caller.read

@@ -22,7 +22,7 @@ use Rattle.scmi_threads.specs.declared.order.Order.TheVariants as order
 use Rattle.scmi_threads.specs.declared.stop.Stop.{Stop}
 use Rattle.scmi_threads.specs.declared.stop.Stop.TheVariants as stop
 
--- what a command is answered: a reply, or a channel error where it has more words than the shortest channel
+-- what a command is answered: a reply, or a channel error if it has more words than the shortest channel
 abbrev pub IsAnswerTo : Frame → Answer → Type 0
 IsAnswerTo frame (Reply m) = Unit {0}
 IsAnswerTo (Good m) ChannelError = LEAST_CHANNEL_WORDS < length m.payload.items
@@ -34,7 +34,8 @@ AreAnswersTo frames [] = Unit {0}
 AreAnswersTo [] (answer ∷ answers) = Unit {0}
 AreAnswersTo (frame ∷ frames) (answer ∷ answers) = IsAnswerTo frame answer × AreAnswersTo frames answers
 
--- nothing has disturbed the agent: it was told of no close, and each answer that it read is one to its command
+-- nothing has disturbed the agent: it was notified of no close, and each answer that it read is one
+-- to its command
 pub record IsUndisturbed (caller : CallerView) : Type 0 where
   pub told : caller.told ≡ false
   pub answers : AreAnswersTo caller.posted caller.read
@@ -57,12 +58,12 @@ HasAwaited command line.Error old new = IsAnswerTo command ChannelError × (new 
 HasAwaited command line.Limit old new = new ≡ old
 HasAwaited command _ old new = ⊥
 
--- how many looks a wait for an answer had, by its line: TURNS where they ran out, else those of a wait that was answered
+-- how many polls a wait for an answer had, by its line: TURNS if they ran out, else those of a wait that was answered
 abbrev pub AreLooksBy : Line → ℕ → Type 0
 AreLooksBy line.Limit looks = looks ≡ TURNS
 AreLooksBy _ looks = AreLooksOf 1 looks
 
--- the log counts the looks of a wait that ended in this line
+-- the log counts the polls of a wait that ended in this line
 pub record HasWaited (line : Line) (before after : AgentLog) : Type 0 where
   pub looks : ℕ
   pub many : AreLooksBy line looks
@@ -74,17 +75,17 @@ IsRefusal full closed post.Closed = closed ≡ true
 IsRefusal full closed post.Full = (closed ≡ false) × (full ≡ true)
 IsRefusal full closed _ = ⊥
 
--- a call of a command, by its line: it was refused, without a look, or the script had not closed, and it was posted and waited for
+-- a call of a command, by its line: it was refused, without a poll, or the script had not closed, and it was posted and waited for
 abbrev pub HasAsked : Bool → Bool → Frame → Line → AgentLog → AgentLog → Type 0
 HasAsked full closed command (line.NotPosted error) before after = IsRefusal full closed error × (after.posted.items ≡ before.posted.items) × (after.read.items ≡ before.read.items) × (after.reply_looks ≡ before.reply_looks)
 HasAsked full closed command line before after = (closed ≡ false) × (after.posted.items ≡ before.posted.items ++ command ∷ []) × HasAwaited command line before.read.items after.read.items × HasWaited line before after
 
--- the line says that a reply came
+-- the line reports a reply
 abbrev pub IsGot : Line → Type 0
 IsGot (line.Got words) = Unit {0}
 IsGot _ = ⊥
 
--- the line says that a reply came with status 0 and this state
+-- the line reports a reply with status 0 and this state
 abbrev pub ShowsState : ℕ → Line → Type 0
 ShowsState state (line.Got words) = words.items ≡ 0 ∷ state ∷ []
 ShowsState state _ = ⊥
@@ -94,7 +95,8 @@ abbrev pub ending : Line → Result (Unit {0}) Stop
 ending line.Limit = Err stop.Limit
 ending _ = Ok tt
 
--- so many calls asked for the state of a domain, none of them after the script's close, and none of the replies had the state
+-- this many calls asked for the state of a domain, none of them after the script's close, and none
+-- of the replies had the state
 pub record HasAskedFor (closed : Bool) (domain state count : ℕ) (before after : AgentLog) : Type 0 where
   pub others : List Message
   pub many : length others ≡ count
@@ -147,19 +149,19 @@ pub record TakesOne (closed : Bool) (before after : AgentLog) : Type 0 where
   pub taken : after.p2a.items ≡ before.p2a.items ++ message ∷ []
   pub lines : after.lines.items ≡ before.lines.items ++ line.P2a message ∷ []
 
--- the looks of a wait for a message, by how it ended: those of one that was answered, TURNS where they ran out, none where memory was refused
+-- the polls of a wait for a message, by how it ended: those of one that was answered, TURNS if they ran out, none if memory was refused
 abbrev pub AreLooksFor : Result (Unit {0}) Stop → ℕ → Type 0
 AreLooksFor (Ok done) looks = AreLooksOf 1 looks
 AreLooksFor (Err stop.Limit) looks = looks ≡ TURNS
 AreLooksFor (Err stop.Memory) looks = looks ≡ 0
 
--- the log counts the looks of a wait for a message that ended so
+-- the log counts the polls of a wait for a message that ended so
 pub record HasLookedFor (result : Result (Unit {0}) Stop) (before after : AgentLog) : Type 0 where
   pub looks : ℕ
   pub many : AreLooksFor result looks
   pub counted : after.message_looks ≡ more_calls looks before.message_looks
 
--- one more message was taken, or none: the turns ran out, or memory was refused
+-- one more message was taken, or none: the polls ran out, or memory was refused
 abbrev pub HasTaken : Bool → Result (Unit {0}) Stop → AgentLog → AgentLog → Type 0
 HasTaken closed (Ok done) before after = TakesOne closed before after
 HasTaken closed (Err stop.Limit) before after = (after.p2a.items ≡ before.p2a.items) × (after.lines.items ≡ before.lines.items ++ line.Limit ∷ [])

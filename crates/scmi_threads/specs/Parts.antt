@@ -19,7 +19,7 @@ use Rattle.scmi_threads.specs.declared.order.Order.TheVariants as order
 use Rattle.scmi_threads.specs.declared.stop.Stop.{Stop}
 use Rattle.scmi_threads.specs.declared.stop.Stop.TheVariants as stop
 
--- the part of a log that one order wrote: the frames that it posted, the answers that it read, the P2A messages that it took, its lines, and how often it looked for a reply and for a message
+-- the part of a log that one order wrote: the frames that it posted, the answers that it read, the P2A messages that it took, its lines, and how often it polled for a reply and for a message
 pub record Part : Type 0 where
   pub posted : List Frame
   pub read : List Answer
@@ -41,19 +41,22 @@ state_commands n domain (suc k) = state_commands n domain k ++ command (n + k) 0
 abbrev pub HasState : ℕ → Message → Type 0
 HasState state reply = reply.payload.items ≡ 0 ∷ state ∷ []
 
--- a part of lines alone: nothing was posted, read or taken, and nothing looked for
+-- a part of lines alone: nothing was posted, read or taken, and nothing polled for
 abbrev pub only_lines : List Line → Part
 only_lines lines = record { posted = []; read = []; taken = []; lines = lines; reply_looks = 0; message_looks = 0 }
 
--- a part of calls: what was posted, read and written, after so many looks for a reply, and none for a message
+-- a part of calls: what was posted, read and written, after this many polls for a reply, and none
+-- for a message
 abbrev pub of_calls : List Frame → List Answer → List Line → ℕ → Part
 of_calls posted read lines looks = record (only_lines lines) { posted = posted; read = read; reply_looks = looks }
 
--- a part of messages: what was taken and written, after so many looks for a message, and none for a reply
+-- a part of messages: what was taken and written, after this many polls for a message, and none for
+-- a reply
 abbrev pub of_messages : List Frame → List Line → ℕ → Part
 of_messages taken lines looks = record (only_lines lines) { taken = taken; message_looks = looks }
 
--- this many waits that were each answered had so many looks in all: each at least one, and at most TURNS
+-- this many waits that were each answered made this many polls in all: each at least one, and at
+-- most TURNS
 pub record AreLooksOf (waits looks : ℕ) : Type 0 where
   pub least : waits ≤ looks
   pub most : looks ≤ waits * TURNS
@@ -84,7 +87,7 @@ pub data UntilWrites (full : Bool) (n domain state : ℕ) : Option Stop → Part
   -- memory was refused before a post
   state_had_no_room : (others : List Message) → length others < CALLS → All (λ reply. ¬ (HasState state reply)) others → (looks : ℕ) → AreLooksOf (length others) looks → UntilWrites full n domain state (Some stop.Memory) (of_calls (state_commands n domain (length others)) (map Reply others) [] looks)
 
--- an order to take so many P2A messages, by how it ended: each message has its line
+-- an order to take this many P2A messages, by how it ended: each message has its line
 pub data P2aWrites (count : ℕ) : Option Stop → Part → Type 0 where
   messages_taken : (messages : List Frame) → length messages ≡ count → (looks : ℕ) → AreLooksOf (length messages) looks → P2aWrites count None (of_messages messages (map line.P2a messages) looks)
   -- the TURNS for one ran out
@@ -102,13 +105,13 @@ abbrev pub IsForNothing : Order → Type 0
 IsForNothing (order.P2a count) = count ≡ 0
 IsForNothing _ = ⊥
 
--- an order of a script that has closed, by how it ended: it posts nothing, reads no answer and takes no message, and looks for no reply
+-- an order of a script that has closed, by how it ended: it posts nothing, reads no answer and takes no message, and polls for no reply
 pub data ClosedWrites : Order → Option Stop → Part → Type 0 where
   -- a call is refused
   call_refused : (protocol id : ℕ) (payload : ArrayVec ℕ) → ClosedWrites (order.Call protocol id payload) None (only_lines (line.NotPosted post.Closed ∷ []))
   -- so is the first call of a wait for a state, and the script ends
   state_refused : (domain state : ℕ) → ClosedWrites (order.Until domain state) (Some stop.Limit) (only_lines (line.UntilLimit ∷ []))
-  -- there is nothing to take where no message is asked for
+  -- there is nothing to take if no message is asked for
   none_asked_for : (count : ℕ) → count ≡ 0 → ClosedWrites (order.P2a count) None (only_lines [])
   -- the TURNS for a message run out, and the script ends
   none_came : (count : ℕ) → 0 < count → ClosedWrites (order.P2a count) (Some stop.Limit) (of_messages [] (line.Limit ∷ []) TURNS)

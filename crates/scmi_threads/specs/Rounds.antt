@@ -11,7 +11,8 @@ use Rattle.scmi_ends.specs.Links.{HasLinks}
 abbrev pub IsOpenToAll : ControllerView → Type 0
 IsOpenToAll platform = All (λ callee. callee.closed ≡ false) platform.callees
 
--- what rounds leave as it was: the links whose ends the platform has, the board, and that the ends are open; and hardware that keeps a list goes on having made what the history changes
+-- what rounds leave as it was: the links whose endpoints the platform has, the board, and that the
+-- endpoints are open; and hardware that keeps a list goes on having made what the history changes
 pub record GoesOn {C Caller Callee Rest : Type 0} (identity : C → List ℕ) (links : List (Link C Caller Callee Rest)) (old : ControllerView) (applied : Option (List Effect)) (new : ControllerView) (applied' : Option (List Effect)) : Type 0 where
   pub has_links : HasLinks identity links new
   pub board : new.board ≡ old.board

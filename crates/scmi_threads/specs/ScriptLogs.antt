@@ -19,7 +19,7 @@ pub data Follows (full : Bool) : Bool → ℕ → List Order → Option Stop →
   ends_here : (closed : Bool) (n : ℕ) (order : Order) (orders : List Order) (why : Stop) (part : Part) → Writes full closed n order (Some why) part → Follows full closed n (order ∷ orders) (Some why) (part ∷ [])
   goes_on : (closed : Bool) (n : ℕ) (order : Order) (orders : List Order) (stopped : Option Stop) (part : Part) (parts : List Part) → Writes full closed n order None part → Follows full (is_close order || closed) (n + length part.posted) orders stopped parts → Follows full closed n (order ∷ orders) stopped (part ∷ parts)
 
--- the log is these parts, one after another, and counts their looks modulo 2^64
+-- the log is these parts, one after another, and counts their polls modulo 2^64
 pub record IsMadeOf (parts : List Part) (log : AgentLog) : Type 0 where
   pub posted : log.posted.items ≡ flat_map (λ part. part.posted) parts
   pub read : log.read.items ≡ flat_map (λ part. part.read) parts
@@ -28,13 +28,13 @@ pub record IsMadeOf (parts : List Part) (log : AgentLog) : Type 0 where
   pub reply_looks : log.reply_looks ≡ sum_by (λ part. part.reply_looks) parts % 2 ^ 64
   pub message_looks : log.message_looks ≡ sum_by (λ part. part.message_looks) parts % 2 ^ 64
 
--- the log follows the script: each order, in turn, wrote a part of it, and all of them where the script was not stopped
+-- the log follows the script: each order, in turn, wrote a part of it, and all of them if the script was not stopped
 pub record IsScriptLog (full : Bool) (orders : List Order) (log : AgentLog) : Type 0 where
   pub parts : List Part
   pub made : IsMadeOf parts log
   pub follows : Follows full false 0 orders log.stopped parts
 
--- the number that a gate is given of the line behind these many others
+-- the number that a gate is given of the line after these many others
 abbrev pub line_number : ℕ → ℕ
 line_number k = min (k + 1) (2 ^ 32 - 1)
 
@@ -43,7 +43,7 @@ pub record IsGatedLog (full : Bool) (asked : ℕ → Type 0) (orders : List Orde
   pub script : IsScriptLog full orders log
   pub gate : (k : ℕ) → k < length script.parts → asked (line_number k)
 
--- the orders of an agent; none where it has no script
+-- the orders of an agent; none if it has no script
 abbrev pub orders_of : List Script → ℕ → List Order
 orders_of [] agent = []
 orders_of (script ∷ scripts) agent = if script.agent == agent then script.lines.items else orders_of scripts agent

@@ -26,9 +26,9 @@ pub struct AgentLog {
     pub lines: Vec<Line>,
     /// Why its script ended early, if it did.
     pub stopped: Option<Stop>,
-    /// How often it looked for a reply, modulo 2^64.
+    /// How often it polled for a reply, modulo 2^64.
     pub reply_looks: u64,
-    /// How often it looked for a P2A message, modulo 2^64.
+    /// How often it polled for a P2A message, modulo 2^64.
     pub message_looks: u64,
     ghost tokens_are: { map command_token posted.items ≡ first_tokens (length posted.items) },
     ghost messages_are: { messages_of lines.items ≡ p2a.items },
@@ -134,7 +134,8 @@ impl AgentLog {
         self.p2a.push_reserved(frame);
     }
 
-    /// Notes how the agent's end was closed; the first close stays. There is room for its line.
+    /// Notes how the agent's endpoint was closed; the first close stays. There is room for its
+    /// line.
     pub(crate) fn note_closing(&mut self, closing: Closing)
         requires room { vec_len self.old.lines < vec_capacity self.old.lines }
         ensures closing { self.new.closing ≡ option_or self.old.closing (Some closing) }
@@ -147,8 +148,8 @@ impl AgentLog {
         self.lines.push_reserved(Line::Close(closing));
     }
 
-    /// Notes a line that says neither that a message came nor that an end was closed. There is room
-    /// for it.
+    /// Notes a line that reports neither a message nor the close of an endpoint. There is room for
+    /// it.
     pub(crate) fn note(&mut self, line: Line)
         requires room { vec_len self.old.lines < vec_capacity self.old.lines }
         requires of_call { IsOfCall line }

@@ -11,8 +11,8 @@ use std::sync::Wait;
 use std::sync::atomic::{AtomicUsize, Ordering};
 use std::thread::{Threads, for_each_mut};
 
-/// Runs the scripts of all agents, each in a thread of its own where one can be made, and counts
-/// those that have ended.
+/// Runs the scripts of all agents, each in a thread of its own if one can be made, and counts those
+/// that have ended.
 pub(crate) fn run_scripts<'a, C: Channel, G: Gate, R: Threads + Wait + Sync>(
     rt: &R,
     gate: &G,

@@ -1,4 +1,5 @@
 //! Both sides of a run at the same time.
+ghost use Rattle.std.specs.Prelude.{◌≡◌, true};
 ghost use Rattle.std.specs.List.{AllZip};
 ghost use Rattle.scmi_ends.specs.Links.{HasLinks};
 ghost use Rattle.scmi_threads.specs.Rounds.{IsOpenToAll, GoesOn};
@@ -15,8 +16,8 @@ use std::sync::Wait;
 use std::sync::atomic::AtomicUsize;
 use std::thread::{Threads, join};
 
-/// Runs the scripts of all agents beside the controller's rounds, whose thread has the hardware. Says
-/// whether the rounds were refused memory.
+/// Runs the scripts of all agents beside the controller's rounds, whose thread has the hardware.
+/// Returns whether the rounds were refused memory.
 pub(crate) fn run_beside<
     'a,
     C: Channel,
@@ -35,6 +36,7 @@ pub(crate) fn run_beside<
     requires open_ends { IsOpenToAll controller }
     ensures goes_on { GoesOn C.identity links.now controller (H.applied hardware)
         result.0.0 (H.applied result.0.2) }
+    ensures memory { result.0.1 ≡ true → result.0.0.room ≡ 0 }
     ensures ran { AllZip (HasPlayed C.FULL (G.asked gate.now)) script_runs.entry.items
         result.1.items }
 {
@@ -44,8 +46,9 @@ pub(crate) fn run_beside<
         || -> (Controller<C>, bool, H)
             requires links { HasLinks C.identity links.now controller }
             requires open_ends { IsOpenToAll controller }
-            ensures { GoesOn C.identity links.entry.now controller (H.applied hardware)
+            ensures goes_on { GoesOn C.identity links.entry.now controller (H.applied hardware)
                 result.0 (H.applied result.2) }
+            ensures memory { result.1 ≡ true → result.0.room ≡ 0 }
         { run_rounds(rt, links, &ended, controller, hardware) },
         || -> Vec<ScriptRun<C>>
             ensures { AllZip (HasPlayed C.FULL (G.asked gate.entry.now)) script_runs.entry.items result.items }

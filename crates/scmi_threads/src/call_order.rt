@@ -12,13 +12,14 @@ use scmi_codec::{Answer, Frame, Header, Message, Payload, payload_of};
 use scmi_link::{Channel, Collected, PostError};
 use std::sync::Wait;
 
-/// The line of a call that was answered so.
+/// The line of a call with this answer.
 fn line_of(answer: &Answer) -> Line
     ensures { result ≡ answer_line answer.now }
 {
     match answer {
         Answer::Reply(message) => Line::Got(payload_of(message.payload.as_slice())),
-        // The platform answers no command so: a release is what an agent answers on P2A.
+        // The platform never gives a command this answer: a release is what an agent answers on
+        // P2A.
         Answer::Released => Line::Got(payload_of(&[])),
         Answer::ChannelError => Line::Error,
     }
@@ -66,7 +67,7 @@ impl<'a, C: Channel> ScriptRun<'a, C> {
         ended
     }
 
-    /// Makes room in the log, posts a command, and waits for its reply. Gives the line that says
+    /// Makes room in the log, posts a command, and waits for its reply. Gives the line that reports
     /// what came of it.
     #[tactic(auto, using(crate::proofs::Looking::waited_since))]
     pub(crate) fn ask<R: Wait>(
@@ -129,8 +130,8 @@ impl<'a, C: Channel> ScriptRun<'a, C> {
         Ok(())
     }
 
-    // Waits for the reply, counts the looks, and notes it, for which there is room. Gives the line
-    // that says so.
+    // Waits for the reply, counts the polls, and notes it, for which there is room. Gives the line
+    // that reports it.
     #[tactic(auto, using(crate::proofs::ClosesLemmas::has_waited, crate::proofs::Answered::before_wait, crate::proofs::Answered::answer_read, crate::proofs::Looking::has_waited, crate::proofs::Looking::wait_counted))]
     fn await_reply<R: Wait>(&mut self, rt: &R) -> Line
         requires room { vec_len self.old.log.read < vec_capacity self.old.log.read }

@@ -11,7 +11,7 @@ impl<'a, C: Channel> ScriptRun<'a, C> {
     ghost use Rattle.scmi_threads.specs.ScriptRuns.{HasRun};
     ghost use Rattle.scmi_threads.specs.declared.order.Order.TheVariants as order;
 
-    /// Closes the agent's end, and notes how, or that it was refused.
+    /// Closes the agent's endpoint, and notes how, or that it was refused.
     #[tactic(auto, using(crate::proofs::ClosesLemmas::closes_idle, crate::proofs::ClosesLemmas::closes_withdrawn, crate::proofs::ClosesLemmas::is_shut, crate::proofs::Looking::close_looks))]
     pub(crate) fn close(&mut self) -> Result<(), Stop>
         ensures ran { HasRun self.old self.new }

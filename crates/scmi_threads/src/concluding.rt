@@ -1,4 +1,4 @@
-//! How a run ends: all ends are gathered.
+//! How a run ends: all endpoints are gathered.
 ghost use Rattle.std.specs.Prelude.{◌≡◌};
 ghost use Rattle.std.specs.List.{All, AllZip};
 ghost use Rattle.scmi_core.specs.Bounds.{HasBounds, HasResponses};
@@ -16,7 +16,7 @@ use crate::outcome::Outcome;
 use scmi_ends::{AgentEnd, Controller, Link};
 use scmi_link::Channel;
 
-/// Gathers all ends. What they did is then known to agree with the history.
+/// Gathers all endpoints. What they did is then known to agree with the history.
 pub(crate) fn conclude<C: Channel>(
     controller: Controller<C>,
     links: Vec<Link<C>>,
@@ -30,6 +30,7 @@ pub(crate) fn conclude<C: Channel>(
     requires ends { AreEndsOf C.identity links.items ends.items }
     requires logs { AllZip IsLogOf ends.items logs.items }
     ensures history { result.trace.events ≡ controller.history }
+    ensures room { result.trace.room ≡ controller.room }
     ensures legal { IsLegal controller.board result.trace.events }
     ensures bounds { HasBounds controller.board (deeds controller.board result.trace.events) }
     ensures responses { HasResponses controller.board (deeds controller.board result.trace.events) }

@@ -1,6 +1,6 @@
 //! How long a script may wait.
 
-/// The most turns of a wait: looks for a reply, or for a P2A message (own).
+/// The most polls of a wait for a reply, or for a P2A message (own).
 pub const TURNS: u32 = 1_000_000;
 
 /// The most calls of an `Order::Until` (own).

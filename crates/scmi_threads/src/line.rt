@@ -22,8 +22,8 @@ pub enum Line {
     UntilLimit,
     /// A P2A message.
     P2a(Frame),
-    /// The agent's end is closed.
+    /// The agent's endpoint is closed.
     Close(Closing),
-    /// The agent's end was not closed.
+    /// The agent's endpoint was not closed.
     NotClosed(CloseError),
 }

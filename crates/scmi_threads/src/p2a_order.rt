@@ -16,7 +16,7 @@ impl<'a, C: Channel> ScriptRun<'a, C> {
     ghost use Rattle.scmi_threads.specs.ScriptRuns.{HasRun};
     ghost use Rattle.scmi_threads.specs.declared.order.Order.TheVariants as order;
 
-    /// Takes so many P2A messages, and notes each.
+    /// Takes this many P2A messages, and notes each.
     pub(crate) fn take_messages<R: Wait>(&mut self, rt: &R, count: u32) -> Result<(), Stop>
         ensures ran { HasRun self.old self.new }
         ensures done { HasDone C.FULL (order.P2a count)
@@ -28,7 +28,7 @@ impl<'a, C: Channel> ScriptRun<'a, C> {
         Ok(())
     }
 
-    // Looks for a message, at most `TURNS` times, and notes it.
+    // Polls for a message, at most `TURNS` times, and notes it.
     fn take_message<R: Wait>(&mut self, rt: &R) -> Result<(), Stop>
         ensures ran { HasRun self.old self.new }
         ensures unmoved { IsUnmoved self.old.end.caller self.new.end.caller self.old.log
@@ -48,8 +48,8 @@ impl<'a, C: Channel> ScriptRun<'a, C> {
         Err(Stop::Limit)
     }
 
-    // Looks once for a message, counts that, and notes the message, for which there is room. Says
-    // whether one came.
+    // Polls once for a message, counts that, and notes the message, for which there is room.
+    // Returns whether one came.
     #[tactic(auto, using(crate::proofs::ClosesLemmas::takes_open, crate::proofs::Looking::look_counted))]
     fn look(&mut self) -> bool
         requires p2a { vec_len self.old.log.p2a < vec_capacity self.old.log.p2a }

@@ -1,5 +1,5 @@
 //! The platform's side of a run: the controller's rounds.
-ghost use Rattle.std.specs.Prelude.{◌≡◌, IfErr};
+ghost use Rattle.std.specs.Prelude.{◌≡◌, Err, true};
 ghost use Rattle.scmi_ends.specs.Links.{HasLinks};
 ghost use Rattle.scmi_threads.specs.Rounds.{IsOpenToAll, GoesOn};
 
@@ -9,8 +9,8 @@ use scmi_link::Channel;
 use std::sync::Wait;
 use std::sync::atomic::{AtomicUsize, Ordering};
 
-/// Runs rounds until one after all scripts have ended, or one that was refused memory. Says whether
-/// memory was refused.
+/// Runs rounds until one after all scripts have ended, or one that was refused memory. Returns
+/// whether memory was refused.
 pub(crate) fn run_rounds<C: Channel, H: Hardware, R: Wait>(
     rt: &R,
     links: &[Link<C>],
@@ -20,18 +20,20 @@ pub(crate) fn run_rounds<C: Channel, H: Hardware, R: Wait>(
 ) -> (Controller<C>, bool, H)
     requires links { HasLinks C.identity links.now controller }
     requires open_ends { IsOpenToAll controller }
-    ensures { GoesOn C.identity links.now controller (H.applied hardware)
+    ensures goes_on { GoesOn C.identity links.now controller (H.applied hardware)
         result.0 (H.applied result.2) }
+    ensures memory { result.1 ≡ true → result.0.room ≡ 0 }
 {
-    let mut refused = false;
+    let mut memory = false;
     'rounds: for _ in rt.forever() {
         let last = ended.load(Ordering::SeqCst) >= links.len();
-        refused = run_round(&mut controller, links, &mut hardware).is_err();
-        if refused || last {
+        let round = run_round(&mut controller, links, &mut hardware);
+        memory = matches!(round, Err(ServeError::Memory));
+        if round.is_err() || last {
             break;
         }
     }
-    (controller, refused, hardware)
+    (controller, memory, hardware)
 }
 
 // Serves each agent, completes one pending set, and flushes each agent's outbox.
@@ -45,6 +47,7 @@ fn run_round<C: Channel, H: Hardware>(
     requires open_ends { IsOpenToAll controller.old }
     ensures goes_on { GoesOn C.identity links.now controller.old (H.applied hardware.old)
         controller.new (H.applied hardware.new) }
+    ensures memory { result ≡ Err ServeError.Memory → controller.new.room ≡ 0 }
 {
     let agents = controller.core().agents();
     'served: for agent in 1..agents.saturating_add(1) {

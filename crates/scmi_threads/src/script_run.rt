@@ -13,7 +13,7 @@ use scmi_link::Channel;
 use std::alloc::Global;
 use std::sync::Wait;
 
-/// An agent's end, beside its link and its script, and a log that says what was done at the end.
+/// An agent's endpoint, beside its link and its script, and a log of what was done at the endpoint.
 #[derive(Drop)]
 pub struct ScriptRun<'a, C: Channel> {
     pub link: &'a Link<C>,

@@ -43,7 +43,7 @@ pub(crate) fn start_runs<'a, C: Channel>(
     Ok(script_runs)
 }
 
-/// The lines of an agent's script; none where it has no script.
+/// The lines of an agent's script; none if it has no script.
 fn script_of(scripts: &[Script], agent: u32) -> &[Order]
     ensures { result.now ≡ orders_of scripts.entry.now agent }
 {
@@ -55,7 +55,7 @@ fn script_of(scripts: &[Script], agent: u32) -> &[Order]
     &[]
 }
 
-/// The ends and the logs of the runs, in order. There is room for them.
+/// The endpoints and the logs of the runs, in order. There is room for them.
 pub(crate) fn end_runs<C: Channel>(
     mut script_runs: Vec<ScriptRun<'_, C>>,
     mut ends: Vec<AgentEnd<C>>,

@@ -1,5 +1,5 @@
 //! The run: each agent in a thread of its own, and the controller in another.
-ghost use Rattle.std.specs.Prelude.{◌≡◌, ◌≤◌, [], List, length, vec_len, vec_capacity, IfOk, OnErr};
+ghost use Rattle.std.specs.Prelude.{◌≡◌, ◌≤◌, [], true, List, length, vec_len, vec_capacity, IfOk, OnErr};
 ghost use Rattle.scmi_core.specs.Bounds.{HasBounds, HasResponses};
 ghost use Rattle.scmi_core.specs.Driven.{HasMade};
 ghost use Rattle.scmi_core.specs.History.{deeds};
@@ -26,7 +26,7 @@ use std::sync::Wait;
 use std::thread::Threads;
 
 /// Runs the scripts on a new platform of this plan, each agent in a thread of its own and the
-/// controller in one (own). Where a thread cannot be made, its part runs whole on another's before
+/// controller in one (own). If a thread cannot be made, its part runs whole on another's before
 /// that one's part, the controller's last. An agent without a script does nothing. The controller
 /// serves each agent by rising number, completes one pending set, and flushes each agent's outbox
 /// by rising number; it ends after one more such round once it has seen that all scripts have
@@ -38,13 +38,13 @@ use std::thread::Threads;
 /// each answer it read is the one at that command's place; after a close with nothing outstanding
 /// all were executed and read, and a command that was withdrawn was not executed; the messages it
 /// took are those delivered, at most the last left out, and with its outbox they are all that was
-/// made for it, where no delayed response is lost; and its n-th command has token (n - 1) modulo
-/// 1,024. Each log follows its agent's script order by order, and to its end where it was not
-/// stopped, and before each line that was begun the gate was asked with that agent and line. A wait
-/// that ran out had `TURNS` looks, and one that was answered at least one and at most `TURNS`; a log
-/// counts them, modulo 2^64. After a close that succeeded no further command of the script is
-/// executed: its other orders post nothing, read no answer and take no message. Want of memory
-/// before the scripts start is the only refusal.
+/// made for it, in which no delayed response is lost; and its n-th command has token (n - 1) modulo
+/// 1,024. Each log follows its agent's script order by order, and to its end if it was not stopped,
+/// and before each line that was begun the gate was asked with that agent and line. A wait that ran
+/// out had `TURNS` polls, and one that was answered at least one and at most `TURNS`; a log counts
+/// them, modulo 2^64. After a close that succeeded no further command of the script is executed:
+/// its other orders post nothing, read no answer and take no message. Running out of memory before
+/// the scripts start is the only refusal.
 pub fn run_agents<C: Channel, G: Gate, R: Threads + Wait + Sync>(
     rt: &R,
     alloc: Global,
@@ -68,14 +68,15 @@ pub fn run_agents<C: Channel, G: Gate, R: Threads + Wait + Sync>(
     ensures closed { IfOk result (λ outcome. AllFrom (λ a log.
         EndsAtClose C.FULL (orders_of scripts.now a) outcome.trace.events a log)
         1 outcome.logs.items) }
+    ensures memory { IfOk result (λ outcome. outcome.memory ≡ true → outcome.trace.room ≡ 0) }
 {
     run_agents_on::<C, G, NoHardware, R>(rt, alloc, gate, NoHardware, plan, scripts).0
 }
 
-/// As `run_agents`, beside the hardware, which goes into the controller's thread and comes back (own).
-/// What a command or a completion changes of it is made first; where the hardware refuses that, the
-/// command has failed, and its answer is HARDWARE_ERROR at its place in the history, or the set ends
-/// as failed.
+/// As `run_agents`, beside the hardware, which goes into the controller's thread and comes back
+/// (own). What a command or a completion changes of it is made first; if the hardware refuses that,
+/// the command has failed, and its answer is HARDWARE_ERROR at its place in the history, or the set
+/// ends as failed.
 ///
 /// Hardware that keeps a list has made exactly what the trace changes, in order, each once, after
 /// what it had made before. After a refusal it comes back as it was.
@@ -103,6 +104,7 @@ pub fn run_agents_on<C: Channel, G: Gate, H: Hardware + Send + Drop, R: Threads 
     ensures closed { IfOk result.0 (λ outcome. AllFrom (λ a log.
         EndsAtClose C.FULL (orders_of scripts.now a) outcome.trace.events a log)
         1 outcome.logs.items) }
+    ensures memory { IfOk result.0 (λ outcome. outcome.memory ≡ true → outcome.trace.room ≡ 0) }
     ensures made { IfOk result.0 (λ outcome. (before : List Effect)
         → HasMade before plan [] (H.applied hardware)
         → HasMade before plan outcome.trace.events (H.applied result.1)) }
@@ -116,7 +118,7 @@ pub fn run_agents_on<C: Channel, G: Gate, H: Hardware + Send + Drop, R: Threads 
     let Ok(script_runs) = start_runs(alloc, &links, scripts, ends) else {
         return (Err(AllocError), hardware);
     };
-    // What gives the ends and the logs back takes no memory, so that it cannot be refused.
+    // What gives the endpoints and the logs back takes no memory, so that it cannot be refused.
     let Ok(room) = Vec::with_capacity(alloc, agents) else {
         return (Err(AllocError), hardware);
     };

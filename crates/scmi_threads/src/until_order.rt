@@ -10,14 +10,14 @@ use scmi_codec::{Command, PowerCommand, SUCCESS};
 use scmi_link::Channel;
 use std::sync::Wait;
 
-/// Whether the line says that a reply came.
+/// Whether the line reports a reply.
 fn is_reply(line: &Line) -> bool
     ensures { IsTrue result ↔ IsGot line.now }
 {
     matches!(line, Line::Got(_))
 }
 
-/// Whether the line says that a reply came with status 0 and this state.
+/// Whether the line reports a reply with status 0 and this state.
 fn shows_state(line: &Line, state: u32) -> bool
     ensures { IsTrue result ↔ ShowsState state line.now }
 {
@@ -57,7 +57,7 @@ impl<'a, C: Channel> ScriptRun<'a, C> {
         Err(Stop::Limit)
     }
 
-    // Asks once for the state. Gives the line that says what came of it.
+    // Asks once for the state. Gives the line that reports what came of it.
     fn ask_state<R: Wait>(&mut self, rt: &R, domain: u32) -> Result<Line, Stop>
         ensures ran { HasRun self.old self.new }
         ensures lines { self.new.log.lines ≡ self.old.log.lines }
@@ -80,7 +80,7 @@ impl<'a, C: Channel> ScriptRun<'a, C> {
         )
     }
 
-    // Asks at most `CALLS` times, up to the first call without an answer. Says whether the last
+    // Asks at most `CALLS` times, up to the first call without an answer. Returns whether the last
     // reply is SUCCESS and this state.
     fn sees_state<R: Wait>(&mut self, rt: &R, domain: u32, state: u32) -> Result<bool, Stop>
         ensures ran { HasRun self.old self.new }

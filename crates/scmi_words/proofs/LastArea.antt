@@ -1,4 +1,4 @@
--- What the last words stand for, by the rule.
+-- What the last words encode, by the rule.
 use Rattle.std.proofs.Common.{◌≡◌, ℕ, zero, suc, ◌+◌, ◌%◌, ◌^◌, ◌<◌, ◌||◌, ⊎_elim, Bool, true, false, List, [], ◌∷◌, ◌++◌, length, get_or, refl, sym, ap, ◌∙◌, subst, arith, length-append, Option, Some, None, ◌-◌}
 use lib.ListN.{get_or-replicate}
 use Rattle.std.specs.List.{last_or}

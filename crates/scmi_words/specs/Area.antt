@@ -1,4 +1,4 @@
--- The words of the table from the length on, and what they stand for.
+-- The words of the table from the length on, and what they encode.
 use Rattle.std.specs.Prelude.{◌≡◌, ℕ, ◌+◌, ◌-◌, ◌*◌, ◌<◌, ◌≤◌, ◌==◌, cond, false, List, [], ◌∷◌, length, replicate, slice_index, Option, Some, None}
 use Rattle.scmi_codec.specs.Header.{header_of, header_word}
 use Rattle.scmi_codec.specs.Area.{is_well_formed}
@@ -40,12 +40,12 @@ pub record IsLawfulMessage (m : Message) : Type 0 where
   pub few : length m.payload.items ≤ PAYLOAD_WORDS
   pub header : header_of (header_word m.header) ≡ m.header
 
--- a frame is a lawful message, or its length is not well formed
+-- a frame is a valid message, or its length is not well formed
 abbrev pub IsLawful : Frame → Type 0
 IsLawful (Good m) = IsLawfulMessage m
 IsLawful (Malformed l h) = is_well_formed l ≡ false
 
--- the message of an answer, if it has one, is lawful
+-- the message of an answer, if it has one, is valid
 abbrev pub IsLawfulAnswer : Answer → Type 0
 IsLawfulAnswer (Reply m) = IsLawfulMessage m
 IsLawfulAnswer _ = Unit {0}

@@ -1,4 +1,4 @@
--- What each kind of step of a caller tells: its half after the step, by what the step found.
+-- What each kind of step of a  reports: its half after the step, by what the step found.
 use Rattle.std.specs.Prelude.{◌≡◌, ◌≢◌, ℕ, ◌+◌, ◌%◌, ◌^◌, ◌==◌, cond, ◌<◌, ◌⊎◌, Bool, true, List, [], ◌∷◌, ◌++◌, length, slice_index, Some, None}
 use Rattle.std.specs.List.{last_or}
 use Rattle.atomic_table.specs.Table.{Me, Step}
@@ -41,7 +41,7 @@ caller_drafted half words n = record half { state = record half.state { draft = 
 abbrev pub caller_posted : CallerHalf → Frame → CallerHalf
 caller_posted half f = record half { state = record half.state { posted = half.state.posted ++ f ∷ []; phase = Waiting; draft = [] }; steps = half.steps + 1 }
 
--- the half after a post that was refused: it is told that the callee has closed
+-- the half after a post that was refused: it is notified that the callee has closed
 abbrev pub caller_refused : CallerHalf → CallerHalf
 caller_refused half = record half { told = true; steps = half.steps + 1 }
 

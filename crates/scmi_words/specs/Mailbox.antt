@@ -1,7 +1,7 @@
 -- The rule of the table, between any two steps.
 --
--- Its clauses: what the status says in each stage, with the closed mark exactly where an end has closed; who may store; what the
--- words from the length on stand for; that flags are 0; that nothing is posted or taken once an end has closed; and in each
+-- Its clauses: what the status says in each stage, with the closed mark if and only if an end has closed; who may store; what the
+-- words from the length on encode; that flags are 0; that nothing is posted or taken once an end has closed; and in each
 -- stage how the four lists of the channel agree.
 use Rattle.std.specs.Prelude.{◌≡◌, ◌≢◌, ℕ, ◌+◌, ◌^◌, ◌<◌, ◌≤◌, ◌⊎◌, ◌||◌, true, false, List, [], ◌∷◌, ◌++◌, length, slice_index, Some, None}
 use Rattle.std.specs.List.{last_or}
@@ -21,7 +21,7 @@ use Rattle.scmi_words.specs.Area.{frame_words, settled_words, Begins, IsLawful, 
 use Rattle.scmi_words.specs.StatusWord.{Mark, status_word, answer_mark, settled_mark}
 
 module _ (words : List ℕ) (caller : CallerState) (callee : CalleeState) where
-  -- the status says this mark, with the closed mark exactly where an end has closed
+  -- the status says this mark, with the closed mark if and only if an end has closed
   abbrev pub Status : Mark → Type 0
   Status m = slice_index words STATUS ≡ status_word m (caller.closed || callee.closed)
 
@@ -112,7 +112,7 @@ pub record Rule (words : List ℕ) (caller : CallerHalf) (callee : CalleeHalf) :
   pub narrow : (i : ℕ) → 0 < i → slice_index words i < 2 ^ 32
   -- status, stores, area and lists
   pub stage : Stage words caller.state callee.state
-  -- an end that was told of the other's close was told the truth
+  -- an end that was notified of the other's close was notified of the truth
   pub caller_told : caller.told ≡ true → callee.state.closed ≡ true
   pub callee_told : callee.told ≡ true → caller.state.closed ≡ true
   -- since an end closed, nothing was posted and nothing was taken
@@ -121,7 +121,7 @@ pub record Rule (words : List ℕ) (caller : CallerHalf) (callee : CalleeHalf) :
   -- what refused closes showed stays true
   pub shown : (caller.shown_taken ≤ length callee.state.taken) × (caller.shown_answered ≤ length callee.state.answered)
 
--- each half stands in one view, wherever that is, and the rule holds of them
+-- each half is in one view, wherever that is, and the rule holds of them
 pub record HalvesAgree (s : State (Unit {0}) View) : Type 0 where
   pub caller : CallerHalf
   pub callee : CalleeHalf

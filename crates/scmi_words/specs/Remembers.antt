@@ -9,7 +9,7 @@ use Rattle.scmi_words.specs.CalleeSteps.{IsOwing}
 use Rattle.scmi_words.specs.Phase.{is_left, is_stranded, unread}
 use Rattle.scmi_words.specs.StatusWord.{status_word, settled_mark}
 
--- what the caller's end remembers: its phase, the status of the last answer, whether it closed and whether it was told
+-- what the caller's end remembers: its phase, the status of the last answer, whether it closed and whether it was notified
 pub record CallerRemembers (h : CallerHalf) (now : Phase) (status : ℕ) (own known : Bool) : Type 0 where
   pub phase : now ≡ h.state.phase
   pub closed : own ≡ h.state.closed
@@ -25,7 +25,7 @@ pub record CallerRemembers (h : CallerHalf) (now : Phase) (status : ℕ) (own kn
   -- a post is withdrawn or given up by a close, or where the callee's is known
   pub gone : is_left now ≡ true → (own || known) ≡ true
 
--- what the callee's end remembers: whether it owes, whether it closed and whether it was told
+-- what the callee's end remembers: whether it owes, whether it closed and whether it was notified
 pub record CalleeRemembers (h : CalleeHalf) (owing own known : Bool) : Type 0 where
   pub owes : owing ≡ true → IsOwing h × (h.state.draft ≡ [])
   pub done : owing ≡ false → (length h.state.taken ≡ length h.state.answered) × (h.state.draft ≡ [])

@@ -6,7 +6,7 @@ use Rattle.scmi_words.specs.declared.shared_table.SharedTable.{SharedTable}
 use Rattle.scmi_words.specs.declared.view.View.{View}
 use Rattle.scmi_words.specs.View.{TableSeat, caller_or, callee_or}
 
--- what tells the table from every other
+-- what distinguishes the table from every other
 abbrev pub id_of : SharedTable → TableId
 id_of shared = shared.words.shared.table_id
 
@@ -22,6 +22,6 @@ SeatState = Me (Unit {0}) View
 abbrev pub accesses : SeatState → ℕ
 accesses me = (caller_or me.0.caller).steps + (callee_or me.0.callee).steps
 
--- an access that tells this of what it found is counted, whatever it found
+-- an access that reports this of what it found is counted, whatever it found
 abbrev pub Counts : (ℕ → SeatState → Type 0) → SeatState → Type 0
 Counts tells before = (found : ℕ) (after : SeatState) → tells found after → accesses after ≡ accesses before + 1

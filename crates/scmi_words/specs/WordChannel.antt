@@ -4,7 +4,7 @@ use Rattle.atomic_table.specs.Seated.{TableId}
 use Rattle.scmi_words.specs.declared.word_channel.WordChannel.{WordChannel}
 use Rattle.scmi_words.specs.SharedTable.{id_of}
 
--- the numbers that tell a table from every other
+-- the numbers by which a table differs from every other
 unfoldable pub table_identity : TableId → List ℕ
 table_identity table = table.words ∷ table.slots ∷ table.views_name ∷ table.atom ∷ table.block ∷ table.offset ∷ table.slot_names
 

@@ -1,4 +1,4 @@
--- What is left of a word channel, and what its bytes stand for.
+-- What is left of a word channel, and what its bytes encode.
 use Rattle.std.specs.Prelude.{◌≡◌, ℕ, ◌+◌, ◌%◌, ◌^◌, ◌<◌, ◌≤◌, ◌⊎◌, List, [], ◌∷◌, ◌++◌, length, drop, replicate, slice_index, Some, None}
 use Rattle.std.specs.List.{last_or}
 use Rattle.scmi_codec.specs.Area.{status_at, StandsFor, StandsForAnswer}
@@ -40,7 +40,7 @@ abbrev pub answer_status : Answer → ℕ
 answer_status ChannelError = 3
 answer_status _ = 1
 
--- what the area stands for once both ends are gathered
+-- what the area encodes once both ends are gathered
 pub record StandsAtEnd (caller : CallerState) (callee : CalleeState) (area : List ℕ) : Type 0 where
   pub size : length area ≡ AREA_BYTES
   pub reserved : (i : ℕ) → (i < 0x04) ⊎ ((0x08 ≤ i) × (i < 0x10)) → slice_index area i ≡ 0

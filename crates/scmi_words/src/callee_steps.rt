@@ -24,7 +24,7 @@ impl Play<(), View> for Takes {
     ghost then = { takes };
 }
 
-/// The posted frame is taken, by an exchange of the status: where it fails, the callee learns the
+/// The posted frame is taken, by an exchange of the status: if it fails, the callee learns the
 /// status, and by the closed mark that the caller has closed.
 pub fn take_over(table: &SharedTable, seat: &mut TableSeat) -> u64
     requires table { IsSeatAt table.now seat.old }

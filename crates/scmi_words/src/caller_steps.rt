@@ -45,7 +45,7 @@ impl Play<(), View> for Posts {
     ghost then = { posts };
 }
 
-/// The stored frame is posted, by an exchange of the status that the last answer left: where it fails,
+/// The stored frame is posted, by an exchange of the status that the last answer left: if it fails,
 /// the caller learns that the callee has closed.
 pub fn hand_over(table: &SharedTable, seat: &mut TableSeat, free: u64) -> bool
     ghost frame: { Frame }
@@ -112,7 +112,7 @@ impl Play<(), View> for Shuts {
     ghost then = { closes };
 }
 
-/// The caller closes, by an or of the closed mark; of the free bit too, where its post is outstanding
+/// The caller closes, by an or of the closed mark; of the free bit too, if its post is outstanding
 /// and the callee has closed, which withdraws the post.
 pub fn set_caller_closed(table: &SharedTable, seat: &mut TableSeat, bits: u64) -> u64
     requires table { IsSeatAt table.now seat.old }
@@ -132,8 +132,9 @@ impl Play<(), View> for Withdraws {
     ghost then = { withdraws };
 }
 
-/// The outstanding post is withdrawn and the end closed, by an exchange of the status from posted:
-/// where it fails, the caller learns that the frame was taken, or answered, or that the callee closed.
+/// The outstanding post is withdrawn and the endpoint closed, by an exchange of the status from
+/// posted: if it fails, the caller learns that the frame was taken, or answered, or that the callee
+/// closed.
 pub fn withdraw(table: &SharedTable, seat: &mut TableSeat) -> u64
     requires table { IsSeatAt table.now seat.old }
     requires half { HasCaller seat.old × ((caller_of seat.old).state.phase ≡ Waiting) }

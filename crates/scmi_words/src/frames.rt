@@ -88,7 +88,7 @@ pub fn read_answer(table: &SharedTable, seat: &mut TableSeat, free: u64, answer:
     }
 }
 
-/// Makes an answer that of a frame that was malformed. Its message is none of the locals of `read_answer`.
+/// Makes an answer that of a frame that was malformed. Its message is not a local of `read_answer`.
 #[inline(never)]
 fn set_channel_error(answer: &mut Answer)
     ensures { answer.new ≡ ChannelError }
@@ -220,8 +220,8 @@ fn read_message(
     }
 }
 
-/// Makes a payload one of so many words, over which others are to be loaded. What it is made of is
-/// none of the locals of the callers.
+/// Makes a payload one of this many words, over which others are to be loaded. What it is made of
+/// is not a local of the callers.
 #[inline(never)]
 fn set_length(payload: &mut Payload, count: usize)
     requires { count ≤ PAYLOAD_WORDS }

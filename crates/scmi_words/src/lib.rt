@@ -1,9 +1,9 @@
-//! A channel of atomic words in shared memory: a mailbox that both of its ends use at once.
+//! A channel of atomic words in shared memory: a mailbox that both of its endpoints use at once.
 //!
-//! The main type is `WordChannel`, a `scmi_link::Channel` over one table of words, each of which
-//! is stored, loaded or exchanged alone. The main theorem is the rule of the table (`Mailbox`), which
+//! The main type is `WordChannel`, a `scmi_link::Channel` over one table of words, each of which is
+//! stored, loaded or exchanged alone. The main theorem is the rule of the table (`Mailbox`), which
 //! each of the fifteen kinds of step keeps: whole frames and whole answers pass under every
-//! interleaving. At `gather` it gives the channel's contract, and what the bytes left stand for.
+//! interleaving. At `gather` it gives the channel's contract, and what the bytes left encode.
 #![tactic(auto)]
 
 mod callee_steps;

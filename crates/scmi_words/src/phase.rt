@@ -1,14 +1,14 @@
-//! Where the caller is with its last post.
+//! The state of the caller's last post.
 
-/// Where the caller is with its last post.
+/// The state of the caller's last post.
 #[derive(Clone, Copy, PartialEq, Eq, Debug)]
 pub enum Phase {
     /// Nothing is outstanding.
     Idle,
     /// A post is outstanding.
     Waiting,
-    /// A post is outstanding, and the callee has closed and will not take it. An end is in this phase
-    /// only inside of its close.
+    /// A post is outstanding, and the callee has closed and will not take it. An endpoint is in
+    /// this phase only inside of its close.
     Withdrawing,
     /// The last post was withdrawn.
     Withdrawn,

@@ -1,8 +1,9 @@
-//! The table that the two ends share.
+//! The table that the two endpoints share.
 //!
-//! Its field is private to this module, so its methods are the only way to the words. Each of the four
-//! below is one access, and asks of each kind of step that it counts itself: what a call of an end
-//! makes are these, each in its end's count. A load that nothing counts is not among them.
+//! Its field is private to this module, so its methods are the only way to the words. Each of the
+//! four below is one access, and asks of each kind of step that it counts itself: what a call of an
+//! endpoint makes are these, each in its endpoint's count. A load that nothing counts is not among
+//! them.
 ghost use Rattle.std.specs.Prelude.{◌≡◌};
 ghost use Rattle.scmi_words.specs.declared.layout.TheConstants.{TABLE_WORDS};
 
@@ -64,7 +65,7 @@ impl SharedTable {
         self.words.shared.store::<M>(seat, word, value);
     }
 
-    /// One exchange, made where the word is `old`. It gives the word as it was.
+    /// One exchange, made if the word is `old`. It gives the word as it was.
     pub fn compare_exchange<M: Play<(), View>>(
         &self,
         seat: &mut TableSeat,

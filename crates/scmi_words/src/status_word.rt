@@ -17,11 +17,11 @@ pub const CHANNEL_ERROR: u64 = 3;
 /// The frame is taken, and not answered (own).
 pub const TAKEN: u64 = 0x1_0000_0000;
 
-/// The channel is free with no response. The mark of the taken frame is kept, which tells a release
-/// from a response of the same words (own).
+/// The channel is free with no response. The mark of the taken frame is kept, which distinguishes a
+/// release from a response of the same words (own).
 pub const RELEASED: u64 = TAKEN + FREE;
 
-/// An end has closed: added to each of the above but `TAKEN` (own).
+/// An endpoint has closed: added to each of the above but `TAKEN` (own).
 pub const CLOSED: u64 = 0x2_0000_0000;
 
 /// Whether the channel is free.
@@ -43,8 +43,8 @@ pub fn without_closed(status: u64) -> u64
     }
 }
 
-/// Whether an end knows of the other's close after it found this status: from before, or since it has
-/// not closed itself and finds the closed mark.
+/// Whether an endpoint knows of the other's close after it found this status: from before, or since
+/// it has not closed itself and finds the closed mark.
 pub fn told_after(closed: bool, told: bool, status: u64) -> bool
     ensures { result ≡ told_by closed told status }
 {

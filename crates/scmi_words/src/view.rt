@@ -1,12 +1,13 @@
 //! What a seat at the table knows, as contracts see it. No value of these types is ever made.
 //!
-//! A half of a channel is what one of its ends has done. The seat that the table is made with has both
-//! halves; then the callee's goes to a seat of its own. Only a step of a seat changes its half.
+//! A half of a channel is what one of its endpoints has done. The seat that the table is made with
+//! has both halves; then the callee's goes to a seat of its own. Only a step of a seat changes its
+//! half.
 use crate::phase::Phase;
 use scmi_codec::{Answer, Frame};
 use std::collections::LinkedList;
 
-/// What the rule of the table says of the caller's half.
+/// What the rule of the table states about the caller's half.
 pub struct CallerState {
     pub posted: LinkedList<Frame>,
     pub read: LinkedList<Answer>,
@@ -19,11 +20,11 @@ pub struct CallerState {
 /// The caller's half.
 pub struct CallerHalf {
     pub state: CallerState,
-    /// Whether it was told that the callee has closed.
+    /// Whether it was notified that the callee has closed.
     pub told: bool,
-    /// So many of `posted`, at least, were taken, as its refused closes showed.
+    /// At least this many of `posted` were taken, as its refused closes showed.
     pub shown_taken: u64,
-    /// So many of `posted`, at least, were answered, as its refused closes showed.
+    /// At least this many of `posted` were answered, as its refused closes showed.
     pub shown_answered: u64,
     /// How many were posted when it closed.
     pub final_posted: u64,
@@ -37,7 +38,7 @@ pub struct CallerHalf {
     pub saw: u64,
 }
 
-/// What the rule of the table says of the callee's half.
+/// What the rule of the table states about the callee's half.
 pub struct CalleeState {
     pub taken: LinkedList<Frame>,
     pub answered: LinkedList<Answer>,
@@ -49,7 +50,7 @@ pub struct CalleeState {
 /// The callee's half.
 pub struct CalleeHalf {
     pub state: CalleeState,
-    /// Whether it was told that the caller has closed.
+    /// Whether it was notified that the caller has closed.
     pub told: bool,
     /// How many were posted when it closed.
     pub final_posted: u64,

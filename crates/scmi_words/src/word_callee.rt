@@ -1,4 +1,4 @@
-//! The callee's end of a word channel.
+//! The callee's endpoint of a word channel.
 ghost use Rattle.std.specs.Prelude.{◌≡◌, []};
 ghost use Rattle.scmi_words.specs.View.{HasCallee, callee_of};
 ghost use Rattle.scmi_words.specs.Remembers.{CalleeRemembers};
@@ -10,7 +10,7 @@ use crate::status_word::{CHANNEL_ERROR, FREE, POSTED, RELEASED, told_after};
 use scmi_codec::{Answer, Frame, Message};
 use scmi_link::CloseError;
 
-/// The end of a `WordChannel` that takes frames and answers them.
+/// The endpoint of a `WordChannel` that takes frames and answers them.
 #[derive(Drop)]
 pub struct WordCallee {
     pub(crate) seat: TableSeat,
@@ -32,7 +32,8 @@ impl WordCallee {
     ghost use Rattle.scmi_words.specs.SharedTable.{IsSeatAt};
     ghost use Rattle.scmi_words.specs.WordCallee.{word_callee_view, word_callee_steps, WhyNone, IsSameCallee};
 
-    // Takes the frame that is posted, if there is one, into `frame`, and says whether there was one.
+    // Takes the frame that is posted, if there is one, into `frame`, and returns whether there was
+    // one.
     pub(crate) fn take_into(&mut self, table: &SharedTable, frame: &mut Frame) -> bool
         requires table { IsSeatAt table.now self.old.seat }
         ensures seat { IsSameCallee self.old self.new }
@@ -97,7 +98,7 @@ impl WordCallee {
         self.owes = false;
     }
 
-    // Closes the callee's end. It refuses where an answer is owed.
+    // Closes the callee's endpoint. It refuses if an answer is owed.
     pub(crate) fn close(&mut self, table: &SharedTable) -> Result<(), CloseError>
         requires table { IsSeatAt table.now self.old.seat }
         ensures seat { IsSameCallee self.old self.new }

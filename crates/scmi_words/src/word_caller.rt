@@ -1,4 +1,4 @@
-//! The caller's end of a word channel.
+//! The caller's endpoint of a word channel.
 ghost use Rattle.scmi_words.specs.View.{HasCaller, caller_of};
 ghost use Rattle.scmi_words.specs.Remembers.{CallerRemembers};
 
@@ -11,7 +11,7 @@ use crate::status_word::{CLOSED, FREE, POSTED, TAKEN, is_free, told_after, witho
 use scmi_codec::{Answer, Header, Payload, is_well_formed};
 use scmi_link::{CloseError, Closing, Collected, Looked, PostError};
 
-/// The end of a `WordChannel` that posts frames and collects their answers.
+/// The endpoint of a `WordChannel` that posts frames and collects their answers.
 #[derive(Drop)]
 pub struct WordCaller {
     pub(crate) seat: TableSeat,
@@ -137,7 +137,7 @@ impl WordCaller {
         matches!(self.phase, Phase::Waiting)
     }
 
-    // Collects the answer, if it stands, into `answer`.
+    // Collects the answer, if there is one, into `answer`.
     pub(crate) fn collect_into(&mut self, table: &SharedTable, answer: &mut Answer) -> Looked
         requires table { IsSeatAt table.now self.old.seat }
         ensures seat { IsSameCaller self.old self.new }
@@ -175,7 +175,8 @@ impl WordCaller {
         }
     }
 
-    // A collect with nothing outstanding: whether an end has closed, as far as the caller is now told.
+    // A collect with nothing outstanding: whether an endpoint has closed, as far as the caller is
+    // now notified.
     fn glance(&mut self, table: &SharedTable) -> bool
         requires table { IsSeatAt table.now self.old.seat }
         requires phase { self.old.phase ≢ Waiting }
@@ -200,7 +201,7 @@ impl WordCaller {
         self.told
     }
 
-    // Closes the caller's end, and withdraws a post that was not taken.
+    // Closes the caller's endpoint, and withdraws a post that was not taken.
     pub(crate) fn close(&mut self, table: &SharedTable) -> Result<Closing, CloseError>
         requires table { IsSeatAt table.now self.old.seat }
         ensures seat { IsSameCaller self.old self.new }

@@ -1,4 +1,4 @@
-//! The channel whose ends share words.
+//! The channel whose endpoints share words.
 
 use crate::layout::TABLE_WORDS;
 use crate::phase::Phase;
@@ -19,17 +19,17 @@ use std::alloc::Global;
 /// over, and it is tried once: no call waits, and none but `make` takes memory.
 ///
 /// A step is one load, store or exchange of a shared word, and every one is counted. To post or to
-/// take a frame of k payload words makes k + 3 steps, and so does to answer or to collect a reply of
-/// k payload words. To answer otherwise or to collect that answer makes 1, and so does a look that
-/// finds nothing. What an end knew before may refuse a call, which then makes none. A close makes 1,
-/// or 2 where it withdraws, and none once the end has closed.
+/// take a frame of k payload words makes k + 3 steps, and so does to answer or to collect a reply
+/// of k payload words. To answer otherwise or to collect that answer makes 1, and so does a poll
+/// that finds nothing. What an endpoint knew before may refuse a call, which then makes none. A
+/// close makes 1, or 2 if it withdraws, and none once the endpoint has closed.
 ///
 /// Beyond what every channel promises (own): no post answers `Full`. A `collect_into` that gives
-/// `Nothing` has looked at the status, and so has a `take_into` that gives nothing while no answer is
-/// owed and no close is known. A `close_caller` that withdraws leaves the phase `Withdrawn`, for which
-/// the area has status 1 and the frame; one that is refused shows that the post was taken and not
-/// answered, or that it was answered. What `gather` leaves stands for the last answer, or for the last
-/// frame where it was left untaken. `post`, `collect` and `take` are the trait's, by these calls.
+/// `Nothing` has loaded the status, and so has a `take_into` that gives nothing while no answer is
+/// owed and no close is known. A `close_caller` that withdraws leaves the phase `Withdrawn`, for
+/// which the area has status 1 and the frame; one that is refused shows that the post was taken and
+/// not answered, or that it was answered. What `gather` leaves encodes the last answer, or the last
+/// frame if it was left untaken. `post`, `collect` and `take` are the trait's, by these calls.
 #[derive(Drop)]
 pub struct WordChannel {
     pub(crate) table: SharedTable,
@@ -40,7 +40,7 @@ impl WordChannel {
     ghost use Rattle.scmi_words.specs.SharedTable.{IsSeatAt};
     ghost use Rattle.scmi_words.specs.View.{caller_of, callee_of};
 
-    /// The last words. The rule holds of them and of what the two ends have done.
+    /// The last words. The rule holds of them and of what the two endpoints have done.
     fn take_apart(self, caller: WordCaller, callee: WordCallee) -> [u64; TABLE_WORDS]
         requires caller { IsSeatAt self.table caller.seat }
         requires callee { IsSeatAt self.table callee.seat }

@@ -10,7 +10,7 @@ use atomic_table::Closed;
 use scmi_codec::{AREA_BYTES, write_word};
 use std::alloc::Global;
 
-/// The last words of a channel whose ends were gathered.
+/// The last words of a channel whose endpoints were gathered.
 #[derive(Drop)]
 pub struct WordImage {
     pub(crate) words: [u64; TABLE_WORDS],
@@ -24,9 +24,9 @@ impl WordImage {
     /// The bytes of the area (DEN0056B, shared memory transport). The marks above the 32 bits of the
     /// status are left out.
     ///
-    /// They are the last answer; or the last frame with status 0 where it was left untaken, with
-    /// status 1 where it was withdrawn (own). Where the callee still owes an answer the status is 0,
-    /// and nothing is said of the message.
+    /// They are the last answer; or the last frame with status 0 if it was left untaken, with
+    /// status 1 if it was withdrawn (own). If the callee still owes an answer the status is 0, and
+    /// nothing is stated about the message.
     pub fn area(&self) -> [u8; AREA_BYTES]
         ensures { result ≡ image_area self.now }
     {

@@ -6,7 +6,7 @@ use Rattle.scmi_codec.specs.Rate.{rate_words}
 use Rattle.scmi_clock.specs.ClockReply.{rates_word}
 use Rattle.scmi_clock.proofs.discovery.set_rate_list.Goals as goal
 
--- two words that were written behind others
+-- two words that were written after others
 two_more : (words : List ℕ) (n x y : ℕ) → n + 1 < length words → take (n + 2) (set (set words n x) (n + 1) y) ≡ take n words ++ x ∷ y ∷ []
 two_more words n x y fits =
     let next : n + 2 ≡ n + 1 + 1 = omega arith in

@@ -4,7 +4,7 @@ use Rattle.scmi_ends.specs.AgentView.{IsOfLink}
 use Rattle.scmi_ends.specs.Headline.{AllGathered}
 use Rattle.scmi_ends.proofs.retire.gather_all.Given as goal
 
--- the ends that are left go with their links, and where they agree once gathered, all do
+-- the endpoints that are left go with their links, and if they agree once gathered, all do
 abbrev pub invariant-ends : goal.invariant-ends
 invariant-ends g l = record {
   agents : AllZip (λ k e. IsOfLink (g.C.Channel.identity k.a2p) (g.C.Channel.identity k.p2a) e) l.links.items l.agents.items;

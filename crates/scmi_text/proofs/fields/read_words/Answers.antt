@@ -9,7 +9,7 @@ use Rattle.scmi_text.proofs.Payloads.{word_behind, word_fails_unless, word_full,
 use Rattle.scmi_text.specs.Fields.{payload_left}
 use Rattle.scmi_text.proofs.fields.read_words.Goals as goal
 
--- so many words were added
+-- this many words were added
 counted : (before words : List ℕ) (count : ℕ) → length before + count ≡ length words → length (drop (length before) words) ≡ count
 counted before words count is = omega (arith, is, length-drop (length before) words)
 

@@ -1,4 +1,4 @@
--- `into_loose` compares the pointer with null, and has the box where it is not.
+-- `into_loose` compares the pointer with null, and has the box if it is not null.
 use Rattle.std.proofs.Common.{◌≡◌, List, [], ◌∷◌, ◌++◌, refl, sym, subst, lit<}
 use mir.Syntax.{impl, tnil, dnil}
 use mir.Val.{Val, vptr, vcons, vnil}

@@ -23,7 +23,7 @@ names_p2a g c = ap (λ v. v.p2a_identities) c.self.view_is ∙ c.requires.of_p2a
 within_places : (g : _) (c : After-index_mut-2 g) → c.args.agent - 1 < length c.self.inside.closed_at.items
 within_places g c = omega (arith, c.self.invariant.closed_at_count, c.is_no_agent.ensures.agent c.if-is_no_agent.false)
 
--- the close is noted, where it is the first
+-- the close is noted, if it is the first
 noted : (g : _) (c : After-shut_one g) → c.shut_one.new.closed_at ≡ option_or c.index_mut-3.result.now (Some (length c.self.inside.core.history))
 noted g c = c.shut_one.ensures.closed_at ∙ ap (λ n. option_or c.index_mut-3.result.now (Some n)) (c.len-events.ensures ∙ ap length c.trace.ensures.events)
 

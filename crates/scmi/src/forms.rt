@@ -1,0 +1,81 @@
+//! The table of the program's tasks.
+
+use crate::form::{Form, HeldForm, Operands};
+use crate::task::Task;
+
+/// How each task is asked for, in the order of the enum.
+pub const FORMS: [HeldForm; 5] = [
+    Form {
+        task: Task::Run,
+        word: "run",
+        operands: Operands::Input,
+        usage: "scmi run [FILE]",
+        summary: "runs a session of a platform and its agents; so it does without a word",
+        about: "Runs a session of a platform and its agents, and writes a line for each step.",
+        details: "\
+The first line of the input is the mode: once, steps words, steps rings, threads words,
+threads rings, hardware words or hardware rings. docs/SCRIPTS.md has all lines.",
+        example: "scmi run examples/two_agents.in",
+    },
+    Form {
+        task: Task::Decode,
+        word: "decode",
+        operands: Operands::Input,
+        usage: "scmi decode [FILE]",
+        summary: "tells what areas of shared memory are",
+        about: "\
+Tells what areas of shared memory are: busy or free, the message by its name, status and fields.",
+        details: "\
+The input has dumps of areas, of 60 to 284 bytes, in any of the forms of docs/DECODE.md, and
+lines of ftrace and of a session that show a message.",
+        example: "scmi decode areas.hex",
+    },
+    Form {
+        task: Task::Chart,
+        word: "chart",
+        operands: Operands::Input,
+        usage: "scmi chart [FILE]",
+        summary: "draws a session as a picture (SVG)",
+        about: "Draws a session of one thread as a sequence chart.",
+        details: "\
+The input is that of scmi run in the modes steps words, steps rings, hardware words and
+hardware rings, at most 2,000 steps.
+The output is an SVG. docs/CHART.md has the signs.",
+        example: "scmi chart examples/two_agents.in > run.svg",
+    },
+    Form {
+        task: Task::Session,
+        word: "session",
+        operands: Operands::Board,
+        usage: "scmi session BOARD",
+        summary: "answers the lines of a session one by one, with names in place of numbers",
+        about: "\
+Answers the lines of standard input one by one: each is a step of a session, on the board of a
+file, and its answer is written before the next line is read.",
+        details: "\
+BOARD has the lines of a board, from board to end. A line is one of the steps of scmi run over
+words, in numbers, or with names: agents, domains and clocks by their names on the board,
+messages by theirs, on and off, and a rate in Hz as one number. Flags that are left out are 0.
+After the line 'words on' replies are described, in lines that begin with #, until 'words off'.
+A line that is no step is explained on standard error, and the session goes on. So is a
+notification that is dropped. docs/SCRIPTS.md has more.",
+        example: "echo 'do ap POWER_STATE_SET cpu on' | scmi session examples/phone.board",
+    },
+    Form {
+        task: Task::Check,
+        word: "check",
+        operands: Operands::BoardAndRecord,
+        usage: "scmi check [--tap] BOARD [RECORD]",
+        summary: "says where the answers of another platform, in a record, are not SCMI's",
+        about: "\
+Checks a record of what went over the channels of a platform against the definitions of SCMI.",
+        details: "\
+BOARD has the lines of the platform's board, from board to end. RECORD, or standard input, has
+the commands, each before its answer, and the messages, in the order in which they were seen.
+A line is written for each answer and each message: same, own and the rule of this project's
+own by which it may be another, or differs and what was due; and in the end how many there are
+of each. --tap writes TAP, for a test system. docs/CHECK.md has the lines and the rules.
+Status: 0 where nothing differs, 5 where something does.",
+        example: "scmi check phone.board phone.record",
+    },
+];

@@ -1,0 +1,95 @@
+//! What is asked for is done, with the files that are named.
+
+use crate::STANDARD_INPUT;
+use crate::asked::HeldAsked;
+use crate::read_as::ReadAs;
+use crate::refusal::{lack_board, refuse_file};
+use crate::report::{report_input, report_output};
+use crate::request::Request;
+use crate::run::run_request;
+use crate::serve_check::{AskedCheck, serve_check};
+use crate::serve_session::serve_session;
+use crate::task::Task;
+use scmi_check::Style;
+use scmi_explain::{Kept, LastLine};
+use scmi_modes::RunError;
+use std::alloc::Global;
+use std::fs::{self, Files};
+use std::io::{self, BufWriter, Eprint, Input, Print, Read, Write};
+use std::sync::Wait;
+use std::thread::Threads;
+
+/// Does what is asked for, and gives the exit status.
+pub fn serve<T: Threads + Wait + Sync + Files + Print + Eprint + Input>(
+    rt: &T,
+    alloc: Global,
+    asked: HeldAsked<'_>,
+) -> u8 {
+    let Some(name) = asked.first else {
+        return match asked.request {
+            Request::Do(task @ (Task::Session | Task::Check)) => lack_board(rt, task),
+            request => serve_input(rt, alloc, request, STANDARD_INPUT, rt.reader()),
+        };
+    };
+    if asked.request == Request::Do(Task::Check) {
+        let style = if asked.is_tap {
+            Style::Tap
+        } else {
+            Style::Plain
+        };
+        let check = AskedCheck {
+            style,
+            board: name,
+            record: asked.second,
+        };
+        return serve_check(rt, alloc, check);
+    }
+    match fs::open(rt, name) {
+        Ok(file) if asked.request == Request::Do(Task::Session) => {
+            serve_session(rt, alloc, name, file, rt.reader())
+        }
+        Ok(file) => serve_input(rt, alloc, asked.request, name, file),
+        Err(error) => refuse_file(rt, name, &error),
+    }
+}
+
+/// Does what is asked for with an input of this name, and gives the exit status. What is wrong with
+/// the input, or the output, is reported on standard error.
+fn serve_input<T: Threads + Wait + Sync + Print + Eprint, R: Read + Drop>(
+    rt: &T,
+    alloc: Global,
+    request: Request,
+    name: &str,
+    reader: R,
+) -> u8 {
+    // If there is no memory for a buffer, the output goes straight out.
+    match BufWriter::new(alloc, io::writer(rt)) {
+        Ok(writer) => serve_on(rt, alloc, request, name, reader, writer),
+        Err(_) => serve_on(rt, alloc, request, name, reader, io::writer(rt)),
+    }
+}
+
+/// The same with this output.
+fn serve_on<T: Threads + Wait + Sync + Eprint, R: Read + Drop, W: Write + Drop>(
+    rt: &T,
+    alloc: Global,
+    request: Request,
+    name: &str,
+    reader: R,
+    writer: W,
+) -> u8 {
+    let mut input = Kept::new(alloc, reader);
+    let mut output = LastLine::new(writer);
+    let mut readings = ReadAs::new(rt, name);
+    let status = run_request(rt, alloc, request, &mut input, &mut output, &mut readings);
+    let is_flushed = output.flush().is_ok();
+    let unwritten = RunError::Write.status();
+    if status == unwritten || !is_flushed {
+        report_output(rt, output.error());
+        return unwritten;
+    }
+    if status != 0 {
+        report_input(rt, alloc, request, name, &input, output.line());
+    }
+    status
+}

@@ -1,0 +1,57 @@
+//! The rows of a board's tables, as a program in C writes them.
+
+/// The heading of a board. A name is its bytes up to the first zero.
+#[repr(C)]
+#[derive(Clone, Copy)]
+pub struct HeadingRow {
+    pub vendor: [u8; 16],
+    pub sub_vendor: [u8; 16],
+    pub version: u32,
+    pub trusted: u32,
+}
+
+/// An agent: its name, the bytes of its channels' areas, 0 if they are whole, and whether the
+/// platform can't send to it: any number but 0 means that it can't.
+#[repr(C)]
+#[derive(Clone, Copy)]
+pub struct AgentRow {
+    pub name: [u8; 16],
+    pub bytes: u32,
+    pub one_way: u32,
+}
+
+/// A power domain: its name, whether it is ON at the start, and what it supports.
+#[repr(C)]
+#[derive(Clone, Copy)]
+pub struct DomainRow {
+    pub name: [u8; 16],
+    pub on: u32,
+    pub synchronous: u32,
+    pub asynchronous: u32,
+    pub notify: u32,
+}
+
+/// A clock: its name, its starting rate in Hz, whether it is enabled at the start, and its rates.
+/// If `count` is not 0, they are `count` rows of the table of rates, from the row `first` on; else
+/// every `step` from `low` to `high`.
+#[repr(C)]
+#[derive(Clone, Copy)]
+pub struct ClockRow {
+    pub name: [u8; 16],
+    pub rate: u64,
+    pub low: u64,
+    pub high: u64,
+    pub step: u64,
+    pub first: u32,
+    pub count: u32,
+    pub enabled: u32,
+    pub reserved: u32,
+}
+
+/// A device: the domains and the clocks that it holds, bit i for domain or clock i.
+#[repr(C)]
+#[derive(Clone, Copy)]
+pub struct DeviceRow {
+    pub domains: u32,
+    pub clocks: u32,
+}

@@ -1,0 +1,84 @@
+//! The tables of a board, and whether they are well formed in themselves.
+ghost use Rattle.std.specs.Prelude.{◌≡◌, ◌<◌, ◌==◌, ◌&&◌, nat_lt, length};
+ghost use Rattle.std.specs.List.{list_all, list_any};
+ghost use Rattle.scmi_c.specs.Tables.{ends_within, is_agent_row, is_channel_row, is_clock_row, is_domain_row, is_named, is_well_formed, is_zero, tables_of};
+
+use crate::rows::{AgentRow, ClockRow, DeviceRow, DomainRow, HeadingRow};
+use scmi_codec::is_channel_size;
+
+/// The tables of a board, as a program in C gives them.
+#[derive(Clone, Copy)]
+pub struct Tables<'a> {
+    pub heading: &'a HeadingRow,
+    pub agents: &'a [AgentRow],
+    pub domains: &'a [DomainRow],
+    pub clocks: &'a [ClockRow],
+    pub rates: &'a [u64],
+    pub devices: &'a [DeviceRow],
+}
+
+/// Whether each name is ended by a zero and has bytes of ASCII alone, each list of rates lies in the
+/// table of rates, and each size is that of a channel.
+pub fn is_well_formed(tables: &Tables<'_>) -> bool
+    ensures { result ≡ is_well_formed (tables_of tables.now) }
+{
+    is_named(&tables.heading.vendor)
+        && is_named(&tables.heading.sub_vendor)
+        && are_agents(tables.agents)
+        && are_domains(tables.domains)
+        && are_clocks(tables.clocks, tables.rates.len())
+}
+
+fn are_agents(agents: &[AgentRow]) -> bool
+    ensures { result ≡ list_all is_agent_row agents.now }
+{
+    agents
+        .iter()
+        .all(|row| is_named(&row.name) && is_channel_row(row))
+}
+
+fn are_domains(domains: &[DomainRow]) -> bool
+    ensures { result ≡ list_all is_domain_row domains.now }
+{
+    domains.iter().all(|row| is_named(&row.name))
+}
+
+fn are_clocks(clocks: &[ClockRow], rates: usize) -> bool
+    ensures { result ≡ list_all (is_clock_row rates) clocks.now }
+{
+    clocks
+        .iter()
+        .all(|row| is_named(&row.name) && is_within(row, rates))
+}
+
+/// Whether a clock's list of rates is within a table of this length.
+fn is_within(row: &ClockRow, rates: usize) -> bool
+    ensures { result ≡ ends_within rates row.now }
+{
+    row.count == 0 || row.first as u64 + row.count as u64 <= rates as u64
+}
+
+fn is_channel_row(row: &AgentRow) -> bool
+    ensures { result ≡ is_channel_row row.now }
+{
+    row.bytes == 0 || is_channel_size(row.bytes as usize)
+}
+
+/// Whether a name is ended by a zero, and has bytes of ASCII alone.
+fn is_named(name: &[u8]) -> bool
+    ensures { result ≡ is_named name.now }
+{
+    has_zero(name) && is_ascii(name)
+}
+
+fn has_zero(name: &[u8]) -> bool
+    ensures { result ≡ list_any is_zero name.now }
+{
+    name.iter().any(|byte| *byte == 0)
+}
+
+fn is_ascii(name: &[u8]) -> bool
+    ensures { result ≡ list_all (λ byte. nat_lt byte 128) name.now }
+{
+    name.iter().all(|byte| *byte < 128)
+}

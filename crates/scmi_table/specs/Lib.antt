@@ -1,0 +1,4 @@
+pub mod Run
+pub mod Rows
+pub mod Table
+pub mod TableError

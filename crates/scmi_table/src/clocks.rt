@@ -1,0 +1,79 @@
+//! Rows of clocks.
+ghost use Rattle.std.specs.Prelude.{◌≡◌, OnOk, map};
+ghost use Rattle.std.specs.Io.KnownBytes.{Appends};
+ghost use Rattle.scmi_plan.specs.RawPlan.{asked_clock};
+ghost use Rattle.scmi_table.specs.Rows.{clock_text, clocks_text, kind_text, place_behind, place_behind_all};
+
+use crate::fixed::{Fixed, write_fixed};
+use crate::members::{write_member, write_named, write_rate_member};
+use scmi_plan::{Rates, RawClock};
+use std::io;
+use std::io::Write;
+
+/// Writes clocks, whose lists begin at this place of the table of rates.
+pub(crate) fn write_clocks<W: Write>(
+    writer: &mut W,
+    first: usize,
+    clocks: &[RawClock],
+) -> io::Result<()>
+    ensures { OnOk result (Appends (W.contents writer.old) (W.contents writer.new)
+        (clocks_text first (map asked_clock clocks.now))) }
+{
+    let [clock, others @ ..] = clocks else {
+        return Ok(());
+    };
+    write_clock(writer, first, clock)?;
+    write_clocks(writer, place_behind(first, &clock.rates), others)
+}
+
+#[tactic(auto, unfolding(crate::specs::Rows::clock_text))]
+fn write_clock<W: Write>(writer: &mut W, first: usize, clock: &RawClock) -> io::Result<()>
+    ensures { OnOk result (Appends (W.contents writer.old) (W.contents writer.new)
+        (clock_text first (asked_clock clock.now))) }
+{
+    write_named(writer, &clock.name)?;
+    write_member(writer, "enabled", u64::from(clock.enabled))?;
+    write_rate_member(writer, "rate", clock.rate)?;
+    write_kind(writer, first, &clock.rates)?;
+    write_fixed(writer, Fixed::RowEnd)
+}
+
+/// Writes a list by its place in the table of rates, or steps.
+#[tactic(auto, unfolding(crate::specs::Rows::kind_text))]
+fn write_kind<W: Write>(writer: &mut W, first: usize, rates: &Rates) -> io::Result<()>
+    ensures { OnOk result (Appends (W.contents writer.old) (W.contents writer.new)
+        (kind_text first rates.now)) }
+{
+    match rates {
+        Rates::List(list) => {
+            write_member(writer, "first", first as u64)?;
+            write_member(writer, "count", list.as_slice().len() as u64)
+        }
+        Rates::Steps { low, high, step } => {
+            write_rate_member(writer, "low", *low)?;
+            write_rate_member(writer, "high", *high)?;
+            write_rate_member(writer, "step", *step)
+        }
+    }
+}
+
+/// The place after a clock's rates. The places stay at the last once they are there, which is after
+/// those of each board that keeps the rules.
+fn place_behind(first: usize, rates: &Rates) -> usize
+    ensures { result ≡ place_behind first rates.now }
+{
+    match rates {
+        Rates::List(list) => first.saturating_add(list.as_slice().len()),
+        Rates::Steps { .. } => first,
+    }
+}
+
+/// The place after the rates of clocks.
+pub(crate) fn place_behind_all(first: usize, clocks: &[RawClock]) -> usize
+    ensures { result ≡ place_behind_all first (map asked_clock clocks.now) }
+{
+    let [clock, others @ ..] = clocks else {
+        return first;
+    };
+    place_behind_all(place_behind(first, &clock.rates), others)
+}

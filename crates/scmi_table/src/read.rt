@@ -1,0 +1,34 @@
+//! The board that is to be written.
+ghost use Rattle.std.specs.Prelude.{IfOk, IfErr, IfSome};
+ghost use Rattle.scmi_board.specs.Channels.{described};
+ghost use Rattle.scmi_table.specs.Run.{IsBoardText, IsFaultOf};
+
+use crate::table_error::TableError;
+use scmi_board::{BoardWithChannels, Lines, read_board_with_channels};
+use scmi_input::{CountedReader, read_rest};
+use scmi_plan::Plan;
+use std::alloc::Global;
+use std::io::Read;
+
+/// The board of a text, which keeps every rule, and the channels of its agents.
+pub(crate) fn read_board<R: Read>(
+    alloc: Global,
+    reader: &mut R,
+) -> Result<BoardWithChannels, TableError>
+    ensures board { IfOk result (λ said. IfSome (R.remaining reader.old)
+        (λ text. IsBoardText text (described said))) }
+    ensures faults { IfErr result (λ e. IfSome (R.remaining reader.old)
+        (λ text. IsFaultOf text e)) }
+{
+    let text = read_rest(alloc, &mut CountedReader::new(reader))?;
+    board_of(alloc, &text)
+}
+
+fn board_of(alloc: Global, text: &[u8]) -> Result<BoardWithChannels, TableError>
+    ensures board { IfOk result (λ said. IsBoardText text.now (described said)) }
+    ensures faults { IfErr result (IsFaultOf text.now) }
+{
+    let said = read_board_with_channels(alloc, &mut Lines::of_text(text))?;
+    let _plan = Plan::check(alloc, &said.board)?;
+    Ok(said)
+}

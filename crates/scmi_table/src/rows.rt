@@ -1,0 +1,104 @@
+//! Rows of domains, rates and devices.
+ghost use Rattle.std.specs.Prelude.{◌≡◌, OnOk, flat_map, map};
+ghost use Rattle.std.specs.Io.KnownBytes.{Appends};
+ghost use Rattle.scmi_plan.specs.RawPlan.{asked_clock, asked_domain};
+ghost use Rattle.scmi_table.specs.Rows.{device_text, domain_text, list_text, rate_text, support_text};
+
+use crate::fixed::{Fixed, write_fixed};
+use crate::members::{write_member, write_named, write_set};
+use scmi_plan::{Device, RateList, Rates, RawClock, RawDomain};
+use std::io;
+use std::io::Write;
+
+pub(crate) fn write_domains<W: Write>(writer: &mut W, domains: &[RawDomain]) -> io::Result<()>
+    ensures { OnOk result (Appends (W.contents writer.old) (W.contents writer.new)
+        (flat_map domain_text (map asked_domain domains.now))) }
+{
+    'domains: for domain in domains {
+        write_domain(writer, domain)?;
+    }
+    Ok(())
+}
+
+#[tactic(auto, unfolding(crate::specs::Rows::domain_text))]
+fn write_domain<W: Write>(writer: &mut W, domain: &RawDomain) -> io::Result<()>
+    ensures { OnOk result (Appends (W.contents writer.old) (W.contents writer.new)
+        (domain_text (asked_domain domain.now))) }
+{
+    write_named(writer, &domain.name)?;
+    write_member(writer, "on", u64::from(domain.on))?;
+    write_support(writer, domain)?;
+    write_fixed(writer, Fixed::RowEnd)
+}
+
+/// Writes what a domain supports.
+#[tactic(auto, unfolding(crate::specs::Rows::support_text))]
+fn write_support<W: Write>(writer: &mut W, domain: &RawDomain) -> io::Result<()>
+    ensures { OnOk result (Appends (W.contents writer.old) (W.contents writer.new)
+        (support_text (asked_domain domain.now))) }
+{
+    write_member(writer, "synchronous", u64::from(domain.synchronous))?;
+    write_member(writer, "asynchronous", u64::from(domain.asynchronous))?;
+    write_member(writer, "notify", u64::from(domain.notify))
+}
+
+/// Writes the rates of the lists of clocks.
+pub(crate) fn write_rates<W: Write>(writer: &mut W, clocks: &[RawClock]) -> io::Result<()>
+    ensures { OnOk result (Appends (W.contents writer.old) (W.contents writer.new)
+        (flat_map (λ clock. list_text clock.rates) (map asked_clock clocks.now))) }
+{
+    'clocks: for clock in clocks {
+        write_list(writer, &clock.rates)?;
+    }
+    Ok(())
+}
+
+fn write_list<W: Write>(writer: &mut W, rates: &Rates) -> io::Result<()>
+    ensures { OnOk result (Appends (W.contents writer.old) (W.contents writer.new)
+        (list_text rates.now)) }
+{
+    match rates {
+        Rates::List(list) => write_each(writer, list),
+        Rates::Steps { .. } => Ok(()),
+    }
+}
+
+fn write_each<W: Write>(writer: &mut W, list: &RateList) -> io::Result<()>
+    ensures { OnOk result (Appends (W.contents writer.old) (W.contents writer.new)
+        (flat_map rate_text list.now)) }
+{
+    'rates: for rate in list.as_slice() {
+        write_rate(writer, *rate)?;
+    }
+    Ok(())
+}
+
+#[tactic(auto, unfolding(crate::specs::Rows::rate_text))]
+fn write_rate<W: Write>(writer: &mut W, rate: u64) -> io::Result<()>
+    ensures { OnOk result (Appends (W.contents writer.old) (W.contents writer.new)
+        (rate_text rate)) }
+{
+    writeln!(writer, "    {rate}u,")
+}
+
+pub(crate) fn write_devices<W: Write>(writer: &mut W, devices: &[Device]) -> io::Result<()>
+    ensures { OnOk result (Appends (W.contents writer.old) (W.contents writer.new)
+        (flat_map device_text devices.now)) }
+{
+    'devices: for device in devices {
+        write_device(writer, device)?;
+    }
+    Ok(())
+}
+
+#[tactic(auto, unfolding(crate::specs::Rows::device_text))]
+fn write_device<W: Write>(writer: &mut W, device: &Device) -> io::Result<()>
+    ensures { OnOk result (Appends (W.contents writer.old) (W.contents writer.new)
+        (device_text device.now)) }
+{
+    write_fixed(writer, Fixed::DomainsStart)?;
+    write_set(writer, device.domains)?;
+    write_fixed(writer, Fixed::ClocksStart)?;
+    write_set(writer, device.clocks)?;
+    write_fixed(writer, Fixed::RowEnd)
+}

@@ -1,0 +1,45 @@
+//! The tables of a board, from its text to the exit status.
+ghost use Rattle.std.specs.Prelude.{◌≡◌, ◌≢◌};
+ghost use Rattle.std.specs.Io.KnownBytes.{Appends};
+ghost use Rattle.scmi_table.specs.Run.{EndsWithFault, WritesTable};
+ghost use Rattle.scmi_table.specs.TableError.{fault_line, status_of};
+
+use crate::read::read_board;
+use crate::table::write_table;
+use crate::table_error::TableError;
+use std::alloc::Global;
+use std::io::{Read, Write};
+
+/// Writes the tables of a board in C, and gives the exit status: 0, or that of the error, whose
+/// text is written as the only line. Nothing is written before the whole text is read and every
+/// rule was checked. An output that fails gives status 1.
+///
+/// The board's text is that from its line `board` to its line `end`, with lines `channel`; what
+/// follows is ignored.
+pub fn run_table<R: Read, W: Write>(alloc: Global, reader: &mut R, writer: &mut W) -> u8
+    ensures table { result ≡ 0 → WritesTable (R.remaining reader.old)
+        (W.contents writer.old) (W.contents writer.new) }
+    ensures fault { result ≢ 0 → result ≢ 1 → EndsWithFault (R.remaining reader.old) result
+        (W.contents writer.old) (W.contents writer.new) }
+{
+    let said = match read_board(alloc, reader) {
+        Ok(said) => said,
+        Err(fault) => return write_fault(writer, fault),
+    };
+    if write_table(writer, &said).is_err() {
+        return TableError::Write.status();
+    }
+    0
+}
+
+/// Writes the line of a fault, and gives its exit status, or that of a failed output.
+fn write_fault<W: Write>(writer: &mut W, fault: TableError) -> u8
+    ensures not_done { result ≢ 0 }
+    ensures fault { result ≢ 1 → (result ≡ status_of fault) × Appends (W.contents writer.old)
+        (W.contents writer.new) (fault_line fault) }
+{
+    match writeln!(writer, "fault {fault}") {
+        Ok(()) => fault.status(),
+        Err(_) => TableError::Write.status(),
+    }
+}

@@ -1,0 +1,153 @@
+/*
+ * Tables that are refused, each with its number, and nothing changed; and boards in blocks of the bytes that are said to
+ * be enough.
+ */
+#include <stdio.h>
+#include <string.h>
+
+#include "scmi_memory.h"
+
+enum { AGENTS = 9, ROWS = 33, LIST = 65 };
+
+/* A board that is lawful, which each case changes in one place. */
+static scmi_board_agent agents[AGENTS];
+static scmi_board_domain domains[ROWS];
+static scmi_board_clock clocks[ROWS];
+static uint64_t rates[ROWS * 64];
+static scmi_board_device devices[ROWS];
+static scmi_board board;
+static uint8_t block[SCMI_PLATFORM_BYTES(AGENTS, ROWS, ROWS, ROWS * 64, ROWS)];
+
+/* A name as long as one may be. */
+static void name(char *of, char kind, size_t number)
+{
+    memset(of, 'n', SCMI_NAME_ROOM - 1);
+    of[SCMI_NAME_ROOM - 1] = 0;
+    of[0] = kind;
+    of[1] = (char)('A' + number);
+}
+
+/* So many rows of each kind; `list` rates a clock, or steps where it is 0. */
+static void fill(size_t agent_count, size_t others, uint32_t list)
+{
+    size_t i;
+
+    memset(&board, 0, sizeof(board));
+    memset(agents, 0, sizeof(agents));
+    memset(domains, 0, sizeof(domains));
+    memset(clocks, 0, sizeof(clocks));
+    memset(devices, 0, sizeof(devices));
+    name(board.heading.vendor, 'v', 0);
+    name(board.heading.sub_vendor, 's', 0);
+    board.heading.trusted = 1;
+    for (i = 0; i < agent_count; i++)
+        name(agents[i].name, 'a', i);
+    for (i = 0; i < others; i++) {
+        name(domains[i].name, 'd', i);
+        name(clocks[i].name, 'c', i);
+        clocks[i].rate = clocks[i].low = clocks[i].high = clocks[i].step = 1;
+        clocks[i].first = (uint32_t)i * list;
+        clocks[i].count = list;
+    }
+    for (i = 0; i < others * list; i++)
+        rates[i] = 1 + i % list;
+    board.agents = agents, board.agent_count = agent_count;
+    board.domains = domains, board.domain_count = others;
+    board.clocks = clocks, board.clock_count = others;
+    board.rates = rates, board.rate_count = others * list;
+    board.devices = devices, board.device_count = others;
+}
+
+static uint32_t make(size_t bytes)
+{
+    scmi_platform platform = { 0 };
+    uint32_t given = scmi_platform_new_of_in(&platform, block, bytes, &board);
+
+    if ((given == SCMI_DONE) != (platform.at != NULL))
+        printf("the handle was changed: ");
+    scmi_platform_free(&platform);
+    return given;
+}
+
+/* A case: what it says, and the number that is due. */
+static void is(const char *says, uint32_t due)
+{
+    uint32_t given = make(sizeof(block));
+
+    printf("%s: %u%s\n", says, (unsigned)given, given == due ? "" : ", which is another");
+}
+
+static void unended(char *of)
+{
+    memset(of, 'x', SCMI_NAME_ROOM);
+}
+
+static void malformed(void)
+{
+    fill(1, 2, 3), unended(board.heading.vendor), is("a vendor without its zero", SCMI_TABLE);
+    fill(1, 2, 3), unended(board.heading.sub_vendor), is("a sub-vendor", SCMI_TABLE);
+    fill(2, 2, 3), unended(agents[1].name), is("an agent", SCMI_TABLE);
+    fill(1, 2, 3), unended(domains[1].name), is("a domain", SCMI_TABLE);
+    fill(1, 2, 3), unended(clocks[1].name), is("a clock", SCMI_TABLE);
+    fill(1, 2, 3), domains[0].name[1] = (char)0x80, is("a byte that is not ASCII", SCMI_TABLE);
+    fill(1, 2, 3), clocks[1].first = 4, is("a list that ends a rate behind the table", SCMI_TABLE);
+    fill(1, 2, 3), clocks[1].first = 0xffffffff, is("a list that begins at the last number", SCMI_TABLE);
+    fill(1, 2, 3), clocks[1].count = 0xffffffff, is("a list as long as the last number", SCMI_TABLE);
+    fill(1, 2, 0), clocks[1].count = 1, is("a list where there is no table", SCMI_TABLE);
+    fill(1, 2, 3), agents[0].bytes = 56, is("areas of 7 words", SCMI_TABLE);
+    fill(1, 2, 3), agents[0].bytes = 288, is("areas of 65 words", SCMI_TABLE);
+    fill(1, 2, 3), agents[0].bytes = 62, is("areas of half a word more", SCMI_TABLE);
+    fill(AGENTS, 2, 3), agents[8].bytes = 1, is("before any rule", SCMI_TABLE);
+}
+
+static void unlawful(void)
+{
+    fill(0, 2, 3), is("no agent", SCMI_RULE + 1);
+    fill(AGENTS, 2, 3), is("nine agents", SCMI_RULE + 1);
+    fill(1, ROWS, 1), is("33 domains, clocks and devices", SCMI_RULE + 1);
+    fill(1, 2, 3), agents[0].name[0] = 0, is("a name of no byte", SCMI_RULE + 2);
+    fill(1, 2, 3), domains[1].name[0] = ' ', is("a name with a space", SCMI_RULE + 2);
+    fill(1, 2, 3), rates[1] = rates[0], is("rates that do not rise", SCMI_RULE + 3);
+    fill(1, 2, 0), clocks[0].step = 0, is("steps of 0", SCMI_RULE + 3);
+    fill(1, 2, 0), clocks[0].rate = 2, is("a start beside the steps", SCMI_RULE + 3);
+    fill(1, 1, LIST), is("65 rates", SCMI_RULE + 3);
+    fill(1, 2, 3), devices[1].clocks = 4, is("a device with clock 2 of 0 and 1", SCMI_RULE + 4);
+    fill(1, 2, 3), board.heading.trusted = 2, is("agent 2 of 1 trusted", SCMI_RULE + 5);
+}
+
+/* What an agent's channels are. */
+static void channel(const char *says, uint32_t bytes, uint32_t one_way)
+{
+    scmi_platform platform = { 0 };
+    scmi_channel_numbers numbers = { 0, 0 };
+
+    fill(2, 1, 0), agents[1].bytes = bytes, agents[1].one_way = one_way;
+    scmi_platform_new_of_in(&platform, block, sizeof(block), &board);
+    printf("%s %u", says, (unsigned)scmi_channel(&platform, 2, &numbers));
+    printf(": %u bytes, one way %u\n", (unsigned)numbers.bytes, (unsigned)numbers.one_way);
+    scmi_platform_free(&platform);
+}
+
+/* A board in as many bytes as are said to be enough, and in a block of none. */
+static void sized(const char *says)
+{
+    printf("%s %u", says, (unsigned)make(scmi_platform_bytes(&board)));
+    printf(", in no block %u\n", (unsigned)make(0));
+}
+
+int main(void)
+{
+    if (!scmi_header_fits())
+        return printf("scmi.h is not the library's\n"), 1;
+    malformed();
+    unlawful();
+    channel("whole", 0, 0);
+    channel("whole and one-way", 0, 7);
+    channel("the smallest", 60, 0);
+    channel("of 32 words", 156, 1);
+    fill(1, 0, 0), sized("an agent alone");
+    fill(1, 1, 3), sized("a domain, a clock and a device");
+    fill(8, 32, 0), sized("the largest with steps");
+    fill(8, 32, 64), sized("the largest");
+    return 0;
+}
