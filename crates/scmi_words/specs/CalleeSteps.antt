@@ -1,4 +1,4 @@
--- What each kind of step of a  reports: its half after the step, by what the step found.
+-- What each kind of step of a callee reports: its half after the step, by what the step found.
 use Rattle.std.specs.Prelude.{◌≡◌, ◌≢◌, ℕ, ◌+◌, ◌^◌, ◌<◌, true, List, [], ◌∷◌, ◌++◌, length, slice_index, Some, None}
 use Rattle.std.specs.List.{last_or}
 use Rattle.atomic_table.specs.Table.{Me, Step}
