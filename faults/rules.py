@@ -138,6 +138,14 @@ def drawn(charts, examples):
     return session
 
 
+def tabled(examples):
+    """A board whose tables are written: nothing is written before the board is read."""
+    session = Once("the tables of a board", (examples / "phone.board").read_bytes(),
+                   (examples / "c/phone_board.c").read_bytes())
+    session.words = ("table",)
+    return session
+
+
 class Probe:
     """The calls that are made one by one. A refused call is followed by the same call again."""
 

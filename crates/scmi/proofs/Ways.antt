@@ -20,7 +20,7 @@ use Rattle.scmi.specs.Way.{Way, IsWay, asked_for, words_of}
 use Rattle.scmi.specs.Way as way
 use Rattle.scmi.specs.declared.asked.Asked.{Asked}
 use Rattle.scmi.specs.declared.request.Request.TheVariants.{Do}
-use Rattle.scmi.specs.declared.task.Task.TheVariants.{Run, Decode, Chart, Session, Check}
+use Rattle.scmi.specs.declared.task.Task.TheVariants.{Run, Decode, Chart, Session, Check, Table}
 
 pub program_simple : is_simple program ≡ true
 program_simple = refl
@@ -139,21 +139,25 @@ reads (way.alone Decode) h = (refl, refl)
 reads (way.alone Chart) h = (refl, refl)
 reads (way.alone Session) h = (refl, refl)
 reads (way.alone Check) h = (refl, refl)
+reads (way.alone Table) h = (refl, refl)
 reads (way.help_on Run) h = (refl, refl)
 reads (way.help_on Decode) h = (refl, refl)
 reads (way.help_on Chart) h = (refl, refl)
 reads (way.help_on Session) h = (refl, refl)
 reads (way.help_on Check) h = (refl, refl)
+reads (way.help_on Table) h = (refl, refl)
 reads (way.help_on_long Run) h = (refl, refl)
 reads (way.help_on_long Decode) h = (refl, refl)
 reads (way.help_on_long Chart) h = (refl, refl)
 reads (way.help_on_long Session) h = (refl, refl)
 reads (way.help_on_long Check) h = (refl, refl)
+reads (way.help_on_long Table) h = (refl, refl)
 reads (way.help_on_short Run) h = (refl, refl)
 reads (way.help_on_short Decode) h = (refl, refl)
 reads (way.help_on_short Chart) h = (refl, refl)
 reads (way.help_on_short Session) h = (refl, refl)
 reads (way.help_on_short Check) h = (refl, refl)
+reads (way.help_on_short Table) h = (refl, refl)
 reads way.help h = (refl, refl)
 reads way.help_long h = (refl, refl)
 reads way.help_short h = (refl, refl)
@@ -164,6 +168,7 @@ reads (way.with_file Decode name) h = let p = plain name h in (rw (p.0, p.1, p.2
 reads (way.with_file Chart name) h = let p = plain name h in (rw (p.0, p.1, p.2) refl, rw (p.0, p.1, p.2, h) refl)
 reads (way.with_file Session name) h = let p = plain name h in (rw (p.0, p.1, p.2) refl, rw (p.0, p.1, p.2, h) refl)
 reads (way.with_file Check name) h = check_file name h
+reads (way.with_file Table name) h = let p = plain name h in (rw (p.0, p.1, p.2) refl, rw (p.0, p.1, p.2, h) refl)
 reads (way.with_record board name) h = check_record board name h.0 h.1
 reads (way.with_tap board) h = check_tap board h
 reads (way.with_tap_and_record board name) h = check_tap_record board name h.0 h.1

@@ -5,7 +5,7 @@ use Rattle.scmi.specs.declared.form.Form.{Form}
 use Rattle.scmi.specs.declared.form.Operands.TheVariants.{Input}
 use Rattle.scmi.specs.declared.forms.TheConstants.{FORMS}
 use Rattle.scmi.specs.declared.task.Task.{Task}
-use Rattle.scmi.specs.declared.task.Task.TheVariants.{Run, Decode, Chart, Session, Check}
+use Rattle.scmi.specs.declared.task.Task.TheVariants.{Run, Decode, Chart, Session, Check, Table}
 
 -- how a task is asked for
 abbrev pub Said : Type 0
@@ -35,6 +35,7 @@ place Decode = 1
 place Chart = 2
 place Session = 3
 place Check = 4
+place Table = 5
 
 abbrev no_form : Said
 no_form = record { task = Run; word = []; operands = Input; usage = []; summary = []; about = []; details = []; example = [] }

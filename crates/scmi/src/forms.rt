@@ -4,7 +4,7 @@ use crate::form::{Form, HeldForm, Operands};
 use crate::task::Task;
 
 /// How each task is asked for, in the order of the enum.
-pub const FORMS: [HeldForm; 5] = [
+pub const FORMS: [HeldForm; 6] = [
     Form {
         task: Task::Run,
         word: "run",
@@ -22,9 +22,9 @@ threads rings, hardware words or hardware rings. docs/SCRIPTS.md has all lines."
         word: "decode",
         operands: Operands::Input,
         usage: "scmi decode [FILE]",
-        summary: "tells what areas of shared memory are",
+        summary: "decodes areas of shared memory",
         about: "\
-Tells what areas of shared memory are: busy or free, the message by its name, status and fields.",
+Decodes areas of shared memory: busy or free, the message by its name, status and fields.",
         details: "\
 The input has dumps of areas, of 60 to 284 bytes, in any of the forms of docs/DECODE.md, and
 lines of ftrace and of a session that show a message.",
@@ -66,7 +66,7 @@ notification that is dropped. docs/SCRIPTS.md has more.",
         word: "check",
         operands: Operands::BoardAndRecord,
         usage: "scmi check [--tap] BOARD [RECORD]",
-        summary: "says where the answers of another platform, in a record, are not SCMI's",
+        summary: "reports where the answers of another platform, in a record, are not SCMI's",
         about: "\
 Checks a record of what went over the channels of a platform against the definitions of SCMI.",
         details: "\
@@ -75,7 +75,21 @@ the commands, each before its answer, and the messages, in the order in which th
 A line is written for each answer and each message: same, own and the rule of this project's
 own by which it may be another, or differs and what was due; and in the end how many there are
 of each. --tap writes TAP, for a test system. docs/CHECK.md has the lines and the rules.
-Status: 0 where nothing differs, 5 where something does.",
+Status: 0 if nothing differs, 5 if something does.",
         example: "scmi check phone.board phone.record",
+    },
+    Form {
+        task: Task::Table,
+        word: "table",
+        operands: Operands::Input,
+        usage: "scmi table [BOARD]",
+        summary: "prints a board as tables in C, for the library for firmware",
+        about: "\
+Prints a board as constant tables in C, of which the library for firmware makes a platform.",
+        details: "\
+BOARD, or standard input, has the lines of a board, from board to end, and lines for channels
+before end. A program compiles the tables with scmi.h, and passes them to
+scmi_platform_new_of_tables. docs/C.md has more.",
+        example: "scmi table examples/phone.board > phone_board.c",
     },
 ];

@@ -1,5 +1,5 @@
-//! The program for people: it runs sessions, describes areas of shared memory, draws sessions, answers
-//! the lines of a session one by one, and checks records of other platforms.
+//! The program for people: it runs sessions, decodes areas of shared memory, draws sessions, answers
+//! the lines of a session one by one, checks records of other platforms, and prints boards as tables.
 //!
 //! The main type is `Asked`, what the arguments ask for. The main theorem is the contract of
 //! `run_request` with that of `read_arguments`, and that of `run_session`: if the status is 0, what
@@ -15,6 +15,7 @@ mod opened;
 mod read_as;
 mod refusal;
 mod report;
+mod report_board;
 mod request;
 mod run;
 mod serve;

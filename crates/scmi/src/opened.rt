@@ -75,6 +75,20 @@ impl Opened {
 }
 
 impl Refused {
+    /// A board that was read from these bytes, and rejected with this fault, whose line is theirs.
+    pub fn of_bytes(alloc: Global, mut bytes: &[u8], fault: Fault) -> Refused {
+        let mut text = Vec::new(alloc);
+        let _ = fill(alloc, &mut text, &mut bytes);
+        let why = match fault {
+            Fault::Board(line) => RunError::Board(line.saturating_add(1)),
+            Fault::Plan(rule) => RunError::Plan(rule),
+            Fault::Size => RunError::Size,
+            Fault::Read => RunError::Read,
+            _ => RunError::Memory,
+        };
+        refusal_for(Why::Fault(why), text)
+    }
+
     /// The fault, whose line is one of the file.
     pub fn fault(&self) -> RunError {
         match self.why {

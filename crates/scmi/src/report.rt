@@ -1,5 +1,6 @@
 //! What is reported on standard error of a run that failed.
 
+use crate::report_board::report_board;
 use crate::request::Request;
 use crate::task::Task;
 use scmi_explain::{Expected, Fault, Kept, explain};
@@ -18,6 +19,9 @@ pub fn report_input<R: Read + Drop>(
     let Some(fault) = fault_of(request, last_line) else {
         return;
     };
+    if request == Request::Do(Task::Table) {
+        return report_board(rt, alloc, name, input, fault);
+    }
     let found = explain(alloc, expected_of(request), input.bytes(), fault);
     let _ = match input.error() {
         Some(error) if fault == Fault::Read => eprintln!(rt; "{name}{found}: {error}"),

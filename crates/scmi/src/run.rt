@@ -9,6 +9,7 @@ use crate::texts::write_text;
 use scmi_decode::{Readings, run_decode};
 use scmi_draw::run_draw;
 use scmi_modes::{Modes, RunError, run_program};
+use scmi_table::run_table;
 use scmi_threads::OpenGate;
 use std::alloc::Global;
 use std::io::{Read, Write};
@@ -16,7 +17,8 @@ use std::sync::Wait;
 use std::thread::Threads;
 
 /// Does what is asked for, and gives the exit status: 0, or that of the error, which the last line
-/// names. A text that can't be written gives status 1. `readings` is notified of how the areas of dumps are read.
+/// names. A text that can't be written gives status 1. `readings` is notified of how the areas of
+/// dumps are read.
 pub fn run_request<T: Threads + Wait + Sync, R: Read, W: Write, N: Readings>(
     rt: &T,
     alloc: Global,
@@ -39,6 +41,7 @@ pub fn run_request<T: Threads + Wait + Sync, R: Read, W: Write, N: Readings>(
         ),
         Request::Do(Task::Decode) => run_decode(alloc, reader, writer, readings),
         Request::Do(Task::Chart) => run_draw(alloc, reader, writer),
+        Request::Do(Task::Table) => run_table(alloc, reader, writer),
         // Their boards are read from files.
         Request::Do(Task::Session | Task::Check) => WRONG_ARGUMENT,
         _ => match write_text(writer, request) {

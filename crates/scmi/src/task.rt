@@ -13,4 +13,6 @@ pub enum Task {
     Session,
     /// Checks a record of a platform.
     Check,
+    /// Prints the tables of a board in C.
+    Table,
 }

@@ -31,16 +31,17 @@ Both sides of Arm's System Control and Management Interface (SCMI, DEN0056B).
 Usage:
 ",
     tail: "  scmi help [TASK]
-      says how a task is asked for, as scmi TASK --help does
+      prints how a task is used, as scmi TASK --help does
   scmi --version
-      says which program this is
+      prints the version
 
 It reads FILE or standard input, and writes to standard output. A FILE that begins with a dash is
 written ./-FILE.
-Status: 0 done; 1 the output failed; 2 the input is refused, and the last line says why;
+Status: 0 done; 1 the output failed; 2 the input is rejected, and the last line says why;
 3 a limit was met; 4 there was no memory; 5 a record differs; 64 a wrong argument;
 66 FILE can't be opened.
-After a refusal standard error says which line is wrong, what is wanted, and the likely slip.
+If the input is rejected, standard error says which line is wrong, what is expected, and the
+likely slip.
 
 Example: scmi run examples/two_agents.in
 ",
