@@ -1,7 +1,10 @@
 pub mod Counting
+pub mod Earlier
 pub mod Faults
 pub mod Judging
+pub mod LinesWritten
 mod Numbers
 mod OwnExamples
 mod RecordExamples
 pub mod RecordLines
+mod TraceExamples

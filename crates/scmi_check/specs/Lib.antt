@@ -3,8 +3,12 @@ pub mod CheckError
 pub mod Counts
 pub mod Finding
 pub mod Judged
+pub mod LastLines
 pub mod Own
 pub mod Reasons
 pub mod RecordText
 pub mod Report
 pub mod Shown
+pub mod Subject
+pub mod Trace
+pub mod Traces

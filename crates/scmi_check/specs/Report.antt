@@ -1,14 +1,16 @@
 -- A report of a record, as it is written.
-use Rattle.std.specs.Prelude.{ℕ, List, [], ◌++◌, codes, decimal, flat_map, length}
+use Rattle.std.specs.Prelude.{ℕ, List, [], ◌∷◌, ◌++◌, codes, decimal, length, Option, Some, None}
 use Rattle.scmi_check.specs.Counts.{counts_of, found}
 use Rattle.scmi_check.specs.Own.{rule_name}
 use Rattle.scmi_check.specs.Reasons.{reasons_text}
+use Rattle.scmi_check.specs.Trace.{trace_of}
 use Rattle.scmi_check.specs.declared.counts.Counts.{Counts}
 use Rattle.scmi_check.specs.declared.finding.Finding.{Finding}
 use Rattle.scmi_check.specs.declared.finding.Finding.TheVariants.{Same, Own, Differs}
 use Rattle.scmi_check.specs.declared.judged.Judged.{Judged}
 use Rattle.scmi_check.specs.declared.style.Style.{Style}
 use Rattle.scmi_check.specs.declared.style.Style.TheVariants.{Plain, Tap}
+use Rattle.scmi_check.specs.declared.trace.Trace.{Trace}
 
 -- what was found, with the rule if it is one of the profile's own
 abbrev pub finding_text : Finding → List ℕ
@@ -22,12 +24,35 @@ mark_text Plain finding = []
 mark_text Tap Differs = codes "not ok - line "
 mark_text Tap finding = codes "ok - line "
 
--- the line of an entry: the number of its line, what was found, what was due and what was seen
-abbrev pub line_text : Style → Judged → List ℕ
-line_text style one = mark_text style (found one) ++ decimal one.line ++ finding_text (found one) ++ reasons_text one.entry one.verdict ++ codes "\n"
+-- a word and the number of a line, if there is one
+abbrev pub line_named : List ℕ → Option ℕ → List ℕ
+line_named word None = []
+line_named word (Some line) = codes " " ++ word ++ codes " " ++ decimal line
 
+-- what a difference may follow from: the line of a set, and that of an earlier difference
+abbrev pub trace_text : Trace → List ℕ
+trace_text trace = line_named (codes "set") trace.set ++ line_named (codes "after") trace.after
+
+-- the number of an entry's line, and what was found
+abbrev pub found_text : Style → Judged → List ℕ
+found_text style one = mark_text style (found one) ++ decimal one.line ++ finding_text (found one)
+
+-- the line of an entry: what was found, what was due and what was seen, and what it may follow from
+abbrev pub line_with : Style → Trace → Judged → List ℕ
+line_with style trace one = found_text style one ++ reasons_text one.entry one.verdict ++ trace_text trace ++ codes "\n"
+
+-- the line of an entry after those before it
+abbrev pub line_text : Style → List Judged → Judged → List ℕ
+line_text style before one = line_with style (trace_of before one) one
+
+-- the lines of entries after those before them
+abbrev pub lines_from : Style → List Judged → List Judged → List ℕ
+lines_from style before [] = []
+lines_from style before (one ∷ judged) = line_text style before one ++ lines_from style (before ++ one ∷ []) judged
+
+-- the lines of all entries
 abbrev pub lines_text : Style → List Judged → List ℕ
-lines_text style judged = flat_map (line_text style) judged
+lines_text style judged = lines_from style [] judged
 
 -- how many tests there are, for a test system
 abbrev pub heading_text : Style → List Judged → List ℕ

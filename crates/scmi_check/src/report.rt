@@ -1,18 +1,21 @@
 //! A report, as it is written.
 ghost use Rattle.std.specs.Prelude.{◌≡◌, OnOk};
 ghost use Rattle.std.specs.Io.KnownBytes.{Appends};
-ghost use Rattle.scmi_check.specs.Report.{finding_text, heading_text, line_text, lines_text, mark_text, report_text, summary_text};
+ghost use Rattle.scmi_check.specs.Report.{finding_text, found_text, heading_text, line_with, lines_text, mark_text, report_text, summary_text};
 
 use crate::counts::Counts;
 use crate::finding::Finding;
 use crate::judged::Judged;
 use crate::reasons::write_reasons;
 use crate::style::Style;
+use crate::trace::{Trace, write_trace};
+use crate::traces::Traces;
 use std::io;
 use std::io::Write;
 
 /// Writes a line for each entry, and how many are the same, differ by a rule of the profile's own, and
-/// differ (own). The error is the writer's; some parts may then be written.
+/// differ (own). The line of one that differs ends with the lines of earlier entries that it may
+/// follow from. The error is the writer's; some parts may then be written.
 pub fn write_report<W: Write>(writer: &mut W, style: Style, judged: &[Judged]) -> io::Result<()>
     ensures { OnOk result (Appends (W.contents writer.old) (W.contents writer.new)
         (report_text style judged.now)) }
@@ -40,21 +43,32 @@ fn write_lines<W: Write>(writer: &mut W, style: Style, judged: &[Judged]) -> io:
     ensures { OnOk result (Appends (W.contents writer.old) (W.contents writer.new)
         (lines_text style judged.now)) }
 {
+    let mut traces = Traces::new();
     'each: for one in judged {
-        write_line(writer, style, one)?;
+        write_line(writer, style, traces.trace_of(one), one)?;
+        traces.add(one);
     }
     Ok(())
 }
 
-fn write_line<W: Write>(writer: &mut W, style: Style, one: &Judged) -> io::Result<()>
+fn write_line<W: Write>(writer: &mut W, style: Style, trace: Trace, one: &Judged) -> io::Result<()>
     ensures { OnOk result (Appends (W.contents writer.old) (W.contents writer.new)
-        (line_text style one.now)) }
+        (line_with style trace one.now)) }
+{
+    write_found(writer, style, one)?;
+    write_reasons(writer, &one.entry, &one.verdict)?;
+    write_trace(writer, trace)?;
+    writeln!(writer)
+}
+
+/// Writes the number of an entry's line, and what was found.
+fn write_found<W: Write>(writer: &mut W, style: Style, one: &Judged) -> io::Result<()>
+    ensures { OnOk result (Appends (W.contents writer.old) (W.contents writer.new)
+        (found_text style one.now)) }
 {
     let finding = one.finding();
     write!(writer, "{}{}", mark(style, finding), one.line)?;
-    write_finding(writer, finding)?;
-    write_reasons(writer, &one.entry, &one.verdict)?;
-    writeln!(writer)
+    write_finding(writer, finding)
 }
 
 /// Writes what was found, with the rule if it is one of the profile's own.

@@ -1,0 +1,87 @@
+-- What a difference may follow from: earlier entries with its subject.
+use Rattle.std.specs.Prelude.{ℕ, ◌==◌, ◌&&◌, Bool, true, false, if◌then◌else◌, List, reverse, Option, Some, None, Result, Ok}
+use Rattle.std.specs.List.{find}
+use Rattle.std.specs.Option.{option_map}
+use Rattle.scmi_codec.specs.Command.{command_of}
+use Rattle.scmi_codec.specs.Payload.{begins_with_success}
+use Rattle.scmi_codec.specs.declared.clock_command.ClockCommand.TheVariants as clock
+use Rattle.scmi_codec.specs.declared.command.Command.{Command}
+use Rattle.scmi_codec.specs.declared.command.Command.TheVariants.{Power, Clock as ClockKind}
+use Rattle.scmi_codec.specs.declared.frame.Answer.{Answer}
+use Rattle.scmi_codec.specs.declared.frame.Answer.TheVariants.{Reply}
+use Rattle.scmi_codec.specs.declared.frame.Frame.TheVariants.{Good}
+use Rattle.scmi_codec.specs.declared.power_command.PowerCommand.TheVariants as power
+use Rattle.scmi_codec.specs.declared.status.Status.{Status}
+use Rattle.scmi_plan.specs.declared.resource.Resource.{Resource}
+use Rattle.scmi_plan.specs.declared.resource.Resource.TheVariants.{Domain, Clock}
+use Rattle.scmi_judge.specs.declared.entry.Entry.{Entry}
+use Rattle.scmi_judge.specs.declared.entry.Entry.TheVariants.{Answered}
+use Rattle.scmi_judge.specs.declared.verdict.Verdict.{Verdict}
+use Rattle.scmi_judge.specs.declared.verdict.Verdict.TheVariants as verdict
+use Rattle.scmi_check.specs.Counts.{found, is_other}
+use Rattle.scmi_check.specs.Subject.{subject_of}
+use Rattle.scmi_check.specs.declared.judged.Judged.{Judged}
+use Rattle.scmi_check.specs.declared.trace.Trace.{Trace}
+
+-- two are the same domain, or the same clock
+abbrev pub is_same_resource : Resource → Resource → Bool
+is_same_resource (Domain a) (Domain b) = a == b
+is_same_resource (Clock a) (Clock b) = a == b
+is_same_resource _ _ = false
+
+-- a subject is this domain or clock
+abbrev pub is_this : Resource → Option Resource → Bool
+is_this resource None = false
+is_this resource (Some subject) = is_same_resource resource subject
+
+-- an entry has this subject
+abbrev pub is_about : Resource → Judged → Bool
+is_about resource one = is_this resource (subject_of one.entry)
+
+-- an entry differs, and by no rule of the profile's own
+abbrev pub differs : Judged → Bool
+differs one = is_other (found one)
+
+-- a command sets the state of a domain, or the rate or the configuration of a clock
+abbrev pub sets_value : Result Command Status → Bool
+sets_value (Ok (Power (power.Set flags domain state))) = true
+sets_value (Ok (ClockKind (clock.SetRate flags clock rate))) = true
+sets_value (Ok (ClockKind (clock.Config clock attributes))) = true
+sets_value _ = false
+
+-- an answer is a reply of SUCCESS
+abbrev pub gives_success : Answer → Bool
+gives_success (Reply message) = begins_with_success message.payload.items
+gives_success _ = false
+
+-- SUCCESS was due: it is the answer that was seen, if that is the same, and else the one of the verdict
+abbrev pub is_success_due : Answer → Verdict → Bool
+is_success_due seen verdict.Same = gives_success seen
+is_success_due seen (verdict.Answer due) = gives_success due
+is_success_due seen _ = false
+
+-- an entry with this verdict is a set to which SUCCESS was due
+abbrev pub sets_by : Entry → Verdict → Bool
+sets_by (Answered a (Good command) seen) verdict = sets_value (command_of command) && is_success_due seen verdict
+sets_by _ verdict = false
+
+-- the same of an entry with its verdict
+abbrev pub sets : Judged → Bool
+sets one = sets_by one.entry one.verdict
+
+-- the number of the line of the last of these entries that has this subject and passes a test
+abbrev pub last_line : (Judged → Bool) → Resource → List Judged → Option ℕ
+last_line test resource judged = option_map (λ (one : Judged). one.line) (find (λ one. is_about resource one && test one) (reverse judged))
+
+-- nothing earlier is named
+abbrev pub no_trace : Trace
+no_trace = record { set = None; after = None }
+
+-- the last set of a subject, and the last difference with that subject, among these entries
+abbrev pub trace_among : List Judged → Option Resource → Trace
+trace_among before None = no_trace
+trace_among before (Some resource) = record { set = last_line sets resource before; after = last_line differs resource before }
+
+-- what an entry that differs may follow from, after these entries; nothing is named for any other
+abbrev pub trace_of : List Judged → Judged → Trace
+trace_of before one = if differs one then trace_among before (subject_of one.entry) else no_trace
