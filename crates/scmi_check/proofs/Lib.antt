@@ -1,6 +1,7 @@
 pub mod Counting
 pub mod Earlier
 pub mod Faults
+mod FtraceExamples
 pub mod Judging
 pub mod LinesWritten
 mod Numbers

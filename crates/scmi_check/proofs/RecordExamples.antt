@@ -15,15 +15,15 @@ use Rattle.scmi_text.specs.PackedStep.{raw_with}
 use Rattle.scmi_text.specs.StepText.{agent_head, command_head, first_head, head_of, payload_of, step_of_line}
 use Rattle.scmi_text.specs.TextLines.{after_each_line}
 use Rattle.scmi_check.specs.Check.{whole}
-use Rattle.scmi_check.specs.RecordText.{record_left, token_taken, with_answer, with_called, with_line, with_posted, with_shown}
-use Rattle.scmi_check.specs.Shown.{first_words, seen_at, seen_behind, shown_at}
+use Rattle.scmi_check.specs.RecordText.{command_taken, record_left, token_taken, with_answer, with_called, with_line, with_posted, with_shown}
+use Rattle.scmi_check.specs.Shown.{first_words, seen_at, seen_behind, session_shown, shown_at}
 use Rattle.scmi_check.specs.declared.placed.Placed.{Placed}
 
 -- the command of a protocol, a token, a message id and these payload words
-abbrev command : ℕ → ℕ → ℕ → List ℕ → Frame
+abbrev pub command : ℕ → ℕ → ℕ → List ℕ → Frame
 command protocol token id words = Good (record { header = protocol_header protocol token id; payload = record { items = words } })
 
-abbrev at : ℕ → Entry → Placed
+abbrev pub at : ℕ → Entry → Placed
 at line entry = record { line = line; entry = entry }
 
 -- each form of a line, with a comment and a blank line; the second `do` of agent 1 has its next token, and `raw` its own
@@ -35,12 +35,12 @@ whole_record : record_left 2 (whole (codes "do 1 0x11 5 0\n1 reply 0x4405 0 7\n#
     ∷ at 9 (Delivered 1 (raw_with 0x4700 []))
     ∷ at 10 (Answered 1 (command 0x10 1 3 []) Released)
     ∷ at 12 (Answered 2 (Malformed 5 0x4000) ChannelError) ∷ [])
-unfolding behind_spaces first_number item_at items_up_to number_of first_agent first_message payload_behind with_word agent_head command_head first_head head_of payload_of step_of_line after_each_line lines_of lines_behind first_words seen_at seen_behind shown_at token_taken with_answer with_called with_line with_posted with_shown
+unfolding behind_spaces first_number item_at items_up_to number_of first_agent first_message payload_behind with_word agent_head command_head first_head head_of payload_of step_of_line after_each_line lines_of lines_behind first_words seen_at seen_behind session_shown shown_at command_taken token_taken with_answer with_called with_line with_posted with_shown
 whole_record = refl
 
--- an answer before a command, to another agent's, a command before the one that waits has its answer, one that has none, an agent that the board lacks, and a step that posts nothing
+-- an answer before a command, to another agent's, a command before the one of its agent that waits has its answer, two agents' commands that have none, one that has none, an agent that the board lacks, and a step that posts nothing
 first_faults : map (λ text. record_left 2 (whole text)) (
-    codes "1 error" ∷ codes "do 1 16 3\n2 error" ∷ codes "do 1 16 3\ndo 2 16 3\n" ∷ codes "#\ndo 1 16 3\n1 p2a 0x4700\n" ∷ codes "3 p2a 0x4700" ∷ codes "serve 1" ∷ [])
-    ≡ Err 1 ∷ Err 2 ∷ Err 2 ∷ Err 2 ∷ Err 1 ∷ Err 1 ∷ []
-unfolding behind_spaces first_number item_at items_up_to number_of first_agent first_message payload_behind with_word agent_head command_head first_head head_of payload_of step_of_line after_each_line lines_of lines_behind first_words seen_at seen_behind shown_at token_taken with_answer with_called with_line with_posted with_shown
+    codes "1 error" ∷ codes "do 1 16 3\n2 error" ∷ codes "do 1 16 3\ndo 1 16 3\n" ∷ codes "#\ndo 2 16 3\ndo 1 16 3\n" ∷ codes "#\ndo 1 16 3\n1 p2a 0x4700\n" ∷ codes "3 p2a 0x4700" ∷ codes "serve 1" ∷ [])
+    ≡ Err 1 ∷ Err 2 ∷ Err 2 ∷ Err 2 ∷ Err 2 ∷ Err 1 ∷ Err 1 ∷ []
+unfolding behind_spaces first_number item_at items_up_to number_of first_agent first_message payload_behind with_word agent_head command_head first_head head_of payload_of step_of_line after_each_line lines_of lines_behind first_words seen_at seen_behind session_shown shown_at command_taken token_taken with_answer with_called with_line with_posted with_shown
 first_faults = refl

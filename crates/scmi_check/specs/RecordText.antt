@@ -1,5 +1,5 @@
 -- The record that a text encodes.
-use Rattle.std.specs.Prelude.{ℕ, ◌+◌, ◌-◌, ◌%◌, ◌==◌, ◌&&◌, ◌++◌, nat_le, if◌then◌else◌, List, [], ◌∷◌, get_or, replicate, slice_set, Option, Some, None, Result, Ok, Err}
+use Rattle.std.specs.Prelude.{ℕ, ◌+◌, ◌-◌, ◌%◌, ◌==◌, ◌&&◌, ◌++◌, nat_le, Bool, if◌then◌else◌, List, [], ◌∷◌, get_or, position, remove, replicate, slice_get, slice_set, Option, Some, None, Result, Ok, Err}
 use Rattle.scmi_board.specs.Items.{◌>>=◌}
 use Rattle.scmi_board.specs.Lines.{Line, LinesView, lines_left}
 use Rattle.scmi_codec.specs.Command.{protocol_header}
@@ -15,33 +15,37 @@ use Rattle.scmi_text.specs.declared.step.Call.{Call}
 use Rattle.scmi_check.specs.Shown.{shown_at}
 use Rattle.scmi_check.specs.declared.placed.Placed.{Placed}
 use Rattle.scmi_check.specs.declared.shown.Shown.{Shown}
-use Rattle.scmi_check.specs.declared.shown.Shown.TheVariants.{Called, Posted, Got, Took}
+use Rattle.scmi_check.specs.declared.shown.Shown.TheVariants.{Called, Posted, Got, Took, Skipped}
 use Rattle.scmi_check.specs.declared.so_far.SoFar.{SoFar}
 use Rattle.scmi_check.specs.declared.so_far.Waiting.{Waiting}
 
--- what lines show: entries at their lines, the command whose answer is still to come, and the next token of each agent
+-- what lines show: entries at their lines, the commands whose answers are still to come, in order, and the next token of each agent
 pub record Shows : Type 0 where
   pub entries : List Placed
-  pub waiting : Option Waiting
+  pub waiting : List Waiting
   pub tokens : List ℕ
 
 -- the same as the program has it
 abbrev pub shows_of : SoFar → Shows
-shows_of so_far = record { entries = so_far.entries.items; waiting = so_far.waiting; tokens = so_far.tokens }
+shows_of so_far = record { entries = so_far.entries.items; waiting = so_far.waiting.items; tokens = so_far.tokens }
 
 -- no line shows anything
 abbrev pub nothing_shown : Shows
-nothing_shown = record { entries = []; waiting = None; tokens = replicate AGENTS 0 }
+nothing_shown = record { entries = []; waiting = []; tokens = replicate AGENTS 0 }
 
 -- one entry more, at the line of this number
 abbrev pub with_entry : Shows → ℕ → Entry → Shows
 with_entry shows line entry = record shows { entries = shows.entries ++ record { line = line; entry = entry } ∷ [] }
 
--- a command, if none waits for its answer
+-- whether a command is this agent's
+abbrev pub is_by : ℕ → Waiting → Bool
+is_by a waiting = waiting.agent == a
+
+-- a command, if none of its agent waits for its answer
 unfoldable pub with_posted : Shows → ℕ → ℕ → Frame → Option Shows
-with_posted shows line a frame = elim shows.waiting [
-  | None ↦ Some (record shows { waiting = Some (record { line = line; agent = a; frame = frame }) })
-  | Some waiting ↦ None
+with_posted shows line a frame = elim (position (is_by a) shows.waiting) [
+  | None ↦ Some (record shows { waiting = shows.waiting ++ record { line = line; agent = a; frame = frame } ∷ [] })
+  | Some place ↦ None
 ]
 
 -- the next token of an agent, as a session counts it, and what is shown once it is taken; none if no board has the agent
@@ -57,12 +61,18 @@ with_called shows line a call = do
   token ← token_taken shows a
   with_posted token.1 line a (Good (record { header = protocol_header call.protocol token.0 call.message; payload = call.payload }))
 
--- the answer to the command that waits, if that is the agent's
+-- the command of an agent that waits for its answer, and what is shown once it does no more; none if no command of the agent waits
+unfoldable pub command_taken : Shows → ℕ → Option (Frame × Shows)
+command_taken shows a = do
+  place ← position (is_by a) shows.waiting
+  waiting ← slice_get shows.waiting place
+  Some (waiting.frame, record shows { waiting = remove shows.waiting place })
+
+-- the answer to the command of its agent that waits
 unfoldable pub with_answer : Shows → ℕ → ℕ → Answer → Option Shows
-with_answer shows line a answer = elim shows.waiting [
-  | None ↦ None
-  | Some waiting ↦ if waiting.agent == a then Some (with_entry (record shows { waiting = None }) line (Answered a waiting.frame answer)) else None
-]
+with_answer shows line a answer = do
+  command ← command_taken shows a
+  Some (with_entry command.1 line (Answered a command.0 answer))
 
 -- with what the line of this number shows
 unfoldable pub with_shown : Shows → ℕ → Shown → Option Shows
@@ -70,6 +80,7 @@ with_shown shows line (Called a call) = with_called shows line a call
 with_shown shows line (Posted a frame) = with_posted shows line a frame
 with_shown shows line (Got a answer) = with_answer shows line a answer
 with_shown shows line (Took a message) = Some (with_entry shows line (Delivered a message))
+with_shown shows line Skipped = Some shows
 
 -- with a line, on a board with this number of agents; none if the line can't be there
 unfoldable pub with_line : ℕ → Shows → Line → Option Shows
@@ -77,10 +88,10 @@ with_line agents shows line = do
   shown ← shown_at agents line.text
   with_shown shows line.number shown
 
--- the entries, if each command has its answer; else the number of the line of the one that has none
+-- the entries, if each command has its answer; else the number of the line of the first that has none
 abbrev pub all_answered : Result Shows ℕ → Result (List Placed) ℕ
 all_answered (Err number) = Err number
-all_answered (Ok shows) = elim shows.waiting [ None ↦ Ok shows.entries | Some waiting ↦ Err waiting.line ]
+all_answered (Ok shows) = elim shows.waiting [ [] ↦ Ok shows.entries | first ∷ others ↦ Err first.line ]
 
 -- the entries of a record that these lines encode, each at its line; else the number of the first line that is not of it
 abbrev pub record_of : ℕ → List Line → Result (List Placed) ℕ

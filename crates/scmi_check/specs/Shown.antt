@@ -1,9 +1,14 @@
 -- What the lines of a record show.
-use Rattle.std.specs.Prelude.{ℕ, List, map, Option, Some, None}
+use Rattle.std.specs.Prelude.{ℕ, ◌+◌, nat_lt, if◌then◌else◌, List, map, Option, Some, None}
 use Rattle.scmi_board.specs.Items.{◌>>=◌, ItemsView, first_item, first_number, items_left, no_item}
 use Rattle.scmi_codec.specs.declared.message.Message.{Message}
 use Rattle.scmi_codec.specs.declared.frame.Frame.TheVariants.{Good, Malformed}
 use Rattle.scmi_codec.specs.declared.frame.Answer.TheVariants.{Reply, Released, ChannelError}
+use Rattle.scmi_decode.specs.Traced.{traced_in}
+use Rattle.scmi_decode.specs.declared.event.EventKind.{EventKind}
+use Rattle.scmi_decode.specs.declared.event.EventKind.TheVariants as event
+use Rattle.scmi_decode.specs.declared.traced.Traced.{Traced}
+use Rattle.scmi_decode.specs.declared.traced.Traced.TheVariants as traced
 use Rattle.scmi_text.specs.Fields.{first_agent, payload_left}
 use Rattle.scmi_text.specs.PackedStep.{raw_with}
 use Rattle.scmi_text.specs.StepText.{plain_step_of_line}
@@ -16,7 +21,7 @@ use Rattle.scmi_check.specs.declared.seen.SeenForm.{SeenForm}
 use Rattle.scmi_check.specs.declared.seen.SeenForm.TheVariants as form
 use Rattle.scmi_check.specs.declared.seen.TheConstants.{SEEN_FORMS}
 use Rattle.scmi_check.specs.declared.shown.Shown.{Shown}
-use Rattle.scmi_check.specs.declared.shown.Shown.TheVariants.{Called, Posted, Got, Took}
+use Rattle.scmi_check.specs.declared.shown.Shown.TheVariants.{Called, Posted, Got, Took, Skipped}
 
 -- the command that a step posts: by `do`, `raw` or `bad`
 abbrev pub command_shown : Step → Option Shown
@@ -59,9 +64,31 @@ seen_at agents view = do
   form ← form_in word.0 seen_forms
   seen_behind form agent.0 word.1
 
--- what a line shows: the command of a step, as a script has it, or else what an agent got, as a run's output has it
-unfoldable pub shown_at : ℕ → List ℕ → Option Shown
-shown_at agents text = elim (plain_step_of_line agents text) [
+-- what a line of a session shows: the command of a step, as a script has it, or else what an agent got, as a run's output has it
+unfoldable pub session_shown : ℕ → List ℕ → Option Shown
+session_shown agents text = elim (plain_step_of_line agents text) [
   | Some step ↦ command_shown step
   | None ↦ seen_at agents (items_left text)
 ]
+
+-- what the message of an event shows: the agent posts a command, gets a response, and takes any other
+abbrev pub message_shown : EventKind → ℕ → Message → Shown
+message_shown event.Command a message = Posted a (Good message)
+message_shown event.Response a message = Got a (Reply message)
+message_shown event.Delayed a message = Took a message
+message_shown event.Notification a message = Took a message
+
+-- the same, if the board has the agent of the instance, which is the one after it (own)
+abbrev pub event_shown : (agents instance : ℕ) → EventKind → Message → Option Shown
+event_shown agents instance k message = if nat_lt instance agents then Some (message_shown k (instance + 1) message) else None
+
+-- what a line shows that is this as one of Linux's ftrace: the message of an event, nothing of another event, and else that of a line of a session
+abbrev pub traced_shown : ℕ → List ℕ → Traced → Option Shown
+traced_shown agents text (traced.Message instance k message) = event_shown agents instance k message
+traced_shown agents text traced.Unreadable = None
+traced_shown agents text traced.Other = Some Skipped
+traced_shown agents text traced.Nothing = session_shown agents text
+
+-- what a line shows
+unfoldable pub shown_at : ℕ → List ℕ → Option Shown
+shown_at agents text = traced_shown agents text (traced_in text)

@@ -11,6 +11,7 @@ mod check;
 mod check_error;
 mod command_shown;
 mod counts;
+mod event_shown;
 mod finding;
 mod judged;
 mod last_lines;

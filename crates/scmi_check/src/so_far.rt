@@ -1,10 +1,10 @@
 //! What the lines of a record show so far.
-ghost use Rattle.std.specs.Prelude.{◌≡◌, ◌<◌, IfErr, IfOk, Ok, Some};
+ghost use Rattle.std.specs.Prelude.{◌≡◌, ◌<◌, IfErr, IfOk, Ok, Some, position};
 ghost use Rattle.scmi_codec.specs.declared.header.TheConstants.{TOKENS};
 ghost use Rattle.scmi_board.specs.LineError.{Gives, GivesUnless};
 ghost use Rattle.scmi_board.specs.TextError.{IsOfScript};
 ghost use Rattle.scmi_text.specs.TextLines.{GivesScript};
-ghost use Rattle.scmi_check.specs.RecordText.{all_answered, nothing_shown, shows_of, token_taken, with_answer, with_called, with_entry, with_posted, with_shown};
+ghost use Rattle.scmi_check.specs.RecordText.{all_answered, command_taken, is_by, nothing_shown, shows_of, token_taken, with_answer, with_called, with_entry, with_posted, with_shown};
 
 use crate::placed::Placed;
 use crate::shown::Shown;
@@ -27,8 +27,8 @@ pub(crate) struct Waiting {
 #[derive(Drop)]
 pub(crate) struct SoFar {
     entries: Vec<Placed>,
-    // The command whose answer is still to come.
-    waiting: Option<Waiting>,
+    // The commands whose answers are still to come, in order; of each agent one at most.
+    waiting: Vec<Waiting>,
     // The next token of each agent, from agent 1 on.
     tokens: [u16; AGENTS],
 }
@@ -40,7 +40,7 @@ impl SoFar {
     {
         SoFar {
             entries: Vec::new(alloc),
-            waiting: None,
+            waiting: Vec::new(alloc),
             tokens: [0; AGENTS],
         }
     }
@@ -56,10 +56,12 @@ impl SoFar {
             Shown::Posted { agent, frame } => self.post(line, agent, frame),
             Shown::Got { agent, answer } => self.answer(line, agent, answer),
             Shown::Took { agent, message } => self.push(line, Entry::Delivered { agent, message }),
+            Shown::Skipped => Ok(()),
         }
     }
 
-    /// The entries, once no line is left. `Script` gives the line of a command without an answer.
+    /// The entries, once no line is left. `Script` gives the line of the first command without an
+    /// answer.
     pub fn finish(self) -> Result<Vec<Placed>, TextError>
         ensures errors { IfErr result IsOfScript }
         ensures record { GivesScript (λ placed. placed.items) result
@@ -70,9 +72,9 @@ impl SoFar {
             waiting,
             tokens: _,
         } = self;
-        match waiting {
-            None => Ok(entries),
-            Some(waiting) => Err(TextError::Script(waiting.line)),
+        match waiting.as_slice() {
+            [] => Ok(entries),
+            [first, ..] => Err(TextError::Script(first.line)),
         }
     }
 
@@ -110,32 +112,28 @@ impl SoFar {
         Ok(token)
     }
 
-    /// A command. `Form` if another waits for its answer.
+    /// A command. `Form` if another of its agent waits for its answer.
     #[tactic(auto, unfolding(crate::specs::RecordText::with_posted))]
     fn post(&mut self, line: u32, agent: u32, frame: Frame) -> Result<(), LineError>
         ensures { GivesUnless (λ _. shows_of self.new) result
             (with_posted (shows_of self.old) line agent frame) }
     {
-        if self.waiting.is_some() {
+        if place_of(&self.waiting, agent).is_some() {
             return Err(LineError::Form);
         }
-        self.waiting = Some(Waiting { line, agent, frame });
+        let Ok(()) = self.waiting.push(Waiting { line, agent, frame }) else {
+            return Err(LineError::Memory);
+        };
         Ok(())
     }
 
-    /// The answer to the command that waits. `Form` if no command of the agent waits.
+    /// The answer to the command of its agent that waits. `Form` if none waits.
     #[tactic(auto, unfolding(crate::specs::RecordText::with_answer))]
     fn answer(&mut self, line: u32, agent: u32, answer: Answer) -> Result<(), LineError>
         ensures { GivesUnless (λ _. shows_of self.new) result
             (with_answer (shows_of self.old) line agent answer) }
     {
-        let Some(waiting) = self.waiting.take() else {
-            return Err(LineError::Form);
-        };
-        if waiting.agent != agent {
-            return Err(LineError::Form);
-        }
-        let frame = waiting.frame;
+        let frame = self.take_command(agent)?;
         self.push(
             line,
             Entry::Answered {
@@ -144,6 +142,19 @@ impl SoFar {
                 answer,
             },
         )
+    }
+
+    /// The command of an agent that waits, which then waits no more. `Form` if none waits.
+    #[tactic(auto, unfolding(crate::specs::RecordText::command_taken))]
+    fn take_command(&mut self, agent: u32) -> Result<Frame, LineError>
+        ensures { Gives (λ frame. (frame, shows_of self.new)) result
+            (command_taken (shows_of self.old) agent) }
+    {
+        let Some(place) = place_of(&self.waiting, agent) else {
+            return Err(LineError::Form);
+        };
+        let waiting = self.waiting.remove(place);
+        Ok(waiting.frame)
     }
 
     fn push(&mut self, line: u32, entry: Entry) -> Result<(), LineError>
@@ -155,4 +166,11 @@ impl SoFar {
         };
         Ok(())
     }
+}
+
+/// The place of the command of an agent among those that wait, if it has one there.
+fn place_of(waiting: &[Waiting], agent: u32) -> Option<usize>
+    ensures { result ≡ position (is_by agent) waiting.now }
+{
+    waiting.iter().position(|waiting| waiting.agent == agent)
 }

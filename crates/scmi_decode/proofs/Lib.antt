@@ -3,3 +3,4 @@ mod Items
 mod Messages
 mod OneDump
 mod UnderWay
+pub mod Words

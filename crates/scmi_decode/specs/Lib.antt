@@ -8,3 +8,4 @@ pub mod Reading
 pub mod Decoded
 pub mod OneDump
 pub mod DecodeError
+pub mod Traced

@@ -55,7 +55,7 @@ fn event_area_of(
 /// The header of an event's message: `pt=` has its protocol, `msg_id=` its message id and `seq=` its
 /// token.
 #[tactic(auto, unfolding(crate::specs::Event::event_header))]
-fn event_header(kind: EventKind, items: &[&[u8]]) -> Option<Header>
+pub(crate) fn event_header(kind: EventKind, items: &[&[u8]]) -> Option<Header>
     ensures { result ≡ event_header kind (map (λ item. item.now) items.now) }
 {
     let protocol = field_number(256, value_of(b"pt=", items))?;
@@ -73,7 +73,7 @@ fn event_header(kind: EventKind, items: &[&[u8]]) -> Option<Header>
 /// The payload of an event's message: `s=` has its status, if it has one, and `pyld=` the bytes
 /// after it.
 #[tactic(auto, unfolding(crate::specs::Event::event_payload))]
-fn event_payload(
+pub(crate) fn event_payload(
     alloc: Global,
     kind: EventKind,
     items: &[&[u8]],
@@ -97,7 +97,7 @@ fn event_payload(
 }
 
 /// The value of a field, which follows its name in the first item that begins with it.
-fn value_of<'a>(name: &[u8], items: &[&'a [u8]]) -> Option<&'a [u8]>
+pub(crate) fn value_of<'a>(name: &[u8], items: &[&'a [u8]]) -> Option<&'a [u8]>
     ensures { option_copied result ≡ value_of name.now (map (λ item. item.now) items.now) }
 {
     let [item, items @ ..] = items else {
@@ -110,7 +110,7 @@ fn value_of<'a>(name: &[u8], items: &[&'a [u8]]) -> Option<&'a [u8]>
 }
 
 /// What follows a name at the beginning of an item, if the item begins with it.
-fn behind_name<'a>(name: &[u8], item: &'a [u8]) -> Option<&'a [u8]>
+pub(crate) fn behind_name<'a>(name: &[u8], item: &'a [u8]) -> Option<&'a [u8]>
     ensures { option_copied result ≡ behind_name name.now item.now }
 {
     let [first, name @ ..] = name else {
@@ -140,7 +140,7 @@ pub(crate) fn is_word(word: &[u8], item: &[u8]) -> bool
 }
 
 /// What an event is of, by its field `t=`.
-fn kind_of(value: Option<&[u8]>) -> Option<EventKind>
+pub(crate) fn kind_of(value: Option<&[u8]>) -> Option<EventKind>
     ensures { result ≡ kind_of (option_copied value.entry) }
 {
     let value = value?;

@@ -6,7 +6,7 @@
 //! `scmi_describe` writes of the dump's area, or that it is no area. `decode` adds that the text of
 //! a dump is that of its bytes, in whatever form they are (`forms`). A line that reports a message,
 //! of Linux's ftrace or of a run of a script, has the bytes of that message's area. `Readings` is
-//! notified of how each area was read.
+//! notified of how each area was read. `read_traced` reads the message of one line of ftrace.
 #![tactic(auto)]
 
 mod decode;
@@ -27,6 +27,7 @@ mod readings;
 mod row;
 mod scan;
 mod step;
+mod traced;
 
 pub use decode::{run_counted, run_decode};
 pub use decode_error::DecodeError;
@@ -35,3 +36,4 @@ pub use form::Form;
 pub use reading::{READINGS, Reading, ReadingRow};
 pub use readings::Readings;
 pub use row::{ROW_BYTES, ROW_LINE_BYTES};
+pub use traced::{Traced, read_traced};

@@ -76,7 +76,7 @@ fn before_bar(behind: &[u8]) -> &[u8]
 }
 
 /// Whether an item has a colon as its last byte.
-fn ends_in_colon(item: &[u8]) -> bool
+pub(crate) fn ends_in_colon(item: &[u8]) -> bool
     ensures { result ≡ ends_in_colon item.now }
 {
     !item.is_empty() && item[item.len() - 1] == b':'

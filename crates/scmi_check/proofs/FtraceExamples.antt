@@ -1,0 +1,47 @@
+-- Records of Linux's ftrace, and the entries that they encode, computed.
+use Rattle.std.proofs.Common.{◌≡◌, List, [], ◌∷◌, map, Ok, Err, refl}
+use Rattle.std.specs.Prelude.{codes}
+use Rattle.hex.specs.Hex.{decode_pairs}
+use Rattle.scmi_board.specs.Lines.{lines_behind, lines_of}
+use Rattle.scmi_codec.specs.declared.frame.Answer.TheVariants.{Reply}
+use Rattle.scmi_decode.specs.Event.{event_header, event_payload, signed_word}
+use Rattle.scmi_decode.specs.Traced.{event_traced}
+use Rattle.scmi_judge.specs.declared.entry.Entry.TheVariants.{Answered, Delivered}
+use Rattle.scmi_text.specs.PackedStep.{raw_with}
+use Rattle.scmi_text.specs.TextLines.{after_each_line}
+use Rattle.scmi_check.specs.Check.{whole}
+use Rattle.scmi_check.specs.RecordText.{command_taken, record_left, with_answer, with_line, with_posted, with_shown}
+use Rattle.scmi_check.specs.Shown.{shown_at}
+use Rattle.scmi_check.proofs.RecordExamples.{at, command}
+
+-- a command and its response, between events that are skipped; an event without an instance is agent 1's
+one_command : record_left 1 (whole (codes "# tracer: nop\n scmi_xfer_begin: seq=1\n a-1 [000] 1.5: scmi_msg_dump: pt=11 t=CMND msg_id=05 seq=0001 s=0 pyld=00000000\n a-1 [000] 1.6: scmi_msg_dump: pt=11 t=RESP msg_id=05 seq=0001 s=-3 pyld=\n scmi_xfer_end: seq=1\n"))
+    ≡ Ok (at 4 (Answered 1 (command 0x11 1 5 (0 ∷ [])) (Reply (raw_with 0x44405 (0xFFFFFFFD ∷ [])))) ∷ [])
+unfolding after_each_line command_taken decode_pairs event_header event_payload event_traced lines_behind lines_of shown_at signed_word with_answer with_line with_posted with_shown
+one_command = refl
+
+-- commands of two agents that overlap
+two_agents : record_left 2 (whole (codes "scmi_msg_dump: id=0 pt=11 t=CMND msg_id=05 seq=0001 s=0 pyld=00000000\nscmi_msg_dump: id=1 pt=10 t=CMND msg_id=00 seq=0002 s=0 pyld=\nscmi_msg_dump: id=0 pt=11 t=RESP msg_id=05 seq=0001 s=0 pyld=00000040\nscmi_msg_dump: id=1 pt=10 t=RESP msg_id=00 seq=0002 s=0 pyld=00000200\n"))
+    ≡ Ok (
+    at 3 (Answered 1 (command 0x11 1 5 (0 ∷ [])) (Reply (raw_with 0x44405 (0 ∷ 0x40000000 ∷ []))))
+    ∷ at 4 (Answered 2 (command 0x10 2 0 []) (Reply (raw_with 0x84000 (0 ∷ 0x20000 ∷ [])))) ∷ [])
+unfolding after_each_line command_taken decode_pairs event_header event_payload event_traced lines_behind lines_of shown_at signed_word with_answer with_line with_posted with_shown
+two_agents = refl
+
+-- a delayed response and a notification, which no command awaits
+messages : record_left 2 (whole (codes "scmi_msg_dump: id=0 pt=11 t=DLYD msg_id=04 seq=0001 s=0 pyld=0000000000000040\nscmi_msg_dump: id=1 pt=11 t=NOTI msg_id=00 seq=0000 s=0 pyld=010000000000000000000000\n"))
+    ≡ Ok (at 1 (Delivered 1 (raw_with 0x44604 (0 ∷ 0 ∷ 0x40000000 ∷ []))) ∷ at 2 (Delivered 2 (raw_with 0x4700 (1 ∷ 0 ∷ 0 ∷ []))) ∷ [])
+unfolding after_each_line decode_pairs event_header event_payload event_traced lines_behind lines_of shown_at signed_word with_line with_shown
+messages = refl
+
+-- a response before a command, a command before the one of its agent that waits has its answer, a delayed response in place of an answer, an agent that the board lacks, a payload of no whole words, and a field that is missing
+ftrace_faults : map (λ text. record_left 2 (whole text)) (
+    codes "scmi_msg_dump: pt=11 t=RESP msg_id=05 seq=0001 s=0 pyld=" ∷
+    codes "scmi_msg_dump: pt=11 t=CMND msg_id=05 seq=0001 s=0 pyld=\nscmi_msg_dump: id=0 pt=11 t=CMND msg_id=05 seq=0002 s=0 pyld=" ∷
+    codes "scmi_msg_dump: pt=11 t=CMND msg_id=04 seq=0001 s=0 pyld=\nscmi_msg_dump: pt=11 t=DLYD msg_id=04 seq=0001 s=0 pyld=" ∷
+    codes "scmi_msg_dump: id=2 pt=11 t=NOTI msg_id=00 seq=0000 s=0 pyld=" ∷
+    codes "scmi_msg_dump: id=0 pt=11 t=NOTI msg_id=00 seq=0000 s=0 pyld=000000" ∷
+    codes "scmi_msg_dump: id=0 pt=11 t=NOTI msg_id=00 s=0 pyld=" ∷ [])
+    ≡ Err 1 ∷ Err 2 ∷ Err 1 ∷ Err 1 ∷ Err 1 ∷ Err 1 ∷ []
+unfolding after_each_line command_taken decode_pairs event_header event_payload event_traced lines_behind lines_of shown_at signed_word with_answer with_line with_posted with_shown
+ftrace_faults = refl
