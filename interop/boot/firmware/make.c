@@ -10,15 +10,15 @@
 
 enum { PAINT = 0xa5 };
 
-extern const uint8_t scmi_board[], scmi_board_end[];
+extern const uint8_t board_text[], board_text_end[];
 uint32_t on_stack(uintptr_t top, uint32_t (*call)(void));
 
 static scmi_platform *to;
 
 static uint32_t make_platform(void)
 {
-    return scmi_platform_new_in(to, (void *)SCMI_HEAP_BASE, SCMI_HEAP_SIZE, scmi_board,
-                                (size_t)(scmi_board_end - scmi_board));
+    return scmi_platform_new_in(to, (void *)SCMI_HEAP_BASE, SCMI_HEAP_SIZE, board_text,
+                                (size_t)(board_text_end - board_text));
 }
 
 /* The bytes of a painted block that were written, counted from its end or from its start. */
