@@ -1,5 +1,5 @@
 -- Records of Linux's ftrace, and the entries that they encode, computed.
-use Rattle.std.proofs.Common.{◌≡◌, List, [], ◌∷◌, map, Ok, Err, refl}
+use Rattle.std.proofs.Common.{◌≡◌, [], ◌∷◌, map, Ok, Err, refl}
 use Rattle.std.specs.Prelude.{codes}
 use Rattle.hex.specs.Hex.{decode_pairs}
 use Rattle.scmi_board.specs.Lines.{lines_behind, lines_of}
