@@ -17,7 +17,7 @@ use Rattle.scmi_check.specs.declared.placed.Placed.{Placed}
 use Rattle.scmi_check.specs.declared.shown.Shown.{Shown}
 use Rattle.scmi_check.specs.declared.shown.Shown.TheVariants.{Called, Posted, Got, Took, Skipped}
 use Rattle.scmi_check.specs.declared.so_far.SoFar.{SoFar}
-use Rattle.scmi_check.specs.declared.so_far.Waiting.{Waiting}
+use Rattle.scmi_check.specs.declared.waiting.Waiting.{Waiting}
 
 -- what lines show: entries at their lines, the commands whose answers are still to come, in order, and the next token of each agent
 pub record Shows : Type 0 where
@@ -61,18 +61,18 @@ with_called shows line a call = do
   token ← token_taken shows a
   with_posted token.1 line a (Good (record { header = protocol_header call.protocol token.0 call.message; payload = call.payload }))
 
--- the command of an agent that waits for its answer, and what is shown once it does no more; none if no command of the agent waits
-unfoldable pub command_taken : Shows → ℕ → Option (Frame × Shows)
-command_taken shows a = do
-  place ← position (is_by a) shows.waiting
-  waiting ← slice_get shows.waiting place
-  Some (waiting.frame, record shows { waiting = remove shows.waiting place })
+-- the command of an agent among those that wait for their answers, and the others; none if no command of the agent waits
+unfoldable pub command_taken : List Waiting → ℕ → Option (Frame × List Waiting)
+command_taken waiting a = do
+  place ← position (is_by a) waiting
+  command ← slice_get waiting place
+  Some (command.frame, remove waiting place)
 
 -- the answer to the command of its agent that waits
 unfoldable pub with_answer : Shows → ℕ → ℕ → Answer → Option Shows
 with_answer shows line a answer = do
-  command ← command_taken shows a
-  Some (with_entry command.1 line (Answered a command.0 answer))
+  taken ← command_taken shows.waiting a
+  Some (with_entry (record shows { waiting = taken.1 }) line (Answered a taken.0 answer))
 
 -- with what the line of this number shows
 unfoldable pub with_shown : Shows → ℕ → Shown → Option Shows

@@ -30,6 +30,7 @@ mod style;
 mod subject;
 mod trace;
 mod traces;
+mod waiting;
 
 pub use check_error::CheckError;
 pub use counts::Counts;

@@ -1,27 +1,20 @@
 //! What the lines of a record show so far.
-ghost use Rattle.std.specs.Prelude.{◌≡◌, ◌<◌, IfErr, IfOk, Ok, Some, position};
+ghost use Rattle.std.specs.Prelude.{◌≡◌, ◌<◌, IfErr, IfOk, Ok, Some};
 ghost use Rattle.scmi_codec.specs.declared.header.TheConstants.{TOKENS};
 ghost use Rattle.scmi_board.specs.LineError.{Gives, GivesUnless};
 ghost use Rattle.scmi_board.specs.TextError.{IsOfScript};
 ghost use Rattle.scmi_text.specs.TextLines.{GivesScript};
-ghost use Rattle.scmi_check.specs.RecordText.{all_answered, command_taken, is_by, nothing_shown, shows_of, token_taken, with_answer, with_called, with_entry, with_posted, with_shown};
+ghost use Rattle.scmi_check.specs.RecordText.{all_answered, nothing_shown, shows_of, token_taken, with_answer, with_called, with_entry, with_posted, with_shown};
 
 use crate::placed::Placed;
 use crate::shown::Shown;
+use crate::waiting::{Waiting, place_of, take_command};
 use scmi_board::{LineError, TextError};
 use scmi_codec::{Answer, Frame, Header, Message, TOKENS};
 use scmi_judge::Entry;
 use scmi_plan::AGENTS;
 use scmi_text::Call;
 use std::alloc::Global;
-
-/// A command whose answer is still to come, and the number of its line.
-#[derive(PartialEq, Eq, Debug, Drop)]
-pub(crate) struct Waiting {
-    pub line: u32,
-    pub agent: u32,
-    pub frame: Frame,
-}
 
 /// What the lines of a record show so far. After an error it is of no use.
 #[derive(Drop)]
@@ -133,7 +126,7 @@ impl SoFar {
         ensures { GivesUnless (λ _. shows_of self.new) result
             (with_answer (shows_of self.old) line agent answer) }
     {
-        let frame = self.take_command(agent)?;
+        let frame = take_command(&mut self.waiting, agent)?;
         self.push(
             line,
             Entry::Answered {
@@ -142,19 +135,6 @@ impl SoFar {
                 answer,
             },
         )
-    }
-
-    /// The command of an agent that waits, which then waits no more. `Form` if none waits.
-    #[tactic(auto, unfolding(crate::specs::RecordText::command_taken))]
-    fn take_command(&mut self, agent: u32) -> Result<Frame, LineError>
-        ensures { Gives (λ frame. (frame, shows_of self.new)) result
-            (command_taken (shows_of self.old) agent) }
-    {
-        let Some(place) = place_of(&self.waiting, agent) else {
-            return Err(LineError::Form);
-        };
-        let waiting = self.waiting.remove(place);
-        Ok(waiting.frame)
     }
 
     fn push(&mut self, line: u32, entry: Entry) -> Result<(), LineError>
@@ -166,11 +146,4 @@ impl SoFar {
         };
         Ok(())
     }
-}
-
-/// The place of the command of an agent among those that wait, if it has one there.
-fn place_of(waiting: &[Waiting], agent: u32) -> Option<usize>
-    ensures { result ≡ position (is_by agent) waiting.now }
-{
-    waiting.iter().position(|waiting| waiting.agent == agent)
 }

@@ -2,7 +2,7 @@
 ghost use Rattle.std.specs.Prelude.{◌≡◌, ◌∷◌, [], IfOk, Some, map};
 ghost use Rattle.std.specs.Option.{option_copied, option_map};
 ghost use Rattle.scmi_codec.specs.Word.{word_at};
-ghost use Rattle.scmi_decode.specs.Traced.{event_traced, event_traced_of, instance_of, is_event_name, items_traced, names_event, other_traced, traced_in, words_behind};
+ghost use Rattle.scmi_decode.specs.Traced.{event_traced, event_traced_of, instance_of, is_event_name, names_event, other_traced, traced_in, words_behind};
 
 use crate::event::{
     EventKind, behind_name, digits_number, event_header, event_payload, kind_of, value_of,
@@ -39,16 +39,9 @@ pub fn read_traced(alloc: Global, line: &[u8]) -> Result<Traced, AllocError>
     ensures { IfOk result (λ traced. traced ≡ traced_in line.now) }
 {
     let items = items_of(alloc, line)?;
-    read_items(alloc, items.as_slice())
-}
-
-/// What the items of a line are.
-fn read_items(alloc: Global, items: &[&[u8]]) -> Result<Traced, AllocError>
-    ensures { IfOk result (λ traced. traced ≡ items_traced (map (λ item. item.now) items.now)) }
-{
-    match behind_event(items) {
+    match behind_event(items.as_slice()) {
         Some(behind) => read_event(alloc, behind),
-        None => Ok(other_event(items)),
+        None => Ok(other_event(items.as_slice())),
     }
 }
 
