@@ -42,4 +42,18 @@ static inline void area_print_words(const uint8_t *area)
         printf(" 0x%08x", (unsigned)area_word(area, SCMI_AREA_PAYLOAD + 4 * i));
     printf("\n");
 }
+
+/* Has a platform answer a command in an area of its own, and prints what it gave. */
+static inline void area_answer(scmi_platform *platform, uint32_t agent, uint32_t header, unsigned count,
+                               const uint32_t *words)
+{
+    uint8_t area[SCMI_AREA_BYTES] = { 0 };
+    uint32_t given;
+
+    area_post(area, header, count, words);
+    given = scmi_answer(platform, agent, area);
+    printf("agent %u header 0x%08x -> %u: words", (unsigned)agent, (unsigned)header, (unsigned)given);
+    area_print_words(area);
+}
+
 #endif

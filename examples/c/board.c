@@ -26,17 +26,6 @@ static uint32_t make(scmi_platform *platform, const char *path)
     return scmi_platform_new_in(platform, more, sizeof(more), text, length);
 }
 
-static void call(scmi_platform *platform, uint32_t agent, uint32_t header, unsigned count, const uint32_t *words)
-{
-    uint8_t area[SCMI_AREA_BYTES] = { 0 };
-    uint32_t given;
-
-    area_post(area, header, count, words);
-    given = scmi_answer(platform, agent, area);
-    printf("agent %u header 0x%08x -> %u: words", (unsigned)agent, (unsigned)header, (unsigned)given);
-    area_print_words(area);
-}
-
 /* A command that changes the hardware, which makes the change. */
 static void drive(scmi_platform *platform, uint32_t agent, uint32_t header, unsigned count, const uint32_t *words)
 {
@@ -76,20 +65,20 @@ int main(int count, char **words)
     printf("new %u", (unsigned)make(&platform, count > 1 ? words[1] : NULL));
     printf(", again %u\n", (unsigned)scmi_platform_new_of(&platform, &board));
     requests = scmi_memory_requests();
-    call(&platform, 1, 0x00004003, 0, NULL);                               /* BASE_DISCOVER_VENDOR */
-    call(&platform, 1, 0x00004004, 0, NULL);                               /* .. and its SUB_VENDOR */
-    call(&platform, 1, 0x00004007, 1, (uint32_t[]){ 2 });                  /* BASE_DISCOVER_AGENT */
-    call(&platform, 1, 0x00004403, 1, (uint32_t[]){ 0 });                  /* POWER_DOMAIN_ATTRIBUTES of cpu */
-    call(&platform, 1, 0x00004403, 1, (uint32_t[]){ 1 });                  /* .. and of gpu */
-    call(&platform, 2, 0x00005003, 1, (uint32_t[]){ 0 });                  /* CLOCK_ATTRIBUTES of uart */
-    call(&platform, 2, 0x00005004, 2, (uint32_t[]){ 0, 0 });               /* CLOCK_DESCRIBE_RATES */
-    call(&platform, 2, 0x00005004, 2, (uint32_t[]){ 1, 0 });               /* .. of bus, which has steps */
-    call(&platform, 2, 0x00004406, 2, (uint32_t[]){ 0, 1 });               /* POWER_STATE_NOTIFY */
-    call(&platform, 1, 0x00004009, 3, (uint32_t[]){ 2, 0, 0 });            /* the device is denied to agent 2 */
-    call(&platform, 2, 0x00004404, 3, (uint32_t[]){ 0, 0, 0x40000000 });   /* POWER_STATE_SET: DENIED */
+    area_answer(&platform, 1, 0x00004003, 0, NULL);                               /* BASE_DISCOVER_VENDOR */
+    area_answer(&platform, 1, 0x00004004, 0, NULL);                               /* .. and its SUB_VENDOR */
+    area_answer(&platform, 1, 0x00004007, 1, (uint32_t[]){ 2 });                  /* BASE_DISCOVER_AGENT */
+    area_answer(&platform, 1, 0x00004403, 1, (uint32_t[]){ 0 });                  /* POWER_DOMAIN_ATTRIBUTES of cpu */
+    area_answer(&platform, 1, 0x00004403, 1, (uint32_t[]){ 1 });                  /* .. and of gpu */
+    area_answer(&platform, 2, 0x00005003, 1, (uint32_t[]){ 0 });                  /* CLOCK_ATTRIBUTES of uart */
+    area_answer(&platform, 2, 0x00005004, 2, (uint32_t[]){ 0, 0 });               /* CLOCK_DESCRIBE_RATES */
+    area_answer(&platform, 2, 0x00005004, 2, (uint32_t[]){ 1, 0 });               /* .. of bus, which has steps */
+    area_answer(&platform, 2, 0x00004406, 2, (uint32_t[]){ 0, 1 });               /* POWER_STATE_NOTIFY */
+    area_answer(&platform, 1, 0x00004009, 3, (uint32_t[]){ 2, 0, 0 });            /* the device is denied to agent 2 */
+    area_answer(&platform, 2, 0x00004404, 3, (uint32_t[]){ 0, 0, 0x40000000 });   /* POWER_STATE_SET: DENIED */
     drive(&platform, 1, 0x00004404, 3, (uint32_t[]){ 0, 0, 0x40000000 });  /* POWER_STATE_SET, cpu off */
     drive(&platform, 2, 0x00005005, 4, (uint32_t[]){ 0, 1, 2500, 0 });     /* CLOCK_RATE_SET, rounded down */
-    call(&platform, 1, 0x00005005, 4, (uint32_t[]){ 1, 0, 400, 0 });       /* .. and later */
+    area_answer(&platform, 1, 0x00005005, 4, (uint32_t[]){ 1, 0, 400, 0 });       /* .. and later */
     printf("advance %u", (unsigned)scmi_advance(&platform));
     printf(", then %u\n", (unsigned)scmi_advance(&platform));
     tell(&platform, 1);

@@ -16,17 +16,6 @@ static const char board[] = "board Acme Lab 0x00010000 1\n"
                             "end\n";
 static uint8_t memory[16 * 1024];
 
-static void call(scmi_platform *platform, uint32_t agent, uint32_t header, unsigned count, const uint32_t *words)
-{
-    uint8_t area[SCMI_AREA_BYTES] = { 0 };
-    uint32_t given;
-
-    area_post(area, header, count, words);
-    given = scmi_answer(platform, agent, area);
-    printf("agent %u header 0x%08x -> %u, words", (unsigned)agent, (unsigned)header, (unsigned)given);
-    area_print_words(area);
-}
-
 static void show(const char *when, scmi_platform *platform)
 {
     uint64_t messages = 0;
@@ -46,16 +35,16 @@ int main(void)
     printf("no platform: restart %u\n", (unsigned)scmi_restart(&platform, 2));
     if (scmi_platform_new_in(&platform, memory, sizeof(memory), (const uint8_t *)board, strlen(board)) != SCMI_DONE)
         return 1;
-    call(&platform, 2, 0x00004406, 2, (uint32_t[]){ 0, 1 });         /* POWER_STATE_NOTIFY of cpu */
-    call(&platform, 2, 0x00045005, 4, (uint32_t[]){ 1, 0, 300, 0 }); /* CLOCK_RATE_SET, 300 Hz later, token 1 */
-    call(&platform, 1, 0x00004404, 3, (uint32_t[]){ 0, 0, 0 });      /* POWER_STATE_SET, cpu on */
+    area_answer(&platform, 2, 0x00004406, 2, (uint32_t[]){ 0, 1 });         /* POWER_STATE_NOTIFY of cpu */
+    area_answer(&platform, 2, 0x00045005, 4, (uint32_t[]){ 1, 0, 300, 0 }); /* CLOCK_RATE_SET, 300 Hz later, token 1 */
+    area_answer(&platform, 1, 0x00004404, 3, (uint32_t[]){ 0, 0, 0 });      /* POWER_STATE_SET, cpu on */
     show("before", &platform);
     printf("restart %u, of no agent %u\n", (unsigned)scmi_restart(&platform, 2), (unsigned)scmi_restart(&platform, 3));
     show("restarted", &platform);
     printf("advance %u\n", (unsigned)scmi_advance(&platform));
     show("completed", &platform);
-    call(&platform, 2, 0x00005006, 1, (uint32_t[]){ 0 });                 /* CLOCK_RATE_GET */
-    call(&platform, 1, 0x00004404, 3, (uint32_t[]){ 0, 0, 0x40000000 });  /* POWER_STATE_SET, cpu off */
+    area_answer(&platform, 2, 0x00005006, 1, (uint32_t[]){ 0 });                 /* CLOCK_RATE_GET */
+    area_answer(&platform, 1, 0x00004404, 3, (uint32_t[]){ 0, 0, 0x40000000 });  /* POWER_STATE_SET, cpu off */
     show("switched", &platform);
     area_post(area, 0x00004404, 3, (uint32_t[]){ 0, 0, 0 });
     printf("ask %u", (unsigned)scmi_ask(&platform, 1, area, &effect));

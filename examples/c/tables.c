@@ -9,7 +9,7 @@
 
 enum { AGENTS = 9, ROWS = 33, LIST = 65 };
 
-/* A board that is lawful, which each case changes in one place. */
+/* A valid board, which each case changes in one place. */
 static scmi_board_agent agents[AGENTS];
 static scmi_board_domain domains[ROWS];
 static scmi_board_clock clocks[ROWS];
