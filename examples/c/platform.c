@@ -69,7 +69,7 @@ int main(void)
     if (!scmi_header_fits())
         return printf("scmi.h is not the library's\n"), 1;
     scmi_memory_give(memory, sizeof(memory));
-    printf("no platform %u, bad board %u, no end %u, unlawful board %u\n",
+    printf("no platform %u, bad board %u, no end %u, invalid board %u\n",
            (unsigned)scmi_answer(&platform, 1, area),
            (unsigned)scmi_platform_new(&platform, (const uint8_t *)"board x\n", 8),
            (unsigned)scmi_platform_new(&platform, (const uint8_t *)board, 28 + 9),

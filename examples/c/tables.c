@@ -100,7 +100,7 @@ static void malformed(void)
     fill(AGENTS, 2, 3), agents[8].bytes = 1, is("before any rule", SCMI_TABLE);
 }
 
-static void unlawful(void)
+static void invalid(void)
 {
     fill(0, 2, 3), is("no agent", SCMI_RULE + 1);
     fill(AGENTS, 2, 3), is("nine agents", SCMI_RULE + 1);
@@ -140,7 +140,7 @@ int main(void)
     if (!scmi_header_fits())
         return printf("scmi.h is not the library's\n"), 1;
     malformed();
-    unlawful();
+    invalid();
     channel("whole", 0, 0);
     channel("whole and one-way", 0, 7);
     channel("the smallest", 60, 0);

@@ -31,6 +31,7 @@ Says wanted (Err why) = wanted ≡ None
 abbrev pub source_of : List ℕ → List Row → Option ValueSource
 source_of name rows = option_and_then (λ row. row.source) (find (λ row. bytes_eq row.id name) rows)
 
+-- whether a value was given on the command line
 abbrev pub is_given : Option ValueSource → Bool
 is_given (Some CommandLine) = true
 is_given source = false
@@ -44,12 +45,13 @@ abbrev pub begins_with_dash : List ℕ → Bool
 begins_with_dash [] = false
 begins_with_dash (first ∷ more) = first == 45
 
+-- whether a word is an option and no file
 abbrev pub is_no_file : Option (List ℕ) → Bool
 is_no_file name = option_map_or begins_with_dash name false
 
 -- a request that names no file
-abbrev pub told : Request → Option (Asked (List ℕ))
-told request = Some (record { request = request; is_tap = false; first = None; second = None })
+abbrev pub with_no_file : Request → Asked (List ℕ)
+with_no_file request = record { request = request; is_tap = false; first = None; second = None }
 
 -- to do a task with these files, whose names no dash begins
 abbrev pub done_with : Task → Bool → Option (List ℕ) → Option (List ℕ) → Option (Asked (List ℕ))
@@ -60,21 +62,21 @@ done_with task is_tap first second =
 -- what the matches after the word of a task ask for
 abbrev pub task_by : Task → List Row → Option (Asked (List ℕ))
 task_by task rows =
-    if is_used HELP.now rows then told (HelpOn task)
+    if is_used HELP.now rows then Some (with_no_file (HelpOn task))
     else done_with task (is_used TAP.now rows) (first_of FIRST.now rows) (first_of SECOND.now rows)
 
 -- help on a word, or on the program if there is none
 abbrev pub help_on : Option (List ℕ) → Option (Asked (List ℕ))
-help_on None = told Help
-help_on (Some word) = option_and_then (λ task. told (HelpOn task)) (task_of word)
+help_on None = Some (with_no_file Help)
+help_on (Some word) = option_and_then (λ task. Some (with_no_file (HelpOn task))) (task_of word)
 
 -- what the matches after the word for help ask for
 abbrev pub help_by : List Row → Option (Asked (List ℕ))
-help_by rows = if is_used HELP.now rows then told Help else help_on (first_of FIRST.now rows)
+help_by rows = if is_used HELP.now rows then Some (with_no_file Help) else help_on (first_of FIRST.now rows)
 
 -- what a word and the matches after it ask for; to run a session if there is none
 abbrev pub word_by : Option (List ℕ × List Row) → Option (Asked (List ℕ))
-word_by None = told (Do Run)
+word_by None = Some (with_no_file (Do Run))
 word_by (Some below) =
     if bytes_eq below.0 HELP.now then help_by below.1
     else option_and_then (λ task. task_by task below.1) (task_of below.0)
@@ -82,6 +84,6 @@ word_by (Some below) =
 -- what matches ask for: those of the program's own flags, and the subcommand with those after it
 abbrev pub asked_by : List Row → Option (List ℕ × List Row) → Option (Asked (List ℕ))
 asked_by rows below =
-    if is_used HELP.now rows then told Help
-    else if is_used VERSION.now rows then told Version
+    if is_used HELP.now rows then Some (with_no_file Help)
+    else if is_used VERSION.now rows then Some (with_no_file Version)
     else word_by below

@@ -34,6 +34,7 @@ with_operands BoardAndRecord a = with_rule (with_rule (with_rule a (flag TAP.now
 abbrev pub task_app : Said → App
 task_app form = with_operands form.operands (named form.word)
 
+-- a command line with the subcommand of a task
 abbrev pub with_task : App → Said → App
 with_task a form = with_subcommand a (task_app form).top
 

@@ -9,6 +9,7 @@ use Rattle.scmi.specs.declared.texts.TheConstants.{TEXTS}
 abbrev pub row_text : Said → List ℕ
 row_text form = codes "  " ++ form.usage ++ codes "\n      " ++ form.summary ++ codes "\n"
 
+-- the rows of all tasks
 abbrev pub rows_text : List Said → List ℕ
 rows_text rows = flat_map row_text rows
 
@@ -20,9 +21,11 @@ help_text = (TEXTS.head.now ++ rows_text forms) ++ TEXTS.tail.now
 abbrev pub usage_text : Said → List ℕ
 usage_text form = form.about ++ codes "\n\nUsage: " ++ form.usage ++ codes "\n\n"
 
+-- the details of a task, with its example
 abbrev pub details_text : Said → List ℕ
 details_text form = form.details ++ codes "\n\n" ++ codes "Example: " ++ form.example ++ codes "\n"
 
+-- the help on a task
 abbrev pub form_text : Said → List ℕ
 form_text form = usage_text form ++ details_text form
 

@@ -2,7 +2,7 @@
 use Rattle.std.specs.Prelude.{◌≡◌, ⊤, ℕ, Bool, true, false, List, [], ◌∷◌, Option, Some, None, codes}
 use Rattle.clap.specs.Values.{kind_of}
 use Rattle.clap.specs.declared.error.kind.ErrorKind.TheVariants.{OutOfMemory}
-use Rattle.scmi.specs.Asked.{begins_with_dash}
+use Rattle.scmi.specs.Asked.{begins_with_dash, with_no_file}
 use Rattle.scmi.specs.Form.{form_of}
 use Rattle.scmi.specs.declared.arguments.ArgumentError.{ArgumentError}
 use Rattle.scmi.specs.declared.arguments.ArgumentError.TheVariants.{Clap, Unread}
@@ -12,6 +12,7 @@ use Rattle.scmi.specs.declared.request.Request.TheVariants.{Do, Help, HelpOn, Ve
 use Rattle.scmi.specs.declared.task.Task.{Task}
 use Rattle.scmi.specs.declared.task.Task.TheVariants.{Run, Check}
 
+-- the ways to start the program
 pub data Way : Type 0 where
   -- no word
   nothing : Way
@@ -62,25 +63,22 @@ words_of version_short = codes "-V" ∷ []
 abbrev with_files : Request → Bool → Option (List ℕ) → Option (List ℕ) → Asked (List ℕ)
 with_files request is_tap first second = record { request = request; is_tap = is_tap; first = first; second = second }
 
-abbrev told : Request → Asked (List ℕ)
-told request = with_files request false None None
-
 -- what a way asks for: without a word to run a session
 abbrev pub asked_for : Way → Asked (List ℕ)
-asked_for nothing = told (Do Run)
-asked_for (alone task) = told (Do task)
+asked_for nothing = with_no_file (Do Run)
+asked_for (alone task) = with_no_file (Do task)
 asked_for (with_file task name) = with_files (Do task) false (Some name) None
 asked_for (with_record board name) = with_files (Do Check) false (Some board) (Some name)
 asked_for (with_tap board) = with_files (Do Check) true (Some board) None
 asked_for (with_tap_and_record board name) = with_files (Do Check) true (Some board) (Some name)
-asked_for help = told Help
-asked_for help_long = told Help
-asked_for help_short = told Help
-asked_for (help_on task) = told (HelpOn task)
-asked_for (help_on_long task) = told (HelpOn task)
-asked_for (help_on_short task) = told (HelpOn task)
-asked_for version_long = told Version
-asked_for version_short = told Version
+asked_for help = with_no_file Help
+asked_for help_long = with_no_file Help
+asked_for help_short = with_no_file Help
+asked_for (help_on task) = with_no_file (HelpOn task)
+asked_for (help_on_long task) = with_no_file (HelpOn task)
+asked_for (help_on_short task) = with_no_file (HelpOn task)
+asked_for version_long = with_no_file Version
+asked_for version_short = with_no_file Version
 
 -- memory ran out
 abbrev pub IsOfMemory : ArgumentError → Type 0

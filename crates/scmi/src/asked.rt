@@ -1,7 +1,7 @@
 //! What the matches of a command line ask for.
 ghost use Rattle.std.specs.Prelude.{◌≡◌, Some, option_map};
 ghost use Rattle.clap.specs.Words.{first_of, found_of, rows_of, subcommand_rows_of};
-ghost use Rattle.scmi.specs.Asked.{Says, asked_by, begins_with_dash, help_by, is_no_file, is_used, seen, source_of, task_by, told};
+ghost use Rattle.scmi.specs.Asked.{Says, asked_by, begins_with_dash, help_by, is_no_file, is_used, seen, source_of, task_by, with_no_file};
 
 use crate::command::{FIRST, HELP, SECOND, TAP, VERSION};
 use crate::form::task_of;
@@ -41,13 +41,13 @@ pub fn asked_of<'a>(matches: &ArgMatches<'a>) -> Result<HeldAsked<'a>, Unread<'a
     ensures { Says (asked_by (rows_of (found_of matches.now)) (subcommand_rows_of matches.now)) result }
 {
     if is_used(matches, HELP) {
-        return Ok(told(Request::Help));
+        return Ok(with_no_file(Request::Help));
     }
     if is_used(matches, VERSION) {
-        return Ok(told(Request::Version));
+        return Ok(with_no_file(Request::Version));
     }
     match below(matches) {
-        None => Ok(told(Request::Do(Task::Run))),
+        None => Ok(with_no_file(Request::Do(Task::Run))),
         Some((word, inner)) if word == HELP => help_by(inner),
         Some((word, inner)) => match task_of(word) {
             Some(task) => task_by(task, inner),
@@ -61,12 +61,12 @@ fn help_by<'a>(matches: &ArgMatches<'a>) -> Result<HeldAsked<'a>, Unread<'a>>
     ensures { Says (help_by (rows_of (found_of matches.now))) result }
 {
     if is_used(matches, HELP) {
-        return Ok(told(Request::Help));
+        return Ok(with_no_file(Request::Help));
     }
     match value_of(matches, FIRST) {
-        None => Ok(told(Request::Help)),
+        None => Ok(with_no_file(Request::Help)),
         Some(word) => match task_of(word) {
-            Some(task) => Ok(told(Request::HelpOn(task))),
+            Some(task) => Ok(with_no_file(Request::HelpOn(task))),
             None => Err(Unread::Task(word)),
         },
     }
@@ -77,7 +77,7 @@ fn task_by<'a>(task: Task, matches: &ArgMatches<'a>) -> Result<HeldAsked<'a>, Un
     ensures { Says (task_by task (rows_of (found_of matches.now))) result }
 {
     if is_used(matches, HELP) {
-        return Ok(told(Request::HelpOn(task)));
+        return Ok(with_no_file(Request::HelpOn(task)));
     }
     let is_tap = is_used(matches, TAP);
     let first = value_of(matches, FIRST);
@@ -97,8 +97,8 @@ fn task_by<'a>(task: Task, matches: &ArgMatches<'a>) -> Result<HeldAsked<'a>, Un
 }
 
 /// A request that names no file.
-fn told<'a>(request: Request) -> HeldAsked<'a>
-    ensures { told request ≡ Some (seen result) }
+fn with_no_file<'a>(request: Request) -> HeldAsked<'a>
+    ensures { with_no_file request ≡ seen result }
 {
     Asked {
         request,

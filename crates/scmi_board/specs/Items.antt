@@ -5,9 +5,11 @@ use Rattle.std.specs.Option.{option_and_then}
 use Rattle.scmi_board.specs.Number.{number_of}
 
 infixl 10 ◌>>=◌
+-- a value that may be missing, handed on
 abbrev pub ◌>>=◌ : {A B : Type 0} → Option A → (A → Option B) → Option B
 o >>= f = option_and_then f o
 
+-- whether a byte is a space
 abbrev pub is_space : ℕ → Bool
 is_space byte = byte == 32
 
@@ -31,6 +33,7 @@ pub record ItemsView : Type 0 where
   pub items : List (List ℕ)
   pub whole : Bool
 
+-- an item before those of a view
 abbrev pub onto_items : List ℕ → ItemsView → ItemsView
 onto_items item view = record { items = item ∷ view.items; whole = view.whole }
 

@@ -30,6 +30,7 @@ abbrev pub FailsUnless : {Y : Type 0} → LineError → Option Y → Type 0
 FailsUnless Form there = there ≡ None
 FailsUnless Memory there = ⊤
 
+-- what a reader gives is what a line encodes, or its error is true
 abbrev pub GivesUnless : {X Y : Type 0} → (X → Y) → Result X LineError → Option Y → Type 0
 GivesUnless view (Ok value) there = there ≡ Some (view value)
 GivesUnless view (Err error) there = FailsUnless error there

@@ -22,6 +22,7 @@ pub record Line : Type 0 where
   pub number : ℕ
   pub text : List ℕ
 
+-- a line of a text, as its number and its bytes
 abbrev pub line_of : TextLine → Line
 line_of line = record { number = line.number; text = line.text.now }
 

@@ -18,6 +18,7 @@ abbrev pub after_each : {A B : Type 0} → (A → B → Option A) → A → List
 after_each step value [] = Some value
 after_each step value (member ∷ members) = step value member >>= λ next. after_each step next members
 
+-- whether a byte is a comma
 abbrev pub is_comma : ℕ → Bool
 is_comma byte = byte == 44
 
@@ -29,6 +30,7 @@ parts_of item = slice_split is_comma item
 unfoldable pub name_of : List ℕ → Option (List ℕ)
 name_of item = if is_utf8 item then Some item else None
 
+-- the first item, which is a name, and the items after it
 unfoldable pub first_name : ItemsView → Option (List ℕ × ItemsView)
 first_name view = do
   item ← first_item view
@@ -123,21 +125,25 @@ with_agent board view = do
   agent ← first_name view
   Some (record board { agents = board.agents ++ agent.0 ∷ [] }, agent.1)
 
+-- a board with the domain that a row encodes
 unfoldable pub with_domain : Board → ItemsView → Option (Board × ItemsView)
 with_domain board view = do
   domain ← first_domain view
   Some (record board { domains = board.domains ++ domain.0 ∷ [] }, domain.1)
 
+-- a board with the clock that a row encodes
 unfoldable pub with_clock : Board → ItemsView → Option (Board × ItemsView)
 with_clock board view = do
   clock ← first_clock view
   Some (record board { clocks = board.clocks ++ clock.0 ∷ [] }, clock.1)
 
+-- a board with the device that a row encodes
 unfoldable pub with_device : Board → ItemsView → Option (Board × ItemsView)
 with_device board view = do
   device ← first_device view
   Some (record board { devices = board.devices ++ device.0 ∷ [] }, device.1)
 
+-- a board with the row of this first word
 unfoldable pub with_row_named : Board → List ℕ → ItemsView → Option (Board × ItemsView)
 with_row_named board word view =
     if bytes_eq word AGENT.now then with_agent board view

@@ -16,7 +16,7 @@ use Rattle.scmi_codec.specs.declared.frame.Frame.{Frame}
 use Rattle.scmi_codec.specs.declared.frame.Frame.TheVariants.{Good, Malformed}
 use Rattle.scmi_codec.specs.declared.frame.Answer.TheVariants.{Reply, ChannelError}
 use Rattle.scmi_plan.specs.Board.{Board, channel_of}
-use Rattle.scmi_plan.specs.Plan.{IsLawful}
+use Rattle.scmi_plan.specs.Plan.{IsValid}
 use Rattle.scmi_core.specs.Channels.{IsAnswerWithin, IsWithin}
 use Rattle.scmi_core.specs.History.{answer_to, answer_with, deeds, made_for, outbox}
 use Rattle.scmi_core.specs.Legal.{IsLegal}
@@ -83,7 +83,7 @@ waiting-header words area m = by (status_at area % 2 == 1) (is_well_formed_withi
   by false true p = search rules
   by false false p = search rules
 
-answer-within : (board : Board) (a : ℕ) (frame : Frame) (h : List Event) → IsLawful board → IsAnswerWithin board a (answer_to board a frame h)
+answer-within : (board : Board) (a : ℕ) (frame : Frame) (h : List Event) → IsValid board → IsAnswerWithin board a (answer_to board a frame h)
 answer-within board a (Good m) h law = by (fits_channel board a m) where
   by : (short : Bool) → IsAnswerWithin board a (if short then Reply (message_with m.header (reply_words board a (situation_after board a (deeds board h)) (command_of m))) else ChannelError)
   by true = reply-within board a (situation_after board a (deeds board h)) (command_of m) law
@@ -101,7 +101,7 @@ of-header area reply head = ap (λ header. area_after_answer (Reply (record { he
 
 -- what a frame was answered with, written over it
 pub answered-in : (board : Board) (a : ℕ) (h : List Event) (area new : List ℕ) (frame : Frame) (x : Answered) (reply : Message)
-    → IsLawful board → capacity area ≡ (channel_of board a).words → channel_waiting area ≡ Some frame → answer_with x reply ≡ answer_to board a frame h
+    → IsValid board → capacity area ≡ (channel_of board a).words → channel_waiting area ≡ Some frame → answer_with x reply ≡ answer_to board a frame h
     → (x ≡ answered.Reply → length reply.payload.items ≤ capacity area → new ≡ area_after_answer (Reply (message_of (header_at area) reply.payload.items)) area)
     → (x ≡ answered.ChannelError → new ≡ area_after_answer ChannelError area)
     → new ≡ area_after_answer (answer_to board a frame h) area
@@ -114,7 +114,7 @@ answered-in board a h area new frame answered.ChannelError reply law room waits 
 
 -- the same of an answer that was written whole
 pub committed-in : (board : Board) (a : ℕ) (h : List Event) (area new : List ℕ) (frame : Frame) (x : Answered) (reply : Message)
-    → IsLawful board → (channel_of board a).words ≤ capacity area → answer_with x reply ≡ answer_to board a frame h
+    → IsValid board → (channel_of board a).words ≤ capacity area → answer_with x reply ≡ answer_to board a frame h
     → (x ≡ answered.Reply → length reply.payload.items ≤ capacity area → new ≡ area_after_answer (Reply reply) area)
     → (x ≡ answered.ChannelError → new ≡ area_after_answer ChannelError area)
     → new ≡ area_after_answer (answer_to board a frame h) area
@@ -145,7 +145,7 @@ head-of P [] m is all = absurd (cc)
 head-of P (x ∷ xs) m is all = subst P (search rules) (All-head P x xs all)
 
 -- the first message of an outbox has room in its agent's channel
-pub first-within : (board : Board) (a : ℕ) (h : List Event) (m : Message) → IsLawful board → IsLegal board h → slice_get (outbox board a h) 0 ≡ Some m → IsWithin board a m
+pub first-within : (board : Board) (a : ℕ) (h : List Event) (m : Message) → IsValid board → IsLegal board h → slice_get (outbox board a h) 0 ≡ Some m → IsWithin board a m
 unfolding outbox made_for
 first-within board a h m law legal is =
     head-of (IsWithin board a) (outbox board a h) m is (All-drop (IsWithin board a) (sent_count a (deeds board h)) (messages_made board a (deeds board h)) ((channels board h law legal).made a))

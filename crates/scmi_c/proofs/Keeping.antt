@@ -11,7 +11,7 @@ use Rattle.scmi_codec.specs.declared.frame.Frame.{Frame}
 use Rattle.scmi_codec.specs.declared.message.Message.{Message}
 use Rattle.scmi_plan.specs.Agent.{IsAgent}
 use Rattle.scmi_plan.specs.Board.{Board, channel_of}
-use Rattle.scmi_plan.specs.Plan.{IsLawful}
+use Rattle.scmi_plan.specs.Plan.{IsValid}
 use Rattle.scmi_core.specs.Effect.{effect_after}
 use Rattle.scmi_core.specs.declared.effect.Effect.{Effect}
 use Rattle.scmi_core.specs.declared.event.Event.{Event}
@@ -106,7 +106,7 @@ askable p k agent bytes frame waits effect about is given size words =
       agent = subst (λ (b : Board). IsAgent (length b.agents) agent) board about.is_agent;
       effect = λ h at none. is-some effect (all h ((about.stands.after h).1 at) ∙ ap (λ (b : Board). effect_after b h (Called agent frame)) board ∙ none);
       room = about.room;
-      lawful = subst IsLawful board about.lawful;
+      valid = subst IsValid board about.valid;
       size = size;
       words = subst (λ (b : Board). (channel_of b agent).words ≤ channel_words bytes) board words;
     }

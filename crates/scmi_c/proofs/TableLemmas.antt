@@ -68,14 +68,14 @@ pub channel_set : (r : Result ⊤ ChannelError) (old new : Board) (agent : ℕ) 
     → ((r ≡ Err NoAgent) ↔ IsNoAgent (length old.agents) agent)
     → ((r ≡ Err Words) ↔ (IsAgent (length old.agents) agent × ((channel.words < LEAST_CHANNEL_WORDS) ⊎ (PAYLOAD_WORDS < channel.words))))
     → IsAgent (length old.agents) agent → IsChannel channel → new ≡ with_channel old agent channel
-channel_set (Ok done) old new agent channel ok none few is lawful = ok
-channel_set (Err NoAgent) old new agent channel ok lacks few is lawful = elim (lacks.0 refl) [
+channel_set (Ok done) old new agent channel ok none few is valid = ok
+channel_set (Err NoAgent) old new agent channel ok lacks few is valid = elim (lacks.0 refl) [
   | inl none ↦ let least = is.0 in absurd (omega (arith, none, least))
   | inr above ↦ let most = is.1 in absurd (omega (arith, above, most))
 ]
-channel_set (Err Words) old new agent channel ok none few is lawful = elim (few.0 refl).1 [
-  | inl short ↦ let least = lawful.0 in absurd (omega (arith, short, least))
-  | inr above ↦ let most = lawful.1 in absurd (omega (arith, above, most))
+channel_set (Err Words) old new agent channel ok none few is valid = elim (few.0 refl).1 [
+  | inl short ↦ let least = valid.0 in absurd (omega (arith, short, least))
+  | inr above ↦ let most = valid.1 in absurd (omega (arith, above, most))
 ]
 
 -- those of one more row

@@ -5,7 +5,7 @@ use Rattle.scmi_codec.specs.declared.frame.Frame.{Frame}
 use Rattle.scmi_codec.specs.declared.message.Message.{Message}
 use Rattle.scmi_plan.specs.Agent.{IsAgent}
 use Rattle.scmi_plan.specs.Board.{Board}
-use Rattle.scmi_plan.specs.Plan.{IsLawful}
+use Rattle.scmi_plan.specs.Plan.{IsValid}
 use Rattle.scmi_core.specs.Effect.{effect_after}
 use Rattle.scmi_core.specs.History.{answer_to, outbox}
 use Rattle.scmi_core.specs.Reply.{failed_answer}
@@ -29,7 +29,7 @@ pub record IsAskedAbout (p k : Held) (agent : ℕ) : Type 0 where
   pub is_agent : IsAgent (length (board_of p).agents) agent
   pub stands : StandsAsBefore p k
   pub room : HasRoom k
-  pub lawful : IsLawful (board_of p)
+  pub valid : IsValid (board_of p)
 
 -- an agent's frame failed, and the area is the answer HARDWARE_ERROR to it
 pub record HasFailed (p k : Held) (agent : ℕ) (frame : Frame) (before after : List ℕ) : Type 0 where

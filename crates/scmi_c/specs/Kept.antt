@@ -4,7 +4,7 @@ use Rattle.scmi_codec.specs.ChannelArea.{channel_words, is_channel_size}
 use Rattle.scmi_codec.specs.declared.frame.Frame.{Frame}
 use Rattle.scmi_plan.specs.Agent.{IsAgent}
 use Rattle.scmi_plan.specs.Board.{channel_of}
-use Rattle.scmi_plan.specs.Plan.{IsLawful}
+use Rattle.scmi_plan.specs.Plan.{IsValid}
 use Rattle.scmi_core.specs.Effect.{effect_after}
 use Rattle.scmi_core.specs.declared.event.Event.{Event}
 use Rattle.scmi_core.specs.declared.event.Event.TheVariants.{Command as Called}
@@ -41,7 +41,7 @@ pub record IsAskable (held : Held) (asked : Asked) : Type 0 where
   pub agent : IsAgent (length (board_of held).agents) asked.agent
   pub effect : (h : List Event) → StandsAt held h → effect_after (board_of held) h (Called asked.agent asked.frame) ≢ None
   pub room : HasRoom held
-  pub lawful : IsLawful (board_of held)
+  pub valid : IsValid (board_of held)
   pub size : is_channel_size asked.bytes ≡ true
   pub words : (channel_of (board_of held) asked.agent).words ≤ channel_words asked.bytes
 

@@ -31,13 +31,16 @@ pub record BoardTables : Type 0 where
   pub rates : List ℕ
   pub devices : List DeviceRow
 
+-- the tables of these rows
 abbrev pub tables_given : HeadingRow → List AgentRow → List DomainRow → List ClockRow → List ℕ → List DeviceRow → BoardTables
 tables_given heading agents domains clocks rates devices =
     record { heading = heading; agents = agents; domains = domains; clocks = clocks; rates = rates; devices = devices }
 
+-- the tables that a program gave
 abbrev pub tables_of : Tables → BoardTables
 tables_of t = tables_given t.heading.now t.agents.now t.domains.now t.clocks.now t.rates.now t.devices.now
 
+-- whether a byte is zero
 abbrev pub is_zero : ℕ → Bool
 is_zero byte = byte == 0
 
@@ -57,12 +60,15 @@ is_channel_row row = (row.bytes == 0) || is_channel_size row.bytes
 abbrev pub ends_within : ℕ → ClockRow → Bool
 ends_within rates row = (row.count == 0) || nat_le (row.first + row.count) rates
 
+-- whether the row of an agent is well formed
 abbrev pub is_agent_row : AgentRow → Bool
 is_agent_row row = is_named row.name && is_channel_row row
 
+-- whether the row of a domain is well formed
 abbrev pub is_domain_row : DomainRow → Bool
 is_domain_row row = is_named row.name
 
+-- whether the row of a clock is well formed, beside a table of this many rates
 abbrev pub is_clock_row : ℕ → ClockRow → Bool
 is_clock_row rates row = is_named row.name && ends_within rates row
 
@@ -76,6 +82,7 @@ is_well_formed t =
 abbrev pub is_set : ℕ → Bool
 is_set flag = not (flag == 0)
 
+-- the domain of a row
 abbrev pub domain_in : DomainRow → Domain
 domain_in row =
     record { name = name_in row.name; on = is_set row.on; synchronous = is_set row.synchronous; asynchronous = is_set row.asynchronous; notify = is_set row.notify }
@@ -84,9 +91,11 @@ domain_in row =
 abbrev pub rates_in : List ℕ → ClockRow → Rates
 rates_in table row = if row.count == 0 then rates.Steps row.low row.high row.step else rates.List (take row.count (drop row.first table))
 
+-- the clock of a row
 abbrev pub clock_in : List ℕ → ClockRow → Clock
 clock_in table row = record { name = name_in row.name; enabled = is_set row.enabled; rate = row.rate; rates = rates_in table row }
 
+-- the device of a row
 abbrev pub device_in : DeviceRow → Device
 device_in row = record { domains = row.domains; clocks = row.clocks }
 

@@ -1,7 +1,7 @@
 //! A platform's plan, of a board's text.
 ghost use Rattle.std.specs.Prelude.{◌≡◌, ◌≢◌, ℕ, ◌+◌, List, Result, IfOk, IfErr, Ok, Err};
 ghost use Rattle.std.specs.List.{All};
-ghost use Rattle.scmi_plan.specs.Plan.{IsLawful};
+ghost use Rattle.scmi_plan.specs.Plan.{IsValid};
 ghost use Rattle.scmi_plan.specs.PlanError.{number};
 ghost use Rattle.scmi_plan.specs.declared.plan_error.PlanError.TheVariants as plan_error;
 ghost use Rattle.scmi_board.specs.BoardText.{FailsBoard};
@@ -22,7 +22,7 @@ use std::alloc::Global;
 pub fn read_plan(alloc: Global, text: &[u8]) -> Result<Plan, u32>
     ensures board { IfOk result (λ plan. board_of_text text.now ≡ Ok plan) }
     ensures fault { IfErr result (λ n. n ≢ MEMORY → board_of_text text.now ≡ Err n) }
-    ensures lawful { IfOk result IsLawful }
+    ensures valid { IfOk result IsValid }
     ensures faults { IfErr result IsFault }
 {
     let said = match read_board_with_channels(alloc, &mut Lines::new(text)) {

@@ -3,7 +3,7 @@ ghost use Rattle.std.specs.Prelude.{◌≡◌, ◌≢◌, ◌↔◌, ◌⊎◌, 
 ghost use Rattle.std.specs.List.{All};
 ghost use Rattle.scmi_plan.specs.Agent.{IsAgent};
 ghost use Rattle.scmi_plan.specs.Board.{IsChannel};
-ghost use Rattle.scmi_plan.specs.Plan.{IsLawful};
+ghost use Rattle.scmi_plan.specs.Plan.{IsValid};
 ghost use Rattle.scmi_c.specs.Board.{with_channels};
 ghost use Rattle.scmi_c.specs.Tables.{board_of_tables, channel_in, channels_from, is_channel_row, is_well_formed, tables_of, IsTableFault};
 ghost use Rattle.scmi_c.specs.declared.code.TheConstants.{MEMORY, TABLE};
@@ -27,7 +27,7 @@ pub fn plan_of_tables(alloc: Global, tables: &Tables<'_>) -> Result<Plan, u32>
     ensures fault { IfErr result (λ n. n ≢ MEMORY
         → board_of_tables (tables_of tables.now) ≡ Err n) }
     ensures table { (result ≡ Err TABLE) ↔ (is_well_formed (tables_of tables.now) ≡ false) }
-    ensures lawful { IfOk result IsLawful }
+    ensures valid { IfOk result IsValid }
     ensures faults { IfErr result IsTableFault }
 {
     if !is_well_formed(tables) {
@@ -63,7 +63,7 @@ fn set_channels(plan: &mut Plan, rows: &[AgentRow])
 fn channel_of(row: &AgentRow) -> AgentChannel
     requires row { is_channel_row row.now ≡ true }
     ensures channel { result ≡ channel_in row.now }
-    ensures lawful { IsChannel result }
+    ensures valid { IsChannel result }
 {
     let words = if row.bytes == 0 {
         PAYLOAD_WORDS

@@ -3,7 +3,7 @@ ghost use Rattle.std.specs.Prelude.{◌≡◌, ◌≢◌, ◌↔◌, ◌⊎◌, 
 ghost use Rattle.scmi_codec.specs.ChannelArea.{channel_words, is_channel_size};
 ghost use Rattle.scmi_plan.specs.Agent.{IsAgent};
 ghost use Rattle.scmi_plan.specs.Board.{IsChannel, channel_of};
-ghost use Rattle.scmi_plan.specs.Plan.{IsLawful};
+ghost use Rattle.scmi_plan.specs.Plan.{IsValid};
 ghost use Rattle.scmi_core.specs.Legal.{IsLegal};
 ghost use Rattle.scmi_core.specs.declared.event.Event.{Event};
 ghost use Rattle.scmi_c.specs.Channel.{HasAnotherSize, HasSize, numbers_of_channel};
@@ -31,7 +31,7 @@ impl Held {
     /// The board.
     pub fn board(&self) -> &Plan
         ensures board { result.now ≡ board_of self.now }
-        ensures lawful { IsLawful (board_of self.now) }
+        ensures valid { IsValid (board_of self.now) }
         ensures legal { (h : List Event) → StandsAt self.now h → IsLegal (board_of self.now) h }
     {
         let plan = match self {
@@ -50,7 +50,7 @@ impl Held {
         ensures channel { IfOk result (λ channel. channel ≡ channel_of (board_of self.now) agent) }
         ensures agent { OnOk result (IsAgent (length (board_of self.now).agents) agent) }
         ensures words { IfOk result IsChannel }
-        ensures lawful { IsLawful (board_of self.now) }
+        ensures valid { IsValid (board_of self.now) }
         ensures legal { (h : List Event) → StandsAt self.now h → IsLegal (board_of self.now) h }
         ensures no_agent { (result ≡ Err Refusal.NoAgent) ↔ LacksAgent agent self.now }
         ensures errors { IfErr result (λ e. e ≡ Refusal.NoAgent) }
@@ -84,7 +84,7 @@ impl Held {
         ensures size { OnOk result (is_channel_size bytes ≡ true) }
         ensures words { OnOk result
             (channel_words bytes ≡ (channel_of (board_of self.now) agent).words) }
-        ensures lawful { IsLawful (board_of self.now) }
+        ensures valid { IsValid (board_of self.now) }
         ensures legal { (h : List Event) → StandsAt self.now h → IsLegal (board_of self.now) h }
         ensures no_agent { (result ≡ Err Refusal.NoAgent) ↔ LacksAgent agent self.now }
         ensures wrong_size { (result ≡ Err Refusal.WrongSize) ↔ HasAnotherSize agent bytes self.now }

@@ -2,7 +2,7 @@
 ghost use Rattle.std.specs.Prelude.{◌≡◌, ◌≢◌, ◌↔◌, List, length, true, false, slice_get, IfOk, OnOk, OnErr, IfErr, None, Ok, Err};
 ghost use Rattle.std.specs.Option.{option_copied};
 ghost use Rattle.scmi_plan.specs.Agent.{IsAgent, IsNoAgent};
-ghost use Rattle.scmi_plan.specs.Plan.{IsLawful};
+ghost use Rattle.scmi_plan.specs.Plan.{IsValid};
 ghost use Rattle.scmi_core.specs.History.{IsIdle, HasNothingFor, answer_to, answer_with, outbox};
 ghost use Rattle.scmi_core.specs.declared.event.Event.{Event};
 ghost use Rattle.scmi_core.specs.declared.event.Event.TheVariants.{Command as Called, Advance, Sent, CommandFailed, AdvanceFailed, Restarted};
@@ -169,7 +169,7 @@ impl Held {
             effect ≡ effect_after (board_of self.old) h (Called agent frame.now)) }
         ensures agent { OnOk result (IsAgent (length (board_of self.old).agents) agent) }
         ensures room { IfOk result (λ effect. effect ≢ None → HasRoom self.new) }
-        ensures lawful { IfOk result (λ effect. effect ≢ None → IsLawful (board_of self.old)) }
+        ensures valid { IfOk result (λ effect. effect ≢ None → IsValid (board_of self.old)) }
         ensures stands { StandsAsBefore self.old self.new }
         ensures none { result ≡ Ok None → self.new ≡ self.old }
         ensures no_agent { (result ≡ Err CoreError.NoAgent) ↔

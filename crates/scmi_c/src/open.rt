@@ -1,6 +1,6 @@
 //! Platforms are made and freed.
 ghost use Rattle.std.specs.Prelude.{◌≡◌, ◌≢◌, ◌↔◌, ◌⊎◌, [], None, Ok, Err, IsSomeAnd};
-ghost use Rattle.scmi_plan.specs.Plan.{IsLawful};
+ghost use Rattle.scmi_plan.specs.Plan.{IsValid};
 ghost use Rattle.scmi_c.specs.Board.{IsFault, board_of_text};
 ghost use Rattle.scmi_c.specs.Kept.{IsUnasked};
 ghost use Rattle.scmi_c.specs.Standing.{board_of, StandsAt, IsRecorded};
@@ -24,7 +24,7 @@ pub extern "C" fn scmi_platform_new(alloc: Global, platform: &mut Handle, board:
     ensures done { result ≡ DONE →
         IsSomeAnd platform.new.value (λ p. IsUnasked p
         × (board_of_text board.now ≡ Ok (board_of p.held)) × StandsAt p.held []
-        × IsLawful (board_of p.held) × (¬ (IsRecorded p.held))) }
+        × IsValid (board_of p.held) × (¬ (IsRecorded p.held))) }
     ensures fault { (result ≡ DONE) ⊎ (result ≡ IN_USE) ⊎ (result ≡ MEMORY)
         ⊎ (board_of_text board.now ≡ Err result) }
     ensures in_use { (result ≡ IN_USE) ↔ (platform.old.value ≢ None) }
@@ -51,7 +51,7 @@ pub extern "C" fn scmi_platform_new_recorded(
     ensures done { result ≡ DONE →
         IsSomeAnd platform.new.value (λ p. IsUnasked p
         × (board_of_text board.now ≡ Ok (board_of p.held)) × StandsAt p.held []
-        × IsLawful (board_of p.held) × IsRecorded p.held) }
+        × IsValid (board_of p.held) × IsRecorded p.held) }
     ensures fault { (result ≡ DONE) ⊎ (result ≡ IN_USE) ⊎ (result ≡ MEMORY)
         ⊎ (board_of_text board.now ≡ Err result) }
     ensures in_use { (result ≡ IN_USE) ↔ (platform.old.value ≢ None) }

@@ -25,7 +25,7 @@ whole text = record { rest = text; number = 0 }
 pub record IsBoardText (text : List ℕ) (board : Board) : Type 0 where
   pub behind : List Line
   pub board_is : board_left (whole text) ≡ Ok (board, behind)
-  pub lawful : first_fault board ≡ None
+  pub valid : first_fault board ≡ None
 
 -- a text encodes a record of a platform of a board
 abbrev pub IsRecordText : Board → List ℕ → List Placed → Type 0

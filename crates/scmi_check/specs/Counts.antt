@@ -6,14 +6,17 @@ use Rattle.scmi_check.specs.declared.finding.Finding.{Finding}
 use Rattle.scmi_check.specs.declared.finding.Finding.TheVariants.{Same, Own, Differs}
 use Rattle.scmi_check.specs.declared.judged.Judged.{Judged}
 
+-- a finding of an entry that is the same
 abbrev pub is_same : Finding → Bool
 is_same Same = true
 is_same _ = false
 
+-- a finding of an entry that differs by a rule of this project's own
 abbrev pub is_own : Finding → Bool
 is_own (Own rule) = true
 is_own _ = false
 
+-- a finding of an entry that differs
 abbrev pub is_other : Finding → Bool
 is_other Differs = true
 is_other _ = false

@@ -38,14 +38,17 @@ has_reserved_flags (Ok (Clock (clock.SetRate flags clock rate))) = nat_lt 15 fla
 has_reserved_flags (Ok (Clock (clock.Config clock attributes))) = nat_lt 1 attributes
 has_reserved_flags _ = false
 
+-- a command that asks for the list of protocols
 abbrev pub asks_protocols : Result Command Status → Bool
 asks_protocols (Ok (Base (base.Protocols skip))) = true
 asks_protocols _ = false
 
+-- a command that asks for the rates of a clock
 abbrev pub describes_rates : Result Command Status → Bool
 describes_rates (Ok (Clock (clock.Describe clock index))) = true
 describes_rates _ = false
 
+-- a command that asks for the version of a protocol
 abbrev pub asks_version : Result Command Status → Bool
 asks_version (Ok (Base base.Version)) = true
 asks_version (Ok (Power power.Version)) = true

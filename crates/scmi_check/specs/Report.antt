@@ -59,6 +59,7 @@ abbrev pub heading_text : Style → List Judged → List ℕ
 heading_text Plain judged = []
 heading_text Tap judged = codes "1.." ++ decimal (length judged) ++ codes "\n"
 
+-- how many entries were found to be of each kind
 abbrev pub counts_text : Counts → List ℕ
 counts_text counts = decimal counts.same ++ codes " same, " ++ decimal counts.own ++ codes " own, " ++ decimal counts.differ ++ codes " differ\n"
 

@@ -10,7 +10,7 @@ use Rattle.std.proofs.lemmas.List.FromFn.{length-map-range_with_len, get_or-map-
 use Rattle.std.proofs.lemmas.List.Kept.{AllPairs-from_increasing}
 use Rattle.scmi_plan.specs.declared.rates.Rates.{Rates}
 use Rattle.scmi_plan.specs.declared.rates.Rates.TheVariants as rates
-use Rattle.scmi_plan.specs.Rates.{members, HasLawfulRates, IsSupported}
+use Rattle.scmi_plan.specs.Rates.{members, HasValidRates, IsSupported}
 use Rattle.scmi_clock.specs.Rounding.{IsRoundedDown, IsRoundedUp, IsNearest, rate_below, rate_above, nearer}
 use Rattle.scmi_clock.proofs.Passing.{PassesNowhere, IsLast, IsFirst, last_cases, first_cases}
 
@@ -23,15 +23,15 @@ pub record IsLadder (xs : List ℕ) : Type 0 where
 pub step_at : (low step n k : ℕ) → k < n → get_or (map (λ k. low + k * step) (range_with_len 0 n)) k 0 ≡ low + k * step
 step_at low step n k h = get_or-map-range_with_len (λ k. low + k * step) 0 n k k 0 h (omega arith)
 
-pub ladder : (r : Rates) → HasLawfulRates r → IsLadder (members r)
-ladder (rates.List list) lawful = record { some = lawful.0; rises = by } where
+pub ladder : (r : Rates) → HasValidRates r → IsLadder (members r)
+ladder (rates.List list) valid = record { some = valid.0; rises = by } where
   by : (i j : ℕ) → i ≤ j → j < length list → get_or list i 0 ≤ get_or list j 0
   by i j upto within = pick (cases_order i j) where
     pick : ((i ≡ j) ⊎ ((i < j) ⊎ (j < i))) → get_or list i 0 ≤ get_or list j 0
     pick (inl e) = let e' : get_or list i 0 ≡ get_or list j 0 = ap (λ k. get_or list k 0) e in omega arith
-    pick (inr (inl h)) = let up : get_or list i 0 < get_or list j 0 = AllPairs-from_increasing list lawful.2 i j 0 h within in omega arith
+    pick (inr (inl h)) = let up : get_or list i 0 < get_or list j 0 = AllPairs-from_increasing list valid.2 i j 0 h within in omega arith
     pick (inr (inr h)) = absurd (omega arith)
-ladder (rates.Steps low high step) lawful = record { some = by_some; rises = by } where
+ladder (rates.Steps low high step) valid = record { some = by_some; rises = by } where
   count : length (members (rates.Steps low high step)) ≡ (high - low) / step + 1
   count = length-map-range_with_len (λ k. low + k * step) 0 ((high - low) / step + 1)
 
@@ -46,7 +46,7 @@ ladder (rates.Steps low high step) lawful = record { some = by_some; rises = by 
       let up : i * step ≤ j * step = mul-le-mul_right step upto in
       omega arith
 
-module _ (r : Rates) (lawful : HasLawfulRates r) (asked : ℕ) where
+module _ (r : Rates) (valid : HasValidRates r) (asked : ℕ) where
   -- a supported rate, at its place
   place : (m : ℕ) (s : IsSupported r m) → get_or (members r) s.0 0 ≡ m
   place m s = get_or_default (members r) s.0 0 m s.1 ∙ s.2
@@ -61,7 +61,7 @@ module _ (r : Rates) (lawful : HasLawfulRates r) (asked : ℕ) where
     by x s low = pick (cases_lt l.place s.0) where
       pick : ((l.place < s.0) ⊎ (s.0 ≤ l.place)) → x ≤ m
       pick (inl h) = let past = leb-false _ _ (l.after s.0 h s.1) in let e = place x s in absurd (omega arith)
-      pick (inr h) = let up = (ladder r lawful).rises s.0 l.place h l.within in let e = place x s in let f = l.is in omega arith
+      pick (inr h) = let up = (ladder r valid).rises s.0 l.place h l.within in let e = place x s in let f = l.is in omega arith
 
   pub is_up : (m : ℕ) → IsFirst (λ x. nat_le asked x) (members r) m → IsRoundedUp r asked m
   is_up m l = record {
@@ -73,7 +73,7 @@ module _ (r : Rates) (lawful : HasLawfulRates r) (asked : ℕ) where
     by x s high = pick (cases_lt s.0 l.place) where
       pick : ((s.0 < l.place) ⊎ (l.place ≤ s.0)) → m ≤ x
       pick (inl h) = let past = leb-false _ _ (l.before s.0 h) in let e = place x s in absurd (omega arith)
-      pick (inr h) = let up = (ladder r lawful).rises l.place s.0 h s.1 in let e = place x s in let f = l.is in omega arith
+      pick (inr h) = let up = (ladder r valid).rises l.place s.0 h s.1 in let e = place x s in let f = l.is in omega arith
 
   pub none_down : PassesNowhere (λ x. nat_le x asked) (members r) → (x : ℕ) → IsSupported r x → asked < x
   none_down n x s = let past = leb-false _ _ (n.fails s.0 s.1) in let e = place x s in omega arith
@@ -99,7 +99,7 @@ module _ (r : Rates) (lawful : HasLawfulRates r) (asked : ℕ) where
   pub nearest_cases : ((o : Option ℕ) → o ≡ nearer asked (rate_below r asked) (rate_above r asked) → ((m : ℕ) × (o ≡ Some m) × IsNearest r asked m))
   nearest_cases o is = pick below_cases above_cases where
     first : IsSupported r (get_or (members r) 0 0)
-    first = Contains-get_or (members r) 0 0 (ladder r lawful).some
+    first = Contains-get_or (members r) 0 0 (ladder r valid).some
 
     both : (d u : ℕ) → IsRoundedDown r asked d → IsRoundedUp r asked u → (b : Bool) → nat_le (asked - d) (u - asked) ≡ b → (m : ℕ) × ((if b then Some d else Some u) ≡ Some m) × IsNearest r asked m
     both d u down up true t = (

@@ -6,17 +6,17 @@ use Rattle.std.specs.Slice.{IsItemAt}
 use Rattle.std.proofs.lemmas.Bool.{le-leb, ltb-true, ltb-false}
 use Rattle.std.proofs.lemmas.List.{get_or_default}
 use Rattle.scmi_plan.specs.declared.rates.Rates.TheVariants as rates
-use Rattle.scmi_plan.specs.Rates.{HasLawfulRates}
+use Rattle.scmi_plan.specs.Rates.{HasValidRates}
 use Rattle.scmi_clock.specs.Rounding.{rate_below, rate_above}
 use Rattle.scmi_clock.proofs.Passing.{no_last, no_first, last_is, first_is}
 use Rattle.scmi_clock.proofs.Closest.{ladder}
 use Rattle.scmi_clock.proofs.StepRates.{above_fails}
 
-pub rising : (xs : List ℕ) → HasLawfulRates (rates.List xs) → IsNonDecreasingBy (λ x. x) xs
-rising xs lawful i j d upto within =
+pub rising : (xs : List ℕ) → HasValidRates (rates.List xs) → IsNonDecreasingBy (λ x. x) xs
+rising xs valid i j d upto within =
     let at_i = get_or_default xs i d 0 (omega arith) in
     let at_j = get_or_default xs j d 0 within in
-    let up = (ladder (rates.List xs) lawful).rises i j upto within in omega arith
+    let up = (ladder (rates.List xs) valid).rises i j upto within in omega arith
 
 module _ (xs : List ℕ) (asked count : ℕ) where
   pub below_start : IsPartitionPoint (λ y. nat_le y asked ≡ true) (λ y. nat_le y asked ≡ false) xs count → count ≡ 0 → None ≡ rate_below (rates.List xs) asked

@@ -6,7 +6,7 @@ use Rattle.std.proofs.lemmas.Bool.Decides.{leb_tells}
 use Rattle.std.proofs.lemmas.Nat.{div-add-mod', le-div, div_below}
 use Rattle.std.proofs.lemmas.List.FromFn.{length-map-range_with_len}
 use Rattle.scmi_plan.specs.declared.rates.Rates.TheVariants as rates
-use Rattle.scmi_plan.specs.Rates.{members, HasLawfulRates}
+use Rattle.scmi_plan.specs.Rates.{members, HasValidRates}
 use Rattle.scmi_clock.specs.Rounding.{rate_below, rate_above}
 use Rattle.scmi_clock.proofs.Passing.{no_last, no_first, last_is, first_is}
 use Rattle.scmi_clock.proofs.Closest.{step_at}
@@ -17,13 +17,13 @@ above_fails asked x h = pick (leb_tells x asked) where
   pick (inl t) = let small = t.1 in absurd (omega arith)
   pick (inr t) = t.0
 
-module _ (low high step asked : ℕ) (lawful : HasLawfulRates (rates.Steps low high step)) where
+module _ (low high step asked : ℕ) (valid : HasValidRates (rates.Steps low high step)) where
   total : ℕ
   total = (high - low) / step
 
   at_end : low + total * step ≡ high
   unfolding total
-  at_end = omega (arith, lawful.0, lawful.1, lawful.2, div-add-mod' (high - low) step)
+  at_end = omega (arith, valid.0, valid.1, valid.2, div-add-mod' (high - low) step)
 
   count : length (members (rates.Steps low high step)) ≡ total + 1
   unfolding total
@@ -86,11 +86,11 @@ module _ (low high step asked : ℕ) (lawful : HasLawfulRates (rates.Steps low h
   near = sym (div-add-mod' (asked - low) step)
 
   under : (asked - low) % step < step
-  under = mod-lt (asked - low) lawful.0
+  under = mod-lt (asked - low) valid.0
 
   reached : asked ≤ high → low ≤ asked → past < total + 1
   unfolding past total
-  reached hi lo = let h = le-div ((asked - low) / step) (high - low) step lawful.0 (omega (arith, div-add-mod' (asked - low) step)) in omega arith
+  reached hi lo = let h = le-div ((asked - low) / step) (high - low) step valid.0 (omega (arith, div-add-mod' (asked - low) step)) in omega arith
 
   -- a later step is one more step away at least
   onward : (q k : ℕ) → q < k → q * step + step ≤ k * step
@@ -104,10 +104,10 @@ module _ (low high step asked : ℕ) (lawful : HasLawfulRates (rates.Steps low h
   pub above_exact : low < asked → asked ≤ high → (asked - low) % step ≡ 0 → Some asked ≡ rate_above (rates.Steps low high step) asked
   above_exact lo hi exact =
       let is : low + past * step ≡ asked = omega (arith, near) in
-      sym (above_at past (reached hi (omega arith)) (omega (arith, near)) (λ k less. omega (arith, near, lawful.0, onward k past less)) ∙ ap Some is)
+      sym (above_at past (reached hi (omega arith)) (omega (arith, near)) (λ k less. omega (arith, near, valid.0, onward k past less)) ∙ ap Some is)
 
   less : past * step < total * step → past < total
-  less h = subst (λ q. q < total) (mul-div_left past lawful.0) (div_below (past * step) step total lawful.0 h)
+  less h = subst (λ q. q < total) (mul-div_left past valid.0) (div_below (past * step) step total valid.0 h)
 
   pub above_next : low < asked → asked ≤ high → 0 < (asked - low) % step → Some (asked - (asked - low) % step + step) ≡ rate_above (rates.Steps low high step) asked
   above_next lo hi between =

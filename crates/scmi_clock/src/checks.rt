@@ -4,7 +4,7 @@ ghost use Rattle.scmi_codec.specs.Reply.{bit_0};
 ghost use Rattle.scmi_codec.specs.Status.{status_word};
 ghost use Rattle.scmi_codec.specs.declared.status.Status.TheVariants.{Success, NotFound, InvalidParameters, NotSupported, Denied, Busy, OutOfRange};
 ghost use Rattle.scmi_plan.specs.Board.{channel_of};
-ghost use Rattle.scmi_plan.specs.Rates.{HasLawfulRates};
+ghost use Rattle.scmi_plan.specs.Rates.{HasValidRates};
 ghost use Rattle.scmi_plan.specs.declared.limits.TheConstants.{CLOCKS};
 ghost use Rattle.scmi_clock.specs.ClockReply.{no_clock, past_end, rounded_rate};
 ghost use Rattle.scmi_clock.specs.ClockTable.{set_rate, may_change, is_pending, set_words, config_words};
@@ -62,7 +62,7 @@ pub(crate) fn check_set(
 /// lies in the requested direction.
 #[inline(always)]
 fn rounded_set(rates: &Rates, flags: u32, rate: u64) -> Result<RateSet, Status>
-    requires { HasLawfulRates rates.now }
+    requires { HasValidRates rates.now }
     ensures known { OnOk result (has_unknown_flags flags ≡ false) }
     ensures rate { IfOk result (λ set. rounded_rate rates.now flags rate ≡ Some set.rate) }
     ensures asynchronous { IfOk result (λ set. set.asynchronous ≡ is_asynchronous flags) }

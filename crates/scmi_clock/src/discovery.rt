@@ -1,7 +1,7 @@
 //! The replies to the commands that change nothing.
 ghost use Rattle.std.specs.Prelude.{◌≡◌, ◌<◌, ◌≤◌, ◌^◌, ◌+◌, ◌*◌, ◌∷◌, [], length, false};
 ghost use Rattle.scmi_plan.specs.Board.{IsChannel, whole_channel};
-ghost use Rattle.scmi_plan.specs.Rates.{HasLawfulRates};
+ghost use Rattle.scmi_plan.specs.Rates.{HasValidRates};
 ghost use Rattle.scmi_plan.specs.declared.limits.TheConstants.{RATES};
 ghost use Rattle.scmi_plan.specs.declared.rates.Rates.TheVariants.{List, Steps};
 ghost use Rattle.scmi_clock.specs.ClockReply.{attributes_reply, most_rates, message_reply, clock_attributes_reply, describe_reply, rate_reply, past_end, rates_words, rates_word};
@@ -108,7 +108,7 @@ pub(crate) fn current_rate(plan: &Plan, state: &ClockState, clock: u32, reply: &
 
 fn set_rates(channel: AgentChannel, rates: &Rates, index: u32, reply: &mut Payload)
     requires channel { IsChannel channel }
-    requires lawful { HasLawfulRates rates.now }
+    requires valid { HasValidRates rates.now }
     requires index { past_end rates.now index ≡ false }
     ensures { reply.new.items ≡ 0 ∷ rates_words channel rates.now index }
 {

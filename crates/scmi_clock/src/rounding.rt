@@ -1,6 +1,6 @@
 //! Rounding to a supported rate.
 ghost use Rattle.std.specs.Prelude.{◌≡◌, ◌≤◌, ◌↔◌, IfSome, IsNone};
-ghost use Rattle.scmi_plan.specs.Rates.{HasLawfulRates};
+ghost use Rattle.scmi_plan.specs.Rates.{HasValidRates};
 ghost use Rattle.scmi_plan.specs.declared.rates.Rates.TheVariants.{List, Steps};
 ghost use Rattle.scmi_clock.specs.Rounding.{IsRounded, HasNoRate, rate_below, rate_above, round_to, nearer};
 
@@ -24,7 +24,7 @@ pub enum Rounding {
 #[tactic(auto, using(crate::proofs::Rounds::rounded_is, crate::proofs::Rounds::rounded_none))]
 #[inline(always)]
 pub fn round(rates: &Rates, asked: u64, rounding: Rounding) -> Option<u64>
-    requires { HasLawfulRates rates.now }
+    requires { HasValidRates rates.now }
     ensures rounded { IfSome result (λ rate. IsRounded rounding rates.now asked rate) }
     ensures none { IsNone result ↔ HasNoRate rounding rates.now asked }
     ensures computed { result ≡ round_to rounding rates.now asked }
@@ -37,7 +37,7 @@ pub fn round(rates: &Rates, asked: u64, rounding: Rounding) -> Option<u64>
 }
 
 fn below(rates: &Rates, asked: u64) -> Option<u64>
-    requires { HasLawfulRates rates.now }
+    requires { HasValidRates rates.now }
     ensures { result ≡ rate_below rates.now asked }
 {
     match rates {
@@ -47,7 +47,7 @@ fn below(rates: &Rates, asked: u64) -> Option<u64>
 }
 
 fn above(rates: &Rates, asked: u64) -> Option<u64>
-    requires { HasLawfulRates rates.now }
+    requires { HasValidRates rates.now }
     ensures { result ≡ rate_above rates.now asked }
 {
     match rates {
@@ -59,7 +59,7 @@ fn above(rates: &Rates, asked: u64) -> Option<u64>
 #[tactic(auto, using(crate::proofs::Rounds::below_low, crate::proofs::Rounds::above_high))]
 #[inline(always)]
 fn nearest(rates: &Rates, asked: u64) -> Option<u64>
-    requires { HasLawfulRates rates.now }
+    requires { HasValidRates rates.now }
     ensures { result ≡ nearer asked (rate_below rates.now asked) (rate_above rates.now asked) }
 {
     match (below(rates, asked), above(rates, asked)) {
@@ -79,7 +79,7 @@ fn nearer(asked: u64, down: u64, up: u64) -> u64
 }
 
 fn list_below(list: &[u64], asked: u64) -> Option<u64>
-    requires { HasLawfulRates (List list.now) }
+    requires { HasValidRates (List list.now) }
     ensures { result ≡ rate_below (List list.now) asked }
 {
     match list.partition_point(|rate| *rate <= asked) {
@@ -89,7 +89,7 @@ fn list_below(list: &[u64], asked: u64) -> Option<u64>
 }
 
 fn list_above(list: &[u64], asked: u64) -> Option<u64>
-    requires { HasLawfulRates (List list.now) }
+    requires { HasValidRates (List list.now) }
     ensures { result ≡ rate_above (List list.now) asked }
 {
     let count = list.partition_point(|rate| *rate < asked);
@@ -98,7 +98,7 @@ fn list_above(list: &[u64], asked: u64) -> Option<u64>
 
 #[tactic(auto, using(crate::proofs::StepRates::below_none, crate::proofs::StepRates::below_high, crate::proofs::StepRates::below_between))]
 fn step_below(low: u64, high: u64, step: u64, asked: u64) -> Option<u64>
-    requires { HasLawfulRates (Steps low high step) }
+    requires { HasValidRates (Steps low high step) }
     ensures { result ≡ rate_below (Steps low high step) asked }
 {
     if asked < low {
@@ -112,7 +112,7 @@ fn step_below(low: u64, high: u64, step: u64, asked: u64) -> Option<u64>
 
 #[tactic(auto, using(crate::proofs::StepRates::above_none, crate::proofs::StepRates::above_low, crate::proofs::StepRates::above_exact, crate::proofs::StepRates::above_next))]
 fn step_above(low: u64, high: u64, step: u64, asked: u64) -> Option<u64>
-    requires { HasLawfulRates (Steps low high step) }
+    requires { HasValidRates (Steps low high step) }
     ensures { result ≡ rate_above (Steps low high step) asked }
 {
     if asked > high {

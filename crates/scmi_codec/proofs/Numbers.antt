@@ -6,7 +6,7 @@ use Rattle.scmi_codec.specs.declared.area.TheConstants.{AREA_BYTES}
 use Rattle.scmi_codec.specs.declared.base_command.TheConstants.{BASE_PROTOCOL}
 use Rattle.scmi_codec.specs.declared.channel_area.TheConstants.{LEAST_AREA_BYTES, LEAST_PAYLOAD_WORDS}
 use Rattle.scmi_codec.specs.declared.clock_command.TheConstants.{CLOCK_PROTOCOL}
-use Rattle.scmi_codec.specs.declared.header.TheConstants.{TOKENS}
+use Rattle.scmi_codec.specs.declared.header.TheConstants.{DELAYED_RESPONSE, NOTIFICATION, TOKENS}
 use Rattle.scmi_codec.specs.declared.name.TheConstants.{NAME_BYTES}
 use Rattle.scmi_codec.specs.declared.payload.TheConstants.{PAYLOAD_WORDS, SUCCESS}
 use Rattle.scmi_codec.specs.declared.power_command.TheConstants.{POWER_PROTOCOL}
@@ -23,6 +23,12 @@ clock_protocol = refl
 
 tokens : TOKENS ≡ 1024
 tokens = refl
+
+delayed_response : DELAYED_RESPONSE ≡ 2
+delayed_response = refl
+
+notification : NOTIFICATION ≡ 3
+notification = refl
 
 payload_words : PAYLOAD_WORDS ≡ 64
 payload_words = refl

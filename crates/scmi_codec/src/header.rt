@@ -7,6 +7,12 @@ use std::marker::Model;
 /// How many tokens a header distinguishes: 10 bits (DEN0056B, message header).
 pub const TOKENS: u16 = 1024;
 
+/// The type of a delayed response (DEN0056B, message header).
+pub const DELAYED_RESPONSE: u8 = 2;
+
+/// The type of a notification (DEN0056B, message header).
+pub const NOTIFICATION: u8 = 3;
+
 /// The fields of a message header (DEN0056B, message header), each within its width in bits:
 /// reserved 4, token 10, protocol 8, kind (the message type) 2, id 8.
 ///

@@ -45,7 +45,7 @@ pub use clock_command::{CLOCK_PROTOCOL, ClockCommand};
 pub use command::Command;
 pub use flag_word::single_flag;
 pub use frame::{Answer, Frame};
-pub use header::{Header, TOKENS};
+pub use header::{DELAYED_RESPONSE, Header, NOTIFICATION, TOKENS};
 pub use listing::{is_listed, message_name, wanted_words};
 pub use message::Message;
 pub use messages::{BASE_MESSAGES, CLOCK_MESSAGES, HeldRow, MessageRow, POWER_MESSAGES, Part};

@@ -22,7 +22,7 @@ use Rattle.scmi_codec.specs.declared.power_command.PowerCommand.TheVariants as p
 use Rattle.scmi_codec.specs.declared.clock_command.ClockCommand.{ClockCommand}
 use Rattle.scmi_codec.specs.declared.clock_command.ClockCommand.TheVariants as clock
 use Rattle.scmi_plan.specs.Board.{Board, channel_of}
-use Rattle.scmi_plan.specs.Plan.{IsLawful}
+use Rattle.scmi_plan.specs.Plan.{IsValid}
 use Rattle.scmi_base.specs.Permission.{reset_by}
 use Rattle.scmi_power.specs.PowerReply.{power_reply}
 use Rattle.scmi_power.specs.PowerTable.{notification, set_later}
@@ -47,12 +47,12 @@ use Rattle.scmi_core.specs.Value.{Change, Enabled, Rate, State, Thing}
 use Rattle.scmi_core.proofs.Following.{change_in, completed_in, failed_in, made_next, messages-next, next, pending_next, situation-next}
 use Rattle.scmi_core.proofs.Isolation.{answers-push}
 use Rattle.scmi_core.proofs.Legal.{Grown, IsLegal-front, advances_le-accepted, deeds-push, empty, grow, grown, sent_le-made}
-use Rattle.scmi_core.proofs.Room.{lawful_channel, reply-within}
+use Rattle.scmi_core.proofs.Room.{valid_channel, reply-within}
 use Rattle.scmi_core.proofs.Situations.{nothing_if}
 
 -- WHAT AN AGENT IS ANSWERED
 
-answer-within : (board : Board) (a : ℕ) (frame : Frame) (h : List Event) → IsLawful board → IsAnswerWithin board a (answer_to board a frame h)
+answer-within : (board : Board) (a : ℕ) (frame : Frame) (h : List Event) → IsValid board → IsAnswerWithin board a (answer_to board a frame h)
 answer-within board a (Good m) h law = by (fits_channel board a m) where
   by : (short : Bool)
       → IsAnswerWithin board a (if short then Reply (message_with m.header (reply_words board a (situation_after board a (deeds board h)) (command_of m))) else ChannelError)
@@ -60,7 +60,7 @@ answer-within board a (Good m) h law = by (fits_channel board a m) where
   by false = tt
 answer-within board a (Malformed len header) h law = tt
 
-one-answer : (board : Board) (a : ℕ) (h : List Event) (e : Event) → IsLawful board → All (IsAnswerWithin board a) (answer_for board a h e)
+one-answer : (board : Board) (a : ℕ) (h : List Event) (e : Event) → IsValid board → All (IsAnswerWithin board a) (answer_for board a h e)
 one-answer board a h (Command c frame) law = by (a == c) refl where
   by : (own : Bool) → (a == c) ≡ own → All (IsAnswerWithin board a) (if own then answer_to board c frame h ∷ [] else [])
   by true own =
@@ -70,7 +70,7 @@ one-answer board a h (Command c frame) law = by (a == c) refl where
 one-answer board a h (CommandFailed c (Good m)) law = by (a == c) where
   by : (own : Bool) → All (IsAnswerWithin board a) (if own then Reply (message_with m.header failed_words) ∷ [] else [])
   by true =
-      let least = (lawful_channel board a law).0 in
+      let least = (valid_channel board a law).0 in
       All-cons (IsAnswerWithin board a) (Reply (message_with m.header failed_words)) [] (omega (arith, least)) (All-nil (IsAnswerWithin board a))
   by false = All-nil (IsAnswerWithin board a)
 one-answer board a h (CommandFailed c (Malformed len header)) law = by (a == c) where
@@ -82,7 +82,7 @@ one-answer board a h AdvanceFailed law = All-nil (IsAnswerWithin board a)
 one-answer board a h (Sent c) law = All-nil (IsAnswerWithin board a)
 one-answer board a h (Restarted c) law = All-nil (IsAnswerWithin board a)
 
-answers_of : (board : Board) (a : ℕ) {h : List Event} → IsLawful board → Grown h → All (IsAnswerWithin board a) (answers_to board a h)
+answers_of : (board : Board) (a : ℕ) {h : List Event} → IsValid board → Grown h → All (IsAnswerWithin board a) (answers_to board a h)
 unfolding answers_to fold_with_prefix
 answers_of board a law empty = All-nil (IsAnswerWithin board a)
 answers_of board a law (grow {xs} g e) =
@@ -434,11 +434,11 @@ drop-nil : (n : ℕ) → ◌≡◌ {A = List Message} (drop n []) []
 drop-nil zero = refl
 drop-nil (suc n) = refl
 
-pub channels : (board : Board) (h : List Event) → IsLawful board → IsLegal board h → KeepsChannels board h
+pub channels : (board : Board) (h : List Event) → IsValid board → IsLegal board h → KeepsChannels board h
 unfolding made_for outbox
 channels board h law legal = record {
   answers = λ a. answers_of board a law (grown h);
-  made = λ a. made_of board a (lawful_channel board a law).0 (grown h) legal;
+  made = λ a. made_of board a (valid_channel board a law).0 (grown h) legal;
   none_made = λ a one_way. (silent_of board a one_way (grown h) legal).made;
   outbox = λ a one_way. ap (drop (sent_count a (deeds board h))) (silent_of board a one_way (grown h) legal).made ∙ drop-nil (sent_count a (deeds board h));
 }

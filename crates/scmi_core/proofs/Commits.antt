@@ -20,7 +20,7 @@ use Rattle.scmi_codec.specs.declared.power_command.PowerCommand.TheVariants as p
 use Rattle.scmi_codec.specs.declared.clock_command.ClockCommand.{ClockCommand}
 use Rattle.scmi_codec.specs.declared.clock_command.ClockCommand.TheVariants as clock
 use Rattle.scmi_plan.specs.Board.{Board, domain_at}
-use Rattle.scmi_plan.specs.Plan.{IsLawful}
+use Rattle.scmi_plan.specs.Plan.{IsValid}
 use Rattle.scmi_power.specs.PowerReply.{has_kind, is_state, no_domain, power_reply}
 use Rattle.scmi_power.specs.PowerTable as power_table
 use Rattle.scmi_power.specs.PowerTable.{PowerTables, is_subscribed, set_later, set_now, state_at}
@@ -297,7 +297,7 @@ effect-fits board a m s e = by (fits_channel board a m) refl where
   by false long has = absurd (cc)
 
 pub state-committed : (board : Board) (t new : Tables) (power' : PowerTables) (a : ℕ) (m : Message) (d state before : ℕ)
-    → IsLawful board → 1 ≤ a → a ≤ length board.agents
+    → IsValid board → 1 ≤ a → a ≤ length board.agents
     → effect_in board a (Good m) (situation_in a t) ≡ Some (effect.State d state)
     → power_table.HasSet (Some (d, state)) t.power power' → power'.subscribers ≡ t.power.subscribers
     → before ≡ state_at t.power d
@@ -320,7 +320,7 @@ state-committed board t new power' a m d state before law lo hi has states subs 
     (sym (append-nil t.pending)) kept told)
 
 pub rate-committed : (board : Board) (t new : Tables) (clocks' : ClockTables) (a : ℕ) (m : Message) (c rate : ℕ)
-    → IsLawful board → 1 ≤ a → a ≤ length board.agents
+    → IsValid board → 1 ≤ a → a ≤ length board.agents
     → effect_in board a (Good m) (situation_in a t) ≡ Some (effect.Rate c rate)
     → clock_table.HasSet (Some (c, rate)) t.clocks clocks' → clocks'.enabled ≡ t.clocks.enabled
     → new ≡ record { base = t.base; power = t.power; clocks = clocks'; pending = t.pending; outboxes = t.outboxes }
@@ -339,7 +339,7 @@ rate-committed board t new clocks' a m c rate law lo hi has rates same is =
     (sym (append-nil t.pending))))
 
 pub enabled-committed : (board : Board) (t new : Tables) (clocks' : ClockTables) (a : ℕ) (m : Message) (c : ℕ) (enabled : Bool)
-    → IsLawful board → 1 ≤ a → a ≤ length board.agents
+    → IsValid board → 1 ≤ a → a ≤ length board.agents
     → effect_in board a (Good m) (situation_in a t) ≡ Some (effect.Enabled c enabled)
     → clocks'.rates ≡ t.clocks.rates → clock_table.HasConfigured (Some (c, enabled)) t.clocks clocks'
     → new ≡ record { base = t.base; power = t.power; clocks = clocks'; pending = t.pending; outboxes = t.outboxes }

@@ -19,7 +19,7 @@ use Rattle.scmi_codec.specs.declared.power_command.PowerCommand.TheVariants as p
 use Rattle.scmi_codec.specs.declared.clock_command.ClockCommand.{ClockCommand}
 use Rattle.scmi_codec.specs.declared.clock_command.ClockCommand.TheVariants as clock
 use Rattle.scmi_plan.specs.Board.{Board, IsChannel, channel_of, clock_at, domain_at, whole_channel}
-use Rattle.scmi_plan.specs.Plan.{IsLawful}
+use Rattle.scmi_plan.specs.Plan.{IsValid}
 use Rattle.scmi_plan.specs.declared.agent_channel.AgentChannel.{AgentChannel}
 use Rattle.scmi_plan.specs.declared.rates.Rates.{Rates}
 use Rattle.scmi_plan.specs.declared.rates.Rates.TheVariants as rates
@@ -30,13 +30,13 @@ use Rattle.scmi_core.specs.Reply.{reply_words}
 use Rattle.scmi_core.specs.Situation.{Situation, clock_view, power_view}
 
 -- the channels of each agent of a valid board are valid
-lawful_at : (xs : List AgentChannel) (k : ℕ) → All IsChannel xs → IsChannel (get_or xs k whole_channel)
-lawful_at [] k all = (omega arith, omega arith)
-lawful_at (x ∷ xs) zero all = All-head IsChannel x xs all
-lawful_at (x ∷ xs) (suc k) all = lawful_at xs k (All-tail IsChannel x xs all)
+valid_at : (xs : List AgentChannel) (k : ℕ) → All IsChannel xs → IsChannel (get_or xs k whole_channel)
+valid_at [] k all = (omega arith, omega arith)
+valid_at (x ∷ xs) zero all = All-head IsChannel x xs all
+valid_at (x ∷ xs) (suc k) all = valid_at xs k (All-tail IsChannel x xs all)
 
-pub lawful_channel : (board : Board) (a : ℕ) → IsLawful board → IsChannel (channel_of board a)
-lawful_channel board a law = lawful_at board.channels (a - 1) law.lawful_channels
+pub valid_channel : (board : Board) (a : ℕ) → IsValid board → IsChannel (channel_of board a)
+valid_channel board a law = valid_at board.channels (a - 1) law.valid_channels
 
 -- two words a rate
 length-rates : (xs : List ℕ) → length (flat_map rate_words xs) ≡ 2 * length xs
@@ -137,9 +137,9 @@ clock-within board v law (clock.GetRate c) = let least = law.0 in checked v.chan
 clock-within board v law (clock.Config c attributes) = by_checks v.channel.words law.0 (config_checks board (v.may c) c attributes) (0 ∷ []) (one v.channel.words law.0)
 
 -- a reply has room in its agent's channel
-pub reply-within : (board : Board) (a : ℕ) (s : Situation) (r : Result codec.Command Status) → IsLawful board → length (reply_words board a s r) ≤ (channel_of board a).words
+pub reply-within : (board : Board) (a : ℕ) (s : Situation) (r : Result codec.Command Status) → IsValid board → length (reply_words board a s r) ≤ (channel_of board a).words
 unfolding reply_words
-reply-within board a s (Err e) law = let least = (lawful_channel board a law).0 in omega (arith, least)
-reply-within board a s (Ok (Base c)) law = base-within (channel_of board a).words (lawful_channel board a law).0 board a c
-reply-within board a s (Ok (Power c)) law = power-within (channel_of board a).words (lawful_channel board a law).0 board (power_view board a s) c
-reply-within board a s (Ok (Clock c)) law = clock-within board (clock_view board a s) (lawful_channel board a law) c
+reply-within board a s (Err e) law = let least = (valid_channel board a law).0 in omega (arith, least)
+reply-within board a s (Ok (Base c)) law = base-within (channel_of board a).words (valid_channel board a law).0 board a c
+reply-within board a s (Ok (Power c)) law = power-within (channel_of board a).words (valid_channel board a law).0 board (power_view board a s) c
+reply-within board a s (Ok (Clock c)) law = clock-within board (clock_view board a s) (valid_channel board a law) c

@@ -14,7 +14,7 @@ use Rattle.scmi_codec.specs.declared.frame.Frame.{Frame}
 use Rattle.scmi_codec.specs.declared.frame.Answer.TheVariants.{Reply, ChannelError}
 use Rattle.scmi_codec.specs.declared.frame.Frame.TheVariants.{Good, Malformed}
 use Rattle.scmi_plan.specs.Board.{Board}
-use Rattle.scmi_plan.specs.Plan.{IsLawful}
+use Rattle.scmi_plan.specs.Plan.{IsValid}
 use Rattle.scmi_base.specs.Permission.{is_allowed}
 use Rattle.scmi_base.specs.declared.scope.Scope.{Scope}
 use Rattle.scmi_power.specs.PowerTable.{state_at, is_subscribed}
@@ -42,7 +42,7 @@ use Rattle.scmi_core.proofs.Legal.{IsLegal-nil, deeds-push, advances_le-accepted
 use Rattle.scmi_core.proofs.Situations.{SameSituation, answer-same, messages_made-same, messages_made-sent, nothing-made, outbox-restarted, given-same, reply-same}
 
 -- the tables say of each agent what the history says
-pub same-situation : (board : Board) (t : Tables) (h : List Event) (a : ℕ) → Agrees board t h → IsLawful board → 1 ≤ a → a ≤ length board.agents
+pub same-situation : (board : Board) (t : Tables) (h : List Event) (a : ℕ) → Agrees board t h → IsValid board → 1 ≤ a → a ≤ length board.agents
     → SameSituation board (situation_in a t) (situation_after board a (deeds board h))
 unfolding outbox
 same-situation board t h a agrees law lo hi =
@@ -58,7 +58,7 @@ same-situation board t h a agrees law lo hi =
 -- ONE MORE EVENT
 
 -- a deed, and the tables that it leaves
-module _ (board : Board) (t new : Tables) (h : List Event) (deed : Deed) (agrees : Agrees board t h) (law : IsLawful board)
+module _ (board : Board) (t new : Tables) (h : List Event) (deed : Deed) (agrees : Agrees board t h) (law : IsValid board)
     (stepped : HasStepped board t (added_success deed) (completed_set board (deeds board h) deed.event) new)
     (pend : new.pending ≡ pending_sets board (deeds board h ++ deed ∷ []))
     (unfailed : failed_set board (deeds board h) deed.event ≡ None) (unrestarted : restarted_by deed.event ≡ None) where
@@ -101,7 +101,7 @@ module _ (board : Board) (t new : Tables) (h : List Event) (deed : Deed) (agrees
   }
 
 -- a command
-pub Agrees-command : (board : Board) (t new : Tables) (h : List Event) (a : ℕ) (m : Message) (reply : List ℕ) → Agrees board t h → IsLawful board → 1 ≤ a → a ≤ length board.agents
+pub Agrees-command : (board : Board) (t new : Tables) (h : List Event) (a : ℕ) (m : Message) (reply : List ℕ) → Agrees board t h → IsValid board → 1 ≤ a → a ≤ length board.agents
     → reply ≡ words_given board a (situation_in a t) m → HasStepped board t (success_of a m.header (command_of m) reply) None new
     → Agrees board new (h ++ Command a (Good m) ∷ [])
 Agrees-command board t new h a m reply agrees law lo hi is stepped =
@@ -154,7 +154,7 @@ short-answer board t a m reply short is =
     ∙ sym (ap (λ b. if b then Reply (reply_in board a m (situation_in a t)) else ChannelError) short)
 
 -- a malformed frame
-pub Agrees-malformed : (board : Board) (t : Tables) (h : List Event) (a len header : ℕ) → Agrees board t h → IsLawful board → 1 ≤ a → a ≤ length board.agents
+pub Agrees-malformed : (board : Board) (t : Tables) (h : List Event) (a len header : ℕ) → Agrees board t h → IsValid board → 1 ≤ a → a ≤ length board.agents
     → Agrees board t (h ++ Command a (Malformed len header) ∷ [])
 Agrees-malformed board t h a len header agrees law lo hi =
     let deed : Deed = record { event = Command a (Malformed len header); reply = [] } in
@@ -163,7 +163,7 @@ Agrees-malformed board t h a len header agrees law lo hi =
     refl refl (Command a (Malformed len header)) (deeds-push board h (Command a (Malformed len header))) (lo, hi) (λ x. refl)
 
 -- a frame that was answered
-pub Agrees-answered : (board : Board) (t new : Tables) (h : List Event) (a : ℕ) (frame : Frame) → Agrees board t h → IsLawful board → 1 ≤ a → a ≤ length board.agents
+pub Agrees-answered : (board : Board) (t new : Tables) (h : List Event) (a : ℕ) (frame : Frame) → Agrees board t h → IsValid board → 1 ≤ a → a ≤ length board.agents
     → HasAnswered board a frame t new → Agrees board new (h ++ Command a frame ∷ [])
 Agrees-answered board t new h a (Good m) agrees law lo hi answered =
     Agrees-command board t new h a m (words_given board a (situation_in a t) m) agrees law lo hi refl answered
@@ -171,7 +171,7 @@ Agrees-answered board t new h a (Malformed len header) agrees law lo hi answered
     subst (λ s. Agrees board s (h ++ Command a (Malformed len header) ∷ [])) (sym answered) (Agrees-malformed board t h a len header agrees law lo hi)
 
 -- the answer of the tables is that of the history
-pub answer-table : (board : Board) (t : Tables) (h : List Event) (a : ℕ) (frame : Frame) → Agrees board t h → IsLawful board → 1 ≤ a → a ≤ length board.agents
+pub answer-table : (board : Board) (t : Tables) (h : List Event) (a : ℕ) (frame : Frame) → Agrees board t h → IsValid board → 1 ≤ a → a ≤ length board.agents
     → answer_in board a frame (situation_in a t) ≡ answer_to board a frame h
 answer-table board t h a frame agrees law lo hi =
     answer-same board a (situation_in a t) (situation_after board a (deeds board h)) (same-situation board t h a agrees law lo hi) frame
@@ -181,7 +181,7 @@ rest-drop t [] waiting = elim waiting [ ]
 rest-drop t (x ∷ xs) waiting = append-nil (drop 1 t.pending)
 
 -- a completion
-pub Agrees-advance : (board : Board) (t new : Tables) (h : List Event) → Agrees board t h → IsLawful board → 0 < length t.pending
+pub Agrees-advance : (board : Board) (t new : Tables) (h : List Event) → Agrees board t h → IsValid board → 0 < length t.pending
     → HasStepped board t None (slice_get t.pending 0) new → Agrees board new (h ++ Advance ∷ [])
 Agrees-advance board t new h agrees law waiting stepped =
     let deed : Deed = record { event = Advance; reply = [] } in
@@ -192,7 +192,7 @@ Agrees-advance board t new h agrees law waiting stepped =
     refl refl Advance (deeds-push board h Advance) follows (λ x. refl)
 
 -- the effect of a frame by the tables is that by the history
-pub effect-table : (board : Board) (t : Tables) (h : List Event) (a : ℕ) (frame : Frame) → Agrees board t h → IsLawful board → 1 ≤ a → a ≤ length board.agents
+pub effect-table : (board : Board) (t : Tables) (h : List Event) (a : ℕ) (frame : Frame) → Agrees board t h → IsValid board → 1 ≤ a → a ≤ length board.agents
     → effect_in board a frame (situation_in a t) ≡ effect_after board h (Command a frame)
 effect-table board t h a (Good m) agrees law lo hi = by (fits_channel board a m) where
   by : (short : Bool)
@@ -205,7 +205,7 @@ effect-table board t h a (Good m) agrees law lo hi = by (fits_channel board a m)
 effect-table board t h a (Malformed len header) agrees law lo hi = refl
 
 -- a command that failed
-pub Agrees-command_failed : (board : Board) (t : Tables) (h : List Event) (a : ℕ) (m : Message) → Agrees board t h → IsLawful board → 1 ≤ a → a ≤ length board.agents
+pub Agrees-command_failed : (board : Board) (t : Tables) (h : List Event) (a : ℕ) (m : Message) → Agrees board t h → IsValid board → 1 ≤ a → a ≤ length board.agents
     → effect_after board h (Command a (Good m)) ≢ None → Agrees board t (h ++ CommandFailed a (Good m) ∷ [])
 Agrees-command_failed board t h a m agrees law lo hi some =
     let deed : Deed = record { event = CommandFailed a (Good m); reply = failed_words } in
@@ -214,7 +214,7 @@ Agrees-command_failed board t h a m agrees law lo hi some =
     refl refl (CommandFailed a (Good m)) (deeds-push board h (CommandFailed a (Good m))) ((lo, hi), some) (λ x. refl)
 
 -- a completion that failed
-pub Agrees-advance_failed : (board : Board) (t new : Tables) (h : List Event) → Agrees board t h → IsLawful board → 0 < length t.pending → HasFailed t new
+pub Agrees-advance_failed : (board : Board) (t new : Tables) (h : List Event) → Agrees board t h → IsValid board → 0 < length t.pending → HasFailed t new
     → Agrees board new (h ++ AdvanceFailed ∷ [])
 unfolding outbox
 Agrees-advance_failed board t new h agrees law waiting failed =
@@ -243,7 +243,7 @@ Agrees-advance_failed board t new h agrees law waiting failed =
       same_value (Enabled k) = ap (λ p. bit_value (enabled_at p k)) failed.clocks
 
 -- a message that was posted
-pub Agrees-sent : (board : Board) (t new : Tables) (h : List Event) (a : ℕ) → Agrees board t h → IsLawful board → 1 ≤ a → a ≤ length board.agents → 0 < length (outbox_at t a)
+pub Agrees-sent : (board : Board) (t new : Tables) (h : List Event) (a : ℕ) → Agrees board t h → IsValid board → 1 ≤ a → a ≤ length board.agents → 0 < length (outbox_at t a)
     → new.base ≡ t.base → new.power ≡ t.power → new.clocks ≡ t.clocks → new.pending ≡ t.pending
     → outbox_at new a ≡ drop 1 (outbox_at t a) → ((x : ℕ) → 1 ≤ x → x ≢ a → outbox_at new x ≡ outbox_at t x)
     → Agrees board new (h ++ Sent a ∷ [])

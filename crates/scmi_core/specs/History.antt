@@ -17,6 +17,7 @@ use Rattle.scmi_core.specs.Deed.{Deed}
 use Rattle.scmi_core.specs.Outbox.{failed_words, messages_made, outbox_after, sent_count, situation_after}
 use Rattle.scmi_core.specs.Pending.{is_pending, pending_sets}
 use Rattle.scmi_core.specs.Reply.{answer_in, failed_answer, reply_in, words_given}
+use Rattle.scmi_core.specs.Subscriptions.{is_subscriber}
 use Rattle.scmi_core.specs.Value.{Thing, value}
 
 -- an event with the payload of its reply, after these deeds
@@ -75,3 +76,7 @@ value_after board x h = value board x (deeds board h)
 -- whether a domain or clock has a pending set after a history
 abbrev pub is_pending_after : Board → Resource → List Event → Bool
 is_pending_after board r h = is_pending board r (deeds board h)
+
+-- whether agent a is notified of domain d's changes after a history
+abbrev pub is_subscriber_after : Board → (a d : ℕ) → List Event → Bool
+is_subscriber_after board a d h = is_subscriber a d (deeds board h)

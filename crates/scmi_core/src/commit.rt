@@ -2,7 +2,7 @@
 ghost use Rattle.std.specs.Prelude.{◌≡◌, ◌≤◌, length, Some};
 ghost use Rattle.scmi_codec.specs.declared.frame.Answer.TheVariants.{Reply};
 ghost use Rattle.scmi_codec.specs.declared.frame.Frame.TheVariants.{Good};
-ghost use Rattle.scmi_plan.specs.Plan.{IsLawful};
+ghost use Rattle.scmi_plan.specs.Plan.{IsValid};
 ghost use Rattle.scmi_core.specs.Effect.{effect_in};
 ghost use Rattle.scmi_core.specs.History.{answer_with};
 ghost use Rattle.scmi_core.specs.Reply.{answer_in};
@@ -28,7 +28,7 @@ impl Tables {
     ) -> Answered
         requires first { 1 ≤ agent }
         requires last { agent ≤ length plan.now.agents }
-        requires lawful { IsLawful plan.now }
+        requires valid { IsValid plan.now }
         requires effect { effect_in plan.now agent frame.now (situation_in agent self.old)
             ≡ Some effect }
         ensures answer { answer_with result reply.new
@@ -56,7 +56,7 @@ impl Tables {
     )
         requires first { 1 ≤ agent }
         requires last { agent ≤ length plan.now.agents }
-        requires lawful { IsLawful plan.now }
+        requires valid { IsValid plan.now }
         requires effect { effect_in plan.now agent (Good message.now) (situation_in agent self.old)
             ≡ Some effect }
         ensures answer { Reply reply.new

@@ -1,8 +1,8 @@
 //! The state of a platform after its history.
-ghost use Rattle.std.specs.Prelude.{◌≡◌, ◌≤◌, ◌↔◌, length, None, IfSome};
+ghost use Rattle.std.specs.Prelude.{◌≡◌, ◌≤◌, ◌↔◌, ◌⊎◌, length, None, IfSome};
 ghost use Rattle.scmi_plan.specs.Agent.{IsNoAgent};
 ghost use Rattle.scmi_plan.specs.declared.resource.Resource.TheVariants as resource;
-ghost use Rattle.scmi_core.specs.History.{deeds, is_pending_after, outbox, value_after};
+ghost use Rattle.scmi_core.specs.History.{deeds, is_pending_after, is_subscriber_after, outbox, value_after};
 ghost use Rattle.scmi_core.specs.Pending.{pending_sets};
 ghost use Rattle.scmi_core.specs.Value.{State, Rate, Enabled, bit_value};
 
@@ -79,5 +79,16 @@ impl Core {
         ensures none { (result ≡ None) ↔ IsNoAgent (length self.now.board.agents) agent }
     {
         self.platform.waiting(agent)
+    }
+
+    /// Whether an agent is notified of a power domain's changes. `None` if the board lacks the
+    /// agent or the domain.
+    pub fn is_subscribed(&self, agent: u32, domain: u32) -> Option<bool>
+        ensures value { IfSome result (λ subscribed.
+            subscribed ≡ is_subscriber_after self.now.board agent domain self.now.history) }
+        ensures none { (result ≡ None) ↔ IsNoAgent (length self.now.board.agents) agent
+            ⊎ (length self.now.board.domains ≤ domain) }
+    {
+        self.platform.is_subscribed(agent, domain)
     }
 }

@@ -3,7 +3,7 @@ ghost use Rattle.std.specs.Prelude.{◌≡◌, ◌≤◌, ◌==◌, ◌&&◌, �
 ghost use Rattle.scmi_codec.specs.Payload.{if_success};
 ghost use Rattle.scmi_codec.specs.declared.command.Command.TheVariants.{Power, Clock};
 ghost use Rattle.scmi_codec.specs.declared.frame.Frame.TheVariants.{Good};
-ghost use Rattle.scmi_plan.specs.Plan.{IsLawful};
+ghost use Rattle.scmi_plan.specs.Plan.{IsValid};
 ghost use Rattle.scmi_power.specs.PowerTable.{set_now};
 ghost use Rattle.scmi_clock.specs.ClockTable.{rate_now, enabled_now};
 ghost use Rattle.scmi_core.specs.Effect.{effect_in, effect_read, state_effect, clock_effect};
@@ -25,7 +25,7 @@ impl Tables {
     pub fn effect_of(&self, plan: &Plan, agent: u32, frame: &Frame) -> Option<Effect>
         requires first { 1 ≤ agent }
         requires last { agent ≤ length plan.now.agents }
-        requires lawful { IsLawful plan.now }
+        requires valid { IsValid plan.now }
         ensures { result ≡ effect_in plan.now agent frame.now (situation_in agent self.now) }
     {
         match frame {
@@ -41,7 +41,7 @@ impl Tables {
     fn message_effect(&self, plan: &Plan, agent: u32, message: &Message) -> Option<Effect>
         requires first { 1 ≤ agent }
         requires last { agent ≤ length plan.now.agents }
-        requires lawful { IsLawful plan.now }
+        requires valid { IsValid plan.now }
         ensures { result
             ≡ effect_in plan.now agent (Good message.now) (situation_in agent self.now) }
     {
@@ -56,7 +56,7 @@ impl Tables {
     fn read_effect(&self, plan: &Plan, agent: u32, message: &Message) -> Option<Effect>
         requires first { 1 ≤ agent }
         requires last { agent ≤ length plan.now.agents }
-        requires lawful { IsLawful plan.now }
+        requires valid { IsValid plan.now }
         ensures { result
             ≡ effect_read plan.now agent message.now (situation_in agent self.now) }
     {
@@ -71,7 +71,7 @@ impl Tables {
     fn power_effect(&self, plan: &Plan, agent: u32, command: PowerCommand) -> Option<Effect>
         requires first { 1 ≤ agent }
         requires last { agent ≤ length plan.now.agents }
-        requires lawful { IsLawful plan.now }
+        requires valid { IsValid plan.now }
         ensures { result ≡ option_map state_effect
             (if_success
             (reply_words plan.now agent (situation_in agent self.now) (Ok (Power command)))
@@ -88,7 +88,7 @@ impl Tables {
     fn clock_effect(&self, plan: &Plan, agent: u32, command: ClockCommand) -> Option<Effect>
         requires first { 1 ≤ agent }
         requires last { agent ≤ length plan.now.agents }
-        requires lawful { IsLawful plan.now }
+        requires valid { IsValid plan.now }
         ensures { result ≡ clock_effect
             (if_success
             (reply_words plan.now agent (situation_in agent self.now) (Ok (Clock command)))

@@ -3,7 +3,7 @@ ghost use Rattle.std.specs.Prelude.{◌≡◌, ◌++◌, ◌∷◌, [], ℕ, Lis
 ghost use Rattle.std.specs.Option.{option_to_list};
 ghost use Rattle.scmi_plan.specs.Board.{Board};
 ghost use Rattle.scmi_core.specs.Bounds.{HasBounds, HasResponses};
-ghost use Rattle.scmi_plan.specs.Plan.{IsLawful};
+ghost use Rattle.scmi_plan.specs.Plan.{IsValid};
 ghost use Rattle.scmi_core.specs.Channels.{KeepsChannels};
 ghost use Rattle.scmi_core.specs.Effect.{effect_after, effects};
 ghost use Rattle.scmi_core.specs.History.{deeds};
@@ -27,7 +27,7 @@ impl Trace {
             → HasIntegrity board self.now.events }
         ensures permissions { (board : Board) → IsLegal board self.now.events
             → HasTrustedPermissions board self.now.events }
-        ensures channels { (board : Board) → IsLawful board → IsLegal board self.now.events
+        ensures channels { (board : Board) → IsValid board → IsLegal board self.now.events
             → KeepsChannels board self.now.events }
     {
         every_legal_history();
@@ -57,7 +57,7 @@ pub fn every_legal_history()
         → HasIntegrity board h }
     ensures permissions { (board : Board) (h : List Event) → IsLegal board h
         → HasTrustedPermissions board h }
-    ensures channels { (board : Board) (h : List Event) → IsLawful board → IsLegal board h
+    ensures channels { (board : Board) (h : List Event) → IsValid board → IsLegal board h
         → KeepsChannels board h }
     ensures effects { (board : Board) (h : List Event) (event : Event)
         → effects board (h ++ event ∷ [])

@@ -1,6 +1,7 @@
 //! The notifications to subscribers of a domain's state.
 ghost use Rattle.std.specs.Prelude.{◌≡◌, ◌≢◌, ◌≤◌, ◌<◌, ℕ, IfSome};
 ghost use Rattle.scmi_plan.specs.declared.limits.TheConstants.{AGENTS, DOMAINS};
+ghost use Rattle.scmi_power.specs.PowerTable.{is_subscribed};
 ghost use Rattle.scmi_core.specs.Outboxes.{Gets, HasSameOutbox};
 ghost use Rattle.scmi_core.specs.Step.{told_at, announced_at, SameButOutboxes};
 ghost use Rattle.scmi_core.specs.Tables.{load_at};
@@ -49,12 +50,20 @@ impl Tables {
             → HasSameOutbox self.old.outboxes self.new.outboxes a }
         ensures rest { SameButOutboxes self.old self.new }
     {
-        if (self.power.subscribers(domain) >> (agent - 1)) & 1 == 1
-            && self.load(agent) < OUTBOX_ROOM
-        {
+        if self.is_notified(agent, domain) && self.load(agent) < OUTBOX_ROOM {
             self.outboxes
                 .put_state_changed(agent, causer, domain, state);
         }
+    }
+
+    /// Whether an agent is notified of a domain's changes.
+    pub fn is_notified(&self, agent: u32, domain: u32) -> bool
+        requires first { 1 ≤ agent }
+        requires last { agent ≤ AGENTS }
+        requires domain { domain < DOMAINS }
+        ensures { result ≡ is_subscribed self.now.power agent domain }
+    {
+        (self.power.subscribers(domain) >> (agent - 1)) & 1 == 1
     }
 
     /// The length of an agent's outbox and its pending sets.

@@ -7,12 +7,9 @@ ghost use Rattle.scmi_core.specs.declared.outboxes.TheConstants.{OUTBOX_ROOM};
 
 use crate::outboxes::Outboxes;
 use crate::pending_set::Setting;
-use scmi_codec::{Header, POWER_PROTOCOL, SUCCESS, Status, rate_words};
-
-// Message types (DEN0056B, message header).
-const DELAYED_RESPONSE: u8 = 2;
-
-const NOTIFICATION: u8 = 3;
+use scmi_codec::{
+    DELAYED_RESPONSE, Header, NOTIFICATION, POWER_PROTOCOL, SUCCESS, Status, rate_words,
+};
 
 impl Outboxes {
     /// Puts the notification that an agent set a domain to a state into an agent's outbox.

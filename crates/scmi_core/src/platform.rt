@@ -1,6 +1,6 @@
 //! The platform without its history.
 ghost use Rattle.std.specs.Prelude.{◌≡◌, ◌≢◌, ◌≤◌, ◌<◌, [], ◌↔◌, List, length, true, false, slice_get, IfOk, OnOk, OnErr, IfErr, Err};
-ghost use Rattle.scmi_plan.specs.Plan.{IsLawful};
+ghost use Rattle.scmi_plan.specs.Plan.{IsValid};
 ghost use Rattle.std.specs.Option.{option_copied};
 ghost use Rattle.scmi_plan.specs.Agent.{IsAgent, IsNoAgent};
 ghost use Rattle.scmi_plan.specs.declared.limits.TheConstants.{AGENTS};
@@ -52,7 +52,7 @@ impl Platform {
         ensures count { result ≡ length self.now.board.agents }
         ensures some { 1 ≤ result }
         ensures few { result ≤ AGENTS }
-        ensures lawful { IsLawful self.now.board }
+        ensures valid { IsValid self.now.board }
     {
         self.plan.agents()
     }
@@ -158,7 +158,7 @@ impl Platform {
         requires first { 1 ≤ agent }
         requires last { agent ≤ length self.now.board.agents }
         requires some { 0 < length (outbox_at self.now.tables agent) }
-        ensures lawful { IsLawful self.old.board }
+        ensures valid { IsValid self.old.board }
         ensures event { MovesOn self.old (Sent agent) self.new }
         ensures board { self.new.board ≡ self.old.board }
     {
@@ -170,7 +170,7 @@ impl Platform {
     pub(crate) fn execute(&mut self, agent: u32, frame: &Frame, reply: &mut Message) -> Answered
         requires first { 1 ≤ agent }
         requires last { agent ≤ length self.now.board.agents }
-        ensures lawful { IsLawful self.old.board }
+        ensures valid { IsValid self.old.board }
         ensures answer { (h : List Event) → StandsAfter self.old h
             → answer_with result reply.new ≡ answer_to self.old.board agent frame.now h }
         ensures event { MovesOn self.old (Called agent frame.now) self.new }
@@ -202,7 +202,7 @@ impl Platform {
         ensures ok { OnOk result (IsAgent (length self.now.board.agents) agent) }
         ensures no_agent { OnErr result (IsNoAgent (length self.now.board.agents) agent) }
         ensures errors { IfErr result (λ e. e ≡ CoreError.NoAgent) }
-        ensures lawful { IsLawful self.now.board }
+        ensures valid { IsValid self.now.board }
     {
         if (1..=self.plan.agents()).contains(&agent) {
             Ok(())

@@ -2,7 +2,7 @@
 ghost use Rattle.std.specs.Prelude.{◌≡◌, ◌≢◌, ◌≤◌, ◌<◌, ◌↔◌, List, length, true, false, None, IfOk, IfSome, OnOk, OnErr, IfErr, Err};
 ghost use Rattle.scmi_codec.specs.declared.frame.Frame.TheVariants.{Good};
 ghost use Rattle.scmi_codec.specs.declared.frame.Answer.TheVariants.{Reply};
-ghost use Rattle.scmi_plan.specs.Plan.{IsLawful};
+ghost use Rattle.scmi_plan.specs.Plan.{IsValid};
 ghost use Rattle.scmi_plan.specs.Agent.{IsAgent, IsNoAgent};
 ghost use Rattle.scmi_core.specs.Effect.{effect_after};
 ghost use Rattle.scmi_core.specs.History.{IsIdle};
@@ -94,7 +94,7 @@ impl Platform {
     pub(crate) fn effect_in(&self, agent: u32, frame: &Frame) -> Option<Effect>
         requires first { 1 ≤ agent }
         requires last { agent ≤ length self.now.board.agents }
-        ensures lawful { IsLawful self.now.board }
+        ensures valid { IsValid self.now.board }
         ensures history { HasHistory self.now }
         ensures effect { (h : List Event) → StandsAfter self.now h
             → result ≡ effect_after self.now.board h (Called agent frame.now) }
@@ -111,7 +111,7 @@ impl Platform {
             → (result ≡ None) ↔ (effect_after self.now.board h (Called agent frame.now) ≡ None) }
         ensures message { IfSome result (λ message. frame.now ≡ Good message.now) }
         ensures event { result ≢ None → MovesOn self.now (CommandFailed agent frame.now) self.now }
-        ensures lawful { IsLawful self.now.board }
+        ensures valid { IsValid self.now.board }
     {
         let effect = self.effect_in(agent, frame);
         match frame {

@@ -2,7 +2,7 @@
 ghost use Rattle.std.specs.Prelude.{◌≡◌, ◌≢◌, ◌<◌, ◌≤◌, ◌↔◌, List, length, true, false, None, Some, IfOk, OnErr, IfErr, Err};
 ghost use Rattle.scmi_codec.specs.declared.frame.Answer.TheVariants.{Reply};
 ghost use Rattle.scmi_plan.specs.Agent.{IsAgent, IsNoAgent};
-ghost use Rattle.scmi_plan.specs.Plan.{IsLawful};
+ghost use Rattle.scmi_plan.specs.Plan.{IsValid};
 ghost use Rattle.scmi_core.specs.Driven.{ExecutesThere, HappensThere, IsDriven, IsEnd, IsExecutedThere};
 ghost use Rattle.scmi_core.specs.Effect.{effect_after};
 ghost use Rattle.scmi_core.specs.History.{IsIdle, answer_to, answer_with};
@@ -126,7 +126,7 @@ impl Platform {
         requires last { agent ≤ length self.old.board.agents }
         requires effect { (h : List Event) × StandsAfter self.old h
             × (effect_after self.old.board h (Called agent frame.now) ≡ Some effect) }
-        ensures lawful { IsLawful self.old.board }
+        ensures valid { IsValid self.old.board }
         ensures answer { (h : List Event) → StandsAfter self.old h
             → answer_with result reply.new ≡ answer_to self.old.board agent frame.now h }
         ensures event { MovesOn self.old (Called agent frame.now) self.new }

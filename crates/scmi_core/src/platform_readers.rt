@@ -1,8 +1,8 @@
 //! The state of a platform: its board, values, pending sets and outboxes.
-ghost use Rattle.std.specs.Prelude.{◌≡◌, ◌≤◌, ◌↔◌, List, length, None, IfSome};
+ghost use Rattle.std.specs.Prelude.{◌≡◌, ◌≤◌, ◌↔◌, ◌⊎◌, List, length, None, IfSome};
 ghost use Rattle.scmi_plan.specs.Agent.{IsNoAgent};
 ghost use Rattle.scmi_plan.specs.declared.resource.Resource.TheVariants as resource;
-ghost use Rattle.scmi_core.specs.History.{deeds, is_pending_after, outbox, value_after};
+ghost use Rattle.scmi_core.specs.History.{deeds, is_pending_after, is_subscriber_after, outbox, value_after};
 ghost use Rattle.scmi_core.specs.Standing.{StandsAfter};
 ghost use Rattle.scmi_core.specs.Pending.{pending_sets};
 ghost use Rattle.scmi_core.specs.Value.{State, Rate, Enabled, bit_value};
@@ -95,6 +95,22 @@ impl Platform {
     {
         if (1..=self.plan.agents()).contains(&agent) {
             Some(self.tables.outboxes.waiting(agent))
+        } else {
+            None
+        }
+    }
+
+    /// Whether an agent is notified of a power domain's changes. `None` if the board lacks the
+    /// agent or the domain.
+    pub fn is_subscribed(&self, agent: u32, domain: u32) -> Option<bool>
+        ensures value { (h : List Event) → StandsAfter self.now h
+            → IfSome result (λ subscribed.
+            subscribed ≡ is_subscriber_after self.now.board agent domain h) }
+        ensures none { (result ≡ None) ↔ IsNoAgent (length self.now.board.agents) agent
+            ⊎ (length self.now.board.domains ≤ domain) }
+    {
+        if (1..=self.plan.agents()).contains(&agent) && domain < self.plan.domains() {
+            Some(self.tables.is_notified(agent, domain))
         } else {
             None
         }

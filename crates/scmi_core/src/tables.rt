@@ -9,7 +9,7 @@ ghost use Rattle.scmi_codec.specs.declared.frame.Frame.TheVariants.{Good};
 ghost use Rattle.scmi_codec.specs.declared.command.Command.TheVariants.{Base, Power, Clock};
 ghost use Rattle.scmi_power.specs.PowerTable.{state_at, is_subscribed};
 ghost use Rattle.scmi_plan.specs.Agent.{IsAgent};
-ghost use Rattle.scmi_plan.specs.Plan.{IsLawful};
+ghost use Rattle.scmi_plan.specs.Plan.{IsValid};
 ghost use Rattle.scmi_plan.specs.declared.resource.Resource.TheVariants as resource;
 ghost use Rattle.scmi_plan.specs.declared.limits.TheConstants.{AGENTS, CLOCKS, DOMAINS};
 ghost use Rattle.scmi_core.specs.History.{answer_with};
@@ -81,7 +81,7 @@ impl Tables {
     ) -> Answered
         requires first { 1 ≤ agent }
         requires last { agent ≤ length plan.now.agents }
-        requires lawful { IsLawful plan.now }
+        requires valid { IsValid plan.now }
         ensures answer { answer_with result reply.new
             ≡ answer_in plan.now agent frame.now (situation_in agent self.old) }
         ensures stepped { HasAnswered plan.now agent frame.now self.old self.new }
@@ -102,7 +102,7 @@ impl Tables {
     ) -> Answered
         requires first { 1 ≤ agent }
         requires last { agent ≤ length plan.now.agents }
-        requires lawful { IsLawful plan.now }
+        requires valid { IsValid plan.now }
         ensures answer { answer_with result reply.new
             ≡ answer_in plan.now agent (Good message.now) (situation_in agent self.old) }
         ensures stepped { HasAnswered plan.now agent (Good message.now) self.old self.new }
@@ -121,7 +121,7 @@ impl Tables {
     fn execute(&mut self, plan: &Plan, agent: u32, message: &Message, reply: &mut Payload)
         requires first { 1 ≤ agent }
         requires last { agent ≤ length plan.now.agents }
-        requires lawful { IsLawful plan.now }
+        requires valid { IsValid plan.now }
         ensures reply { reply.new.items
             ≡ reply_words plan.now agent (situation_in agent self.old) (command_of message.now) }
         ensures stepped { HasExecuted plan.now agent message.now.header
@@ -164,7 +164,7 @@ impl Tables {
     )
         requires first { 1 ≤ agent }
         requires last { agent ≤ length plan.now.agents }
-        requires lawful { IsLawful plan.now }
+        requires valid { IsValid plan.now }
         ensures reply { reply.new.items
             ≡ reply_words plan.now agent (situation_in agent self.old) (Ok (Base command)) }
         ensures stepped { HasExecuted plan.now agent header (Ok (Base command))
@@ -185,7 +185,7 @@ impl Tables {
     )
         requires first { 1 ≤ agent }
         requires last { agent ≤ length plan.now.agents }
-        requires lawful { IsLawful plan.now }
+        requires valid { IsValid plan.now }
         ensures reply { reply.new.items
             ≡ reply_words plan.now agent (situation_in agent self.old) (Ok (Power command)) }
         ensures stepped { HasExecuted plan.now agent header (Ok (Power command))
@@ -213,7 +213,7 @@ impl Tables {
     )
         requires first { 1 ≤ agent }
         requires last { agent ≤ length plan.now.agents }
-        requires lawful { IsLawful plan.now }
+        requires valid { IsValid plan.now }
         ensures reply { reply.new.items
             ≡ reply_words plan.now agent (situation_in agent self.old) (Ok (Clock command)) }
         ensures stepped { HasExecuted plan.now agent header (Ok (Clock command))
@@ -272,7 +272,7 @@ impl Tables {
         requires known { All (IsOfBoard plan.now) self.now.pending }
         requires room { (a : ℕ) → 1 ≤ a → a ≤ length plan.now.agents
             → load_at self.now a ≤ OUTBOX_ROOM }
-        ensures lawful { IsLawful plan.now }
+        ensures valid { IsValid plan.now }
         ensures stepped { HasStepped plan.now self.old None
             (slice_get self.old.pending 0) self.new }
     {
@@ -304,7 +304,7 @@ impl Tables {
         requires known { All (IsOfBoard plan.now) self.now.pending }
         requires room { (a : ℕ) → 1 ≤ a → a ≤ length plan.now.agents
             → load_at self.now a ≤ OUTBOX_ROOM }
-        ensures lawful { IsLawful plan.now }
+        ensures valid { IsValid plan.now }
         ensures failed { HasFailed self.old self.new }
     {
         let _agents = plan.agents();

@@ -84,6 +84,7 @@ abbrev pub negative_word : Option ℕ → Option ℕ
 negative_word None = None
 negative_word (Some n) = Some ((2 ^ 32 - n) % 2 ^ 32)
 
+-- whether a text begins with a minus sign
 abbrev pub begins_with_minus : List ℕ → Bool
 begins_with_minus [] = false
 begins_with_minus (b ∷ bs) = b == 45

@@ -39,6 +39,7 @@ first_item line = take (item_length (after_gap line)) (after_gap line)
 abbrev pub after_item : List ℕ → List ℕ
 after_item line = drop (item_length (after_gap line)) (after_gap line)
 
+-- whether a text begins with a space
 abbrev pub begins_with_space : List ℕ → Bool
 begins_with_space [] = false
 begins_with_space (b ∷ bs) = b == 32

@@ -1,5 +1,6 @@
 //! How a thread waits for another.
 
+use crate::processors::Processors;
 use crossbeam_utils::Backoff;
 use std::sync::Wait;
 use std::thread::{Parker, yield_now};
@@ -17,18 +18,26 @@ const SLEEPS: u32 = 1_000;
 const SLEEP_MICROSECONDS: u64 = 50;
 
 /// A row of waits for something that another thread does. After `SPINS` and `SLEEPS` the thread
-/// only yields, so that a wait for what never comes is not drawn out.
+/// only yields, so that a wait for what never comes is not drawn out. On one processor it yields at
+/// once, since nothing is done there while it spins.
 #[derive(Drop)]
 pub struct Pause {
+    processors: Processors,
     backoff: Backoff,
     parker: Parker,
     waits: u32,
 }
 
 impl Pause {
-    /// No wait so far.
+    /// No wait so far, of threads that may run at the same time.
     pub fn new() -> Pause {
+        Pause::on(Processors::Several)
+    }
+
+    /// No wait so far, of threads on these processors (own).
+    pub fn on(processors: Processors) -> Pause {
         Pause {
+            processors,
             backoff: Backoff::new(),
             parker: Parker::new(),
             waits: 0,
@@ -37,6 +46,10 @@ impl Pause {
 
     /// Waits a little (own). It may return early.
     pub fn wait<R: Wait>(&mut self, rt: &R) {
+        if self.processors == Processors::One {
+            yield_now();
+            return;
+        }
         self.waits = self.waits.saturating_add(1);
         if self.waits <= SPINS {
             self.backoff.spin();

@@ -19,13 +19,18 @@ impl<C: Channel> AgentEnd<C> {
     /// answer comes after at least one poll. After each poll that gave `Nothing` the thread pauses
     /// (own).
     #[tactic(auto, unfolding(crate::specs::Poll::more_calls))]
-    pub fn wait_counted<R: Wait>(&mut self, rt: &R, link: &Link<C>, turns: u32) -> Waited
+    pub fn wait_counted<R: Wait>(
+        &mut self,
+        rt: &R,
+        link: &Link<C>,
+        turns: u32,
+        mut pause: Pause,
+    ) -> Waited
         requires { IsOfLink (C.identity link.now.a2p) (C.identity link.now.p2a) self.old }
         ensures same { self.new ≡ record self.old { caller = self.new.caller } }
         ensures waits { Waits turns self.old.caller result.answer self.new.caller }
         ensures looks { Looks turns result.answer result.looks self.old.caller self.new.caller }
     {
-        let mut pause = Pause::new();
         'turns: for turn in 0..turns {
             match self.collect(link) {
                 Collected::Nothing => pause.wait(rt),
@@ -43,12 +48,13 @@ impl<C: Channel> AgentEnd<C> {
         }
     }
 
-    /// As `wait_counted`, without the count.
+    /// As `wait_counted`, without the count, with the pauses of threads that may run at the same
+    /// time.
     pub fn wait_reply<R: Wait>(&mut self, rt: &R, link: &Link<C>, turns: u32) -> Collected
         requires { IsOfLink (C.identity link.now.a2p) (C.identity link.now.p2a) self.old }
         ensures same { self.new ≡ record self.old { caller = self.new.caller } }
         ensures waits { Waits turns self.old.caller result self.new.caller }
     {
-        self.wait_counted(rt, link, turns).answer
+        self.wait_counted(rt, link, turns, Pause::new()).answer
     }
 }

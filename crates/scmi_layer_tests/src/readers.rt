@@ -74,7 +74,7 @@ fn rows(plan: &Plan) -> [bool; 9] {
 }
 
 #[test]
-fn a_lawful_board_is_read_back(rt: HostRuntime) -> Result<(), Fail> {
+fn a_valid_board_is_read_back(rt: HostRuntime) -> Result<(), Fail> {
     let plan = reference_plan(rt.alloc())?;
     assert!(rt; numbers(&plan) == [0x0001_0000, 1, 2, 3, 3, 2]);
     assert!(rt; rows(&plan) == [true; 9]);

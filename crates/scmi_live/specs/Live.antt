@@ -76,6 +76,7 @@ module _ (full : Bool) (Shows : CallerView → Result Closing CloseError → Typ
   AnswersAs (Describe on) before after old new = (after ≡ record before { described = on }) × (new ≡ old)
   AnswersAs (Does step) before after old new = MakesStep step before after old new
 
+  -- what a text does to a session, and what is written
   abbrev pub Answers : List ℕ → LiveView → LiveView → Option (List ℕ) → Option (List ℕ) → Type 0
   Answers text before after old new = AnswersAs (line_meant before.board before.agents text) before after old new
 

@@ -83,5 +83,6 @@ abbrev pub payload_by : Board → ℕ → Option Said → List (List ℕ) → Op
 payload_by board protocol None items = numbers items
 payload_by board protocol (Some row) items = words_behind board protocol [] row.asks items
 
+-- the payload of a message whose parts these items name; none if they do not
 abbrev pub payload_meant : Board → ℕ → ℕ → List (List ℕ) → Option (List ℕ)
 payload_meant board protocol id items = payload_by board protocol (listed_row protocol id) items

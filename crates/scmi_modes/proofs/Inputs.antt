@@ -13,7 +13,7 @@ use Rattle.scmi_plan.specs.PlanError.{first_fault, number}
 use Rattle.scmi_plan.specs.declared.plan_error.PlanError.{PlanError}
 use Rattle.scmi_plan.specs.declared.plan_error.PlanError.TheVariants as plan
 use Rattle.scmi_text.specs.TextLines.{FailsScript}
-use Rattle.scmi_modes.specs.Input.{FailsInput, IsFaultOf, IsFaultOrLimit, behind_mode, input_of, lawful, with_scripts}
+use Rattle.scmi_modes.specs.Input.{FailsInput, IsFaultOf, IsFaultOrLimit, behind_mode, input_of, valid, with_scripts}
 use Rattle.scmi_modes.specs.RunError.{fault_of_input, fault_of_plan, fault_of_text, status_of}
 use Rattle.scmi_modes.specs.declared.run_error.RunError.{RunError}
 use Rattle.scmi_modes.specs.declared.run_error.RunError.TheVariants.{Mode, Size, Read, Area, Board as BoardFault, Script as ScriptFault, Plan as PlanFault, Limit, Memory, Write}
@@ -33,7 +33,7 @@ few_agents n m not_many same = omega (arith, not_many, same)
 
 module _ {A : Type 0} (scripts : ℕ → List Line → Result A ℕ) where
   abbrev from_scripts : Board → Result A ℕ → Result (Board × A) RunError
-  from_scripts board read = elim read [ Err line ↦ Err (ScriptFault line) | Ok script ↦ lawful board script ]
+  from_scripts board read = elim read [ Err line ↦ Err (ScriptFault line) | Ok script ↦ valid board script ]
 
   abbrev from_board : Result (Board × List Line) ℕ → Result (Board × A) RunError
   from_board found = elim found [ Err line ↦ Err (BoardFault line) | Ok found ↦ with_scripts scripts found.0 found.1 ]
@@ -77,8 +77,8 @@ module _ {A : Type 0} (scripts : ℕ → List Line → Result A ℕ) where
       script_fails (text.Script line) is = reads (Err line) is
       script_fails text.Memory is = tt
 
-      broken : (script : A) (rule : Option PlanError) → first_fault board ≡ rule → lawful board script ≡ elim rule [ None ↦ Ok (board, script) | Some rule ↦ Err (PlanFault (number rule)) ]
-      unfolding lawful
+      broken : (script : A) (rule : Option PlanError) → first_fault board ≡ rule → valid board script ≡ elim rule [ None ↦ Ok (board, script) | Some rule ↦ Err (PlanFault (number rule)) ]
+      unfolding valid
       broken script rule is = ap (λ (o : Option PlanError). elim o as (λ o. Result (Board × A) RunError) [ None ↦ Ok (board, script) | Some rule ↦ Err (PlanFault (number rule)) ]) is
 
       breaks : (script : A) (rule : PlanError) → scripts (length board.agents) lines ≡ Ok script → first_fault board ≡ Some rule → input_of scripts bytes ≡ Err (PlanFault (number rule))

@@ -19,16 +19,16 @@ abbrev pub behind_mode : List ℕ → LinesView
 behind_mode input = record { rest = input; number = 1 }
 
 module _ {A : Type 0} where
-  -- a board with what follows it, where it keeps every rule; else the first rule that it breaks
-  unfoldable pub lawful : Board → A → Result (Board × A) RunError
-  lawful board script = elim (first_fault board) [ None ↦ Ok (board, script) | Some rule ↦ Err (PlanFault (number rule)) ]
+  -- a board with what follows it, if it keeps every rule; else the first rule that it breaks
+  unfoldable pub valid : Board → A → Result (Board × A) RunError
+  valid board script = elim (first_fault board) [ None ↦ Ok (board, script) | Some rule ↦ Err (PlanFault (number rule)) ]
 
   -- a board with its scripts, as the lines say for its number of agents; else the first line that is part of no script. A board of 2 ^ 32 agents, which no input has, breaks rule 1 before its scripts are read
   unfoldable pub with_scripts : (ℕ → List Line → Result A ℕ) → Board → List Line → Result (Board × A) RunError
   with_scripts scripts board lines =
       if nat_le (2 ^ 32) (length board.agents) then Err (PlanFault 1) else elim (scripts (length board.agents) lines) [
         | Err line ↦ Err (ScriptFault line)
-        | Ok script ↦ lawful board script
+        | Ok script ↦ valid board script
       ]
 
   -- the board and the scripts of an input; else its first fault

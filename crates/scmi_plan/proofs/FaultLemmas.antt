@@ -11,9 +11,9 @@ use Rattle.std.proofs.Math.Nat.{mul-mod_left, zero-mul, le-div_iff_mul-le}
 use Rattle.scmi_codec.specs.Name.{IsName}
 use Rattle.scmi_codec.specs.declared.name.TheConstants.{NAME_BYTES}
 use Rattle.scmi_plan.specs.Board.{Board, IsChannel, whole_channel}
-use Rattle.scmi_plan.specs.Plan.{IsLawful}
-use Rattle.scmi_plan.specs.Rates.{HasLawfulRates, IsSupported}
-use Rattle.scmi_plan.specs.PlanError.{is_name, rises, is_lawful_list, is_lawful, supports, has_lawful_counts, has_lawful_names, has_lawful_clocks, has_lawful_devices, has_trusted_agent, first_fault}
+use Rattle.scmi_plan.specs.Plan.{IsValid}
+use Rattle.scmi_plan.specs.Rates.{HasValidRates, IsSupported}
+use Rattle.scmi_plan.specs.PlanError.{is_name, rises, is_valid_list, is_valid, supports, has_valid_counts, has_valid_names, has_valid_clocks, has_valid_devices, has_trusted_agent, first_fault}
 use Rattle.scmi_plan.specs.RawPlan.{asked_board, asked_domain, asked_clock}
 use Rattle.scmi_plan.specs.declared.limits.TheConstants.{AGENTS, DOMAINS, CLOCKS, DEVICES, RATES}
 use Rattle.scmi_plan.specs.declared.raw_plan.RawPlan.{RawPlan}
@@ -68,12 +68,12 @@ Decides-rises (x ∷ y ∷ xs) =
             let here : get_or (y ∷ xs) k 0 < get_or (x ∷ y ∷ xs) (suc k + 1) 0 = w (suc k) (omega (arith, h)) in
             rw next (rw after at here)
 
-Decides-is_lawful : (r : Rates) → Decides (is_lawful r) (HasLawfulRates r)
-Decides-is_lawful (rates.List list) =
-    Decides-like (is_lawful_list list) (λ w. (w.0.0, w.0.1, w.1)) (λ w. ((w.0, w.1), w.2))
+Decides-is_valid : (r : Rates) → Decides (is_valid r) (HasValidRates r)
+Decides-is_valid (rates.List list) =
+    Decides-like (is_valid_list list) (λ w. (w.0.0, w.0.1, w.1)) (λ w. ((w.0, w.1), w.2))
     (Decides-and _ _ (Decides-and _ _ (Decides-leb 1 (length list)) (Decides-leb (length list) RATES)) (Decides-rises list))
-Decides-is_lawful (rates.Steps low high step) =
-    Decides-like (is_lawful (rates.Steps low high step)) (λ w. (w.0.0, w.0.1, w.1)) (λ w. ((w.0, w.1), w.2))
+Decides-is_valid (rates.Steps low high step) =
+    Decides-like (is_valid (rates.Steps low high step)) (λ w. (w.0.0, w.0.1, w.1)) (λ w. ((w.0, w.1), w.2))
     (Decides-and _ _ (Decides-and _ _ (Decides-leb 1 step) (Decides-leb low high)) (Decides-eqb ((high - low) % step) 0))
 
 Decides-is_in : (list : List ℕ) (rate : ℕ) → Decides (list_any (λ r. r == rate) list) (Contains list rate)
@@ -126,12 +126,12 @@ Decides-is_step low high step rate some up =
           let above : rate - low ≡ k * step = omega arith in
           ((omega arith, omega arith), ap (λ n. n % step) above ∙ mul-mod_left k step)
 
-Decides-supports : (r : Rates) (rate : ℕ) → HasLawfulRates r → Decides (supports r rate) (IsSupported r rate)
-Decides-supports (rates.List list) rate lawful = Decides-is_in list rate
-Decides-supports (rates.Steps low high step) rate lawful = Decides-is_step low high step rate lawful.0 lawful.1
+Decides-supports : (r : Rates) (rate : ℕ) → HasValidRates r → Decides (supports r rate) (IsSupported r rate)
+Decides-supports (rates.List list) rate valid = Decides-is_in list rate
+Decides-supports (rates.Steps low high step) rate valid = Decides-is_step low high step rate valid.0 valid.1
 
-Decides-clock : (clock : Clock) → Decides (is_lawful clock.rates && supports clock.rates clock.rate) (HasLawfulRates clock.rates × IsSupported clock.rates clock.rate)
-Decides-clock clock = Decides-then _ _ (Decides-is_lawful clock.rates) (λ lawful. Decides-supports clock.rates clock.rate lawful)
+Decides-clock : (clock : Clock) → Decides (is_valid clock.rates && supports clock.rates clock.rate) (HasValidRates clock.rates × IsSupported clock.rates clock.rate)
+Decides-clock clock = Decides-then _ _ (Decides-is_valid clock.rates) (λ valid. Decides-supports clock.rates clock.rate valid)
 
 -- what `is_sorted_by` answers for "is below the next"
 pub Decides-below_next : (r : Bool) (xs : List ℕ) → IsAllAdjacentAnswer (λ x y b. b ≡ nat_lt x y) xs r → Decides r (IsStrictlyIncreasing xs)
@@ -142,13 +142,13 @@ module _ (board : Board) (each : length board.channels ≡ AGENTS) (channels : A
   abbrev IsWithin : Device → Type 0
   IsWithin device = (device.domains < 2 ^ length board.domains) × (device.clocks < 2 ^ length board.clocks)
 
-  Decides-counts : Decides (has_lawful_counts board)
+  Decides-counts : Decides (has_valid_counts board)
       (((((1 ≤ length board.agents) × (length board.agents ≤ AGENTS)) × (length board.domains ≤ DOMAINS)) × (length board.clocks ≤ CLOCKS)) × (length board.devices ≤ DEVICES))
   Decides-counts =
       Decides-and _ _ (Decides-and _ _ (Decides-and _ _ (Decides-and _ _ (Decides-leb 1 (length board.agents)) (Decides-leb (length board.agents) AGENTS))
       (Decides-leb (length board.domains) DOMAINS)) (Decides-leb (length board.clocks) CLOCKS)) (Decides-leb (length board.devices) DEVICES)
 
-  Decides-names : Decides (has_lawful_names board)
+  Decides-names : Decides (has_valid_names board)
       ((((IsName board.vendor × IsName board.sub_vendor) × All IsName board.agents) × All (λ domain. IsName domain.name) board.domains) × All (λ clock. IsName clock.name) board.clocks)
   Decides-names =
       Decides-and _ _ (Decides-and _ _ (Decides-and _ _ (Decides-and _ _ (Decides-is_name board.vendor) (Decides-is_name board.sub_vendor))
@@ -156,12 +156,12 @@ module _ (board : Board) (each : length board.channels ≡ AGENTS) (channels : A
       (Decides-list_all (λ domain. is_name domain.name) (λ domain. IsName domain.name) (λ domain. Decides-is_name domain.name) board.domains))
       (Decides-list_all (λ clock. is_name clock.name) (λ clock. IsName clock.name) (λ clock. Decides-is_name clock.name) board.clocks)
 
-  Decides-clocks : Decides (has_lawful_clocks board) (All (λ clock. HasLawfulRates clock.rates × IsSupported clock.rates clock.rate) board.clocks)
+  Decides-clocks : Decides (has_valid_clocks board) (All (λ clock. HasValidRates clock.rates × IsSupported clock.rates clock.rate) board.clocks)
   Decides-clocks =
-      Decides-list_all (λ clock. is_lawful clock.rates && supports clock.rates clock.rate)
-      (λ clock. HasLawfulRates clock.rates × IsSupported clock.rates clock.rate) Decides-clock board.clocks
+      Decides-list_all (λ clock. is_valid clock.rates && supports clock.rates clock.rate)
+      (λ clock. HasValidRates clock.rates × IsSupported clock.rates clock.rate) Decides-clock board.clocks
 
-  Decides-devices : Decides (has_lawful_devices board) (All IsWithin board.devices)
+  Decides-devices : Decides (has_valid_devices board) (All IsWithin board.devices)
   Decides-devices =
       Decides-list_all (λ device. nat_lt device.domains (2 ^ length board.domains) && nat_lt device.clocks (2 ^ length board.clocks)) IsWithin
       (λ device. Decides-and _ _ (Decides-ltb device.domains (2 ^ length board.domains)) (Decides-ltb device.clocks (2 ^ length board.clocks))) board.devices
@@ -170,7 +170,7 @@ module _ (board : Board) (each : length board.channels ≡ AGENTS) (channels : A
   Decides-trusted = Decides-and _ _ (Decides-leb 1 board.trusted) (Decides-leb board.trusted (length board.agents))
 
   -- the five tests together are the law of a board
-  Decides-tests : Decides (has_lawful_counts board && has_lawful_names board && has_lawful_clocks board && has_lawful_devices board && has_trusted_agent board) (IsLawful board)
+  Decides-tests : Decides (has_valid_counts board && has_valid_names board && has_valid_clocks board && has_valid_devices board && has_trusted_agent board) (IsValid board)
   Decides-tests =
       Decides-like _
       (λ w. let counts = w.0.0.0.0 in let names = w.0.0.0.1 in let clocks = w.0.0.1 in let devices = w.0.1 in
@@ -185,14 +185,14 @@ module _ (board : Board) (each : length board.channels ≡ AGENTS) (channels : A
         agent_names = names.0.0.1;
         domain_names = λ d small. names.0.1 d _ small;
         clock_names = λ c small. names.1 c _ small;
-        lawful_rates = λ c small. (clocks c _ small).0;
+        valid_rates = λ c small. (clocks c _ small).0;
         supported = λ c small. (clocks c _ small).1;
         known_domains = λ d small. (devices d _ small).0;
         known_clocks = λ d small. (devices d _ small).1;
         trusted = w.1.0;
         trusted_agent = w.1.1;
         channels = each;
-        lawful_channels = channels;
+        valid_channels = channels;
       })
       (λ law. (
         (
@@ -204,7 +204,7 @@ module _ (board : Board) (each : length board.channels ≡ AGENTS) (channels : A
                 All-from_get_or (λ clock. IsName clock.name) board.clocks _ law.clock_names,
               ),
             ),
-            All-from_get_or (λ clock. HasLawfulRates clock.rates × IsSupported clock.rates clock.rate) board.clocks _ (λ c small. (law.lawful_rates c small, law.supported c small)),
+            All-from_get_or (λ clock. HasValidRates clock.rates × IsSupported clock.rates clock.rate) board.clocks _ (λ c small. (law.valid_rates c small, law.supported c small)),
           ),
           All-from_get_or IsWithin board.devices _ (λ d small. (law.known_domains d small, law.known_clocks d small)),
         ),
@@ -224,9 +224,9 @@ Decides-none true true true false e = (λ h. cc, λ h. cc)
 Decides-none true true true true false = (λ h. cc, λ h. cc)
 
 -- a board whose channels are valid breaks no rule if and only if it is valid
-lawful_but : (board : Board) → length board.channels ≡ AGENTS → All IsChannel board.channels → (first_fault board ≡ None) ↔ IsLawful board
-lawful_but board each channels =
-    let none = Decides-none (has_lawful_counts board) (has_lawful_names board) (has_lawful_clocks board) (has_lawful_devices board) (has_trusted_agent board) in
+valid_but : (board : Board) → length board.channels ≡ AGENTS → All IsChannel board.channels → (first_fault board ≡ None) ↔ IsValid board
+valid_but board each channels =
+    let none = Decides-none (has_valid_counts board) (has_valid_names board) (has_valid_clocks board) (has_valid_devices board) (has_trusted_agent board) in
     let law = Decides-tests board each channels in
     (λ h. law.0 (none.0 h), λ w. none.1 (law.1 w))
 
@@ -235,8 +235,8 @@ whole_channels : All IsChannel (replicate AGENTS whole_channel)
 whole_channels = All-replicate IsChannel AGENTS whole_channel (omega arith, omega arith)
 
 -- a board that was written down breaks no rule if and only if it is valid
-pub lawful : (raw : RawPlan) → (first_fault (asked_board raw) ≡ None) ↔ IsLawful (asked_board raw)
-lawful raw = lawful_but (asked_board raw) refl whole_channels
+pub valid : (raw : RawPlan) → (first_fault (asked_board raw) ≡ None) ↔ IsValid (asked_board raw)
+valid raw = valid_but (asked_board raw) refl whole_channels
 
 -- a set has only members below a count where nothing is left above it
 pub Decides-below : (set p : ℕ) → 0 < p → Decides (set / p == 0) (set < p)
@@ -258,15 +258,15 @@ All-of_map : {X Y : Type 0} (P : Y → Type 0) (f : X → Y) (xs : List X) → A
 All-of_map P f xs all k d small = subst P (get_or-map f xs k d (f d) small) (all k (f d) (subst (λ n. k < n) (sym (length-map xs f)) small))
 
 -- the names of a valid board's agents, domains and clocks as they were written down
-pub named_agents : (raw : RawPlan) → IsLawful (asked_board raw) → All (λ agent. IsName (string_bytes agent)) raw.agents.items
+pub named_agents : (raw : RawPlan) → IsValid (asked_board raw) → All (λ agent. IsName (string_bytes agent)) raw.agents.items
 named_agents raw law = All-of_map IsName string_bytes raw.agents.items law.agent_names
 
-pub named_domains : (raw : RawPlan) → IsLawful (asked_board raw) → All (λ domain. IsName (string_bytes domain.name)) raw.domains.items
+pub named_domains : (raw : RawPlan) → IsValid (asked_board raw) → All (λ domain. IsName (string_bytes domain.name)) raw.domains.items
 named_domains raw law =
     All-of_map (λ domain. IsName domain.name) asked_domain raw.domains.items
     (All-from_get_or (λ domain. IsName domain.name) (map asked_domain raw.domains.items) _ law.domain_names)
 
-pub named_clocks : (raw : RawPlan) → IsLawful (asked_board raw) → All (λ clock. IsName (string_bytes clock.name)) raw.clocks.items
+pub named_clocks : (raw : RawPlan) → IsValid (asked_board raw) → All (λ clock. IsName (string_bytes clock.name)) raw.clocks.items
 named_clocks raw law =
     All-of_map (λ clock. IsName clock.name) asked_clock raw.clocks.items
     (All-from_get_or (λ clock. IsName clock.name) (map asked_clock raw.clocks.items) _ law.clock_names)

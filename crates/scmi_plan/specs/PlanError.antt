@@ -10,8 +10,8 @@ use Rattle.scmi_plan.specs.declared.plan_error.PlanError.{PlanError}
 use Rattle.scmi_plan.specs.declared.plan_error.PlanError.TheVariants as error
 
 -- 1 to 8 agents, and at most 32 domains, clocks and devices (own)
-abbrev pub has_lawful_counts : Board → Bool
-has_lawful_counts board =
+abbrev pub has_valid_counts : Board → Bool
+has_valid_counts board =
     nat_le 1 (length board.agents) && nat_le (length board.agents) AGENTS
     && nat_le (length board.domains) DOMAINS && nat_le (length board.clocks) CLOCKS && nat_le (length board.devices) DEVICES
 
@@ -20,8 +20,8 @@ abbrev pub is_name : List ℕ → Bool
 is_name bytes = nat_le 1 (length bytes) && nat_le (length bytes) NAME_BYTES && list_all (λ byte. nat_le 0x21 byte && nat_le byte 0x7E) bytes
 
 -- each name of the board is one (own)
-abbrev pub has_lawful_names : Board → Bool
-has_lawful_names board =
+abbrev pub has_valid_names : Board → Bool
+has_valid_names board =
     is_name board.vendor && is_name board.sub_vendor && list_all is_name board.agents
     && list_all (λ domain. is_name domain.name) board.domains && list_all (λ clock. is_name clock.name) board.clocks
 
@@ -31,13 +31,13 @@ rises (first ∷ second ∷ rest) = nat_lt first second && rises (second ∷ res
 rises _ = true
 
 -- 1 to 64 rates that rise (own)
-abbrev pub is_lawful_list : List ℕ → Bool
-is_lawful_list list = nat_le 1 (length list) && nat_le (length list) RATES && rises list
+abbrev pub is_valid_list : List ℕ → Bool
+is_valid_list list = nat_le 1 (length list) && nat_le (length list) RATES && rises list
 
 -- a valid list, or steps that end at the highest rate (own)
-abbrev pub is_lawful : Rates → Bool
-is_lawful (rates.List list) = is_lawful_list list
-is_lawful (rates.Steps low high step) = nat_le 1 step && nat_le low high && (high - low) % step == 0
+abbrev pub is_valid : Rates → Bool
+is_valid (rates.List list) = is_valid_list list
+is_valid (rates.Steps low high step) = nat_le 1 step && nat_le low high && (high - low) % step == 0
 
 -- a rate is one of the list, or a number of steps above the lowest
 abbrev pub supports : Rates → ℕ → Bool
@@ -45,12 +45,12 @@ supports (rates.List list) rate = list_any (λ r. r == rate) list
 supports (rates.Steps low high step) rate = nat_le low rate && nat_le rate high && (rate - low) % step == 0
 
 -- each clock has valid rates, and starts at one of them (own)
-abbrev pub has_lawful_clocks : Board → Bool
-has_lawful_clocks board = list_all (λ clock. is_lawful clock.rates && supports clock.rates clock.rate) board.clocks
+abbrev pub has_valid_clocks : Board → Bool
+has_valid_clocks board = list_all (λ clock. is_valid clock.rates && supports clock.rates clock.rate) board.clocks
 
 -- each device holds only domains and clocks of the board (own)
-abbrev pub has_lawful_devices : Board → Bool
-has_lawful_devices board =
+abbrev pub has_valid_devices : Board → Bool
+has_valid_devices board =
     list_all (λ device. nat_lt device.domains (2 ^ length board.domains) && nat_lt device.clocks (2 ^ length board.clocks)) board.devices
 
 -- the trusted agent is one of the board's (own)
@@ -60,10 +60,10 @@ has_trusted_agent board = nat_le 1 board.trusted && nat_le board.trusted (length
 -- the first rule that a board breaks (own)
 abbrev pub first_fault : Board → Option PlanError
 first_fault board =
-    if not (has_lawful_counts board) then Some error.Count
-    else if not (has_lawful_names board) then Some error.Name
-    else if not (has_lawful_clocks board) then Some error.Rates
-    else if not (has_lawful_devices board) then Some error.Device
+    if not (has_valid_counts board) then Some error.Count
+    else if not (has_valid_names board) then Some error.Name
+    else if not (has_valid_clocks board) then Some error.Rates
+    else if not (has_valid_devices board) then Some error.Device
     else if not (has_trusted_agent board) then Some error.Trusted
     else None
 

@@ -12,9 +12,9 @@ members (rates.List list) = list
 members (rates.Steps low high step) = map (λ k. low + k * step) (range_with_len 0 ((high - low) / step + 1))
 
 -- a list of 1 to 64 rates that rises, or steps that end at the highest rate (own)
-abbrev pub HasLawfulRates : Rates → Type 0
-HasLawfulRates (rates.List list) = (1 ≤ length list) × (length list ≤ RATES) × IsStrictlyIncreasing list
-HasLawfulRates (rates.Steps low high step) = (1 ≤ step) × (low ≤ high) × ((high - low) % step ≡ 0)
+abbrev pub HasValidRates : Rates → Type 0
+HasValidRates (rates.List list) = (1 ≤ length list) × (length list ≤ RATES) × IsStrictlyIncreasing list
+HasValidRates (rates.Steps low high step) = (1 ≤ step) × (low ≤ high) × ((high - low) % step ≡ 0)
 
 -- a rate is supported
 abbrev pub IsSupported : Rates → ℕ → Type 0

@@ -2,7 +2,7 @@
 ghost use Rattle.std.specs.Prelude.{◌≡◌, ◌≢◌, ◌^◌, nat_lt, IfSome, true, map, string_bytes};
 ghost use Rattle.std.specs.List.{list_all};
 ghost use Rattle.scmi_plan.specs.RawPlan.{asked_board, asked_domain, asked_clock};
-ghost use Rattle.scmi_plan.specs.PlanError.{first_fault, has_lawful_counts, has_lawful_names, has_lawful_clocks, has_lawful_devices, has_trusted_agent, is_name, is_lawful, is_lawful_list, supports, rises};
+ghost use Rattle.scmi_plan.specs.PlanError.{first_fault, has_valid_counts, has_valid_names, has_valid_clocks, has_valid_devices, has_trusted_agent, is_name, is_valid, is_valid_list, supports, rises};
 ghost use Rattle.scmi_plan.specs.declared.plan_error.PlanError.TheVariants.{Memory};
 
 use crate::limits::{AGENTS, CLOCKS, DEVICES, DOMAINS, RATES};
@@ -16,13 +16,13 @@ pub(crate) fn first_fault(raw: &RawPlan) -> Option<PlanError>
     ensures fault { result ≡ first_fault (asked_board raw.now) }
     ensures rule { IfSome result (λ fault. fault ≢ Memory) }
 {
-    if !has_lawful_counts(raw) {
+    if !has_valid_counts(raw) {
         Some(PlanError::Count)
-    } else if !has_lawful_names(raw) {
+    } else if !has_valid_names(raw) {
         Some(PlanError::Name)
-    } else if !has_lawful_clocks(raw) {
+    } else if !has_valid_clocks(raw) {
         Some(PlanError::Rates)
-    } else if !has_lawful_devices(raw) {
+    } else if !has_valid_devices(raw) {
         Some(PlanError::Device)
     } else if !has_trusted_agent(raw) {
         Some(PlanError::Trusted)
@@ -31,8 +31,8 @@ pub(crate) fn first_fault(raw: &RawPlan) -> Option<PlanError>
     }
 }
 
-fn has_lawful_counts(raw: &RawPlan) -> bool
-    ensures { result ≡ has_lawful_counts (asked_board raw.now) }
+fn has_valid_counts(raw: &RawPlan) -> bool
+    ensures { result ≡ has_valid_counts (asked_board raw.now) }
 {
     let agents = raw.agents.len();
     1 <= agents
@@ -42,8 +42,8 @@ fn has_lawful_counts(raw: &RawPlan) -> bool
         && raw.devices.len() <= DEVICES
 }
 
-fn has_lawful_names(raw: &RawPlan) -> bool
-    ensures { result ≡ has_lawful_names (asked_board raw.now) }
+fn has_valid_names(raw: &RawPlan) -> bool
+    ensures { result ≡ has_valid_names (asked_board raw.now) }
 {
     is_name(&raw.vendor)
         && is_name(&raw.sub_vendor)
@@ -76,25 +76,25 @@ fn is_name(text: &str) -> bool
     Name::new(text).is_some()
 }
 
-fn has_lawful_clocks(raw: &RawPlan) -> bool
-    ensures { result ≡ has_lawful_clocks (asked_board raw.now) }
+fn has_valid_clocks(raw: &RawPlan) -> bool
+    ensures { result ≡ has_valid_clocks (asked_board raw.now) }
 {
-    raw.clocks.iter().all(|clock| is_lawful(&clock.rates) && supports(&clock.rates, clock.rate))
+    raw.clocks.iter().all(|clock| is_valid(&clock.rates) && supports(&clock.rates, clock.rate))
 }
 
-fn is_lawful(rates: &Rates) -> bool
-    ensures { result ≡ is_lawful rates.now }
+fn is_valid(rates: &Rates) -> bool
+    ensures { result ≡ is_valid rates.now }
 {
     match rates {
-        Rates::List(list) => is_lawful_list(list.as_slice()),
+        Rates::List(list) => is_valid_list(list.as_slice()),
         Rates::Steps { low, high, step } => {
             *step != 0 && low <= high && (*high - *low) % *step == 0
         }
     }
 }
 
-fn is_lawful_list(rates: &[u64]) -> bool
-    ensures { result ≡ is_lawful_list rates.now }
+fn is_valid_list(rates: &[u64]) -> bool
+    ensures { result ≡ is_valid_list rates.now }
 {
     1 <= rates.len() && rates.len() <= RATES && rises(rates)
 }
@@ -106,7 +106,7 @@ fn rises(rates: &[u64]) -> bool
 }
 
 fn supports(rates: &Rates, rate: u64) -> bool
-    requires { is_lawful rates.now ≡ true }
+    requires { is_valid rates.now ≡ true }
     ensures { result ≡ supports rates.now rate }
 {
     match rates {
@@ -117,8 +117,8 @@ fn supports(rates: &Rates, rate: u64) -> bool
     }
 }
 
-fn has_lawful_devices(raw: &RawPlan) -> bool
-    ensures { result ≡ has_lawful_devices (asked_board raw.now) }
+fn has_valid_devices(raw: &RawPlan) -> bool
+    ensures { result ≡ has_valid_devices (asked_board raw.now) }
 {
     let domains = raw.domains.len();
     let clocks = raw.clocks.len();

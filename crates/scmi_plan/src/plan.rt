@@ -4,10 +4,10 @@ ghost use Rattle.scmi_codec.specs.declared.payload.TheConstants.{PAYLOAD_WORDS};
 ghost use Rattle.scmi_plan.specs.Agent.{IsAgent, IsNoAgent};
 ghost use Rattle.scmi_plan.specs.declared.agent_channel.TheConstants.{LEAST_CHANNEL_WORDS};
 ghost use Rattle.scmi_plan.specs.Board.{IsChannel, channel_of, with_channel, holds, IsOnBoard, domain_at, clock_at, device_at};
-ghost use Rattle.scmi_plan.specs.Plan.{IsLawful};
+ghost use Rattle.scmi_plan.specs.Plan.{IsValid};
 ghost use Rattle.scmi_plan.specs.PlanError.{first_fault};
 ghost use Rattle.scmi_plan.specs.RawPlan.{asked_board};
-ghost use Rattle.scmi_plan.specs.Rates.{HasLawfulRates};
+ghost use Rattle.scmi_plan.specs.Rates.{HasValidRates};
 ghost use Rattle.scmi_plan.specs.declared.plan_error.PlanError.TheVariants.{Memory};
 
 use crate::agent_channel::{AgentChannel, LEAST_CHANNEL_WORDS, WHOLE_CHANNEL};
@@ -44,11 +44,11 @@ impl Model for Plan {
 
     ghost Value = { Board };
 
-    ghost use Rattle.scmi_plan.specs.Plan.{board_of, IsLawful};
+    ghost use Rattle.scmi_plan.specs.Plan.{board_of, IsValid};
 
     ghost view = { board_of };
 
-    ghost invariant = { λ p. IsLawful (board_of p) };
+    ghost invariant = { λ p. IsValid (board_of p) };
 }
 
 impl Plan {
@@ -61,10 +61,10 @@ impl Plan {
         ensures fault { IfErr result (λ e. e ≢ Memory
             → first_fault (asked_board raw.now) ≡ Some e) }
         ensures memory { IsErrOf result Memory → first_fault (asked_board raw.now) ≡ None }
-        ensures accepted { IsLawful (asked_board raw.now) → IsOkUnless result Memory }
+        ensures accepted { IsValid (asked_board raw.now) → IsOkUnless result Memory }
         // The rules and a valid board are one thing.
         ensures rules { (first_fault (asked_board raw.now) ≡ None)
-            ↔ IsLawful (asked_board raw.now) }
+            ↔ IsValid (asked_board raw.now) }
     {
         match first_fault(raw) {
             Some(fault) => Err(fault),
@@ -73,7 +73,7 @@ impl Plan {
     }
 
     fn build(alloc: Global, raw: &RawPlan) -> Result<Plan, AllocError>
-        requires { IsLawful (asked_board raw.now) }
+        requires { IsValid (asked_board raw.now) }
         ensures { IfOk result (λ plan. plan ≡ asked_board raw.now) }
     {
         Ok(Plan {
@@ -120,7 +120,7 @@ impl Plan {
     /// The number of agents, 1 to 8. They are numbered from 1.
     pub fn agents(&self) -> u32
         ensures count { result ≡ length self.now.agents }
-        ensures lawful { IsLawful self.now }
+        ensures valid { IsValid self.now }
     {
         self.agents.len() as u32
     }
@@ -140,7 +140,7 @@ impl Plan {
         requires first { 1 ≤ agent }
         requires last { agent ≤ length self.now.agents }
         ensures row { result ≡ channel_of self.now agent }
-        ensures lawful { IsChannel result }
+        ensures valid { IsChannel result }
     {
         self.channels[agent as usize - 1]
     }
@@ -171,7 +171,7 @@ impl Plan {
     /// The number of power domains, at most 32. They are numbered from 0.
     pub fn domains(&self) -> u32
         ensures count { result ≡ length self.now.domains }
-        ensures lawful { IsLawful self.now }
+        ensures valid { IsValid self.now }
     {
         self.domains.len() as u32
     }
@@ -187,7 +187,7 @@ impl Plan {
     /// The number of clocks, at most 32. They are numbered from 0.
     pub fn clocks(&self) -> u32
         ensures count { result ≡ length self.now.clocks }
-        ensures lawful { IsLawful self.now }
+        ensures valid { IsValid self.now }
     {
         self.clocks.len() as u32
     }
@@ -196,7 +196,7 @@ impl Plan {
     pub fn clock(&self, clock: u32) -> &Clock
         requires { clock < length self.now.clocks }
         ensures row { result.now ≡ clock_at self.now clock }
-        ensures lawful { HasLawfulRates (clock_at self.now clock).rates }
+        ensures valid { HasValidRates (clock_at self.now clock).rates }
     {
         &self.clocks[clock as usize]
     }
@@ -204,7 +204,7 @@ impl Plan {
     /// The number of devices, at most 32. They are numbered from 0.
     pub fn devices(&self) -> u32
         ensures count { result ≡ length self.now.devices }
-        ensures lawful { IsLawful self.now }
+        ensures valid { IsValid self.now }
     {
         self.devices.len() as u32
     }

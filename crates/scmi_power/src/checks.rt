@@ -3,7 +3,7 @@ ghost use Rattle.std.specs.Prelude.{◌≡◌, ◌≢◌, ◌≤◌, ◌<◌, �
 ghost use Rattle.scmi_codec.specs.Reply.{bit_0};
 ghost use Rattle.scmi_codec.specs.Status.{status_word};
 ghost use Rattle.scmi_codec.specs.declared.status.Status.TheVariants.{Success, NotFound, NotSupported, Denied, Busy};
-ghost use Rattle.scmi_plan.specs.Plan.{IsLawful};
+ghost use Rattle.scmi_plan.specs.Plan.{IsValid};
 ghost use Rattle.scmi_plan.specs.declared.limits.TheConstants.{AGENTS, DOMAINS};
 ghost use Rattle.scmi_power.specs.PowerReply.{has_notifications, no_domain, supports};
 ghost use Rattle.scmi_power.specs.PowerTable.{may_change, is_busy, set_words, notify_words};
@@ -76,7 +76,7 @@ pub(crate) fn check_domain(plan: &Plan, domain: u32) -> Result<(), Status>
     ensures first { result ≡ (if no_domain plan.now domain then Err NotFound else Ok tt) }
     ensures known { IfOk result (λ u. domain < length plan.now.domains) }
     ensures domain { IfOk result (λ u. domain < DOMAINS) }
-    ensures lawful { IsLawful plan.now }
+    ensures valid { IsValid plan.now }
 {
     if domain >= plan.domains() {
         return Err(Status::NotFound);

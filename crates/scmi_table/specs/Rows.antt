@@ -31,6 +31,7 @@ fixed_text BoardEnd = codes "};\n"
 abbrev pub is_marked : ℕ → Bool
 is_marked byte = (byte == 34) || (byte == 63) || (byte == 92)
 
+-- a byte of a name in a string: marked if C would read it as another
 abbrev pub byte_text : ℕ → List ℕ
 byte_text byte = if is_marked byte then 92 ∷ byte ∷ [] else byte ∷ []
 
@@ -59,6 +60,7 @@ abbrev pub channel_said : List ChannelLine → ℕ → AgentChannel
 channel_said [] agent = whole_channel
 channel_said (line ∷ lines) agent = if line.agent == agent then line.channel else channel_said lines agent
 
+-- the row of an agent
 unfoldable pub agent_text : List ℕ → AgentChannel → List ℕ
 agent_text name channel =
     named_text name ++ member_text (codes "bytes") (channel_bytes channel.words) ++ member_text (codes "one_way") (bit_of channel.one_way) ++ fixed_text RowEnd
@@ -75,6 +77,7 @@ support_text domain =
     member_text (codes "synchronous") (bit_of domain.synchronous) ++ member_text (codes "asynchronous") (bit_of domain.asynchronous)
     ++ member_text (codes "notify") (bit_of domain.notify)
 
+-- the row of a domain
 unfoldable pub domain_text : Domain → List ℕ
 domain_text domain = named_text domain.name ++ member_text (codes "on") (bit_of domain.on) ++ support_text domain ++ fixed_text RowEnd
 
@@ -84,6 +87,7 @@ kind_text first (rates.List list) = member_text (codes "first") first ++ member_
 kind_text first (rates.Steps low high step) =
     rate_member_text (codes "low") low ++ rate_member_text (codes "high") high ++ rate_member_text (codes "step") step
 
+-- the row of a clock
 unfoldable pub clock_text : ℕ → Clock → List ℕ
 clock_text first clock =
     named_text clock.name ++ member_text (codes "enabled") (bit_of clock.enabled) ++ rate_member_text (codes "rate") clock.rate
@@ -104,6 +108,7 @@ abbrev pub place_behind_all : ℕ → List Clock → ℕ
 place_behind_all first [] = first
 place_behind_all first (clock ∷ clocks) = place_behind_all (place_behind first clock.rates) clocks
 
+-- the row of a rate
 unfoldable pub rate_text : ℕ → List ℕ
 rate_text rate = codes "    " ++ decimal rate ++ codes "u,\n"
 
@@ -116,6 +121,7 @@ list_text (rates.Steps low high step) = []
 unfoldable pub set_text : ℕ → List ℕ
 set_text set = codes "0x" ++ digits 16 false set
 
+-- the row of a device
 unfoldable pub device_text : Device → List ℕ
 device_text device =
     fixed_text DomainsStart ++ set_text device.domains ++ fixed_text ClocksStart ++ set_text device.clocks ++ fixed_text RowEnd

@@ -18,7 +18,7 @@ whole text = record { rest = text; number = 0 }
 pub record IsBoardText (text : List ℕ) (said : Described) : Type 0 where
   pub behind : List Line
   pub board_is : described_left (whole text) ≡ Ok (said, behind)
-  pub lawful : first_fault said.0 ≡ None
+  pub valid : first_fault said.0 ≡ None
 
 -- what is written is the tables of a board; where the text is known, it encodes that board
 pub record WritesTable (known : Option (List ℕ)) (old new : Option (List ℕ)) : Type 0 where

@@ -12,7 +12,7 @@ use Rattle.scmi_codec.specs.declared.message.Message.{Message}
 use Rattle.scmi_codec.specs.declared.header.TheConstants.{TOKENS}
 use Rattle.scmi_link.specs.View.{CallerView, CalleeView}
 use Rattle.scmi_plan.specs.Board.{Board, channel_of}
-use Rattle.scmi_plan.specs.Plan.{IsLawful}
+use Rattle.scmi_plan.specs.Plan.{IsValid}
 use Rattle.scmi_plan.specs.declared.agent_channel.TheConstants.{LEAST_CHANNEL_WORDS}
 use Rattle.scmi_core.specs.declared.event.Event.{Event}
 use Rattle.scmi_core.specs.declared.event.Event.TheVariants.{Command, Advance, Sent, CommandFailed, AdvanceFailed, Restarted}
@@ -20,7 +20,7 @@ use Rattle.scmi_core.specs.Deed.{fold_with_prefix}
 use Rattle.scmi_core.specs.History.{answer_to, scmi}
 use Rattle.scmi_core.specs.Agents.{frame_from, frames_of, answer_for, answers_to}
 use Rattle.scmi_core.specs.Reply.{failed_answer, fits_channel}
-use Rattle.scmi_core.proofs.Room.{lawful_channel}
+use Rattle.scmi_core.proofs.Room.{valid_channel}
 use Rattle.scmi_ends.specs.AgentView.{AgentView}
 use Rattle.scmi_ends.specs.Headline.{Headline, Headlines}
 use Rattle.scmi_threads.specs.Logs.{IsLogOf}
@@ -81,9 +81,9 @@ by_length : (n words : ℕ) (fits : Bool) (m : Message) (reply : Message) → fi
 by_length n words true m reply e same least = tt
 by_length n words false m reply e same least = subst (λ k. LEAST_CHANNEL_WORDS < k) same (too_long n words LEAST_CHANNEL_WORDS (sym e) least)
 
-module _ (board : Board) (a : ℕ) (lawful : IsLawful board) where
+module _ (board : Board) (a : ℕ) (valid : IsValid board) where
   answered : (b : ℕ) (m : Message) (before : List Event) → IsAnswerTo (Good m) (answer_to board b (Good m) before)
-  answered b m before = by_length (length m.payload.items) (channel_of board b).words (fits_channel board b m) m (scmi board b m before) refl refl (lawful_channel board b lawful).0
+  answered b m before = by_length (length m.payload.items) (channel_of board b).words (fits_channel board b m) m (scmi board b m before) refl refl (valid_channel board b valid).0
 
   by_own : (own : Bool) (b : ℕ) (f : Frame) (before : List Event) (rest : List Frame) → All IsGood (cons_option (if own then Some f else None) rest) → AllZip IsAnswerTo (with_frame (if own then Some f else None)) (if own then answer_to board b f before ∷ [] else []) × All IsGood rest
   by_own true b (Good m) before rest h = ((answered b m before, tt), All-tail IsGood (Good m) rest h)
@@ -117,12 +117,12 @@ module _ (board : Board) (a : ℕ) (lawful : IsLawful board) where
   unfolding frames_of answers_to
   all_answered h good = from [] [] [] h tt good
 
-module _ (board : Board) (lawful : IsLawful board) where
+module _ (board : Board) (valid : IsValid board) where
   undisturbed : (h : List Event) (a : ℕ) (e : AgentView) (d : CalleeView) (c : CallerView) (log : AgentLog) → Headline board h a e d c → d.closed ≡ false → IsLogOf e log → IsUndisturbed e.caller
   undisturbed h a e d c log p o is =
       let posted : All IsGood e.caller.posted = subst (All IsGood) is.posted (all_good log.posted.items (subst (All HasToken) (sym log.tokens_are) (all_have_tokens (length log.posted.items)))) in
       let executed : All IsGood (frames_of a h) = elim (p.commands.executed) [ inl same ↦ subst (All IsGood) (sym same) posted | inr most ↦ all_first IsGood (frames_of a h) (most.0 ∷ []) (subst (All IsGood) most.1 posted) ] in
-      let answers : AllZip IsAnswerTo (frames_of a h) (e.caller.read ++ p.commands.replies.0) = subst (AllZip IsAnswerTo (frames_of a h)) (sym p.commands.replies.1) (all_answered board a lawful h executed) in
+      let answers : AllZip IsAnswerTo (frames_of a h) (e.caller.read ++ p.commands.replies.0) = subst (AllZip IsAnswerTo (frames_of a h)) (sym p.commands.replies.1) (all_answered board a valid h executed) in
       record {
         told = never_told e.caller.told d.closed p.commands.agent_told o;
         answers = elim (p.commands.executed) [ inl same ↦ subst (λ fs. AreAnswersTo fs e.caller.read) (append-nil (frames_of a h) ∙ same) (of_first (frames_of a h) [] e.caller.read p.commands.replies.0 answers) | inr most ↦ subst (λ fs. AreAnswersTo fs e.caller.read) (sym most.1) (of_first (frames_of a h) (most.0 ∷ []) e.caller.read p.commands.replies.0 answers) ];

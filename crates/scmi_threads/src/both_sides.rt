@@ -10,13 +10,14 @@ use crate::gate::Gate;
 use crate::platform_side::run_rounds;
 use crate::script_run::ScriptRun;
 use scmi_core::Hardware;
-use scmi_ends::{Controller, Link};
+use scmi_ends::{Controller, Link, Processors};
 use scmi_link::Channel;
 use std::sync::Wait;
 use std::sync::atomic::AtomicUsize;
 use std::thread::{Threads, join};
 
-/// Runs the scripts of all agents beside the controller's rounds, whose thread has the hardware.
+/// Runs the scripts of all agents beside the controller's rounds, whose thread has the hardware, on
+/// these processors.
 /// Returns whether the rounds were refused memory.
 pub(crate) fn run_beside<
     'a,
@@ -27,6 +28,7 @@ pub(crate) fn run_beside<
 >(
     rt: &R,
     gate: &G,
+    processors: Processors,
     hardware: H,
     links: &[Link<C>],
     controller: Controller<C>,
@@ -49,7 +51,7 @@ pub(crate) fn run_beside<
             ensures goes_on { GoesOn C.identity links.entry.now controller (H.applied hardware)
                 result.0 (H.applied result.2) }
             ensures memory { result.1 ≡ true → result.0.room ≡ 0 }
-        { run_rounds(rt, links, &ended, controller, hardware) },
+        { run_rounds(rt, processors, links, &ended, controller, hardware) },
         || -> Vec<ScriptRun<C>>
             ensures { AllZip (HasPlayed C.FULL (G.asked gate.entry.now)) script_runs.entry.items result.items }
         { run_scripts(rt, gate, &ended, script_runs) },

@@ -9,6 +9,7 @@ use crate::line::Line;
 use crate::script_run::ScriptRun;
 use crate::stop::Stop;
 use scmi_codec::{Answer, Frame, Header, Message, Payload, payload_of};
+use scmi_ends::Pause;
 use scmi_link::{Channel, Collected, PostError};
 use std::sync::Wait;
 
@@ -148,7 +149,8 @@ impl<'a, C: Channel> ScriptRun<'a, C> {
         ensures rest { LeavesRest self.old.end.caller self.new.end.caller self.old.log
             self.new.log }
     {
-        let waited = self.end.wait_counted(rt, self.link, TURNS);
+        let pause = Pause::on(self.processors);
+        let waited = self.end.wait_counted(rt, self.link, TURNS, pause);
         self.log.reply_looks = self.log.reply_looks.wrapping_add(u64::from(waited.looks));
         match waited.answer {
             Collected::Got(answer) => {

@@ -6,7 +6,7 @@ ghost use Rattle.scmi_core.specs.History.{deeds};
 ghost use Rattle.scmi_core.specs.Legal.{IsLegal};
 ghost use Rattle.scmi_ends.specs.Each.{AllFrom};
 ghost use Rattle.scmi_ends.specs.Links.{HasLinks, AreEndsOf};
-ghost use Rattle.scmi_plan.specs.Plan.{IsLawful};
+ghost use Rattle.scmi_plan.specs.Plan.{IsValid};
 ghost use Rattle.scmi_threads.specs.Logs.{IsLogOf, LogHeadline};
 ghost use Rattle.scmi_threads.specs.Orders.{IsUndisturbed};
 ghost use Rattle.scmi_threads.specs.Rounds.{IsOpenToAll};
@@ -24,7 +24,7 @@ pub(crate) fn conclude<C: Channel>(
     logs: Vec<AgentLog>,
     memory: bool,
 ) -> Outcome
-    requires lawful { IsLawful controller.board }
+    requires valid { IsValid controller.board }
     requires links { HasLinks C.identity links.items controller }
     requires open_ends { IsOpenToAll controller }
     requires ends { AreEndsOf C.identity links.items ends.items }

@@ -37,7 +37,7 @@ impl<'a, C: Channel> ScriptRun<'a, C> {
         ensures looks { HasLookedFor result self.old.log self.new.log }
     {
         self.log.reserve_message()?;
-        let mut pause = Pause::new();
+        let mut pause = Pause::on(self.processors);
         'turns: for _ in 0..TURNS {
             if self.look() {
                 return Ok(());

@@ -4,15 +4,17 @@ ghost use Rattle.scmi_ends.specs.Links.{HasLinks};
 ghost use Rattle.scmi_threads.specs.Rounds.{IsOpenToAll, GoesOn};
 
 use scmi_core::Hardware;
-use scmi_ends::{Controller, Link, ServeError};
+use scmi_ends::{Controller, Link, Processors, ServeError};
 use scmi_link::Channel;
 use std::sync::Wait;
 use std::sync::atomic::{AtomicUsize, Ordering};
+use std::thread::yield_now;
 
 /// Runs rounds until one after all scripts have ended, or one that was refused memory. Returns
-/// whether memory was refused.
+/// whether memory was refused. On one processor the agents have their turn after each round.
 pub(crate) fn run_rounds<C: Channel, H: Hardware, R: Wait>(
     rt: &R,
+    processors: Processors,
     links: &[Link<C>],
     ended: &AtomicUsize,
     mut controller: Controller<C>,
@@ -31,6 +33,9 @@ pub(crate) fn run_rounds<C: Channel, H: Hardware, R: Wait>(
         memory = matches!(round, Err(ServeError::Memory));
         if round.is_err() || last {
             break;
+        }
+        if processors == Processors::One {
+            yield_now();
         }
     }
     (controller, memory, hardware)

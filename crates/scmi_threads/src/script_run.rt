@@ -8,14 +8,16 @@ use crate::agent_log::AgentLog;
 use crate::gate::Gate;
 use crate::order::Order;
 use crate::stop::Stop;
-use scmi_ends::{AgentEnd, Link};
+use scmi_ends::{AgentEnd, Link, Processors};
 use scmi_link::Channel;
 use std::alloc::Global;
 use std::sync::Wait;
 
 /// An agent's endpoint, beside its link and its script, and a log of what was done at the endpoint.
+/// It waits as threads on these processors do.
 #[derive(Drop)]
 pub struct ScriptRun<'a, C: Channel> {
+    pub processors: Processors,
     pub link: &'a Link<C>,
     pub script: &'a [Order],
     pub end: AgentEnd<C>,
@@ -41,6 +43,7 @@ impl<'a, C: Channel> ScriptRun<'a, C> {
     /// The run of a script that has done nothing, with an empty log.
     pub(crate) fn new(
         alloc: Global,
+        processors: Processors,
         link: &'a Link<C>,
         script: &'a [Order],
         end: AgentEnd<C>,
@@ -51,6 +54,7 @@ impl<'a, C: Channel> ScriptRun<'a, C> {
         ensures log { IsEmptyLog result.log }
     {
         ScriptRun {
+            processors,
             link,
             script,
             end,

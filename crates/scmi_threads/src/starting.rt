@@ -12,13 +12,14 @@ use crate::agent_log::AgentLog;
 use crate::order::Order;
 use crate::script::Script;
 use crate::script_run::ScriptRun;
-use scmi_ends::{AgentEnd, Link};
+use scmi_ends::{AgentEnd, Link, Processors};
 use scmi_link::Channel;
 use std::alloc::{AllocError, Global};
 
-/// The run of a script for each agent, in order, with its link and its script.
+/// The run of a script for each agent, in order, with its link and its script, on these processors.
 pub(crate) fn start_runs<'a, C: Channel>(
     alloc: Global,
+    processors: Processors,
     links: &'a [Link<C>],
     scripts: &'a [Script],
     mut ends: Vec<AgentEnd<C>>,
@@ -37,7 +38,7 @@ pub(crate) fn start_runs<'a, C: Channel>(
     'links: for i in 0..links.len() {
         let end = ends.remove(0);
         let script = script_of(scripts, end.id());
-        let script_run = ScriptRun::new(alloc, &links[i], script, end);
+        let script_run = ScriptRun::new(alloc, processors, &links[i], script, end);
         script_runs.push(script_run)?;
     }
     Ok(script_runs)
@@ -74,6 +75,7 @@ pub(crate) fn end_runs<C: Channel>(
 {
     'script_runs: while !script_runs.is_empty() {
         let ScriptRun {
+            processors: _,
             link: _,
             script: _,
             end,

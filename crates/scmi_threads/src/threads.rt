@@ -18,7 +18,7 @@ use crate::outcome::Outcome;
 use crate::script::Script;
 use crate::starting::{end_runs, start_runs};
 use scmi_core::{Core, Hardware, NoHardware};
-use scmi_ends::connect;
+use scmi_ends::{Processors, connect};
 use scmi_link::Channel;
 use scmi_plan::Plan;
 use std::alloc::{AllocError, Global};
@@ -115,7 +115,8 @@ pub fn run_agents_on<C: Channel, G: Gate, H: Hardware + Send + Drop, R: Threads 
     let Ok((controller, links, ends)) = connect::<C>(alloc, core) else {
         return (Err(AllocError), hardware);
     };
-    let Ok(script_runs) = start_runs(alloc, &links, scripts, ends) else {
+    let processors = Processors::allowed(rt);
+    let Ok(script_runs) = start_runs(alloc, processors, &links, scripts, ends) else {
         return (Err(AllocError), hardware);
     };
     // What gives the endpoints and the logs back takes no memory, so that it cannot be refused.
@@ -128,6 +129,7 @@ pub fn run_agents_on<C: Channel, G: Gate, H: Hardware + Send + Drop, R: Threads 
     let ((controller, memory, hardware), script_runs) = run_beside(
         rt,
         gate,
+        processors,
         hardware,
         &links,
         controller,

@@ -12,7 +12,7 @@ use Rattle.scmi_codec.specs.declared.frame.Frame.{Frame}
 use Rattle.scmi_codec.specs.declared.frame.Frame.TheVariants.{Good, Malformed}
 use Rattle.scmi_codec.proofs.AreaLemmas.{frame_of-good}
 use Rattle.scmi_codec.proofs.WordLemmas.{word_at-put_word, word_at-put_words_other, words_at-put_words, length-put_word, length-put_words, get_or-put_words, get_or-put_word, put_words-push}
-use Rattle.scmi_words.specs.Area.{Begins, IsLawful, frame_words}
+use Rattle.scmi_words.specs.Area.{Begins, IsValid, frame_words}
 use Rattle.scmi_words.specs.WordImage.{area_of, fresh_area}
 use Rattle.scmi_words.specs.declared.layout.TheConstants.{TABLE_WORDS}
 use Rattle.scmi_codec.specs.declared.area.TheConstants.{AREA_BYTES}
@@ -94,7 +94,7 @@ module _ (words : List ℕ) (wide : length words ≡ TABLE_WORDS) (narrow : (i :
       ∙ (get_or-put_word 0x04 S zeros i (omega (arith, size_zeros)) (inr (omega arith)) ∙ is_zero i (omega arith))
 
   -- the area holds the frame whose words stand from the length on
-  pub area_frame : (f : Frame) → IsLawful f → Begins words (frame_words f) → frame_of area ≡ f
+  pub area_frame : (f : Frame) → IsValid f → Begins words (frame_words f) → frame_of area ≡ f
   area_frame (Good m) h b =
       let el : length_at area ≡ 4 + 4 * length m.payload.items = area_word 2 (omega arith) (omega arith) ∙ b 0 (omega arith) in
       let eh : header_at area ≡ header_word m.header = area_word 3 (omega arith) (omega arith) ∙ b 1 (omega arith) in

@@ -14,7 +14,7 @@ use Rattle.scmi_words.specs.declared.view.CalleeState.{CalleeState}
 use Rattle.scmi_words.specs.declared.view.CallerHalf.{CallerHalf}
 use Rattle.scmi_words.specs.declared.view.CalleeHalf.{CalleeHalf}
 use Rattle.scmi_words.specs.declared.view.View.{View}
-use Rattle.scmi_words.specs.Area.{Begins, IsLawful, IsLawfulAnswer, frame_words, settled_words, stored_words, answer_of}
+use Rattle.scmi_words.specs.Area.{Begins, IsValid, IsValidAnswer, frame_words, settled_words, stored_words, answer_of}
 use Rattle.scmi_words.specs.StatusWord.{Mark, status_word, answer_mark, settled_mark}
 use Rattle.scmi_words.specs.Mailbox.{Rule, HalvesAgree, Stage, IsTaken, idle, posted, taken, answered, withdrawn}
 use Rattle.scmi_words.specs.View.{with_callee, callee_or}
@@ -35,9 +35,9 @@ answer_area words c k (Reply m) a t is = begins_after_status words (stored_words
 answer_area words c k Released a t is = subst (λ (o : Option Frame). Begins (set words 0 a) (settled_words (Some Released) o)) (sym t.last) (begins_after_status words (frame_words t.frame) a (t.area is))
 answer_area words c k ChannelError a t is = subst (λ (o : Option Frame). Begins (set words 0 a) (settled_words (Some ChannelError) o)) (sym t.last) (begins_after_status words (frame_words t.frame) a (t.area is))
 
-answer_keeps : (words : List ℕ) (h : CallerHalf) (k : CalleeHalf) (x : Answer) (a : ℕ) → Rule words h k → IsOwing k → IsLawfulAnswer x → k.state.draft ≡ stored_words x → a ≡ status_word (answer_mark x) false
+answer_keeps : (words : List ℕ) (h : CallerHalf) (k : CalleeHalf) (x : Answer) (a : ℕ) → Rule words h k → IsOwing k → IsValidAnswer x → k.state.draft ≡ stored_words x → a ≡ status_word (answer_mark x) false
     → Rule (set words 0 a) h (callee_answered k x)
-answer_keeps words h k x a r owes lawful is status = let wide = r.wide in let t = is_taken words h.state k.state r.stage owes in let more = length-append k.state.answered (x ∷ []) in let shown = r.shown in record {
+answer_keeps words h k x a r owes valid is status = let wide = r.wide in let t = is_taken words h.state k.state r.stage owes in let more = length-append k.state.answered (x ∷ []) in let shown = r.shown in record {
   wide = length-set words 0 a ∙ wide;
   flags = get_or-set_other words 0 1 a 0 (λ e. omega arith) ∙ r.flags;
   narrow = narrow_status words a r.narrow;
@@ -51,8 +51,8 @@ answer_keeps words h k x a r owes lawful is status = let wide = r.wide in let t 
     no_draft = refl;
     status = get_or-set_same words 0 a 0 (omega arith) ∙ (status ∙ (λ i. status_word (answer_mark x) (sym t.unclosed.0 i || sym t.unclosed.1 i)));
     area = answer_area words h.state k.state x a t is;
-    lawful = lawful;
-    lawful_frame = λ f e. subst IsLawful (some_is t.frame f (sym t.last ∙ e)) t.lawful;
+    valid = valid;
+    valid_frame = λ f e. subst IsValid (some_is t.frame f (sym t.last ∙ e)) t.valid;
   };
   caller_told = r.caller_told;
   callee_told = r.callee_told;
@@ -64,23 +64,23 @@ answer_keeps words h k x a r owes lawful is status = let wide = r.wide in let t 
     some_is : (x y : Frame) → Some x ≡ Some y → x ≡ y
     some_is x y e = cc
 
-answer_decoded : (x : Answer) → IsLawfulAnswer x → answer_of (status_word (answer_mark x) false) (stored_words x) ≡ x
+answer_decoded : (x : Answer) → IsValidAnswer x → answer_of (status_word (answer_mark x) false) (stored_words x) ≡ x
 answer_decoded (Reply m) l = ap (λ (h : HeaderFields). Reply record { header = h; payload = m.payload }) l.header
 answer_decoded Released l = refl
 answer_decoded ChannelError l = refl
 
-pub answers_allowed : (slots id : ℕ) (me : M) (h : CalleeHalf) (x : Answer) (a : ℕ) → me.0.callee ≡ Some h → IsOwing h → IsLawfulAnswer x → h.state.draft ≡ stored_words x → a ≡ status_word (answer_mark x) false
+pub answers_allowed : (slots id : ℕ) (me : M) (h : CalleeHalf) (x : Answer) (a : ℕ) → me.0.callee ≡ Some h → IsOwing h → IsValidAnswer x → h.state.draft ≡ stored_words x → a ≡ status_word (answer_mark x) false
     → Allows HalvesAgree slots id me 0 (λ n. either (eqb n TAKEN) a n) (answers (step slots 0 TAKEN a none) me)
-answers_allowed slots id me h x a is owes lawful as_stored status s r _ at _ =
+answers_allowed slots id me h x a is owes valid as_stored status s r _ at _ =
     let n : ℕ = get_or s.words 0 0 in let c = r.caller in let rule = callee_known s r id me.0 h at is in let t = is_taken s.words c.state h.state rule.stage owes in
     let found : n ≡ TAKEN = t.status ∙ (λ i. status_word Mark.taken (t.unclosed.0 i || t.unclosed.1 i)) in let h' = callee_answered h x in
-    let decoded : answer_of a h.state.draft ≡ x = (λ i. answer_of (status i) (as_stored i)) ∙ answer_decoded x lawful in
+    let decoded : answer_of a h.state.draft ≡ x = (λ i. answer_of (status i) (as_stored i)) ∙ answer_decoded x valid in
     exchanged n TAKEN a (λ z. (w : View) × (act : _) × Valid s.homes me.1 act × HalvesAgree (stepped s 0 z id me.1 w act) × answers (step slots 0 TAKEN a none) me n (w, carried_after me.1 act))
     (λ hit. (
       with_callee me.0 h',
       keeps,
       tt,
-      callee_moves s r id 0 a me.0 h h' at is (answer_keeps s.words c h x a rule owes lawful as_stored status),
+      callee_moves s r id 0 a me.0 h h' at is (answer_keeps s.words c h x a rule owes valid as_stored status),
       λ g e. (h', refl, subst (λ (z : CalleeHalf). h' ≡ callee_answered z (answer_of a z.state.draft)) (ap callee_or (sym is ∙ e)) (ap (callee_answered h) (sym decoded))),
     ))
     (λ miss. absurd (miss found))
@@ -107,8 +107,8 @@ module _ (words : List ℕ) (c : CallerState) (k : CalleeState) (wide : length w
     status = now_closed (settled_mark (last_or None k.answered)) x.status;
     area = λ e. begins_after_status words (settled_words (last_or None k.answered) (last_or None k.taken)) Bits (x.area e);
     draft = begins_after_status words c.draft Bits x.draft;
-    lawful = x.lawful;
-    lawful_frame = x.lawful_frame;
+    valid = x.valid;
+    valid_frame = x.valid_frame;
   }
   close_stage (posted x) done = posted record {
     frame = x.frame;
@@ -121,7 +121,7 @@ module _ (words : List ℕ) (c : CallerState) (k : CalleeState) (wide : length w
     no_draft = x.no_draft;
     status = now_closed Mark.posted x.status;
     area = begins_after_status words (frame_words x.frame) Bits x.area;
-    lawful = x.lawful;
+    valid = x.valid;
   }
   close_stage (taken x) done = absurd (done x.answered)
   close_stage (answered x) done = answered record {
@@ -134,8 +134,8 @@ module _ (words : List ℕ) (c : CallerState) (k : CalleeState) (wide : length w
     no_draft = x.no_draft;
     status = now_closed (answer_mark x.answer) x.status;
     area = begins_after_status words (settled_words (Some x.answer) (last_or None k.taken)) Bits x.area;
-    lawful = x.lawful;
-    lawful_frame = x.lawful_frame;
+    valid = x.valid;
+    valid_frame = x.valid_frame;
   }
   close_stage (withdrawn x) done = withdrawn record {
     frame = x.frame;
@@ -147,7 +147,7 @@ module _ (words : List ℕ) (c : CallerState) (k : CalleeState) (wide : length w
     no_draft = x.no_draft;
     status = now_closed Mark.free x.status;
     area = begins_after_status words (frame_words x.frame) Bits x.area;
-    lawful = x.lawful;
+    valid = x.valid;
   }
 
 pub closes_allowed : (slots id : ℕ) (me : M) (h : CalleeHalf) → me.0.callee ≡ Some h → (IsOwing h → ⊥) → Allows HalvesAgree slots id me 0 (λ n. bit_or n CLOSED) (closes (step slots 0 CLOSED 0 none) me)

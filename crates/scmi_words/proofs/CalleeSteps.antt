@@ -70,7 +70,7 @@ store_keeps words h k j a r p here fits small = let wide = r.wide in let x = is_
     last = x.last;
     area = λ e. absurd (snoc_not_nil k.state.draft a e);
     draft = begins_more words k.state.draft j a here at x.draft;
-    lawful = x.lawful;
+    valid = x.valid;
   };
   caller_told = r.caller_told;
   callee_told = r.callee_told;
@@ -157,7 +157,7 @@ module _ (words : List ℕ) (h : CallerHalf) (k : CalleeHalf) where
       last = last_snoc None k.state.taken x.frame;
       area = λ _. begins_after_status words (frame_words x.frame) TAKEN x.area;
       draft = λ i lt. absurd (omega arith);
-      lawful = x.lawful;
+      valid = x.valid;
     };
     caller_told = r.caller_told;
     callee_told = r.callee_told;
@@ -179,7 +179,7 @@ takes_allowed slots id me h is s r _ at _ =
       keeps,
       tt,
       callee_moves s r id 0 TAKEN me.0 h h' at is (take_keeps s.words c h rule p.0 p.1),
-      λ g e. (h', refl, ((λ _. (p.0.frame, p.0.lawful, ap (λ (z : CalleeHalf). callee_took z p.0.frame) (same g e))), λ not. absurd (not hit))),
+      λ g e. (h', refl, ((λ _. (p.0.frame, p.0.valid, ap (λ (z : CalleeHalf). callee_took z p.0.frame) (same g e))), λ not. absurd (not hit))),
     ))
     (λ miss. let h' = callee_looked h n in (
       with_callee me.0 h',

@@ -36,8 +36,8 @@ close_stage words c k wide (idle x) p = let m : Mark = settled_mark (last_or Non
   status = get_or-set_same words 0 a 0 (omega arith) ∙ (ap (λ (z : ℕ). bit_or z CLOSED) x.status ∙ or_closed m (c.closed || k.closed));
   area = λ e. begins_after_status words _ a (x.area e);
   draft = begins_after_status words _ a x.draft;
-  lawful = x.lawful;
-  lawful_frame = x.lawful_frame;
+  valid = x.valid;
+  valid_frame = x.valid_frame;
 }
 close_stage words c k wide (posted x) p = let a : ℕ = bit_or (get_or words 0 0) CLOSED in posted record {
   frame = x.frame;
@@ -50,7 +50,7 @@ close_stage words c k wide (posted x) p = let a : ℕ = bit_or (get_or words 0 0
   no_draft = x.no_draft;
   status = get_or-set_same words 0 a 0 (omega arith) ∙ (ap (λ (z : ℕ). bit_or z CLOSED) x.status ∙ or_closed Mark.posted (c.closed || k.closed));
   area = begins_after_status words _ a x.area;
-  lawful = x.lawful;
+  valid = x.valid;
 }
 close_stage words c k wide (taken x) p = absurd (p x.phase)
 close_stage words c k wide (answered x) p = absurd (p x.phase)
@@ -64,7 +64,7 @@ close_stage words c k wide (withdrawn x) p = let a : ℕ = bit_or (get_or words 
   no_draft = x.no_draft;
   status = get_or-set_same words 0 a 0 (omega arith) ∙ (ap (λ (z : ℕ). bit_or z CLOSED) x.status ∙ or_closed Mark.free (c.closed || k.closed));
   area = begins_after_status words _ a x.area;
-  lawful = x.lawful;
+  valid = x.valid;
 }
 
 pub plain_closes : (slots id : ℕ) (me : M) (h : CallerHalf) → me.0.caller ≡ Some h → (h.state.phase ≡ Waiting → ⊥)
@@ -112,7 +112,7 @@ withdraw_keeps words h k r x = let wide = r.wide in record {
     no_draft = x.no_draft;
     status = get_or-set_same words 0 (CLOSED + FREE) 0 (omega arith);
     area = begins_after_status words (frame_words x.frame) (CLOSED + FREE) x.area;
-    lawful = x.lawful;
+    valid = x.valid;
   };
   caller_told = r.caller_told;
   callee_told = λ _. refl;
@@ -172,7 +172,7 @@ module _ (words : List ℕ) (h : CallerHalf) (k : CalleeHalf) (waits : h.state.p
         no_draft = x.no_draft;
         status = x.status;
         area = x.area;
-        lawful = x.lawful;
+        valid = x.valid;
       };
       caller_told = r.caller_told;
       callee_told = r.callee_told;

@@ -7,7 +7,7 @@ use Rattle.scmi_words.specs.declared.phase.Phase.TheVariants.{Idle, Waiting, Wit
 use Rattle.scmi_words.specs.declared.view.CallerHalf.{CallerHalf}
 use Rattle.scmi_words.specs.declared.view.CalleeHalf.{CalleeHalf}
 use Rattle.scmi_words.specs.declared.view.View.{View}
-use Rattle.scmi_words.specs.Area.{Begins, IsLawfulAnswer, settled_words}
+use Rattle.scmi_words.specs.Area.{Begins, IsValidAnswer, settled_words}
 use Rattle.scmi_words.specs.StatusWord.{Mark, status_word, answer_mark, settled_mark}
 use Rattle.scmi_words.specs.Mailbox.{Rule, HalvesAgree, Stage, IsPosted, IsAnswered, idle, posted, taken, answered, withdrawn}
 use Rattle.scmi_words.specs.View.{with_caller, caller_or}
@@ -61,7 +61,7 @@ module _ (words : List ℕ) (h : CallerHalf) (k : CalleeHalf) where
         no_draft = x.no_draft;
         status = x.status;
         area = x.area;
-        lawful = x.lawful;
+        valid = x.valid;
       };
       caller_told = told_right Mark.posted h.state.closed k.state.closed h.told N x.status r.caller_told;
       callee_told = r.callee_told;
@@ -91,8 +91,8 @@ module _ (words : List ℕ) (h : CallerHalf) (k : CalleeHalf) where
             status = x.status ∙ ap (λ (o : Option _). status_word (settled_mark o) Both) (sym last);
             area = λ _. subst (λ (o : Option _). Begins words (settled_words o (last_or None k.state.taken))) (sym last) x.area;
             draft = λ i lt. absurd (omega arith);
-            lawful = λ y e. subst IsLawfulAnswer (some_is x.answer y (sym last ∙ e)) x.lawful;
-            lawful_frame = x.lawful_frame;
+            valid = λ y e. subst IsValidAnswer (some_is x.answer y (sym last ∙ e)) x.valid;
+            valid_frame = x.valid_frame;
           };
           caller_told = r.caller_told;
           callee_told = r.callee_told;
@@ -100,7 +100,7 @@ module _ (words : List ℕ) (h : CallerHalf) (k : CalleeHalf) where
           callee_final = r.callee_final;
           shown = r.shown;
         },
-        (λ _. ((λ _. (x.answer, refl, (Both, x.status), x.lawful)), (λ e. absurd (let f : CLOSED % 2 ≡ 1 = ap (λ (z : ℕ). z % 2) (sym e) ∙ odd in omega arith)), λ ne _. absurd (ne odd))),
+        (λ _. ((λ _. (x.answer, refl, (Both, x.status), x.valid)), (λ e. absurd (let f : CLOSED % 2 ≡ 1 = ap (λ (z : ℕ). z % 2) (sym e) ∙ odd in omega arith)), λ ne _. absurd (ne odd))),
         λ no. absurd (no x.phase),
       )
     where

@@ -12,7 +12,7 @@ use Rattle.scmi_words.specs.declared.view.CalleeState.{CalleeState}
 use Rattle.scmi_words.specs.declared.view.CallerHalf.{CallerHalf}
 use Rattle.scmi_words.specs.declared.view.CalleeHalf.{CalleeHalf}
 use Rattle.scmi_words.specs.declared.view.View.{View}
-use Rattle.scmi_words.specs.Area.{Begins, IsLawful, frame_words, frame_in, settled_words}
+use Rattle.scmi_words.specs.Area.{Begins, IsValid, frame_words, frame_in, settled_words}
 use Rattle.scmi_words.specs.StatusWord.{Mark, status_word, settled_mark}
 use Rattle.scmi_words.specs.Mailbox.{Rule, HalvesAgree, Stage, IsIdle, idle, posted, taken, answered, withdrawn}
 use Rattle.scmi_words.specs.View.{with_caller, caller_or}
@@ -51,8 +51,8 @@ store_keeps words h k j a r p here fits small = let wide = r.wide in let x = is_
     status = get_or-set_other words j 0 a 0 (λ e. omega arith) ∙ x.status;
     area = λ e. absurd (snoc_not_nil h.state.draft a e);
     draft = begins_more words h.state.draft j a here at x.draft;
-    lawful = x.lawful;
-    lawful_frame = x.lawful_frame;
+    valid = x.valid;
+    valid_frame = x.valid_frame;
   };
   caller_told = r.caller_told;
   callee_told = r.callee_told;
@@ -91,8 +91,8 @@ counts words h h' k r same final told shown = record {
 }
 
 post_keeps : (words : List ℕ) (h : CallerHalf) (k : CalleeHalf) → Rule words h k → h.state.phase ≡ Idle → h.state.closed ≡ false → k.state.closed ≡ false
-    → (f : Frame) → h.state.draft ≡ frame_words f → IsLawful f → Rule (set words 0 0) (caller_posted h f) k
-post_keeps words h k r p mine other f as_frame lawful = let wide = r.wide in let x = is_idle words h.state k.state r.stage p in record {
+    → (f : Frame) → h.state.draft ≡ frame_words f → IsValid f → Rule (set words 0 0) (caller_posted h f) k
+post_keeps words h k r p mine other f as_frame valid = let wide = r.wide in let x = is_idle words h.state k.state r.stage p in record {
   wide = length-set words 0 0 ∙ wide;
   flags = get_or-set_other words 0 1 0 0 (λ e. omega arith) ∙ r.flags;
   narrow = narrow_status words 0 r.narrow;
@@ -107,7 +107,7 @@ post_keeps words h k r p mine other f as_frame lawful = let wide = r.wide in let
     no_draft = x.no_draft;
     status = get_or-set_same words 0 0 0 (omega arith) ∙ sym (ap (λ (b : Bool × Bool). status_word Mark.posted (b.0 || b.1)) (λ i. (mine i, other i)));
     area = begins_after_status words (frame_words f) 0 (subst (Begins words) as_frame x.draft);
-    lawful = lawful;
+    valid = valid;
   };
   caller_told = r.caller_told;
   callee_told = r.callee_told;
@@ -117,20 +117,20 @@ post_keeps words h k r p mine other f as_frame lawful = let wide = r.wide in let
 }
 
 pub posts_allowed : (slots id : ℕ) (me : M) (h : CallerHalf) (old : ℕ) → me.0.caller ≡ Some h → h.state.phase ≡ Idle → h.state.closed ≡ false
-    → old ≡ status_word (settled_mark (last_or None h.state.read)) false → (f : Frame) → h.state.draft ≡ frame_words f → IsLawful f
+    → old ≡ status_word (settled_mark (last_or None h.state.read)) false → (f : Frame) → h.state.draft ≡ frame_words f → IsValid f
     → Allows HalvesAgree slots id me 0 (λ n. either (eqb n old) 0 n) (posts (step slots 0 old 0 none) me)
-posts_allowed slots id me h old is p mine expected f as_frame lawful s r _ at _ =
+posts_allowed slots id me h old is p mine expected f as_frame valid s r _ at _ =
     let n : ℕ = get_or s.words 0 0 in let k = r.callee in let rule = caller_known s r id me.0 h at is in let x = is_idle s.words h.state k.state rule.stage p in
     let m : Mark = settled_mark (last_or None h.state.read) in
     let status : n ≡ status_word m k.state.closed = x.status ∙ (λ i. status_word (settled_mark (last_or None (sym x.read i))) (mine i || k.state.closed)) in
     let same : (g : CallerHalf) → me.0.caller ≡ Some g → h ≡ g = λ g e. ap caller_or (sym is ∙ e) in
-    let posted_same : (g : CallerHalf) → h ≡ g → caller_posted h f ≡ caller_posted g (frame_in g.state.draft) = λ g e. subst (λ (z : CallerHalf). caller_posted h f ≡ caller_posted z (frame_in z.state.draft)) e (ap (caller_posted h) (sym (ap frame_in as_frame ∙ frame_of_words f lawful))) in
+    let posted_same : (g : CallerHalf) → h ≡ g → caller_posted h f ≡ caller_posted g (frame_in g.state.draft) = λ g e. subst (λ (z : CallerHalf). caller_posted h f ≡ caller_posted z (frame_in z.state.draft)) e (ap (caller_posted h) (sym (ap frame_in as_frame ∙ frame_of_words f valid))) in
     exchanged n old 0 (λ z. (w : View) × (a : _) × Rattle.atomic_table.specs.Table.Valid s.homes me.1 a × HalvesAgree (stepped s 0 z id me.1 w a) × posts (step slots 0 old 0 none) me n (w, Rattle.atomic_table.specs.Table.carried_after me.1 a))
     (λ hit. (
       with_caller me.0 (caller_posted h f),
       keeps,
       tt,
-      caller_moves s r id 0 0 me.0 h (caller_posted h f) at is (post_keeps s.words h k rule p mine (same_bit m k.state.closed (sym status ∙ (hit ∙ expected))) f as_frame lawful),
+      caller_moves s r id 0 0 me.0 h (caller_posted h f) at is (post_keeps s.words h k rule p mine (same_bit m k.state.closed (sym status ∙ (hit ∙ expected))) f as_frame valid),
       λ g e. (caller_posted h f, refl, ((λ _. posted_same g (same g e)), λ not. absurd (not hit))),
     ))
     (λ miss. (

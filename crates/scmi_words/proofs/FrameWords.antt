@@ -7,7 +7,7 @@ use Rattle.scmi_codec.specs.Area.{is_well_formed}
 use Rattle.scmi_codec.specs.declared.message.Message.{Message}
 use Rattle.scmi_codec.specs.declared.frame.Frame.{Frame}
 use Rattle.scmi_codec.specs.declared.frame.Frame.TheVariants.{Good, Malformed}
-use Rattle.scmi_words.specs.Area.{IsLawful, IsLawfulMessage, frame_in, frame_words}
+use Rattle.scmi_words.specs.Area.{IsValid, IsValidMessage, frame_in, frame_words}
 use Rattle.scmi_codec.specs.declared.payload.TheConstants.{PAYLOAD_WORDS}
 use Rattle.scmi_words.proofs.Picks.{message_in}
 
@@ -18,15 +18,15 @@ well_formed_test k h = grind (arith, nat_tests)
 pub well_formed_few : (l : ℕ) → is_well_formed l ≡ true → (l / 4 - 1 ≤ PAYLOAD_WORDS) × (l ≡ 4 + 4 * (l / 4 - 1))
 well_formed_few l e = let a : 4 ≤ l = grind (arith, nat_tests) in let b : l ≤ 4 + 4 * PAYLOAD_WORDS = grind (arith, nat_tests) in let d : l % 4 ≡ 0 = grind (arith, nat_tests) in (omega arith, omega arith)
 
-pub unpacked : (m : Message) → IsLawfulMessage m → (let w : Message = record { header = header_of (header_word m.header); payload = m.payload } in w) ≡ m
+pub unpacked : (m : Message) → IsValidMessage m → (let w : Message = record { header = header_of (header_word m.header); payload = m.payload } in w) ≡ m
 unpacked m h = ap (λ (z : HeaderFields). let w : Message = record { header = z; payload = m.payload } in w) h.header
 
-pub frame_of_words : (f : Frame) → IsLawful f → frame_in (frame_words f) ≡ f
+pub frame_of_words : (f : Frame) → IsValid f → frame_in (frame_words f) ≡ f
 frame_of_words (Good m) h = ap (λ (b : Bool). cond b (Good record { header = header_of (header_word m.header); payload = m.payload }) (Malformed (4 + 4 * length m.payload.items) (header_word m.header))) (well_formed_test (length m.payload.items) h.few) ∙ ap (λ (z : Message). Good z) (unpacked m h)
 frame_of_words (Malformed l w) h = ap (λ (b : Bool). cond b (Good record { header = header_of w; payload = record { items = [] } }) (Malformed l w)) h
 
 -- a well-formed length is that of a good frame
-pub good_here : (f : Frame) (l : ℕ) → IsLawful f → l ≡ get_or (frame_words f) 0 0 → is_well_formed l ≡ true → f ≡ Good (message_in f)
+pub good_here : (f : Frame) (l : ℕ) → IsValid f → l ≡ get_or (frame_words f) 0 0 → is_well_formed l ≡ true → f ≡ Good (message_in f)
 good_here (Good m) l h is good = refl
 good_here (Malformed w x) l h is good = absurd (false≢true (sym h ∙ (ap is_well_formed (sym is) ∙ good)))
 
@@ -37,5 +37,5 @@ pub two_words : (f : Frame) → 1 < length (frame_words f)
 two_words (Good m) = omega arith
 two_words (Malformed l h) = omega arith
 
-pub good_lawful : (f : Frame) → IsLawful f → f ≡ Good (message_in f) → IsLawfulMessage (message_in f)
-good_lawful f h good = subst IsLawful good h
+pub good_valid : (f : Frame) → IsValid f → f ≡ Good (message_in f) → IsValidMessage (message_in f)
+good_valid f h good = subst IsValid good h

@@ -12,7 +12,7 @@ use Rattle.scmi_words.specs.declared.view.CallerState.{CallerState}
 use Rattle.scmi_words.specs.declared.view.CalleeState.{CalleeState}
 use Rattle.scmi_words.specs.declared.view.CallerHalf.{CallerHalf}
 use Rattle.scmi_words.specs.declared.view.CalleeHalf.{CalleeHalf}
-use Rattle.scmi_words.specs.Area.{Begins, IsLawful, IsLawfulAnswer, frame_words, settled_words, fresh_words}
+use Rattle.scmi_words.specs.Area.{Begins, IsValid, IsValidAnswer, frame_words, settled_words, fresh_words}
 use Rattle.scmi_words.specs.StatusWord.{Mark, status_word, answer_mark, settled_mark}
 use Rattle.scmi_words.specs.Mailbox.{Rule, Stage, idle, posted, taken, answered, withdrawn}
 use Rattle.scmi_words.specs.WordImage.{StandsAtEnd, area_of, fresh_area, answer_status, untaken_status}
@@ -64,24 +64,24 @@ module _ (words : List ℕ) (c : CallerState) (k : CalleeState) (wide : length w
   status : (m : Mark) → get_or words 0 0 ≡ status_word m (c.closed || k.closed) → status_at area ≡ low_mark m
   status m e = area_status words wide narrow ∙ (ap (λ n. n % 2 ^ 32) e ∙ low_word m (c.closed || k.closed))
 
-  stands : (f : Frame) (s : ℕ) → status_at area ≡ s → IsLawful f → Begins words (frame_words f) → StandsFor area s f
-  stands f s e lawful b = record { status = e; frame = area_frame words wide narrow f lawful b }
+  stands : (f : Frame) (s : ℕ) → status_at area ≡ s → IsValid f → Begins words (frame_words f) → StandsFor area s f
+  stands f s e valid b = record { status = e; frame = area_frame words wide narrow f valid b }
 
-  stands_answer : (f : Frame) (x : Answer) → status_at area ≡ answer_status x → IsLawful f → IsLawfulAnswer x → Begins words (settled_words (Some x) (Some f)) → StandsForAnswer area f x
-  stands_answer f (Reply m) e lawful good b = stands (Good m) 1 e good b
-  stands_answer f Released e lawful good b = stands f 1 e lawful b
-  stands_answer f ChannelError e lawful good b = stands f 3 e lawful b
+  stands_answer : (f : Frame) (x : Answer) → status_at area ≡ answer_status x → IsValid f → IsValidAnswer x → Begins words (settled_words (Some x) (Some f)) → StandsForAnswer area f x
+  stands_answer f (Reply m) e valid good b = stands (Good m) 1 e good b
+  stands_answer f Released e valid good b = stands f 1 e valid b
+  stands_answer f ChannelError e valid good b = stands f 3 e valid b
 
   at_answered : Stage words c k → (f : Frame) (x : Answer) → k.taken ≡ c.posted → last_or None k.taken ≡ Some f → last_or None k.answered ≡ Some x → length k.answered ≡ length k.taken
       → (status_at area ≡ answer_status x) × (c.draft ≡ [] → StandsForAnswer area f x)
   at_answered (idle z) f x all lf lx even = let e : status_at area ≡ answer_status x = status (settled_mark (last_or None k.answered)) z.status ∙ (ap (λ o. low_mark (settled_mark o)) lx ∙ low_answer x) in
-      (e, λ d. stands_answer f x e (z.lawful_frame f lf) (z.lawful x lx) (subst (λ (o : Option Answer × Option Frame). Begins words (settled_words o.0 o.1)) (λ i. (lx i, lf i)) (z.area d)))
+      (e, λ d. stands_answer f x e (z.valid_frame f lf) (z.valid x lx) (subst (λ (o : Option Answer × Option Frame). Begins words (settled_words o.0 o.1)) (λ i. (lx i, lf i)) (z.area d)))
   at_answered (posted z) f x all lf lx even = absurd (longer k.taken c.posted z.frame (sym all) z.taken)
   at_answered (taken z) f x all lf lx even = let n = z.answered in absurd (omega arith)
   at_answered (answered z) f x all lf lx even = let last : last_or None k.answered ≡ Some z.answer = ap (last_or None) z.read ∙ last_snoc None c.read z.answer in
       let same : z.answer ≡ x = some_is z.answer x (sym last ∙ lx) in
       let e : status_at area ≡ answer_status x = status (answer_mark z.answer) z.status ∙ (ap (λ y. low_mark (answer_mark y)) same ∙ low_answer x) in
-      (e, λ _. stands_answer f x e (z.lawful_frame f lf) (subst IsLawfulAnswer same z.lawful) (subst (λ (o : Answer × Option Frame). Begins words (settled_words (Some o.0) o.1)) (λ i. (same i, lf i)) z.area))
+      (e, λ _. stands_answer f x e (z.valid_frame f lf) (subst IsValidAnswer same z.valid) (subst (λ (o : Answer × Option Frame). Begins words (settled_words (Some o.0) o.1)) (λ i. (same i, lf i)) z.area))
   at_answered (withdrawn z) f x all lf lx even = absurd (longer k.taken c.posted z.frame (sym all) z.taken)
 
   same_last : (f g : Frame) → c.posted ≡ k.taken ++ f ∷ [] → c.posted ≡ k.taken ++ g ∷ [] → f ≡ g
@@ -91,11 +91,11 @@ module _ (words : List ℕ) (c : CallerState) (k : CalleeState) (wide : length w
   at_untaken (idle z) f e = absurd (longer k.taken c.posted f (sym z.taken) e)
   at_untaken (posted z) f e = let same : z.frame ≡ f = same_last z.frame f z.taken e in
       let s : 0 ≡ untaken_status c.phase = ⊎_elim (λ (w : c.phase ≡ Waiting). ap untaken_status (sym w)) (⊎_elim (λ (w : c.phase ≡ Withdrawing). ap untaken_status (sym w)) (λ (w : c.phase ≡ GivenUp). ap untaken_status (sym w))) z.phase in
-      subst (λ (o : ℕ × Frame). StandsFor area o.0 o.1) (λ i. (s i, same i)) (stands z.frame 0 (status Mark.posted z.status) z.lawful z.area)
+      subst (λ (o : ℕ × Frame). StandsFor area o.0 o.1) (λ i. (s i, same i)) (stands z.frame 0 (status Mark.posted z.status) z.valid z.area)
   at_untaken (taken z) f e = absurd (longer k.taken c.posted f (sym z.taken) e)
   at_untaken (answered z) f e = absurd (longer k.taken c.posted f (sym z.taken) e)
   at_untaken (withdrawn z) f e = let same : z.frame ≡ f = same_last z.frame f z.taken e in let s : 1 ≡ untaken_status c.phase = ap untaken_status (sym z.phase) in
-      subst (λ (o : ℕ × Frame). StandsFor area o.0 o.1) (λ i. (s i, same i)) (stands z.frame 1 (status Mark.free z.status) z.lawful z.area)
+      subst (λ (o : ℕ × Frame). StandsFor area o.0 o.1) (λ i. (s i, same i)) (stands z.frame 1 (status Mark.free z.status) z.valid z.area)
 
   at_owing : Stage words c k → length k.taken ≡ length k.answered + 1 → status_at area ≡ 0
   at_owing s owes = let z = is_taken words c k s owes in status Mark.taken z.status

@@ -38,8 +38,8 @@ starts words wide free zeros = record {
       status = free;
       area = λ _ i lt. zeros (2 + i) (omega arith) ∙ sym (fresh_zero i lt);
       draft = λ i lt. absurd (omega arith);
-      lawful = λ x e. absurd (let f : None ≡ Some x = e in cc);
-      lawful_frame = λ x e. absurd (let f : None ≡ Some x = e in cc);
+      valid = λ x e. absurd (let f : None ≡ Some x = e in cc);
+      valid_frame = λ x e. absurd (let f : None ≡ Some x = e in cc);
     };
     caller_told = λ e. absurd (let f : Rattle.std.proofs.Common.false ≡ Rattle.std.proofs.Common.true = e in cc);
     callee_told = λ e. absurd (let f : Rattle.std.proofs.Common.false ≡ Rattle.std.proofs.Common.true = e in cc);

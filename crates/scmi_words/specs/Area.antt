@@ -36,19 +36,19 @@ settled_words (Some ChannelError) (Some frame) = frame_words frame
 settled_words _ _ = fresh_words
 
 -- a message has room, and its header can be read off its header word
-pub record IsLawfulMessage (m : Message) : Type 0 where
+pub record IsValidMessage (m : Message) : Type 0 where
   pub few : length m.payload.items ≤ PAYLOAD_WORDS
   pub header : header_of (header_word m.header) ≡ m.header
 
 -- a frame is a valid message, or its length is not well formed
-abbrev pub IsLawful : Frame → Type 0
-IsLawful (Good m) = IsLawfulMessage m
-IsLawful (Malformed l h) = is_well_formed l ≡ false
+abbrev pub IsValid : Frame → Type 0
+IsValid (Good m) = IsValidMessage m
+IsValid (Malformed l h) = is_well_formed l ≡ false
 
 -- the message of an answer, if it has one, is valid
-abbrev pub IsLawfulAnswer : Answer → Type 0
-IsLawfulAnswer (Reply m) = IsLawfulMessage m
-IsLawfulAnswer _ = Unit {0}
+abbrev pub IsValidAnswer : Answer → Type 0
+IsValidAnswer (Reply m) = IsValidMessage m
+IsValidAnswer _ = Unit {0}
 
 -- the frame that stored words are
 abbrev pub frame_in : List ℕ → Frame

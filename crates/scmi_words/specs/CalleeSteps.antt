@@ -8,7 +8,7 @@ use Rattle.scmi_words.specs.declared.layout.TheConstants.{LENGTH}
 use Rattle.scmi_words.specs.declared.status_word.TheConstants.{POSTED}
 use Rattle.scmi_words.specs.declared.view.CalleeHalf.{CalleeHalf}
 use Rattle.scmi_words.specs.declared.view.View.{View}
-use Rattle.scmi_words.specs.Area.{taken_words, answer_of, IsLawful}
+use Rattle.scmi_words.specs.Area.{taken_words, answer_of, IsValid}
 use Rattle.scmi_words.specs.StatusWord.{told_by}
 use Rattle.scmi_words.specs.View.{with_callee}
 
@@ -62,7 +62,7 @@ frame_area half = taken_words (last_or None half.state.taken)
 
 -- an exchange that takes the frame where it finds it posted
 abbrev pub takes : AtomicStep → SeatState → ℕ → SeatState → Type 0
-takes step before found after = ChangesHalf before after (λ half half'. (found ≡ POSTED → (f : Frame) × IsLawful f × (half' ≡ callee_took half f)) × (found ≢ POSTED → half' ≡ callee_looked half found))
+takes step before found after = ChangesHalf before after (λ half half'. (found ≡ POSTED → (f : Frame) × IsValid f × (half' ≡ callee_took half f)) × (found ≢ POSTED → half' ≡ callee_looked half found))
 
 -- a load of a word of the frame
 abbrev pub reads : AtomicStep → SeatState → ℕ → SeatState → Type 0

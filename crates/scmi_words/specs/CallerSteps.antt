@@ -9,7 +9,7 @@ use Rattle.scmi_words.specs.declared.phase.Phase.TheVariants.{Idle, Waiting, Wit
 use Rattle.scmi_words.specs.declared.status_word.TheConstants.{POSTED, FREE, TAKEN, CLOSED}
 use Rattle.scmi_words.specs.declared.view.CallerHalf.{CallerHalf}
 use Rattle.scmi_words.specs.declared.view.View.{View}
-use Rattle.scmi_words.specs.Area.{frame_in, settled_words, IsLawfulAnswer}
+use Rattle.scmi_words.specs.Area.{frame_in, settled_words, IsValidAnswer}
 use Rattle.scmi_words.specs.StatusWord.{status_word, answer_mark, told_by}
 use Rattle.scmi_words.specs.View.{with_caller}
 
@@ -96,7 +96,7 @@ Shows n x = (closed : Bool) × (n ≡ status_word (answer_mark x) closed)
 -- a look with a post outstanding finds its answer, or that there will be none, or neither
 abbrev pub Sees : CallerHalf → ℕ → CallerHalf → Type 0
 Sees half n half' =
-    (n % 2 ≡ FREE → (x : Answer) × (half' ≡ caller_collected half n x) × Shows n x × IsLawfulAnswer x)
+    (n % 2 ≡ FREE → (x : Answer) × (half' ≡ caller_collected half n x) × Shows n x × IsValidAnswer x)
     × (n ≡ CLOSED → half' ≡ caller_gave_up half n)
     × (n % 2 ≢ FREE → n ≢ CLOSED → (half' ≡ caller_saw half n) × (n < CLOSED))
 

@@ -17,7 +17,7 @@ use Rattle.scmi_words.specs.declared.view.CalleeState.{CalleeState}
 use Rattle.scmi_words.specs.declared.view.CallerHalf.{CallerHalf}
 use Rattle.scmi_words.specs.declared.view.CalleeHalf.{CalleeHalf}
 use Rattle.scmi_words.specs.declared.view.View.{View}
-use Rattle.scmi_words.specs.Area.{frame_words, settled_words, Begins, IsLawful, IsLawfulAnswer}
+use Rattle.scmi_words.specs.Area.{frame_words, settled_words, Begins, IsValid, IsValidAnswer}
 use Rattle.scmi_words.specs.StatusWord.{Mark, status_word, answer_mark, settled_mark}
 
 module _ (words : List ℕ) (caller : CallerState) (callee : CalleeState) where
@@ -36,8 +36,8 @@ module _ (words : List ℕ) (caller : CallerState) (callee : CalleeState) where
     -- before the caller's first store since its last collect
     pub area : caller.draft ≡ [] → Begins words (settled_words (last_or None callee.answered) (last_or None callee.taken))
     pub draft : Begins words caller.draft
-    pub lawful : (x : Answer) → last_or None callee.answered ≡ Some x → IsLawfulAnswer x
-    pub lawful_frame : (f : Frame) → last_or None callee.taken ≡ Some f → IsLawful f
+    pub valid : (x : Answer) → last_or None callee.answered ≡ Some x → IsValidAnswer x
+    pub valid_frame : (f : Frame) → last_or None callee.taken ≡ Some f → IsValid f
 
   -- posted: the last frame posted stands, and is not taken
   pub record IsPosted : Type 0 where
@@ -52,7 +52,7 @@ module _ (words : List ℕ) (caller : CallerState) (callee : CalleeState) where
     pub no_draft : callee.draft ≡ []
     pub status : Status Mark.posted
     pub area : Begins words (frame_words frame)
-    pub lawful : IsLawful frame
+    pub valid : IsValid frame
 
   -- taken: no end has closed, the callee alone may store, and until it does the last frame taken stands
   pub record IsTaken : Type 0 where
@@ -67,7 +67,7 @@ module _ (words : List ℕ) (caller : CallerState) (callee : CalleeState) where
     -- before the callee's first store since its last take
     pub area : callee.draft ≡ [] → Begins words (frame_words frame)
     pub draft : Begins words callee.draft
-    pub lawful : IsLawful frame
+    pub valid : IsValid frame
 
   -- free, with a post outstanding: its answer stands
   pub record IsAnswered : Type 0 where
@@ -80,8 +80,8 @@ module _ (words : List ℕ) (caller : CallerState) (callee : CalleeState) where
     pub no_draft : callee.draft ≡ []
     pub status : Status (answer_mark answer)
     pub area : Begins words (settled_words (Some answer) (last_or None callee.taken))
-    pub lawful : IsLawfulAnswer answer
-    pub lawful_frame : (f : Frame) → last_or None callee.taken ≡ Some f → IsLawful f
+    pub valid : IsValidAnswer answer
+    pub valid_frame : (f : Frame) → last_or None callee.taken ≡ Some f → IsValid f
 
   -- free after a withdrawal: the last frame posted stands, and is never taken
   pub record IsWithdrawn : Type 0 where
@@ -94,7 +94,7 @@ module _ (words : List ℕ) (caller : CallerState) (callee : CalleeState) where
     pub no_draft : callee.draft ≡ []
     pub status : Status Mark.free
     pub area : Begins words (frame_words frame)
-    pub lawful : IsLawful frame
+    pub valid : IsValid frame
 
   -- one of the five holds
   pub data Stage : Type 0 where

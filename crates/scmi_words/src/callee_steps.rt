@@ -4,7 +4,7 @@ ghost use Rattle.scmi_codec.specs.declared.frame.Frame.{Frame};
 ghost use Rattle.scmi_codec.specs.declared.frame.Answer.{Answer};
 ghost use Rattle.scmi_words.specs.declared.layout.TheConstants.{LENGTH, TABLE_WORDS};
 ghost use Rattle.scmi_words.specs.declared.view.CalleeHalf.{CalleeHalf};
-ghost use Rattle.scmi_words.specs.Area.{IsLawful, IsLawfulAnswer, stored_words};
+ghost use Rattle.scmi_words.specs.Area.{IsValid, IsValidAnswer, stored_words};
 ghost use Rattle.scmi_words.specs.StatusWord.{status_word, answer_mark};
 ghost use Rattle.scmi_words.specs.View.{HasCallee, CalleeBecomes, callee_of};
 ghost use Rattle.scmi_words.specs.SharedTable.{IsSeatAt};
@@ -30,7 +30,7 @@ pub fn take_over(table: &SharedTable, seat: &mut TableSeat) -> u64
     requires table { IsSeatAt table.now seat.old }
     requires half { HasCallee seat.old }
     ensures { (h : CalleeHalf) × CalleeBecomes seat.old h seat.new ×
-        (result ≡ 0 → (f : Frame) × IsLawful f × (h ≡ callee_took (callee_of seat.old) f)) ×
+        (result ≡ 0 → (f : Frame) × IsValid f × (h ≡ callee_took (callee_of seat.old) f)) ×
         (result ≢ 0 → h ≡ callee_looked (callee_of seat.old) result) }
 {
     table.compare_exchange::<Takes>(seat, STATUS, POSTED, TAKEN)
@@ -90,7 +90,7 @@ pub fn hand_back(table: &SharedTable, seat: &mut TableSeat, status: u64)
     ghost answer: { Answer }
     requires table { IsSeatAt table.now seat.old }
     requires half { HasCallee seat.old × IsOwing (callee_of seat.old) }
-    requires answer { IsLawfulAnswer answer × (status ≡ status_word (answer_mark answer) false) }
+    requires answer { IsValidAnswer answer × (status ≡ status_word (answer_mark answer) false) }
     requires stored { (callee_of seat.old).state.draft ≡ stored_words answer }
     ensures { CalleeBecomes seat.old (callee_answered (callee_of seat.old) answer) seat.new }
 {

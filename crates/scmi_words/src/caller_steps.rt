@@ -6,7 +6,7 @@ ghost use Rattle.scmi_words.specs.declared.layout.TheConstants.{LENGTH, TABLE_WO
 ghost use Rattle.scmi_words.specs.declared.phase.Phase.TheVariants.{Idle, Waiting, Withdrawing};
 ghost use Rattle.scmi_words.specs.declared.status_word.TheConstants.{FREE, CLOSED};
 ghost use Rattle.scmi_words.specs.declared.view.CallerHalf.{CallerHalf};
-ghost use Rattle.scmi_words.specs.Area.{IsLawful, frame_words};
+ghost use Rattle.scmi_words.specs.Area.{IsValid, frame_words};
 ghost use Rattle.scmi_words.specs.StatusWord.{status_word, settled_mark};
 ghost use Rattle.scmi_words.specs.View.{HasCaller, CallerBecomes, caller_of};
 ghost use Rattle.scmi_words.specs.SharedTable.{IsSeatAt};
@@ -54,7 +54,7 @@ pub fn hand_over(table: &SharedTable, seat: &mut TableSeat, free: u64) -> bool
         ((caller_of seat.old).state.closed ≡ false) }
     requires free { free ≡ status_word
         (settled_mark (last_or None (caller_of seat.old).state.read)) false }
-    requires whole { IsLawful frame × ((caller_of seat.old).state.draft ≡ frame_words frame) }
+    requires whole { IsValid frame × ((caller_of seat.old).state.draft ≡ frame_words frame) }
     ensures { MatchBool result
         (CallerBecomes seat.old (caller_posted (caller_of seat.old) frame) seat.new)
         (CallerBecomes seat.old (caller_refused (caller_of seat.old)) seat.new) }

@@ -9,7 +9,7 @@ ghost use Rattle.scmi_codec.specs.declared.message.Message.{Message};
 ghost use Rattle.scmi_codec.specs.Header.{header_word};
 ghost use Rattle.scmi_codec.specs.declared.payload.TheConstants.{PAYLOAD_WORDS};
 ghost use Rattle.scmi_words.specs.declared.phase.Phase.TheVariants.{Idle};
-ghost use Rattle.scmi_words.specs.Area.{frame_words, IsLawful, IsLawfulAnswer, IsLawfulMessage, answer_steps, frame_size};
+ghost use Rattle.scmi_words.specs.Area.{frame_words, IsValid, IsValidAnswer, IsValidMessage, answer_steps, frame_size};
 ghost use Rattle.scmi_words.specs.StatusWord.{status_word, answer_mark};
 ghost use Rattle.scmi_words.specs.View.{HasCaller, HasCallee, CallerBecomes, CalleeBecomes, caller_of, callee_of};
 ghost use Rattle.scmi_words.specs.SharedTable.{IsSeatAt};
@@ -34,7 +34,7 @@ pub fn write_command(table: &SharedTable, seat: &mut TableSeat, header: Header, 
         (caller_drafted (caller_of seat.old)
         (frame_words (Good (record { header = header; payload = payload.now })))
         (2 + length payload.now.items)) seat.new }
-    ensures lawful { IsLawfulMessage (record { header = header; payload = payload.now }) }
+    ensures valid { IsValidMessage (record { header = header; payload = payload.now }) }
 {
     let words = payload.as_slice();
     store_frame_word(table, seat, LENGTH, 4 + 4 * words.len() as u32);
@@ -51,7 +51,7 @@ fn read_response(table: &SharedTable, seat: &mut TableSeat, message: &mut Messag
     requires half { HasCaller seat.old × ((caller_of seat.old).state.phase ≡ Idle) ×
         ((caller_of seat.old).state.draft ≡ []) }
     requires area { answer_area (caller_of seat.old) ≡ frame_words (Good posted) }
-    requires lawful { IsLawfulMessage posted }
+    requires valid { IsValidMessage posted }
     ensures value { message.new ≡ posted }
     ensures view { CallerBecomes seat.old
         (caller_after (caller_of seat.old) (2 + length posted.payload.items)) seat.new }
@@ -75,7 +75,7 @@ pub fn read_answer(table: &SharedTable, seat: &mut TableSeat, free: u64, answer:
     requires half { HasCaller seat.old × ((caller_of seat.old).state.phase ≡ Idle) ×
         ((caller_of seat.old).state.draft ≡ []) }
     requires answer { (last_or None (caller_of seat.old).state.read ≡ Some given) ×
-        IsLawfulAnswer given }
+        IsValidAnswer given }
     requires free { free ≡ status_word (answer_mark given) false }
     ensures value { answer.new ≡ given }
     ensures view { (n : ℕ) × (n + 1 ≡ answer_steps given) ×
@@ -111,7 +111,7 @@ fn read_reply(table: &SharedTable, seat: &mut TableSeat, answer: &mut Answer)
     requires half { HasCaller seat.old × ((caller_of seat.old).state.phase ≡ Idle) ×
         ((caller_of seat.old).state.draft ≡ []) }
     requires area { answer_area (caller_of seat.old) ≡ frame_words (Good posted) }
-    requires lawful { IsLawfulMessage posted }
+    requires valid { IsValidMessage posted }
     ensures value { answer.new ≡ Reply posted }
     ensures view { CallerBecomes seat.old
         (caller_after (caller_of seat.old) (2 + length posted.payload.items)) seat.new }
@@ -131,7 +131,7 @@ fn read_new_response(table: &SharedTable, seat: &mut TableSeat, answer: &mut Ans
     requires half { HasCaller seat.old × ((caller_of seat.old).state.phase ≡ Idle) ×
         ((caller_of seat.old).state.draft ≡ []) }
     requires area { answer_area (caller_of seat.old) ≡ frame_words (Good posted) }
-    requires lawful { IsLawfulMessage posted }
+    requires valid { IsValidMessage posted }
     ensures value { answer.new ≡ Reply posted }
     ensures view { CallerBecomes seat.old
         (caller_after (caller_of seat.old) (2 + length posted.payload.items)) seat.new }
@@ -148,7 +148,7 @@ pub fn read_frame(table: &SharedTable, seat: &mut TableSeat, frame: &mut Frame)
     requires half { HasCallee seat.old × IsOwing (callee_of seat.old) ×
         ((callee_of seat.old).state.draft ≡ []) }
     requires area { last_or None (callee_of seat.old).state.taken ≡ Some posted }
-    requires lawful { IsLawful posted }
+    requires valid { IsValid posted }
     ensures value { frame.new ≡ posted }
     ensures view { CalleeBecomes seat.old
         (callee_after (callee_of seat.old) (2 + frame_size posted)) seat.new }
@@ -181,7 +181,7 @@ fn read_new_message(
     requires half { HasCallee seat.old × IsOwing (callee_of seat.old) ×
         ((callee_of seat.old).state.draft ≡ []) }
     requires area { frame_area (callee_of seat.old) ≡ frame_words (Good posted) }
-    requires lawful { IsLawfulMessage posted }
+    requires valid { IsValidMessage posted }
     requires header { header ≡ header_word posted.header }
     requires count { count ≡ length posted.payload.items }
     ensures value { frame.new ≡ Good posted }
@@ -205,7 +205,7 @@ fn read_message(
     requires half { HasCallee seat.old × IsOwing (callee_of seat.old) ×
         ((callee_of seat.old).state.draft ≡ []) }
     requires area { frame_area (callee_of seat.old) ≡ frame_words (Good posted) }
-    requires lawful { IsLawfulMessage posted }
+    requires valid { IsValidMessage posted }
     requires header { header ≡ header_word posted.header }
     requires count { count ≡ length posted.payload.items }
     ensures value { message.new ≡ posted }
@@ -238,7 +238,7 @@ pub fn write_response(table: &SharedTable, seat: &mut TableSeat, message: &Messa
     ensures view { CalleeBecomes seat.old
         (callee_drafted (callee_of seat.old) (frame_words (Good message.now))
         (2 + length message.now.payload.items)) seat.new }
-    ensures lawful { IsLawfulMessage message.now }
+    ensures valid { IsValidMessage message.now }
 {
     let words = message.payload.as_slice();
     store_answer_word(table, seat, LENGTH, 4 + 4 * words.len() as u32);

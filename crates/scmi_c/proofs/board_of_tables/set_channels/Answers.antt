@@ -10,7 +10,7 @@ rows-preserved c =
     let few : IsAgent (length c.rows.plan.agents) agent =
     (omega arith, omega (arith, c.rows-test.true, c.rows.invariant.count, c.rows.invariant.agents, c.requires.agents)) in
     let is = channel_set c.set_channel.result c.rows.plan c.set_channel.new.self agent c.channel_of.result c.set_channel.ensures.ok
-    c.set_channel.ensures.no_agent c.set_channel.ensures.words few c.channel_of.ensures.lawful in
+    c.set_channel.ensures.no_agent c.set_channel.ensures.words few c.channel_of.ensures.valid in
     record {
       channels =
           row_set c.args.plan.now c.rows.plan c.set_channel.new.self c.args.rows.now c.rows.row-index c.rows.agent _ c.rows-test.true c.rows.invariant.count

@@ -1,6 +1,6 @@
 use Rattle.std.proofs.Common.{rules, ◌≢◌, None, refl}
 use Rattle.scmi_codec.specs.Area.{frame_waiting}
-use Rattle.scmi_core.proofs.Room.{lawful_channel}
+use Rattle.scmi_core.proofs.Room.{valid_channel}
 use Rattle.scmi_c.specs.Calls.{IsAskedAbout}
 use Rattle.scmi_c.specs.Standing.{board_of}
 use Rattle.scmi_c.proofs.Codes.{lacks-agent}
@@ -11,7 +11,7 @@ pub invariant_of-seat : goal.invariant_of-seat
 invariant_of-seat c =
     let about : IsAskedAbout c.seat.inside.held c.ask-given.new.held c.args.agent = search rules in
     askable c.seat.inside.held c.ask-given.new.held c.args.agent 284 c.ask-given.new.exchange.frame (frame_waiting c.args.area.now) c.in-Ok-Some.field-0-0
-    about (search rules) (search rules) refl (lawful_channel (board_of c.seat.inside.held) c.args.agent about.lawful).1
+    about (search rules) (search rules) refl (valid_channel (board_of c.seat.inside.held) c.args.agent about.valid).1
 
 pub returns-in-Err-given-clause-no_agent : goal.returns-in-Err-given-clause-no_agent
 returns-in-Err-given-clause-no_agent c =

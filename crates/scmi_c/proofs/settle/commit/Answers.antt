@@ -21,7 +21,7 @@ returns-clause-ok c =
     some-and c.args.desk.now.asked asked _ (search rules)
     (record {
       answer = λ h at.
-          committed-in (board_of c.args.desk.now.held) agent h c.args.area.now c.write_whole.new.area frame _ c.command.new.reply may.lawful
+          committed-in (board_of c.args.desk.now.held) agent h c.args.area.now c.write_whole.new.area frame _ c.command.new.reply may.valid
           (subst (λ (n : ℕ). (channel_of (board_of c.args.desk.now.held) agent).words ≤ channel_words n) size may.words)
           (search rules) c.write_whole.ensures.reply c.write_whole.ensures.error;
       event = search rules;

@@ -24,5 +24,5 @@ returns-clause-board c =
     record {
       behind = lines_left c.read_board.new.lines;
       board_is = found ∙ ap (λ board. Ok (board, lines_left c.read_board.new.lines)) (sym c.in_ok-check.ensures.ok);
-      lawful = ap first_fault c.in_ok-check.ensures.ok ∙ c.in_ok-check.ensures.no_fault;
+      valid = ap first_fault c.in_ok-check.ensures.ok ∙ c.in_ok-check.ensures.no_fault;
     }

@@ -21,5 +21,5 @@ returns-clause-board c =
     record {
       behind = lines_left c.read_board_with_channels.new.lines;
       board_is = ap described_left (sym same) ∙ c.in_ok-said.ensures.board;
-      lawful = c.in_ok-_plan.ensures.no_fault;
+      valid = c.in_ok-_plan.ensures.no_fault;
     }

@@ -6,4 +6,4 @@ pub returns-clause-headline : goal.returns-clause-headline
 returns-clause-headline g c = log_headlines c.args.controller.board c.retire.result.events 1 c.args.ends.items c.args.controller.callees c.args.controller.callers c.args.logs.items c.retire.ensures.headline c.requires.open_ends c.requires.logs
 
 pub returns-clause-undisturbed : goal.returns-clause-undisturbed
-returns-clause-undisturbed g c = all_undisturbed c.args.controller.board c.requires.lawful c.retire.result.events 1 c.args.ends.items c.args.controller.callees c.args.controller.callers c.args.logs.items c.retire.ensures.headline c.requires.open_ends c.requires.logs
+returns-clause-undisturbed g c = all_undisturbed c.args.controller.board c.requires.valid c.retire.result.events 1 c.args.ends.items c.args.controller.callees c.args.controller.callers c.args.logs.items c.retire.ensures.headline c.requires.open_ends c.requires.logs

@@ -4,7 +4,7 @@ use Rattle.std.proofs.lemmas.Slice.Zip.{AllZip-long}
 use Rattle.scmi_threads.specs.Logs.{IsLogOf}
 use Rattle.scmi_threads.specs.ScriptRuns.{HasPlayed}
 use Rattle.std.specs.List.{All}
-use Rattle.scmi_plan.specs.Plan.{IsLawful}
+use Rattle.scmi_plan.specs.Plan.{IsValid}
 use Rattle.scmi_ends.specs.Each.{AllFrom}
 use Rattle.scmi_ends.specs.Links.{identities_of_a2p, identities_of_p2a}
 use Rattle.scmi_threads.specs.Orders.{IsUndisturbed}
@@ -35,8 +35,8 @@ end_runs-ends-requires-clause-ends g c κs within = omega (arith, AllZip-long (H
 pub end_runs-ends-requires-clause-logs : goal.end_runs-ends-requires-clause-logs
 end_runs-ends-requires-clause-logs g c κs within = omega (arith, AllZip-long (HasPlayed g.C.Channel.FULL (g.G.Gate.asked c.args.gate.now)) c.in-Ok-start_runs.script_runs.items c.run_beside-controller.result.1.items c.run_beside-controller.ensures.ran, c.in-Ok-start_runs.script_runs.ok.0, c.run_beside-controller.result.1.ok.0, c.in-Ok-with_capacity-2.ensures.exact, c.agents-agents.ensures.count, ap length (c.in-Ok-start_runs.ensures.a2p ∙ ap (identities_of_a2p g.C.Channel.identity) c.deref.ensures.value), length-map c.in-Ok-start_runs.script_runs.items (λ script_run. script_run.end.a2p_identity), length-map c.in-Ok.links.items (λ link. g.C.Channel.identity link.a2p), c.in-Ok.links.ok.0, c.in-Ok.ensures.count.0, ap (λ board. length board.agents) c.new-core.ensures.board)
 
-pub conclude-requires-clause-lawful : goal.conclude-requires-clause-lawful
-conclude-requires-clause-lawful g c κs within = subst IsLawful (sym (c.run_beside-controller.ensures.goes_on.board ∙ c.in-Ok.ensures.controller.0 ∙ c.new-core.ensures.board)) c.agents-agents.ensures.lawful
+pub conclude-requires-clause-valid : goal.conclude-requires-clause-valid
+conclude-requires-clause-valid g c κs within = subst IsValid (sym (c.run_beside-controller.ensures.goes_on.board ∙ c.in-Ok.ensures.controller.0 ∙ c.new-core.ensures.board)) c.agents-agents.ensures.valid
 
 pub conclude-requires-clause-links : goal.conclude-requires-clause-links
 conclude-requires-clause-links g c κs within = rw (← c.deref-2.ensures.value) c.run_beside-controller.ensures.goes_on.has_links

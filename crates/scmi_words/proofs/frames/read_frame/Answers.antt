@@ -4,11 +4,11 @@ use Rattle.scmi_codec.specs.Header.{header_word}
 use Rattle.scmi_codec.specs.Area.{is_well_formed}
 use Rattle.scmi_codec.specs.declared.frame.Frame.{Frame}
 use Rattle.scmi_codec.specs.declared.frame.Frame.TheVariants.{Good}
-use Rattle.scmi_words.specs.Area.{frame_words, taken_words, IsLawful, IsLawfulMessage, frame_size}
+use Rattle.scmi_words.specs.Area.{frame_words, taken_words, IsValid, IsValidMessage, frame_size}
 use Rattle.scmi_words.specs.View.{TableSeat, CalleeBecomes, callee_of}
 use Rattle.scmi_words.specs.CalleeSteps.{callee_after, frame_area}
 use Rattle.scmi_words.proofs.Picks.{message_in}
-use Rattle.scmi_words.proofs.FrameWords.{good_here, good_long, good_lawful, well_formed_few, two_words}
+use Rattle.scmi_words.proofs.FrameWords.{good_here, good_long, good_valid, well_formed_few, two_words}
 use Rattle.scmi_words.proofs.Loads.{callee_is, callee_chain, callee_word_at}
 use Rattle.scmi_words.proofs.frames.read_frame.Goals as goal
 use Rattle.scmi_words.proofs.frames.read_frame.Goals.{After-is_well_formed}
@@ -27,12 +27,12 @@ second : (g : _) (c : After-is_well_formed g) → c.load_frame_word-header.resul
 second g c = let h = callee_of c.args.seat.now in let two = two_words g.posted in
     callee_word_at c.load_frame_word-length.new.seat (callee_after h 1) (frame_words g.posted) _ 3 1 (callee_is c.args.seat.now c.load_frame_word-length.new.seat (callee_after h 1) c.load_frame_word-length.ensures.view) (area g c) c.load_frame_word-header.ensures.value (omega arith) (omega arith)
 
-lawful : (g : _) (c : After-is_well_formed g) → IsLawful g.posted
-lawful g c = search rules
+valid : (g : _) (c : After-is_well_formed g) → IsValid g.posted
+valid g c = search rules
 
 -- the frame is a good one, where its length is well formed
 good : (g : _) (c : After-is_well_formed g) → is_well_formed c.load_frame_word-length.result ≡ true → g.posted ≡ Good (message_in g.posted)
-good g c well = good_here g.posted _ (lawful g c) (first g c) well
+good g c well = good_here g.posted _ (valid g c) (first g c) well
 
 count : (g : _) (c : After-is_well_formed g) → is_well_formed c.load_frame_word-length.result ≡ true → c.load_frame_word-length.result / 4 - 1 ≡ length (message_in g.posted).payload.items
 count g c well = let few = well_formed_few c.load_frame_word-length.result well in let long : c.load_frame_word-length.result ≡ 4 + ◌*◌ 4 (length (message_in g.posted).payload.items) = good_long g.posted _ (first g c) (good g c well) in omega arith
@@ -43,8 +43,8 @@ head g c well = second g c ∙ ap (λ (z : Frame). get_or (frame_words z) 1 0) (
 read : (g : _) (c : After-is_well_formed g) → is_well_formed c.load_frame_word-length.result ≡ true → frame_area (callee_of c.load_frame_word-header.new.seat) ≡ frame_words (Good (message_in g.posted))
 read g c well = ap frame_area (now g c) ∙ (area g c ∙ ap frame_words (good g c well))
 
-few : (g : _) (c : After-is_well_formed g) → is_well_formed c.load_frame_word-length.result ≡ true → IsLawfulMessage (message_in g.posted)
-few g c well = good_lawful g.posted (lawful g c) (good g c well)
+few : (g : _) (c : After-is_well_formed g) → is_well_formed c.load_frame_word-length.result ≡ true → IsValidMessage (message_in g.posted)
+few g c well = good_valid g.posted (valid g c) (good g c well)
 
 -- the steps of all loads
 steps : (g : _) (c : After-is_well_formed g) → is_well_formed c.load_frame_word-length.result ≡ true → (t : TableSeat) → CalleeBecomes c.load_frame_word-header.new.seat (callee_after (callee_of c.load_frame_word-header.new.seat) (c.load_frame_word-length.result / 4 - 1)) t → CalleeBecomes c.args.seat.now (callee_after (callee_of c.args.seat.now) (2 + frame_size g.posted)) t

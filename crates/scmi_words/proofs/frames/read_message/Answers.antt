@@ -3,7 +3,7 @@ use Rattle.std.proofs.lemmas.List.{take_all}
 use Rattle.scmi_codec.specs.Header.{header_of, header_word}
 use Rattle.scmi_codec.specs.declared.message.Message.{Message}
 use Rattle.scmi_codec.specs.declared.frame.Frame.TheVariants.{Good}
-use Rattle.scmi_words.specs.Area.{frame_words, IsLawfulMessage}
+use Rattle.scmi_words.specs.Area.{frame_words, IsValidMessage}
 use Rattle.scmi_words.specs.View.{callee_of}
 use Rattle.scmi_words.specs.CalleeSteps.{callee_after, frame_area}
 use Rattle.scmi_words.proofs.Loads.{callee_is, one_over_long, payload_more, callee_word_at}
@@ -22,8 +22,8 @@ loop-i-preserved g c = let inv = c.loop-i.invariant in let h = callee_of c.args.
     )
 
 pub returns-clause-value : goal.returns-clause-value
-returns-clause-value g c = let inv = c.loop-i.invariant in let m : Message = g.posted in let lawful : IsLawfulMessage m = search rules in
+returns-clause-value g c = let inv = c.loop-i.invariant in let m : Message = g.posted in let valid : IsValidMessage m = search rules in
     let all : c.loop-i.message.payload.items ≡ m.payload.items = sym (take_all c.loop-i.i c.loop-i.message.payload.items (omega arith)) ∙ inv.2 ∙ take_all c.loop-i.i m.payload.items (omega arith) in
     let head : c.args.header ≡ header_word m.header = search rules in
-    let fields = inv.3 ∙ (ap header_of head ∙ lawful.header) in
+    let fields = inv.3 ∙ (ap header_of head ∙ valid.header) in
     λ j. record { header = fields j; payload = record { items = all j } }

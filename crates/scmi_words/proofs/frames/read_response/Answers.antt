@@ -3,7 +3,7 @@ use Rattle.std.proofs.lemmas.List.{take_all}
 use Rattle.scmi_codec.specs.Header.{header_of, header_word}
 use Rattle.scmi_codec.specs.declared.message.Message.{Message}
 use Rattle.scmi_codec.specs.declared.frame.Frame.TheVariants.{Good}
-use Rattle.scmi_words.specs.Area.{frame_words, IsLawfulMessage}
+use Rattle.scmi_words.specs.Area.{frame_words, IsValidMessage}
 use Rattle.scmi_words.specs.View.{caller_of}
 use Rattle.scmi_words.specs.CallerSteps.{caller_after, answer_area}
 use Rattle.scmi_words.proofs.Loads.{half_is, one_over_long, payload_more, word_at}
@@ -28,5 +28,5 @@ returns-clause-value g c = let inv = c.loop-i.invariant in let h = caller_of c.a
     let long : c.load_answer_word-length.result ≡ 4 + 4 * length m.payload.items = word_at c.args.seat.now h m _ 2 0 refl area c.load_answer_word-length.ensures.value (omega arith) (omega arith) in
     let head : c.load_answer_word-header.result ≡ header_word m.header = word_at c.load_answer_word-length.new.seat (caller_after h 1) m _ 3 1 (half_is c.args.seat.now c.load_answer_word-length.new.seat (caller_after h 1) c.load_answer_word-length.ensures.view) area c.load_answer_word-header.ensures.value (omega arith) (omega arith) in
     let all : c.loop-i.message.payload.items ≡ m.payload.items = sym (take_all c.loop-i.i c.loop-i.message.payload.items (omega arith)) ∙ inv.2 ∙ take_all c.loop-i.i m.payload.items (omega arith) in
-    let lawful : IsLawfulMessage m = search rules in let fields = inv.3 ∙ (ap header_of head ∙ lawful.header) in
+    let valid : IsValidMessage m = search rules in let fields = inv.3 ∙ (ap header_of head ∙ valid.header) in
     λ j. record { header = fields j; payload = record { items = all j } }

@@ -12,11 +12,11 @@ pub invariant_of-self : goal.invariant_of-self
 invariant_of-self c =
     let waiting : 0 < length c.self.inside.tables.pending = subst (λ p. 0 < length p.tables.pending) (sym c.self.view_is) c.requires.waiting in (
       c.self.invariant.0 ++ Advance ∷ [],
-      Agrees-advance c.self.inside.plan c.self.inside.tables c.complete.new.self c.self.invariant.0 c.self.invariant.1 c.complete.ensures.lawful waiting c.complete.ensures.stepped,
+      Agrees-advance c.self.inside.plan c.self.inside.tables c.complete.new.self c.self.invariant.0 c.self.invariant.1 c.complete.ensures.valid waiting c.complete.ensures.stepped,
     )
 
 pub returns-clause-event : goal.returns-clause-event
 returns-clause-event c = λ h stands.
     let waiting : 0 < length c.self.inside.tables.pending = subst (λ p. 0 < length p.tables.pending) (sym c.self.view_is) c.requires.waiting in
     Agrees-advance c.self.inside.plan c.self.inside.tables c.complete.new.self h (subst (λ p. StandsAfter p h) (sym c.self.view_is) stands)
-    c.complete.ensures.lawful waiting c.complete.ensures.stepped
+    c.complete.ensures.valid waiting c.complete.ensures.stepped

@@ -11,7 +11,7 @@ returns-clause-effect c = λ h stands.
     subst (λ p. c.effect_of.result ≡ effect_after p.board h (Called c.args.agent c.args.frame.now)) c.self.view_is
     (c.effect_of.ensures
     ∙ effect-table c.self.inside.plan c.self.inside.tables h c.args.agent c.args.frame.now (subst (λ p. StandsAfter p h) (sym c.self.view_is) stands)
-    c.agents-agents.ensures.lawful c.requires.first last)
+    c.agents-agents.ensures.valid c.requires.first last)
 
 pub returns-clause-history : goal.returns-clause-history
 returns-clause-history c = subst HasHistory c.self.view_is c.self.invariant

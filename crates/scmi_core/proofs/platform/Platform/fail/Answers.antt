@@ -12,11 +12,11 @@ pub invariant_of-self : goal.invariant_of-self
 invariant_of-self c =
     let waiting : 0 < length c.self.inside.tables.pending = subst (λ p. 0 < length p.tables.pending) (sym c.self.view_is) c.requires.waiting in (
       c.self.invariant.0 ++ AdvanceFailed ∷ [],
-      Agrees-advance_failed c.self.inside.plan c.self.inside.tables c.fail.new.self c.self.invariant.0 c.self.invariant.1 c.fail.ensures.lawful waiting c.fail.ensures.failed,
+      Agrees-advance_failed c.self.inside.plan c.self.inside.tables c.fail.new.self c.self.invariant.0 c.self.invariant.1 c.fail.ensures.valid waiting c.fail.ensures.failed,
     )
 
 pub returns-clause-event : goal.returns-clause-event
 returns-clause-event c = λ h stands.
     let waiting : 0 < length c.self.inside.tables.pending = subst (λ p. 0 < length p.tables.pending) (sym c.self.view_is) c.requires.waiting in
     Agrees-advance_failed c.self.inside.plan c.self.inside.tables c.fail.new.self h (subst (λ p. StandsAfter p h) (sym c.self.view_is) stands)
-    c.fail.ensures.lawful waiting c.fail.ensures.failed
+    c.fail.ensures.valid waiting c.fail.ensures.failed

@@ -14,7 +14,7 @@ invariant_of-self c =
     let new : Tables = record { base = t.base; power = t.power; clocks = t.clocks; pending = t.pending; outboxes = c.take.new.self } in (
       c.self.invariant.0 ++ Sent c.args.agent ∷ [],
       Agrees-sent c.self.inside.plan t new c.self.invariant.0 c.args.agent c.self.invariant.1
-          c.agents-agents.ensures.lawful c.requires.first last some refl refl refl refl c.take.ensures.taken c.take.ensures.others,
+          c.agents-agents.ensures.valid c.requires.first last some refl refl refl refl c.take.ensures.taken c.take.ensures.others,
     )
 
 pub returns-clause-event : goal.returns-clause-event
@@ -24,4 +24,4 @@ returns-clause-event c = λ h stands.
     let t = c.self.inside.tables in
     let new : Tables = record { base = t.base; power = t.power; clocks = t.clocks; pending = t.pending; outboxes = c.take.new.self } in
     Agrees-sent c.self.inside.plan t new h c.args.agent (subst (λ p. StandsAfter p h) (sym c.self.view_is) stands)
-    c.agents-agents.ensures.lawful c.requires.first last some refl refl refl refl c.take.ensures.taken c.take.ensures.others
+    c.agents-agents.ensures.valid c.requires.first last some refl refl refl refl c.take.ensures.taken c.take.ensures.others

@@ -22,5 +22,5 @@ returns-clause-legal c = (invariant_of-self c).legal
 pub push_command-requires-clause-agent : goal.push_command-requires-clause-agent
 push_command-requires-clause-agent c =
     let last : c.args.agent ≤ length c.self.inside.platform.board.agents = subst (λ p. c.args.agent ≤ length p.board.agents) (sym c.self.view_is) c.requires.agent.1 in
-    let few = c.commit-answered.ensures.lawful.few_agents in
+    let few = c.commit-answered.ensures.valid.few_agents in
     omega (arith, last, few)

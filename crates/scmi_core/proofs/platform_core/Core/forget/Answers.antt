@@ -4,7 +4,7 @@ use Rattle.scmi_core.proofs.platform_core.Core.forget.Goals as goal
 pub push_restarted-requires-clause-agent : goal.push_restarted-requires-clause-agent
 push_restarted-requires-clause-agent c =
     let last : c.args.agent ≤ length c.self.inside.platform.board.agents = subst (λ p. c.args.agent ≤ length p.board.agents) (sym c.self.view_is) c.requires.agent.1 in
-    let few = c.forget.ensures.lawful.few_agents in
+    let few = c.forget.ensures.valid.few_agents in
     omega (arith, last, few)
 
 pub invariant_of-self : goal.invariant_of-self

@@ -11,7 +11,7 @@ take-requires-clause-some c =
 pub push_sent-requires-clause-agent : goal.push_sent-requires-clause-agent
 push_sent-requires-clause-agent c =
     let last : c.args.agent ≤ length c.self.inside.platform.board.agents = subst (λ p. c.args.agent ≤ length p.board.agents) (sym c.self.view_is) c.requires.agent.1 in
-    let few = c.take.ensures.lawful.few_agents in
+    let few = c.take.ensures.valid.few_agents in
     omega (arith, last, few)
 
 pub invariant_of-self : goal.invariant_of-self

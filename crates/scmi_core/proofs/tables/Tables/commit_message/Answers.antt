@@ -13,7 +13,7 @@ state-before-requires c =
     let set = state-set c.args.plan.now c.args.agent m.header (situation_in c.args.agent c.args.self.now) (command_of m) c.in-State.domain c.in-State.state
     (effect-fits c.args.plan.now c.args.agent m (situation_in c.args.agent c.args.self.now) (effect.State c.in-State.domain c.in-State.state) (c.requires.effect ∙ ap Some c.in-State.is)).1 in
     let known : c.in-State.domain < length c.args.plan.now.domains = set.known in
-    let few = c.requires.lawful.few_domains in
+    let few = c.requires.valid.few_domains in
     omega (arith, known, few)
 
 pub complete-requires : goal.complete-requires
@@ -22,7 +22,7 @@ complete-requires c =
     let set = state-set c.args.plan.now c.args.agent m.header (situation_in c.args.agent c.args.self.now) (command_of m) c.in-State.domain c.in-State.state
     (effect-fits c.args.plan.now c.args.agent m (situation_in c.args.agent c.args.self.now) (effect.State c.in-State.domain c.in-State.state) (c.requires.effect ∙ ap Some c.in-State.is)).1 in
     let known : c.in-State.domain < length c.args.plan.now.domains = set.known in
-    let few = c.requires.lawful.few_domains in
+    let few = c.requires.valid.few_domains in
     omega (arith, known, few)
 
 pub announce-requires-clause-domain : goal.announce-requires-clause-domain
@@ -31,7 +31,7 @@ announce-requires-clause-domain c =
     let set = state-set c.args.plan.now c.args.agent m.header (situation_in c.args.agent c.args.self.now) (command_of m) c.in-State.domain c.in-State.state
     (effect-fits c.args.plan.now c.args.agent m (situation_in c.args.agent c.args.self.now) (effect.State c.in-State.domain c.in-State.state) (c.requires.effect ∙ ap Some c.in-State.is)).1 in
     let known : c.in-State.domain < length c.args.plan.now.domains = set.known in
-    let few = c.requires.lawful.few_domains in
+    let few = c.requires.valid.few_domains in
     omega (arith, known, few)
 
 pub complete-requires-in-Rate : goal.complete-requires-in-Rate
@@ -40,7 +40,7 @@ complete-requires-in-Rate c =
     let set = rate-set c.args.plan.now c.args.agent m.header (situation_in c.args.agent c.args.self.now) (command_of m) c.in-Rate.clock c.in-Rate.rate
     (effect-fits c.args.plan.now c.args.agent m (situation_in c.args.agent c.args.self.now) (effect.Rate c.in-Rate.clock c.in-Rate.rate) (c.requires.effect ∙ ap Some c.in-Rate.is)).1 in
     let known : c.in-Rate.clock < length c.args.plan.now.clocks = set.known in
-    let few = c.requires.lawful.few_clocks in
+    let few = c.requires.valid.few_clocks in
     omega (arith, known, few)
 
 pub set_enabled-requires : goal.set_enabled-requires
@@ -49,7 +49,7 @@ set_enabled-requires c =
     let set = config-set c.args.plan.now c.args.agent m.header (situation_in c.args.agent c.args.self.now) (command_of m) c.in-Enabled.clock c.in-Enabled.enabled
     (effect-fits c.args.plan.now c.args.agent m (situation_in c.args.agent c.args.self.now) (effect.Enabled c.in-Enabled.clock c.in-Enabled.enabled) (c.requires.effect ∙ ap Some c.in-Enabled.is)).1 in
     let known : c.in-Enabled.clock < length c.args.plan.now.clocks = set.known in
-    let few = c.requires.lawful.few_clocks in
+    let few = c.requires.valid.few_clocks in
     omega (arith, known, few)
 
 pub returns-in-State-clause-answer : goal.returns-in-State-clause-answer
@@ -64,7 +64,7 @@ pub returns-in-State-clause-stepped : goal.returns-in-State-clause-stepped
 returns-in-State-clause-stepped c =
     let count = c.agents-agents.ensures.count in
     state-committed c.args.plan.now c.args.self.now c.announce.new.self c.complete.new.self c.args.agent c.args.message.now
-    c.in-State.domain c.in-State.state c.state-before.result c.requires.lawful c.requires.first c.requires.last
+    c.in-State.domain c.in-State.state c.state-before.result c.requires.valid c.requires.first c.requires.last
     (c.requires.effect ∙ ap Some c.in-State.is)
     c.complete.ensures.states c.complete.ensures.subscribed c.state-before.ensures c.announce.ensures.rest
     (λ x lo hi. c.announce.ensures.told x lo (omega (arith, count)))
@@ -80,7 +80,7 @@ returns-in-Rate-clause-answer c =
 pub returns-in-Rate-clause-stepped : goal.returns-in-Rate-clause-stepped
 returns-in-Rate-clause-stepped c =
     rate-committed c.args.plan.now c.args.self.now _ c.complete-in-Rate.new.self c.args.agent c.args.message.now
-    c.in-Rate.clock c.in-Rate.rate c.requires.lawful c.requires.first c.requires.last
+    c.in-Rate.clock c.in-Rate.rate c.requires.valid c.requires.first c.requires.last
     (c.requires.effect ∙ ap Some c.in-Rate.is)
     c.complete-in-Rate.ensures.rates c.complete-in-Rate.ensures.enabled refl
 
@@ -95,6 +95,6 @@ returns-in-Enabled-clause-answer c =
 pub returns-in-Enabled-clause-stepped : goal.returns-in-Enabled-clause-stepped
 returns-in-Enabled-clause-stepped c =
     enabled-committed c.args.plan.now c.args.self.now _ c.set_enabled.new.self c.args.agent c.args.message.now
-    c.in-Enabled.clock c.in-Enabled.enabled c.requires.lawful c.requires.first c.requires.last
+    c.in-Enabled.clock c.in-Enabled.enabled c.requires.valid c.requires.first c.requires.last
     (c.requires.effect ∙ ap Some c.in-Enabled.is)
     c.set_enabled.ensures.rates c.set_enabled.ensures.enabled refl

@@ -15,12 +15,12 @@ returns-in-State c =
     let known : IsOfBoard board p = first-of-all (IsOfBoard board) t.pending p c.pop_first-done.ensures.first c.requires.known in
     let inside : IsThing board (set_to_change p.agent (setting.State c.in-State.domain c.in-State.state)).thing = subst (λ st. IsThing board (set_to_change p.agent st).thing) c.in-State.is known.thing in
     record {
-      lawful = c.agents-agents.ensures.lawful;
+      valid = c.agents-agents.ensures.valid;
       stepped =
           state-completed board t
           (record { base = t.base; power = c.complete.new.self; clocks = t.clocks; pending = left; outboxes = c.respond.new.self })
           c.announce.new.self c.complete.new.self left p.agent p.header p.wanted c.in-State.domain c.in-State.state c.state-before.result
-          c.agents-agents.ensures.lawful.few_domains known.first known.last inside
+          c.agents-agents.ensures.valid.few_domains known.first known.last inside
           (c.pop_first-done.ensures.first ∙ ap (λ s. Some (record { agent = p.agent; setting = s; header = p.header; wanted = p.wanted })) c.in-State.is)
           c.pop_first-done.ensures.rest
           c.complete.ensures.states c.complete.ensures.subscribed c.state-before.ensures
@@ -39,12 +39,12 @@ returns-in-Rate c =
     let known : IsOfBoard board p = first-of-all (IsOfBoard board) t.pending p c.pop_first-done.ensures.first c.requires.known in
     let inside : IsThing board (set_to_change p.agent (setting.Rate c.in-Rate.clock c.in-Rate.rate)).thing = subst (λ st. IsThing board (set_to_change p.agent st).thing) c.in-Rate.is known.thing in
     record {
-      lawful = c.agents-agents.ensures.lawful;
+      valid = c.agents-agents.ensures.valid;
       stepped =
           rate-completed board t
           (record { base = t.base; power = t.power; clocks = c.complete-in-Rate.new.self; pending = left; outboxes = c.respond-in-Rate.new.self })
           c.complete-in-Rate.new.self left p.agent p.header p.wanted c.in-Rate.clock c.in-Rate.rate
-          c.agents-agents.ensures.lawful.few_clocks known.first known.last inside
+          c.agents-agents.ensures.valid.few_clocks known.first known.last inside
           (c.pop_first-done.ensures.first ∙ ap (λ s. Some (record { agent = p.agent; setting = s; header = p.header; wanted = p.wanted })) c.in-Rate.is)
           c.pop_first-done.ensures.rest
           c.complete-in-Rate.ensures.rates c.complete-in-Rate.ensures.enabled

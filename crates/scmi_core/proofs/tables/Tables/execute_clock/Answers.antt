@@ -6,12 +6,12 @@ use Rattle.scmi_core.proofs.tables.Tables.execute_clock.Goals as goal
 pub returns-clause-reply : goal.returns-clause-reply
 returns-clause-reply c =
     c.execute-later.ensures.reply
-    ∙ clock-reply c.args.plan.now c.args.self.now c.args.agent c.clock_load-load.result c.args.command c.requires.lawful.few_clocks
+    ∙ clock-reply c.args.plan.now c.args.self.now c.args.agent c.clock_load-load.result c.args.command c.requires.valid.few_clocks
     c.clock_load-load.ensures.busy c.clock_load-load.ensures.room
 
 pub returns-clause-stepped : goal.returns-clause-stepped
 returns-clause-stepped c =
-    let law = c.requires.lawful in
+    let law = c.requires.valid in
     clock-stepped c.args.plan.now c.args.self.now c.accept_rate.new.self c.execute-later.new.self c.args.agent c.args.header c.args.command
     c.execute-later.new.reply.items c.execute-later.result
     law.few_clocks c.requires.first c.requires.last

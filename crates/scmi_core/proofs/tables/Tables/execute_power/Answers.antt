@@ -6,12 +6,12 @@ use Rattle.scmi_core.proofs.tables.Tables.execute_power.Goals as goal
 pub returns-clause-reply : goal.returns-clause-reply
 returns-clause-reply c =
     c.execute-done.ensures.reply
-    ∙ power-reply c.args.plan.now c.args.self.now c.args.agent c.power_load-load.result c.args.command c.agents-agents.ensures.lawful.few_domains
+    ∙ power-reply c.args.plan.now c.args.self.now c.args.agent c.power_load-load.result c.args.command c.agents-agents.ensures.valid.few_domains
     c.power_load-load.ensures.busy c.power_load-load.ensures.room
 
 pub returns-clause-stepped : goal.returns-clause-stepped
 returns-clause-stepped c =
-    let law = c.agents-agents.ensures.lawful in
+    let law = c.agents-agents.ensures.valid in
     let count = c.agents-agents.ensures.count in
     power-stepped c.args.plan.now c.args.self.now c.accept_state.new.self c.announce.new.self c.execute-done.new.self c.args.agent c.args.header c.args.command
     c.execute-done.new.reply.items c.execute-done.result.changed c.execute-done.result.later c.state_before-before.result

@@ -8,7 +8,7 @@ use Rattle.scmi_power.proofs.power_state.PowerState.new.Goals as goal
 
 pub loop-domain-preserved : goal.loop-domain-preserved
 loop-domain-preserved c =
-    let law = c.domains-domain-end.ensures.lawful in
+    let law = c.domains-domain-end.ensures.valid in
     let small : c.loop-domain.domain < length c.loop-domain.states =
     let r = c.loop-domain.invariant.room in omega (arith, law.few_domains, c.domains-domain-end.ensures.count) in
     record {

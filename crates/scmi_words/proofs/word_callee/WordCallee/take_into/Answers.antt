@@ -2,7 +2,7 @@ use Rattle.std.proofs.Common.{rules, ◌≡◌, ap, sym, ◌∙◌, subst, Some,
 use Rattle.scmi_codec.specs.declared.frame.Frame.{Frame}
 use Rattle.scmi_link.specs.View.{one_more}
 use Rattle.scmi_words.specs.declared.view.CalleeHalf.{CalleeHalf}
-use Rattle.scmi_words.specs.Area.{IsLawful}
+use Rattle.scmi_words.specs.Area.{IsValid}
 use Rattle.scmi_words.specs.Area.{frame_size}
 use Rattle.scmi_words.specs.View.{callee_of}
 use Rattle.scmi_words.specs.CalleeSteps.{callee_took, callee_after}
@@ -13,7 +13,7 @@ use Rattle.scmi_words.proofs.word_callee.WordCallee.take_into.Goals as goal
 pub read_frame-requires : goal.read_frame-requires
 read_frame-requires c = let t = c.take_over-found.ensures in let got = t.2 (search rules) in let even : length (callee_of c.args.self.now.seat).state.taken ≡ length (callee_of c.args.self.now.seat).state.answered = search rules in
     let d = took c.args.self.now.seat c.take_over-found.new.seat t.0 got.0 t.1 got.2 even in
-    (search rules, ((search rules, d.owes, d.draft), (d.last ∙ ap (λ (x : Frame). Some x) (sym d.picked), subst IsLawful (sym d.picked) got.1)))
+    (search rules, ((search rules, d.owes, d.draft), (d.last ∙ ap (λ (x : Frame). Some x) (sym d.picked), subst IsValid (sym d.picked) got.1)))
 
 pub returns-clause-takes : goal.returns-clause-takes
 returns-clause-takes c = let t = c.take_over-found.ensures in let got = t.2 (search rules) in let k = c.args.self.now in let s = k.seat in let even : length (callee_of s).state.taken ≡ length (callee_of s).state.answered = search rules in

@@ -4,7 +4,7 @@ use Rattle.scmi_link.specs.View.{one_more}
 use Rattle.scmi_words.specs.declared.phase.Phase.{Phase}
 use Rattle.scmi_words.specs.declared.phase.Phase.TheVariants.{Waiting}
 use Rattle.scmi_words.specs.declared.view.CallerHalf.{CallerHalf}
-use Rattle.scmi_words.specs.Area.{IsLawfulAnswer}
+use Rattle.scmi_words.specs.Area.{IsValidAnswer}
 use Rattle.scmi_words.specs.StatusWord.{status_word, answer_mark}
 use Rattle.scmi_words.specs.Phase.{is_left, unread}
 use Rattle.scmi_words.specs.View.{caller_of}
@@ -17,7 +17,7 @@ pub read_answer-requires : goal.read_answer-requires
 read_answer-requires c = let t = c.look-status.ensures in let waiting : (caller_of c.args.self.now.seat).state.phase ≡ Waiting = search rules in
     let got = (t.2 waiting).0 (c.is_free.ensures.0 c.if-is_free.true) in
     let d = collected c.args.self.now.seat c.look-status.new.seat t.0 got.0 c.look-status.result c.without_closed-self.result t.1 got.1 (c.without_closed-self.ensures got.0 got.2.0 got.2.1) in
-    (search rules, ((d.has, d.phase, d.draft), ((d.last ∙ ap (λ (x : Answer). Some x) (sym d.picked), subst IsLawfulAnswer (sym d.picked) got.3), d.free ∙ ap (λ (x : Answer). status_word (answer_mark x) false) (sym d.picked))))
+    (search rules, ((d.has, d.phase, d.draft), ((d.last ∙ ap (λ (x : Answer). Some x) (sym d.picked), subst IsValidAnswer (sym d.picked) got.3), d.free ∙ ap (λ (x : Answer). status_word (answer_mark x) false) (sym d.picked))))
 
 pub invariant_of-self : goal.invariant_of-self
 invariant_of-self c = let t = c.look-status.ensures in let h0 = caller_of c.args.self.now.seat in let waiting : h0.state.phase ≡ Waiting = search rules in

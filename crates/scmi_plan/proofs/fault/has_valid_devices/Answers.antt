@@ -2,7 +2,7 @@ use Rattle.std.proofs.Common.{rules, tests, ◌^◌, ◌∙◌, ◌&&◌, nat_lt
 use Rattle.std.proofs.lemmas.Iterator.{YieldsList-from_slice}
 use Rattle.std.proofs.lemmas.Iterator.Search.{all_from_yields_List}
 use Rattle.std.proofs.lemmas.List.{length-map}
-use Rattle.scmi_plan.proofs.fault.has_lawful_devices.Goals as goal
+use Rattle.scmi_plan.proofs.fault.has_valid_devices.Goals as goal
 
 pub returns : goal.returns
 returns c =
