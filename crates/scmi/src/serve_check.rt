@@ -1,12 +1,13 @@
 //! A check of the program: its board from a file, and its record from another or standard input.
 
 use crate::STANDARD_INPUT;
-use crate::opened::Opened;
 use crate::refusal::refuse_file;
 use crate::report::report_output;
+use crate::report_board::report_board;
 use scmi_board::Items;
 use scmi_check::{DIFFERS, Style, run_check};
-use scmi_explain::{Kept, LastLine};
+use scmi_explain::{Fault, Kept, LastLine};
+use scmi_input::INPUT_BYTES;
 use scmi_modes::RunError;
 use std::alloc::Global;
 use std::fs::{self, Files};
@@ -96,12 +97,23 @@ fn report<B: Read + Drop, R: Read + Drop>(
         );
     } else if let Some(error) = record.error() {
         let _ = eprintln!(rt; "{name}: the record can't be read: {error}");
-    } else {
-        let mut text = board.bytes();
-        if let Err(refused) = Opened::read(alloc, &mut text) {
-            refused.report(rt, alloc, asked.board, board.error());
-        }
+    } else if let Some(fault) = fault_of_board(last_line, board) {
+        report_board(rt, alloc, asked.board, board, fault);
+    } else if Fault::of_line(last_line) == Some(Fault::Size) {
+        let _ = eprintln!(rt; "{name}: the record is longer than {INPUT_BYTES} bytes");
     }
+}
+
+/// The fault that a last line names, if it is one of the board.
+fn fault_of_board<B: Read + Drop>(last_line: &[u8], board: &Kept<B>) -> Option<Fault> {
+    let fault = Fault::of_line(last_line)?;
+    let is_of_board = match fault {
+        Fault::Board(_) | Fault::Plan(_) => true,
+        Fault::Read => board.error().is_some(),
+        Fault::Size => board.bytes().len() >= INPUT_BYTES,
+        _ => false,
+    };
+    if is_of_board { Some(fault) } else { None }
 }
 
 /// The line of a record that a fault names.

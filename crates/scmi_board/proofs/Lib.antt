@@ -1,4 +1,5 @@
 pub mod BoardLemmas
+pub mod ChannelLines
 pub mod Digits
 mod Examples
 pub mod ItemLemmas

@@ -1,9 +1,11 @@
 -- A board whose text says what channels its agents have (own).
 use Rattle.std.specs.Prelude.{ℕ, ◌+◌, ◌-◌, ◌/◌, ◌&&◌, ◌++◌, nat_le, nat_lt, Bool, true, false, if◌then◌else◌, List, [], ◌∷◌, length, slice_get, Option, Some, None, Result}
+use Rattle.std.specs.List.{fold}
 use Rattle.std.specs.Option.{option_map_or}
 use Rattle.std.specs.Str.{bytes_eq}
 use Rattle.scmi_codec.specs.ChannelArea.{is_channel_size}
-use Rattle.scmi_plan.specs.Board.{Board}
+use Rattle.scmi_plan.specs.Agent.{IsAgent}
+use Rattle.scmi_plan.specs.Board.{Board, IsChannel, with_channel}
 use Rattle.scmi_plan.specs.RawPlan.{asked_board}
 use Rattle.scmi_board.specs.BoardText.{behind_heading, heading_left}
 use Rattle.scmi_board.specs.Items.{◌>>=◌, ItemsView, first_item, first_number, items_left, no_item}
@@ -20,6 +22,15 @@ Described = Board × List ChannelLine
 -- what a text has said so far
 abbrev pub described : BoardWithChannels → Described
 described raw = (asked_board raw.board, raw.channels.items)
+
+-- a line gives a channel that an agent of the board may have
+pub record IsLineOf (board : Board) (line : ChannelLine) : Type 0 where
+  pub agent : IsAgent (length board.agents) line.agent
+  pub channel : IsChannel line.channel
+
+-- a board whose agents have the channels that these lines give
+abbrev pub with_channels : Board → List ChannelLine → Board
+with_channels board lines = fold (λ so_far line. with_channel so_far line.agent line.channel) board lines
 
 -- nothing, or `one-way`: whether the platform can't send to the agent
 unfoldable pub first_way : ItemsView → Option (Bool × ItemsView)

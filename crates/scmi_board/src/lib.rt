@@ -9,6 +9,7 @@
 mod board;
 mod board_with_channels;
 mod channel_line;
+mod channel_lines;
 mod clock_line;
 mod device_line;
 mod domain_line;
@@ -25,6 +26,7 @@ mod words;
 pub use board::read_board;
 pub use board_with_channels::{BoardWithChannels, read_board_with_channels};
 pub use channel_line::ChannelLine;
+pub use channel_lines::set_channels;
 pub use items::Items;
 pub use line_error::LineError;
 pub use lines::{Lines, TextLine, is_significant};

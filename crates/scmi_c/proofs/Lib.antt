@@ -2,7 +2,6 @@ pub mod HandleValues
 pub mod LooseValues
 mod Answering
 mod Codes
-mod ChannelLines
 mod AreaIn
 mod Keeping
 pub mod TableLemmas

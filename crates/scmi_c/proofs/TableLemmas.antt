@@ -17,7 +17,7 @@ use Rattle.scmi_plan.specs.declared.agent_channel.TheConstants.{LEAST_CHANNEL_WO
 use Rattle.scmi_plan.specs.declared.channel_error.ChannelError.{ChannelError}
 use Rattle.scmi_plan.specs.declared.channel_error.ChannelError.TheVariants.{NoAgent, Words}
 use Rattle.scmi_board.specs.declared.channel_line.ChannelLine.{ChannelLine}
-use Rattle.scmi_c.specs.Board.{with_channels}
+use Rattle.scmi_board.specs.Channels.{with_channels}
 use Rattle.scmi_c.specs.Tables.{BoardTables, channel_in, channels_from, is_agent_row, is_channel_row, is_clock_row, is_domain_row, is_named, is_well_formed, is_zero}
 use Rattle.scmi_c.specs.declared.rows.AgentRow.{AgentRow}
 

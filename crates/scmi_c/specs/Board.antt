@@ -1,27 +1,15 @@
 -- The board of a text, and the faults of one, as numbers for C.
 use Rattle.std.specs.Prelude.{◌≡◌, ℕ, ◌+◌, ◌-◌, ◌^◌, ◌<◌, ◌≤◌, ◌⊎◌, min, List, length, Option, Some, None, Result, Ok, Err}
-use Rattle.std.specs.List.{fold}
-use Rattle.scmi_plan.specs.Agent.{IsAgent}
-use Rattle.scmi_plan.specs.Board.{Board, IsChannel, with_channel}
+use Rattle.scmi_plan.specs.Board.{Board}
 use Rattle.scmi_plan.specs.PlanError.{first_fault, number}
 use Rattle.scmi_plan.specs.declared.plan_error.PlanError.{PlanError}
-use Rattle.scmi_board.specs.Channels.{Described, described_left}
+use Rattle.scmi_board.specs.Channels.{Described, described_left, with_channels}
 use Rattle.scmi_board.specs.Lines.{Line}
-use Rattle.scmi_board.specs.declared.channel_line.ChannelLine.{ChannelLine}
 use Rattle.scmi_c.specs.declared.code.TheConstants.{MEMORY, RULE, LINE}
 
 -- out of memory, a rule of boards (1 to 5), or a line
 abbrev pub IsFault : ℕ → Type 0
 IsFault n = (n ≡ MEMORY) ⊎ ((RULE < n) × (n ≤ RULE + 5)) ⊎ (LINE ≤ n)
-
--- a line gives a channel that an agent of the board may have
-pub record IsLineOf (board : Board) (line : ChannelLine) : Type 0 where
-  pub agent : IsAgent (length board.agents) line.agent
-  pub channel : IsChannel line.channel
-
--- a board whose agents have the channels that these lines give
-abbrev pub with_channels : Board → List ChannelLine → Board
-with_channels board lines = fold (λ so_far line. with_channel so_far line.agent line.channel) board lines
 
 -- the number of a line of another form; the lines of a board are numbered from 2, and for C from 1
 abbrev pub line_fault : ℕ → ℕ

@@ -1,17 +1,16 @@
 //! A platform's plan, of a board's text.
 ghost use Rattle.std.specs.Prelude.{◌≡◌, ◌≢◌, ℕ, ◌+◌, List, Result, IfOk, IfErr, Ok, Err};
-ghost use Rattle.std.specs.List.{All};
 ghost use Rattle.scmi_plan.specs.Plan.{IsValid};
 ghost use Rattle.scmi_plan.specs.PlanError.{number};
 ghost use Rattle.scmi_plan.specs.declared.plan_error.PlanError.TheVariants as plan_error;
 ghost use Rattle.scmi_board.specs.BoardText.{FailsBoard};
 ghost use Rattle.scmi_board.specs.Channels.{Described};
 ghost use Rattle.scmi_board.specs.Lines.{Line};
-ghost use Rattle.scmi_c.specs.Board.{IsFault, IsLineOf, board_of_text, board_said, with_channels};
+ghost use Rattle.scmi_c.specs.Board.{IsFault, board_of_text, board_said};
 ghost use Rattle.scmi_c.specs.declared.code.TheConstants.{MEMORY, RULE};
 
 use crate::code::{LINE, MEMORY, RULE};
-use scmi_board::{ChannelLine, Lines, TextError, read_board_with_channels};
+use scmi_board::{Lines, TextError, read_board_with_channels, set_channels};
 use scmi_plan::{Plan, PlanError};
 use std::alloc::Global;
 
@@ -36,16 +35,6 @@ pub fn read_plan(alloc: Global, text: &[u8]) -> Result<Plan, u32>
     set_channels(&mut plan, &said.channels);
     let _agents = plan.agents();
     Ok(plan)
-}
-
-/// Gives the agents of a plan the channels that lines give.
-fn set_channels(plan: &mut Plan, lines: &[ChannelLine])
-    requires lines { All (IsLineOf plan.old) lines.now }
-    ensures channels { plan.new ≡ with_channels plan.old lines.now }
-{
-    'lines: for line in lines {
-        let _ = plan.set_channel(line.agent, line.channel);
-    }
 }
 
 /// The number of a text's fault.

@@ -4,7 +4,7 @@ ghost use Rattle.std.specs.List.{All};
 ghost use Rattle.scmi_plan.specs.Agent.{IsAgent};
 ghost use Rattle.scmi_plan.specs.Board.{IsChannel};
 ghost use Rattle.scmi_plan.specs.Plan.{IsValid};
-ghost use Rattle.scmi_c.specs.Board.{with_channels};
+ghost use Rattle.scmi_board.specs.Channels.{with_channels};
 ghost use Rattle.scmi_c.specs.Tables.{board_of_tables, channel_in, channels_from, is_channel_row, is_well_formed, tables_of, IsTableFault};
 ghost use Rattle.scmi_c.specs.declared.code.TheConstants.{MEMORY, TABLE};
 

@@ -1,7 +1,7 @@
 -- A check of a record, from the bytes that are read to the status.
 use Rattle.std.specs.Prelude.{◌≡◌, ◌↔◌, ◌⊎◌, ℕ, ◌<◌, ⊤, List, length, Option, None, IfSome, Ok, Err}
 use Rattle.std.specs.Io.KnownBytes.{Appends}
-use Rattle.scmi_board.specs.BoardText.{board_left}
+use Rattle.scmi_board.specs.Channels.{Described, described_left, with_channels}
 use Rattle.scmi_board.specs.Lines.{Line, LinesView}
 use Rattle.scmi_input.specs.declared.input.TheConstants.{INPUT_BYTES}
 use Rattle.scmi_plan.specs.Board.{Board}
@@ -21,11 +21,13 @@ use Rattle.scmi_check.specs.declared.style.Style.{Style}
 abbrev pub whole : List ℕ → LinesView
 whole text = record { rest = text; number = 0 }
 
--- a text begins with a board that keeps every rule
+-- a text begins with a board that keeps every rule, and lines `channel` that give its agents these channels
 pub record IsBoardText (text : List ℕ) (board : Board) : Type 0 where
+  pub said : Described
   pub behind : List Line
-  pub board_is : board_left (whole text) ≡ Ok (board, behind)
-  pub valid : first_fault board ≡ None
+  pub said_is : described_left (whole text) ≡ Ok (said, behind)
+  pub valid : first_fault said.0 ≡ None
+  pub board_is : board ≡ with_channels said.0 said.1
 
 -- a text encodes a record of a platform of a board
 abbrev pub IsRecordText : Board → List ℕ → List Placed → Type 0
@@ -50,8 +52,8 @@ pub record IsChecked (style : Style) (board_known record_known : Option (List �
 -- a fault of a board's text: its length, its first line that is not one of a board, or the first rule that the board breaks. A failed read, or out of memory, shows nothing of it
 abbrev pub IsFaultOfBoard : List ℕ → CheckError → Type 0
 IsFaultOfBoard text Size = INPUT_BYTES < length text
-IsFaultOfBoard text (BoardLine line) = board_left (whole text) ≡ Err line
-IsFaultOfBoard text (PlanRule rule) = (board : Board) × (behind : List Line) × (board_left (whole text) ≡ Ok (board, behind)) × IfSome (first_fault board) (λ broken. rule ≡ number broken)
+IsFaultOfBoard text (BoardLine line) = described_left (whole text) ≡ Err line
+IsFaultOfBoard text (PlanRule rule) = (said : Described) × (behind : List Line) × (described_left (whole text) ≡ Ok (said, behind)) × IfSome (first_fault said.0) (λ broken. rule ≡ number broken)
 IsFaultOfBoard text Read = ⊤
 IsFaultOfBoard text Memory = ⊤
 IsFaultOfBoard text _ = ⊥

@@ -10,7 +10,7 @@ use crate::placed::Placed;
 use crate::record::read_record;
 use crate::report::write_report;
 use crate::style::Style;
-use scmi_board::{Lines, read_board};
+use scmi_board::{Lines, read_board_with_channels, set_channels};
 use scmi_input::{CountedReader, read_rest};
 use scmi_plan::Plan;
 use std::alloc::Global;
@@ -53,8 +53,10 @@ fn plan_of(alloc: Global, text: &[u8]) -> Result<Plan, CheckError>
     ensures board { IfOk result (IsBoardText text.now) }
     ensures faults { IfErr result (IsFaultOfBoard text.now) }
 {
-    let raw = read_board(alloc, &mut Lines::of_text(text))?;
-    Ok(Plan::check(alloc, &raw)?)
+    let said = read_board_with_channels(alloc, &mut Lines::of_text(text))?;
+    let mut plan = Plan::check(alloc, &said.board)?;
+    set_channels(&mut plan, &said.channels);
+    Ok(plan)
 }
 
 /// The entries of a record's text, of a platform of this board.

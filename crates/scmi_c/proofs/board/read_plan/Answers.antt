@@ -1,10 +1,9 @@
 use Rattle.std.proofs.Common.{sym, subst}
 use Rattle.std.specs.List.{All}
 use Rattle.scmi_plan.specs.Board.{Board}
-use Rattle.scmi_board.specs.Channels.{described}
+use Rattle.scmi_board.specs.Channels.{IsLineOf, described}
 use Rattle.scmi_board.specs.Lines.{lines_left}
-use Rattle.scmi_c.specs.Board.{IsLineOf}
-use Rattle.scmi_c.proofs.ChannelLines.{lines-said}
+use Rattle.scmi_board.proofs.ChannelLines.{lines-said}
 use Rattle.scmi_c.proofs.board.read_plan.Goals as goal
 
 pub set_channels-requires : goal.set_channels-requires

@@ -1,5 +1,5 @@
 use Rattle.std.proofs.Common.{◌≡◌, ◌≤◌, take, length}
-use Rattle.scmi_c.specs.Board.{with_channels}
+use Rattle.scmi_board.specs.Channels.{with_channels}
 use Rattle.scmi_c.specs.Tables.{channels_from}
 use Rattle.scmi_c.proofs.board_of_tables.set_channels.Given as goal
 

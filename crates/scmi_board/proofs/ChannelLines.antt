@@ -6,12 +6,11 @@ use Rattle.std.proofs.lemmas.List.Elements.{All-nil, All-push}
 use Rattle.scmi_codec.specs.ChannelArea.{is_channel_size}
 use Rattle.scmi_plan.specs.Board.{Board, IsChannel}
 use Rattle.scmi_board.specs.BoardText.{behind_heading, heading_left, lines_by}
-use Rattle.scmi_board.specs.Channels.{Described, described_left, first_channel, first_way, last_agent, with_board_row, with_channel_line, with_line}
+use Rattle.scmi_board.specs.Channels.{Described, IsLineOf, described_left, first_channel, first_way, last_agent, with_board_row, with_channel_line, with_line}
 use Rattle.scmi_board.specs.Items.{◌>>=◌, ItemsView, first_item, first_number, items_left, no_item}
 use Rattle.scmi_board.specs.Lines.{Line, LinesView, last_number}
 use Rattle.scmi_board.specs.Rows.{with_row}
 use Rattle.scmi_board.specs.declared.channel_line.ChannelLine.{ChannelLine}
-use Rattle.scmi_c.specs.Board.{IsLineOf}
 
 -- each line is one of an agent of the board
 abbrev IsGood : Described → Type 0

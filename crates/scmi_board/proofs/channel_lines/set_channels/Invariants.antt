@@ -1,6 +1,6 @@
 use Rattle.std.proofs.Common.{◌≡◌, take, length}
-use Rattle.scmi_c.specs.Board.{with_channels}
-use Rattle.scmi_c.proofs.board.set_channels.Given as goal
+use Rattle.scmi_board.specs.Channels.{with_channels}
+use Rattle.scmi_board.proofs.channel_lines.set_channels.Given as goal
 
 abbrev pub invariant-lines : goal.invariant-lines
 invariant-lines l = record {
