@@ -1,12 +1,14 @@
 //! The answer to the frame of an area, in place.
-ghost use Rattle.std.specs.Prelude.{◌≡◌, IfErr, IfOk, OnOk, OnErr};
+ghost use Rattle.std.specs.Prelude.{◌≡◌, [], IfErr, IfOk, OnOk, OnErr};
+ghost use Rattle.scmi_codec.specs.Area.{area_after_answer};
 ghost use Rattle.scmi_core.specs.BoardB.{board_b};
+ghost use Rattle.scmi_core.specs.History.{answer_to, answer_with};
 ghost use Rattle.scmi_modes.specs.Once.{answered_area};
 
 use crate::reference_board::reference_board;
 use crate::run_error::RunError;
-use scmi_codec::{AREA_BYTES, read_area, write_answer};
-use scmi_core::Core;
+use scmi_codec::{AREA_BYTES, Answer, Frame, Message, read_area, write_answer, write_reply};
+use scmi_core::{Answered, Platform};
 use scmi_plan::Plan;
 use std::alloc::Global;
 
@@ -21,12 +23,33 @@ pub fn answer_area(alloc: Global, area: &mut [u8; AREA_BYTES]) -> Result<(), Run
     let Ok(Some(frame)) = read_area(area) else {
         return Ok(());
     };
-    let mut core = Core::new(alloc, reference_plan(alloc)?);
-    let Ok(answer) = core.command(1, &frame) else {
-        return Err(RunError::Memory);
-    };
-    let _ = write_answer(area, &answer);
+    let plan = reference_plan(alloc)?;
+    let mut reply = Message::default();
+    let answered = answer_first(plan, &frame, &mut reply);
+    put_answer(area, answered, &reply);
     Ok(())
+}
+
+/// The answer of a new platform of this board to agent 1's first command, with the reply written
+/// into `reply`.
+fn answer_first(plan: Plan, frame: &Frame, reply: &mut Message) -> Answered
+    ensures { answer_with result reply.new ≡ answer_to plan 1 frame.now [] }
+{
+    match Platform::new(plan).command(1, frame, reply) {
+        Ok(answered) => answered,
+        // Each board has an agent 1.
+        Err(_) => Answered::ChannelError,
+    }
+}
+
+/// Writes an answer over the frame of an area.
+fn put_answer(area: &mut [u8; AREA_BYTES], answered: Answered, reply: &Message)
+    ensures { area.new ≡ area_after_answer (answer_with answered reply.now) area.old }
+{
+    let _ = match answered {
+        Answered::Reply => write_reply(area, reply),
+        Answered::ChannelError => write_answer(area, &Answer::ChannelError),
+    };
 }
 
 /// The plan of the reference board, which is valid, so that the only error is `Memory`.

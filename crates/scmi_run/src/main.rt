@@ -12,7 +12,7 @@ use std::process::ExitCode;
 
 fn main(rt: HostRuntime) -> ExitCode {
     let alloc = rt.alloc();
-    let mut reader = rt.reader();
+    let mut reader = rt.stdin();
     // If there is no memory for a buffer the output goes straight out.
     let Ok(mut writer) = BufWriter::new(alloc, io::writer(&rt)) else {
         let mut writer = io::writer(&rt);
