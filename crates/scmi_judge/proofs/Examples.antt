@@ -1,4 +1,4 @@
--- Four records of a platform of board B, judged by the definitions. What is due is worked out by hand, from docs/PROTOCOL.md.
+-- Five records of a platform of board B, judged by the definitions. What is due is worked out by hand, from docs/PROTOCOL.md.
 use Rattle.std.proofs.Common.{◌≡◌, ℕ, List, [], ◌∷◌, refl}
 use Rattle.scmi_codec.specs.declared.message.Message.{Message}
 use Rattle.scmi_codec.specs.declared.frame.Frame.TheVariants.{Good}
@@ -39,15 +39,27 @@ plain_exchange-judged : verdicts_of board_b plain_exchange ≡ verdict.Same ∷ 
 unfolding plain_exchange verdict_of events_of completions_shown deeds outbox reply_words base_reply power_reply clock_reply fold_with_prefix
 plain_exchange-judged = refl
 
--- a set that is answered by BUSY while nothing is pending, and a get after it: the set was to succeed, and the get is judged after it
+-- a set that is answered by BUSY while nothing is pending, and a get after it: the set was to succeed, and the record shows that it changed nothing
 wrong_status : List Entry
 wrong_status =
-    exchange 1 0 0x11 0x4 (0 ∷ 0 ∷ 0 ∷ []) (0xfffffffa ∷ []) ∷ exchange 1 1 0x11 0x5 (0 ∷ []) (0 ∷ 0 ∷ []) ∷ []
+    exchange 1 0 0x11 0x4 (0 ∷ 0 ∷ 0 ∷ []) (0xfffffffa ∷ []) ∷ exchange 1 1 0x11 0x5 (0 ∷ []) (0 ∷ 0x40000000 ∷ []) ∷ []
 
 wrong_status-judged : verdicts_of board_b wrong_status
     ≡ verdict.Answer (Reply (message_of 0 0 0x11 0x4 (0 ∷ []))) ∷ verdict.Same ∷ []
 unfolding wrong_status verdict_of events_of completions_shown deeds outbox reply_words base_reply power_reply clock_reply fold_with_prefix
 wrong_status-judged = refl
+
+-- sets of a state and of a rate, which the hardware refuses, with a read after each, a configuration that it refuses, and a get with the same status
+refused_changes : List Entry
+refused_changes =
+    exchange 1 0 0x11 0x4 (0 ∷ 0 ∷ 0 ∷ []) (0xfffffff7 ∷ []) ∷ exchange 1 1 0x11 0x5 (0 ∷ []) (0 ∷ 0x40000000 ∷ [])
+    ∷ exchange 1 2 0x14 0x5 (0 ∷ 0 ∷ 200 ∷ 0 ∷ []) (0xfffffff7 ∷ []) ∷ exchange 1 3 0x14 0x6 (0 ∷ []) (0 ∷ 100 ∷ 0 ∷ [])
+    ∷ exchange 1 4 0x14 0x7 (1 ∷ 1 ∷ []) (0xfffffff7 ∷ []) ∷ exchange 1 5 0x11 0x5 (0 ∷ []) (0xfffffff7 ∷ []) ∷ []
+
+refused_changes-judged : verdicts_of board_b refused_changes
+    ≡ verdict.Same ∷ verdict.Same ∷ verdict.Same ∷ verdict.Same ∷ verdict.Same ∷ verdict.Answer (Reply (message_of 0 5 0x11 0x5 (0 ∷ 0x40000000 ∷ []))) ∷ []
+unfolding refused_changes verdict_of events_of completions_shown deeds outbox reply_words base_reply power_reply clock_reply fold_with_prefix
+refused_changes-judged = refl
 
 -- an asynchronous set, the state before it is complete, its delayed response, and the state after it
 delayed_response : List Entry

@@ -1,5 +1,5 @@
 -- A record with all entries as the definitions give them is one that has a legal history, and the other way round.
-use Rattle.std.proofs.Common.{◌≡◌, ◌↔◌, ℕ, zero, suc, ◌<◌, List, [], ◌∷◌, ◌++◌, length, slice_get, Some, refl, sym, ap, ◌∙◌, subst, arith}
+use Rattle.std.proofs.Common.{◌≡◌, ◌↔◌, inl, inr, ℕ, zero, suc, ◌<◌, List, [], ◌∷◌, ◌++◌, length, slice_get, Some, refl, sym, ap, ◌∙◌, subst, arith}
 use Rattle.std.specs.Prelude.{replicate}
 use Rattle.std.specs.List.{All}
 use Rattle.std.proofs.lemmas.List.{append_assoc, append-nil, append_cancel_left}
@@ -8,13 +8,13 @@ use Rattle.scmi_plan.specs.Agent.{IsAgent}
 use Rattle.scmi_plan.specs.Board.{Board}
 use Rattle.scmi_codec.specs.declared.message.Message.{Message}
 use Rattle.scmi_core.specs.declared.event.Event.{Event}
-use Rattle.scmi_core.specs.declared.event.Event.TheVariants.{Command, Advance, Sent}
+use Rattle.scmi_core.specs.declared.event.Event.TheVariants.{Command, Advance, Sent, CommandFailed}
 use Rattle.scmi_core.specs.declared.pending_set.PendingSet.{PendingSet}
 use Rattle.scmi_core.specs.History.{IsIdle, deeds, outbox}
 use Rattle.scmi_core.specs.Legal.{IsLegal}
 use Rattle.scmi_core.specs.Pending.{pending_sets}
 use Rattle.scmi_judge.specs.Law.{ArePieces, HasHistory, IsPiece, IsSplitBy}
-use Rattle.scmi_judge.specs.Record.{IsShown, completions_of, completions_shown, events_of, history_from, history_of, shown_to, taking, where_nothing_waits}
+use Rattle.scmi_judge.specs.Record.{IsAnswerTo, IsShown, command_shown, completions_of, completions_shown, events_of, history_from, history_of, shown_to, taking, where_nothing_waits}
 use Rattle.scmi_judge.specs.Verdict.{verdict_of, verdicts_from, verdicts_of}
 use Rattle.scmi_judge.specs.declared.entry.Entry.{Entry}
 use Rattle.scmi_judge.specs.declared.entry.Entry.TheVariants.{Answered, Delivered}
@@ -23,6 +23,7 @@ use Rattle.scmi_judge.specs.declared.verdict.Verdict.TheVariants.{Same}
 use Rattle.scmi_judge.proofs.Completing.{none-waiting, one-more, shown-none}
 use Rattle.scmi_judge.proofs.Laws.{law}
 use Rattle.scmi_judge.proofs.Records.{AreShown, all_same}
+use Rattle.scmi_judge.proofs.Changes.{shown-done, shown-failed}
 use Rattle.scmi_judge.proofs.Verdicts.{agent_decides, answered-events, same_says, taken-events}
 
 -- completions that are this many, before each of which no message waited for an agent
@@ -83,7 +84,13 @@ takes a m (n ∷ waiting) first = refl
 
 -- an entry that is what the definitions give shows a piece, which is what it encodes
 piece-of : (board : Board) (h : List Event) (entry : Entry) → IsShown board h entry → IsPiece board h entry (events_of board h entry)
-piece-of board h (Answered a f x) is = record { are = answered-events board h a f x ((agent_decides board a).1 is.0); due = is.1 }
+piece-of board h (Answered a f x) is = by is.1 where
+  shown : events_of board h (Answered a f x) ≡ command_shown board a f x h ∷ []
+  shown = answered-events board h a f x ((agent_decides board a).1 is.0)
+
+  by : IsAnswerTo board a f x h → IsPiece board h (Answered a f x) (events_of board h (Answered a f x))
+  by (inl due) = inl (record { are = shown ∙ ap (λ e. e ∷ []) (shown-done board h a f x due); due = due })
+  by (inr failed) = inr (record { are = shown ∙ ap (λ e. e ∷ []) (shown-failed board h a f x failed.0 failed.1); due = failed.1 })
 piece-of board h (Delivered a m) is =
     let so = waited board a h in
     record {
@@ -115,9 +122,16 @@ pieces-of board h (e ∷ entries) shown =
 -- a piece of a legal history is what its entry encodes, and the entry is what the definitions give
 piece-shown : (board : Board) (total rest : List Event) → IsLegal board total → (h : List Event) (entry : Entry) (piece : List Event) → total ≡ h ++ (piece ++ rest)
     → IsPiece board h entry piece → IsShown board h entry × (events_of board h entry ≡ piece)
-piece-shown board total rest legal h (Answered a f x) piece is shown =
-    let agent : IsAgent (length board.agents) a = legal.each h rest (Command a f) (is ∙ ap (λ es. h ++ (es ++ rest)) shown.are) in
-    ((agent, shown.due), answered-events board h a f x ((agent_decides board a).1 agent) ∙ sym shown.are)
+piece-shown board total rest legal h (Answered a f x) piece is (inl shown) =
+    let agent : IsAgent (length board.agents) a = legal.each h rest (Command a f) (is ∙ ap (λ es. h ++ (es ++ rest)) shown.are) in (
+      (agent, inl shown.due),
+      answered-events board h a f x ((agent_decides board a).1 agent) ∙ ap (λ e. e ∷ []) (shown-done board h a f x shown.due) ∙ sym shown.are,
+    )
+piece-shown board total rest legal h (Answered a f x) piece is (inr shown) =
+    let may = legal.each h rest (CommandFailed a f) (is ∙ ap (λ es. h ++ (es ++ rest)) shown.are) in (
+      (may.0, inr (may.1, shown.due)),
+      answered-events board h a f x ((agent_decides board a).1 may.0) ∙ ap (λ e. e ∷ []) (shown-failed board h a f x may.1 shown.due) ∙ sym shown.are,
+    )
 piece-shown board total rest legal h (Delivered a m) piece is shown =
     let done = replicate shown.completions Advance in
     let parted : total ≡ h ++ (done ++ (Sent a ∷ rest)) = is ∙ ap (λ es. h ++ (es ++ rest)) shown.are ∙ ap (λ es. h ++ es) (append_assoc done (Sent a ∷ []) rest) in

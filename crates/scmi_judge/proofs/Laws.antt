@@ -10,20 +10,22 @@ use Rattle.scmi_codec.specs.declared.message.Message.{Message}
 use Rattle.scmi_codec.specs.declared.frame.Frame.{Frame}
 use Rattle.scmi_codec.specs.declared.frame.Answer.{Answer}
 use Rattle.scmi_core.specs.declared.event.Event.{Event}
-use Rattle.scmi_core.specs.declared.event.Event.TheVariants.{Command, Advance, Sent}
+use Rattle.scmi_core.specs.declared.event.Event.TheVariants.{Advance, Sent}
 use Rattle.scmi_core.specs.declared.pending_set.PendingSet.{PendingSet}
 use Rattle.scmi_core.specs.Agents.{answers_to, frames_of}
-use Rattle.scmi_core.specs.History.{answer_to, deeds, delivered_messages, outbox}
-use Rattle.scmi_core.specs.Legal.{IsLegal}
+use Rattle.scmi_core.specs.History.{deeds, delivered_messages, outbox}
+use Rattle.scmi_core.specs.Legal.{CanFollow, IsLegal}
+use Rattle.scmi_core.specs.Outbox.{is_sent_by}
 use Rattle.scmi_core.specs.Pending.{pending_sets}
 use Rattle.scmi_core.proofs.Deeds.{IsLegal-push}
 use Rattle.scmi_core.proofs.Legal.{Grown, empty, grow, grown}
-use Rattle.scmi_core.proofs.Laws.{advance, sent_to, answers_empty, answers_other, answers_own, answers_quiet, delivered_empty, delivered_kept, delivered_other, delivered_sent, empty_is_legal, frames_empty, frames_other, frames_own, frames_quiet}
+use Rattle.scmi_core.proofs.Laws.{advance, sent_to, answers_empty, answers_failed_other, answers_failed_own, answers_other, answers_own, answers_quiet, delivered_empty, delivered_kept, delivered_other, delivered_sent, empty_is_legal, frames_empty, frames_failed_other, frames_failed_own, frames_other, frames_own, frames_quiet}
 use Rattle.scmi_judge.specs.Law.{IsHistoryOf, answer_shown, frame_shown, message_shown}
-use Rattle.scmi_judge.specs.Record.{IsRecordOf, IsShown, completions_of, completions_shown, events_of, history_from, history_of, shown_to, taking, where_nothing_waits}
+use Rattle.scmi_judge.specs.Record.{IsAnswerTo, IsRecordOf, IsShown, command_shown, completions_of, completions_shown, events_of, history_from, history_of, shown_to, taking, where_nothing_waits}
 use Rattle.scmi_judge.specs.declared.entry.Entry.{Entry}
 use Rattle.scmi_judge.specs.declared.entry.Entry.TheVariants.{Answered, Delivered}
 use Rattle.scmi_judge.proofs.Completing.{pending-after}
+use Rattle.scmi_judge.proofs.Changes.{shown-done, shown-failed}
 use Rattle.scmi_judge.proofs.Verdicts.{agent_decides, answered-events, message-events}
 
 -- a legal history, with these frames, answers and messages of each agent
@@ -64,29 +66,57 @@ module _ (board : Board) (fs : ℕ → List Frame) (xs : ℕ → List Answer) (m
 abbrev more : {X : Type 0} → (ℕ → List X) → (ℕ → Entry → Option X) → Entry → ℕ → List X
 more so_far shows entry a = so_far a ++ cons_option (shows a entry) []
 
+-- what may follow a history, and adds a frame of agent b and the answer to it
+record Answers (board : Board) (h : List Event) (b : ℕ) (f : Frame) (x : Answer) (e : Event) : Type 0 where
+  follows : CanFollow board h e
+  unsent : (a : ℕ) → is_sent_by a e ≡ false
+  frame : frames_of b (h ++ e ∷ []) ≡ frames_of b h ++ f ∷ []
+  other_frames : (a : ℕ) → a ≢ b → frames_of a (h ++ e ∷ []) ≡ frames_of a h
+  answer : answers_to board b (h ++ e ∷ []) ≡ answers_to board b h ++ x ∷ []
+  other_answers : (a : ℕ) → a ≢ b → answers_to board a (h ++ e ∷ []) ≡ answers_to board a h
+
+-- the event that an entry encodes whose answer is one that the definitions give
+answers : (board : Board) (h : List Event) (b : ℕ) (f : Frame) (x : Answer) → IsAgent (length board.agents) b → IsAnswerTo board b f x h
+    → Answers board h b f x (command_shown board b f x h)
+answers board h b f x agent (inl due) = subst (λ e. Answers board h b f x e) (sym (shown-done board h b f x due)) (record {
+  follows = agent;
+  unsent = λ a. refl;
+  frame = frames_own b h f;
+  other_frames = λ a other. frames_other a b h f other;
+  answer = answers_own board b h f ∙ ap (λ y. answers_to board b h ++ y ∷ []) (sym due);
+  other_answers = λ a other. answers_other board a b h f other;
+})
+answers board h b f x agent (inr failed) = subst (λ e. Answers board h b f x e) (sym (shown-failed board h b f x failed.0 failed.1)) (record {
+  follows = (agent, failed.0);
+  unsent = λ a. refl;
+  frame = frames_failed_own b h f;
+  other_frames = λ a other. frames_failed_other a b h f other;
+  answer = answers_failed_own board b h f ∙ ap (λ y. answers_to board b h ++ y ∷ []) (sym failed.1);
+  other_answers = λ a other. answers_failed_other board a b h f other;
+})
+
 module _ (board : Board) (fs : ℕ → List Frame) (xs : ℕ → List Answer) (ms : ℕ → List Message) where
-  after_command : (h : List Event) (b : ℕ) (f : Frame) (x : Answer) → IsAgent (length board.agents) b → x ≡ answer_to board b f h → Has board h fs xs ms
-      → Has board (h ++ Command b f ∷ []) (more fs frame_shown (Answered b f x)) (more xs answer_shown (Answered b f x)) (more ms message_shown (Answered b f x))
-  after_command h b f x agent due has = record {
-    legal = IsLegal-push board h (Command b f) has.legal agent;
+  after_answer : (h : List Event) (b : ℕ) (f : Frame) (x : Answer) (e : Event) → Answers board h b f x e → Has board h fs xs ms
+      → Has board (h ++ e ∷ []) (more fs frame_shown (Answered b f x)) (more xs answer_shown (Answered b f x)) (more ms message_shown (Answered b f x))
+  after_answer h b f x e is has = record {
+    legal = IsLegal-push board h e has.legal is.follows;
     frames_are = λ a. frames_at a (eqb_tells a b);
     answers_are = λ a. answers_at a (eqb_tells a b);
-    messages_are = λ a. delivered_kept board a h (Command b f) has.legal refl ∙ has.messages_are a ∙ sym (append-nil (ms a));
+    messages_are = λ a. delivered_kept board a h e has.legal (is.unsent a) ∙ has.messages_are a ∙ sym (append-nil (ms a));
   } where
-    frames_at : (a : ℕ) → (((a == b) ≡ true) × (a ≡ b)) ⊎ (((a == b) ≡ false) × (a ≢ b)) → frames_of a (h ++ Command b f ∷ []) ≡ more fs frame_shown (Answered b f x) a
+    frames_at : (a : ℕ) → (((a == b) ≡ true) × (a ≡ b)) ⊎ (((a == b) ≡ false) × (a ≢ b)) → frames_of a (h ++ e ∷ []) ≡ more fs frame_shown (Answered b f x) a
     frames_at a (inl same) =
-        subst (λ c. frames_of a (h ++ Command c f ∷ []) ≡ frames_of a h ++ f ∷ []) same.1 (frames_own a h f)
+        subst (λ c. frames_of c (h ++ e ∷ []) ≡ frames_of c h ++ f ∷ []) (sym same.1) is.frame
         ∙ ap (λ ys. ys ++ f ∷ []) (has.frames_are a) ∙ ap (λ is. fs a ++ cons_option (if is then Some f else None) []) (sym same.0)
     frames_at a (inr other) =
-        frames_other a b h f other.1 ∙ has.frames_are a ∙ sym (append-nil (fs a)) ∙ ap (λ is. fs a ++ cons_option (if is then Some f else None) []) (sym other.0)
+        is.other_frames a other.1 ∙ has.frames_are a ∙ sym (append-nil (fs a)) ∙ ap (λ is. fs a ++ cons_option (if is then Some f else None) []) (sym other.0)
 
-    answers_at : (a : ℕ) → (((a == b) ≡ true) × (a ≡ b)) ⊎ (((a == b) ≡ false) × (a ≢ b)) → answers_to board a (h ++ Command b f ∷ []) ≡ more xs answer_shown (Answered b f x) a
+    answers_at : (a : ℕ) → (((a == b) ≡ true) × (a ≡ b)) ⊎ (((a == b) ≡ false) × (a ≢ b)) → answers_to board a (h ++ e ∷ []) ≡ more xs answer_shown (Answered b f x) a
     answers_at a (inl same) =
-        subst (λ c. answers_to board a (h ++ Command c f ∷ []) ≡ answers_to board a h ++ answer_to board c f h ∷ []) same.1 (answers_own board a h f)
-        ∙ ap (λ y. answers_to board a h ++ y ∷ []) (sym due)
+        subst (λ c. answers_to board c (h ++ e ∷ []) ≡ answers_to board c h ++ x ∷ []) (sym same.1) is.answer
         ∙ ap (λ ys. ys ++ x ∷ []) (has.answers_are a) ∙ ap (λ is. xs a ++ cons_option (if is then Some x else None) []) (sym same.0)
     answers_at a (inr other) =
-        answers_other board a b h f other.1 ∙ has.answers_are a ∙ sym (append-nil (xs a)) ∙ ap (λ is. xs a ++ cons_option (if is then Some x else None) []) (sym other.0)
+        is.other_answers a other.1 ∙ has.answers_are a ∙ sym (append-nil (xs a)) ∙ ap (λ is. xs a ++ cons_option (if is then Some x else None) []) (sym other.0)
 
   after_message : (h : List Event) (b : ℕ) (m : Message) → IsAgent (length board.agents) b → slice_get (outbox board b h) 0 ≡ Some m → Has board h fs xs ms
       → Has board (h ++ Sent b ∷ []) (more fs frame_shown (Delivered b m)) (more xs answer_shown (Delivered b m)) (more ms message_shown (Delivered b m))
@@ -113,7 +143,8 @@ module _ (board : Board) (fs : ℕ → List Frame) (xs : ℕ → List Answer) (m
       → Has board (h ++ events_of board h entry) (more fs frame_shown entry) (more xs answer_shown entry) (more ms message_shown entry)
   after_entry h (Answered b f x) is has =
       subst (λ es. Has board (h ++ es) (more fs frame_shown (Answered b f x)) (more xs answer_shown (Answered b f x)) (more ms message_shown (Answered b f x)))
-      (sym (answered-events board h b f x ((agent_decides board b).1 is.0))) (after_command h b f x is.0 is.1 has)
+      (sym (answered-events board h b f x ((agent_decides board b).1 is.0)))
+      (after_answer h b f x (command_shown board b f x h) (answers board h b f x is.0 is.1) has)
   after_entry h (Delivered b m) is has =
       subst (λ k. Has board k (more fs frame_shown (Delivered b m)) (more xs answer_shown (Delivered b m)) (more ms message_shown (Delivered b m)))
       (ap (λ es. shown_to board b h ++ es) (takes (outbox board b (shown_to board b h)) is.1) ∙ sym (message-events board h b m ((agent_decides board b).1 is.0)))

@@ -1,4 +1,5 @@
 pub mod Alike
+pub mod Changes
 pub mod Completing
 pub mod Examples
 pub mod Histories

@@ -11,18 +11,22 @@ use Rattle.scmi_plan.specs.Board.{Board}
 use Rattle.scmi_codec.specs.declared.message.Message.{Message}
 use Rattle.scmi_codec.specs.declared.frame.Frame.{Frame}
 use Rattle.scmi_codec.specs.declared.frame.Answer.{Answer}
+use Rattle.scmi_codec.specs.declared.frame.Answer.TheVariants.{Reply}
 use Rattle.scmi_core.specs.declared.event.Event.{Event}
-use Rattle.scmi_core.specs.declared.event.Event.TheVariants.{Command, Sent}
+use Rattle.scmi_core.specs.declared.event.Event.TheVariants.{Command, CommandFailed, Sent}
 use Rattle.scmi_core.specs.History.{answer_to, outbox}
-use Rattle.scmi_judge.specs.Record.{IsShown, completions_shown, events_of, is_agent, shown_to, taking}
+use Rattle.scmi_core.specs.Outbox.{message_with}
+use Rattle.scmi_core.specs.Reply.{failed_answer}
+use Rattle.scmi_judge.specs.Record.{IsShown, command_shown, completions_shown, events_of, is_agent, is_refusal, shown_to, taking}
 use Rattle.scmi_judge.specs.Same.{is_same_answer, is_same_message}
-use Rattle.scmi_judge.specs.Verdict.{verdict_of, verdict_on_answer, verdict_on_message}
+use Rattle.scmi_judge.specs.Verdict.{due_answer, verdict_of, verdict_on_answer, verdict_on_message}
 use Rattle.scmi_judge.specs.declared.entry.Entry.{Entry}
 use Rattle.scmi_judge.specs.declared.entry.Entry.TheVariants.{Answered, Delivered}
 use Rattle.scmi_judge.specs.declared.verdict.Verdict.{Verdict}
 use Rattle.scmi_judge.specs.declared.verdict.Verdict.TheVariants as verdict
 use Rattle.scmi_judge.proofs.Alike.{same_answer_decides, same_message_decides}
 use Rattle.scmi_judge.proofs.Completing.{nothing-first}
+use Rattle.scmi_judge.proofs.Changes.{due-beside, due-says, refusal-changes, refusal-differs, refusal-due, says-due}
 
 leb_decides : (m n : ℕ) → Decides (nat_le m n) (m ≤ n)
 leb_decides m n = by (leb_tells m n) where
@@ -36,21 +40,44 @@ agent_decides board a = Decides-and (nat_le 1 a) (nat_le a (length board.agents)
 -- an answer to a number that is away agent's
 pub stranger-verdict : (board : Board) (h : List Event) (a : ℕ) (f : Frame) (x : Answer) → is_agent board a ≡ false → verdict_of board h (Answered a f x) ≡ verdict.NoAgent
 unfolding verdict_of
-stranger-verdict board h a f x away = ap (λ is. if is then verdict_on_answer (answer_to board a f h) x else verdict.NoAgent) away
+stranger-verdict board h a f x away = ap (λ is. if is then verdict_on_answer (due_answer board a f x h) x else verdict.NoAgent) away
 
 pub stranger-events : (board : Board) (h : List Event) (a : ℕ) (f : Frame) (x : Answer) → is_agent board a ≡ false → events_of board h (Answered a f x) ≡ []
 unfolding events_of
-stranger-events board h a f x away = ap (λ is. if is then Command a f ∷ [] else []) away
+stranger-events board h a f x away = ap (λ is. if is then command_shown board a f x h ∷ [] else []) away
 
 -- an answer to an agent
 pub answered-verdict : (board : Board) (h : List Event) (a : ℕ) (f : Frame) (x : Answer) → is_agent board a ≡ true
-    → verdict_of board h (Answered a f x) ≡ verdict_on_answer (answer_to board a f h) x
+    → verdict_of board h (Answered a f x) ≡ verdict_on_answer (due_answer board a f x h) x
 unfolding verdict_of
-answered-verdict board h a f x here = ap (λ is. if is then verdict_on_answer (answer_to board a f h) x else verdict.NoAgent) here
+answered-verdict board h a f x here = ap (λ is. if is then verdict_on_answer (due_answer board a f x h) x else verdict.NoAgent) here
 
-pub answered-events : (board : Board) (h : List Event) (a : ℕ) (f : Frame) (x : Answer) → is_agent board a ≡ true → events_of board h (Answered a f x) ≡ Command a f ∷ []
+pub answered-events : (board : Board) (h : List Event) (a : ℕ) (f : Frame) (x : Answer) → is_agent board a ≡ true → events_of board h (Answered a f x) ≡ command_shown board a f x h ∷ []
 unfolding events_of
-answered-events board h a f x here = ap (λ is. if is then Command a f ∷ [] else []) here
+answered-events board h a f x here = ap (λ is. if is then command_shown board a f x h ∷ [] else []) here
+
+-- an answer to an agent that shows a refusal, beside the answer that the command gets if the hardware refuses
+pub refused-same : (board : Board) (h : List Event) (a : ℕ) (f : Frame) (x : Answer) (failed : Message) → is_agent board a ≡ true → is_refusal board a f x h ≡ true
+    → Reply failed ≡ failed_answer f → is_same_answer (Reply failed) x ≡ true → verdict.Same ≡ verdict_of board h (Answered a f x)
+refused-same board h a f x failed here is reply same =
+    let same' : is_same_answer (failed_answer f) x ≡ true = ap (λ y. is_same_answer y x) (sym reply) ∙ same in
+    let due : due_answer board a f x h ≡ failed_answer f =
+    refusal-due board h a f x (refusal-changes board h a f x is) ∙ ap (λ b. if b then failed_answer f else answer_to board a f h) same' in
+    sym (answered-verdict board h a f x here ∙ ap (λ y. verdict_on_answer y x) due ∙ ap (λ b. if b then verdict.Same else verdict.Answer (failed_answer f)) same')
+
+pub refused-other : (board : Board) (h : List Event) (a : ℕ) (f : Frame) (x : Answer) (failed : Message) → is_agent board a ≡ true → is_refusal board a f x h ≡ true
+    → Reply failed ≡ failed_answer f → is_same_answer (Reply failed) x ≡ false → verdict.Answer (Reply (message_with failed.header (0 ∷ []))) ≡ verdict_of board h (Answered a f x)
+refused-other board h a f x failed here is reply other =
+    let other' : is_same_answer (failed_answer f) x ≡ false = ap (λ y. is_same_answer y x) (sym reply) ∙ other in
+    let changes = refusal-changes board h a f x is in
+    let due : due_answer board a f x h ≡ answer_to board a f h = refusal-due board h a f x changes ∙ ap (λ b. if b then failed_answer f else answer_to board a f h) other' in
+    sym (answered-verdict board h a f x here ∙ ap (λ y. verdict_on_answer y x) due
+    ∙ ap (λ b. if b then verdict.Same else verdict.Answer (answer_to board a f h)) (refusal-differs board h a f x is)
+    ∙ ap verdict.Answer (due-beside board h a f failed changes reply))
+
+pub refused-events : (board : Board) (h : List Event) (a : ℕ) (f : Frame) (x : Answer) → is_agent board a ≡ true → is_refusal board a f x h ≡ true
+    → events_of board h (Answered a f x) ≡ CommandFailed a f ∷ []
+refused-events board h a f x here is = answered-events board h a f x here ∙ ap (λ b. (if b then CommandFailed a f else Command a f) ∷ []) is
 
 -- a message to a number that is away agent's
 pub stranger-message : (board : Board) (h : List Event) (a : ℕ) (m : Message) → is_agent board a ≡ false → verdict_of board h (Delivered a m) ≡ verdict.NoAgent
@@ -135,7 +162,8 @@ same_says board h (Answered a f x) = by (cases_Bool (is_agent board a)) where
   by : (is_agent board a ≡ true) ⊎ (is_agent board a ≡ false) → (verdict_of board h (Answered a f x) ≡ verdict.Same) ↔ IsShown board h (Answered a f x)
   by (inl here) =
       let is = answered-verdict board h a f x here in
-      (λ s. ((agent_decides board a).0 here, (answer_on (answer_to board a f h) x).0 (sym is ∙ s)), λ s. is ∙ (answer_on (answer_to board a f h) x).1 s.1)
+      let on = answer_on (due_answer board a f x h) x in
+      (λ s. ((agent_decides board a).0 here, due-says board h a f x (on.0 (sym is ∙ s))), λ s. is ∙ on.1 (says-due board h a f x s.1))
   by (inr away) = (
     λ s. absurd (let other : verdict.NoAgent ≡ verdict.Same = sym (stranger-verdict board h a f x away) ∙ s in cc),
     λ s. absurd (let here = (agent_decides board a).1 s.0 in cc),

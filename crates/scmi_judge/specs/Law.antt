@@ -1,15 +1,16 @@
 -- What a record and a history have in common.
-use Rattle.std.specs.Prelude.{◌≡◌, ℕ, ◌==◌, ◌<◌, ◌++◌, if◌then◌else◌, List, [], ◌∷◌, Option, Some, None, replicate, slice_get}
+use Rattle.std.specs.Prelude.{◌≡◌, ◌⊎◌, ℕ, ◌==◌, ◌<◌, ◌++◌, if◌then◌else◌, List, [], ◌∷◌, Option, Some, None, replicate, slice_get}
 use Rattle.std.specs.List.{filter_map}
 use Rattle.scmi_plan.specs.Board.{Board}
 use Rattle.scmi_codec.specs.declared.message.Message.{Message}
 use Rattle.scmi_codec.specs.declared.frame.Frame.{Frame}
 use Rattle.scmi_codec.specs.declared.frame.Answer.{Answer}
 use Rattle.scmi_core.specs.declared.event.Event.{Event}
-use Rattle.scmi_core.specs.declared.event.Event.TheVariants.{Command, Advance, Sent}
+use Rattle.scmi_core.specs.declared.event.Event.TheVariants.{Command, Advance, Sent, CommandFailed}
 use Rattle.scmi_core.specs.Agents.{answers_to, frames_of}
 use Rattle.scmi_core.specs.History.{answer_to, delivered_messages, outbox}
 use Rattle.scmi_core.specs.Legal.{IsLegal}
+use Rattle.scmi_core.specs.Reply.{failed_answer}
 use Rattle.scmi_judge.specs.declared.entry.Entry.{Entry}
 use Rattle.scmi_judge.specs.declared.entry.Entry.TheVariants.{Answered, Delivered}
 
@@ -40,6 +41,12 @@ pub record IsExecuted (board : Board) (h : List Event) (a : ℕ) (frame : Frame)
   pub are : events ≡ Command a frame ∷ []
   pub due : answer ≡ answer_to board a frame h
 
+-- these events are a command whose change the hardware refused, and the answer is the one that it gets then; a legal
+-- history has it only if the command was to change the hardware
+pub record IsFailed (a : ℕ) (frame : Frame) (answer : Answer) (events : List Event) : Type 0 where
+  pub are : events ≡ CommandFailed a frame ∷ []
+  pub due : answer ≡ failed_answer frame
+
 -- after a history these events are completions, before each of which no message waited for agent a, and then its taking of the first that waits
 pub record IsTaken (board : Board) (h : List Event) (a : ℕ) (message : Message) (events : List Event) : Type 0 where
   pub completions : ℕ
@@ -49,7 +56,7 @@ pub record IsTaken (board : Board) (h : List Event) (a : ℕ) (message : Message
 
 -- an entry shows these events after a history
 abbrev pub IsPiece : Board → List Event → Entry → List Event → Type 0
-IsPiece board h (Answered a frame answer) events = IsExecuted board h a frame answer events
+IsPiece board h (Answered a frame answer) events = IsExecuted board h a frame answer events ⊎ IsFailed a frame answer events
 IsPiece board h (Delivered a message) events = IsTaken board h a message events
 
 -- events are a piece that an entry shows after a history, and then others, of which more is said

@@ -1,13 +1,19 @@
 -- The history that a record encodes. Each entry is judged at its prefix: what the entries before it encode.
-use Rattle.std.specs.Prelude.{◌≡◌, ℕ, List, [], ◌∷◌, ◌++◌, length, slice_get, Bool, ◌&&◌, nat_le, if◌then◌else◌, Some}
+use Rattle.std.specs.Prelude.{◌≡◌, ◌≢◌, ◌⊎◌, ℕ, List, [], ◌∷◌, ◌++◌, length, slice_get, Bool, false, not, ◌&&◌, nat_le, if◌then◌else◌, Some, None, is_some}
 use Rattle.scmi_plan.specs.Agent.{IsAgent}
 use Rattle.scmi_plan.specs.Board.{Board}
+use Rattle.scmi_codec.specs.Payload.{begins_with_success}
 use Rattle.scmi_codec.specs.declared.message.Message.{Message}
+use Rattle.scmi_codec.specs.declared.frame.Frame.{Frame}
+use Rattle.scmi_codec.specs.declared.frame.Answer.{Answer}
+use Rattle.scmi_codec.specs.declared.frame.Answer.TheVariants.{Reply, Released, ChannelError}
 use Rattle.scmi_core.specs.declared.event.Event.{Event}
-use Rattle.scmi_core.specs.declared.event.Event.TheVariants.{Command, Advance, Sent}
+use Rattle.scmi_core.specs.declared.event.Event.TheVariants.{Command, Advance, Sent, CommandFailed}
 use Rattle.scmi_core.specs.declared.pending_set.PendingSet.{PendingSet}
+use Rattle.scmi_core.specs.Effect.{effect_after}
 use Rattle.scmi_core.specs.History.{answer_to, deeds, outbox}
 use Rattle.scmi_core.specs.Pending.{pending_sets}
+use Rattle.scmi_core.specs.Reply.{failed_answer}
 use Rattle.scmi_judge.specs.declared.entry.Entry.{Entry}
 use Rattle.scmi_judge.specs.declared.entry.Entry.TheVariants.{Answered, Delivered}
 
@@ -44,9 +50,27 @@ abbrev pub taking : ℕ → List Message → List Event
 taking a [] = []
 taking a (m ∷ ms) = Sent a ∷ []
 
+-- whether an answer is a reply that begins with SUCCESS
+abbrev pub has_succeeded : Answer → Bool
+has_succeeded (Reply m) = begins_with_success m.payload.items
+has_succeeded Released = false
+has_succeeded ChannelError = false
+
+-- whether a frame of agent a is to change the hardware after a history
+abbrev pub is_to_change : Board → ℕ → Frame → List Event → Bool
+is_to_change board a frame h = is_some (effect_after board h (Command a frame))
+
+-- whether an answer shows that a frame of agent a changed nothing, which was to change the hardware: it is no success
+abbrev pub is_refusal : Board → ℕ → Frame → Answer → List Event → Bool
+is_refusal board a frame answer h = not (has_succeeded answer) && is_to_change board a frame h
+
+-- the event that a frame of agent a with this answer encodes after a history: a command that failed if the answer shows that, or else a command
+abbrev pub command_shown : Board → ℕ → Frame → Answer → List Event → Event
+command_shown board a frame answer h = if is_refusal board a frame answer h then CommandFailed a frame else Command a frame
+
 -- what an entry encodes after a history; an entry of no agent encodes nothing
 unfoldable pub events_of : Board → List Event → Entry → List Event
-events_of board h (Answered a frame answer) = if is_agent board a then Command a frame ∷ [] else []
+events_of board h (Answered a frame answer) = if is_agent board a then command_shown board a frame answer h ∷ [] else []
 events_of board h (Delivered a message) =
     if is_agent board a then completions_shown board a h ++ taking a (outbox board a (shown_to board a h)) else []
 
@@ -59,10 +83,16 @@ history_from board h (entry ∷ entries) = history_from board (h ++ events_of bo
 abbrev pub history_of : Board → List Entry → List Event
 history_of board entries = history_from board [] entries
 
--- an entry is what the definitions give after a history: the answer is the one to the frame, and
--- the message is the next to its agent
+-- an answer is one that the definitions give to a frame of agent a after a history: the one of the protocol, or, if it
+-- is to change the hardware, the one that it gets if the hardware refuses
+abbrev pub IsAnswerTo : Board → ℕ → Frame → Answer → List Event → Type 0
+IsAnswerTo board a frame answer h =
+    (answer ≡ answer_to board a frame h) ⊎ ((effect_after board h (Command a frame) ≢ None) × (answer ≡ failed_answer frame))
+
+-- an entry is what the definitions give after a history: the answer is one to the frame, and the
+-- message is the next to its agent
 abbrev pub IsShown : Board → List Event → Entry → Type 0
-IsShown board h (Answered a frame answer) = IsAgent (length board.agents) a × (answer ≡ answer_to board a frame h)
+IsShown board h (Answered a frame answer) = IsAgent (length board.agents) a × IsAnswerTo board a frame answer h
 IsShown board h (Delivered a message) =
     IsAgent (length board.agents) a × (slice_get (outbox board a (shown_to board a h)) 0 ≡ Some message)
 

@@ -45,12 +45,13 @@ impl Judge {
         Judge { core }
     }
 
-    /// Judges the next entry, and goes on from what it encodes, also after a difference: a command
-    /// is executed, and a message that was due is taken, whatever the record shows. For a message,
-    /// pending sets complete until one waits for its agent, and no more; if none comes, all have
-    /// completed. `Memory` is the only refusal, of an answer only if there is no room; then no
-    /// event was added but completions that the entry shows, and the same entry can be judged
-    /// again.
+    /// Judges the next entry, and goes on from what it encodes, also after a difference. A command
+    /// that was to change the hardware, and whose answer is no success, is one whose change the
+    /// hardware refused; HARDWARE_ERROR alone is then due. Any other command is executed, and a
+    /// message that was due is taken, whatever the record shows. For a message, pending sets
+    /// complete until one waits for its agent, and no more; if none comes, all have completed.
+    /// `Memory` is the only refusal, of an answer only if there is no room; then no event was added
+    /// but completions that the entry shows, and the same entry can be judged again.
     pub fn judge(&mut self, entry: &Entry) -> Result<Verdict, CoreError>
         ensures verdict { IfOk result (λ verdict.
             verdict ≡ verdict_of self.old.board self.old.history entry.now) }

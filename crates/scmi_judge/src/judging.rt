@@ -6,11 +6,13 @@ ghost use Rattle.scmi_judge.specs.Verdict.{verdict_of};
 ghost use Rattle.scmi_judge.specs.declared.entry.Entry.TheVariants.{Answered, Delivered};
 
 use crate::completions::{complete_for, has_agent};
+use crate::refusals::{is_refusal, judge_refusal};
 use crate::verdict::Verdict;
 use scmi_codec::{Answer, Frame, Message};
 use scmi_core::{Core, CoreError};
 
-/// Judges the answer that a record shows to a command, and executes the command.
+/// Judges the answer that a record shows to a command, and executes the command, unless the answer
+/// shows that it changed nothing of the hardware, which it was to change.
 pub(crate) fn judge_answer(
     core: &mut Core,
     agent: u32,
@@ -30,6 +32,9 @@ pub(crate) fn judge_answer(
 {
     if !has_agent(core, agent) {
         return Ok(Verdict::NoAgent);
+    }
+    if is_refusal(core, agent, frame, answer) {
+        return judge_refusal(core, agent, frame, answer);
     }
     let due = core.command(agent, frame)?;
     Ok(Verdict::on_answer(due, answer))

@@ -5,6 +5,7 @@
 //! contract of `Judge::judge`: the verdict on an entry is `Same` if and only if it is what the
 //! definitions give after the history that the entries before it encode (specs/Record.antt). By
 //! `judge_record` all are the same if and only if the record has a legal history (specs/Law.antt).
+//! In that history the hardware may refuse a change: then the command is answered HARDWARE_ERROR.
 #![tactic(auto)]
 
 mod completions;
@@ -13,6 +14,7 @@ mod judge;
 mod judging;
 mod legal_record;
 mod record;
+mod refusals;
 mod same;
 mod verdict;
 
