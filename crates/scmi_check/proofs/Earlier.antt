@@ -9,12 +9,12 @@ use Rattle.scmi_plan.specs.declared.resource.Resource.{Resource}
 use Rattle.scmi_plan.specs.declared.resource.Resource.TheVariants.{Domain, Clock}
 use Rattle.scmi_check.specs.LastLines.{line_in, no_lines, with_line}
 use Rattle.scmi_check.specs.Subject.{if_possible, is_possible, named_by, subject_of}
-use Rattle.scmi_check.specs.Trace.{differs, is_about, is_same_resource, is_this, last_line, no_trace, sets, trace_among, trace_of}
-use Rattle.scmi_check.specs.Traces.{no_traces, trace_in, traces_for, traces_with, with_entry}
+use Rattle.scmi_check.specs.Origin.{differs, is_about, is_same_resource, is_this, last_line, no_origin, sets, origin_among, origin_of}
+use Rattle.scmi_check.specs.Origins.{no_origins, origin_in, origins_for, origins_with, with_entry}
 use Rattle.scmi_check.specs.declared.judged.Judged.{Judged}
 use Rattle.scmi_check.specs.declared.last_lines.LastLines.{LastLines}
-use Rattle.scmi_check.specs.declared.trace.Trace.{Trace}
-use Rattle.scmi_check.specs.declared.traces.Traces.{Traces}
+use Rattle.scmi_check.specs.declared.origin.Origin.{Origin}
+use Rattle.scmi_check.specs.declared.origins.Origins.{Origins}
 
 -- for each domain and clock the line that is kept is that of the last of these entries with this subject that passes a test
 pub record AreLines (test : Judged → Bool) (lines : LastLines) (before : List Judged) : Type 0 where
@@ -112,26 +112,26 @@ lines-more test lines before one kept = by (subject_of one.entry) refl (test one
       }
 
 -- both tables are those of these entries
-pub record AreTraces (traces : Traces) (before : List Judged) : Type 0 where
-  pub sets_are : AreLines sets traces.sets before
-  pub differences_are : AreLines differs traces.differences before
+pub record AreOrigins (origins : Origins) (before : List Judged) : Type 0 where
+  pub sets_are : AreLines sets origins.sets before
+  pub differences_are : AreLines differs origins.differences before
 
-pub no-traces : (traces : Traces) → traces ≡ no_traces → AreTraces traces []
-no-traces traces are = subst (λ t. AreTraces t []) (sym are) (record { sets_are = no-lines sets; differences_are = no-lines differs })
+pub no-origins : (origins : Origins) → origins ≡ no_origins → AreOrigins origins []
+no-origins origins are = subst (λ t. AreOrigins t []) (sym are) (record { sets_are = no-lines sets; differences_are = no-lines differs })
 
-pub traces-more : (judged : List Judged) (i : ℕ) (one : Judged) (traces more : Traces) → i < length judged → one ≡ get_or judged i one → AreTraces traces (take i judged) → more ≡ traces_with traces one
-    → AreTraces more (take (i + 1) judged)
-traces-more judged i one traces more below is kept noted =
-    let both : AreTraces (traces_with traces one) (take i judged ++ one ∷ []) =
-    record { sets_are = lines-more sets traces.sets (take i judged) one kept.sets_are; differences_are = lines-more differs traces.differences (take i judged) one kept.differences_are } in
+pub origins-more : (judged : List Judged) (i : ℕ) (one : Judged) (origins more : Origins) → i < length judged → one ≡ get_or judged i one → AreOrigins origins (take i judged) → more ≡ origins_with origins one
+    → AreOrigins more (take (i + 1) judged)
+origins-more judged i one origins more below is kept noted =
+    let both : AreOrigins (origins_with origins one) (take i judged ++ one ∷ []) =
+    record { sets_are = lines-more sets origins.sets (take i judged) one kept.sets_are; differences_are = lines-more differs origins.differences (take i judged) one kept.differences_are } in
     let there : take i judged ++ one ∷ [] ≡ take (i + 1) judged = ap (λ x. take i judged ++ x ∷ []) is ∙ sym (take_more judged i one below) in
-    subst (λ t. AreTraces t (take (i + 1) judged)) (sym noted) (subst (λ js. AreTraces (traces_with traces one) js) there both)
+    subst (λ t. AreOrigins t (take (i + 1) judged)) (sym noted) (subst (λ js. AreOrigins (origins_with origins one) js) there both)
 
 -- what is kept gives what an entry may follow from
-pub trace-kept : (traces : Traces) (before : List Judged) (one : Judged) → AreTraces traces before → trace_in traces one ≡ trace_of before one
-trace-kept traces before one kept = ap (λ t. if differs one then t else no_trace) (for (subject_of one.entry)) where
-  for : (subject : Option Resource) → traces_for traces subject ≡ trace_among before subject
+pub origin-kept : (origins : Origins) (before : List Judged) (one : Judged) → AreOrigins origins before → origin_in origins one ≡ origin_of before one
+origin-kept origins before one kept = ap (λ t. if differs one then t else no_origin) (for (subject_of one.entry)) where
+  for : (subject : Option Resource) → origins_for origins subject ≡ origin_among before subject
   for None = refl
   for (Some resource) =
-      ap (λ (set : Option ℕ). let t : Trace = record { set = set; after = line_in traces.differences resource } in t) (kept.sets_are.each resource)
-      ∙ ap (λ (after : Option ℕ). let t : Trace = record { set = last_line sets resource before; after = after } in t) (kept.differences_are.each resource)
+      ap (λ (set : Option ℕ). let t : Origin = record { set = set; after = line_in origins.differences resource } in t) (kept.sets_are.each resource)
+      ∙ ap (λ (after : Option ℕ). let t : Origin = record { set = last_line sets resource before; after = after } in t) (kept.differences_are.each resource)

@@ -10,14 +10,14 @@ use Rattle.scmi_judge.specs.declared.entry.Entry.TheVariants.{Answered, Delivere
 use Rattle.scmi_text.specs.PackedStep.{raw_with}
 use Rattle.scmi_text.specs.TextLines.{after_each_line}
 use Rattle.scmi_check.specs.Check.{whole}
-use Rattle.scmi_check.specs.RecordText.{command_taken, record_left, with_answer, with_line, with_posted, with_shown}
+use Rattle.scmi_check.specs.RecordText.{record_left, response_taken, with_line, with_response, with_shown}
 use Rattle.scmi_check.specs.Shown.{shown_at}
 use Rattle.scmi_check.proofs.RecordExamples.{at, command}
 
 -- a command and its response, between events that are skipped; an event without an instance is agent 1's
 one_command : record_left 1 (whole (codes "# tracer: nop\n scmi_xfer_begin: seq=1\n a-1 [000] 1.5: scmi_msg_dump: pt=11 t=CMND msg_id=05 seq=0001 s=0 pyld=00000000\n a-1 [000] 1.6: scmi_msg_dump: pt=11 t=RESP msg_id=05 seq=0001 s=-3 pyld=\n scmi_xfer_end: seq=1\n"))
     ≡ Ok (at 4 (Answered 1 (command 0x11 1 5 (0 ∷ [])) (Reply (raw_with 0x44405 (0xFFFFFFFD ∷ [])))) ∷ [])
-unfolding after_each_line command_taken decode_pairs event_header event_payload event_traced lines_behind lines_of shown_at signed_word with_answer with_line with_posted with_shown
+unfolding after_each_line decode_pairs event_header event_payload event_traced lines_behind lines_of shown_at signed_word response_taken with_line with_response with_shown
 one_command = refl
 
 -- commands of two agents that overlap
@@ -25,7 +25,7 @@ two_agents : record_left 2 (whole (codes "scmi_msg_dump: id=0 pt=11 t=CMND msg_i
     ≡ Ok (
     at 3 (Answered 1 (command 0x11 1 5 (0 ∷ [])) (Reply (raw_with 0x44405 (0 ∷ 0x40000000 ∷ []))))
     ∷ at 4 (Answered 2 (command 0x10 2 0 []) (Reply (raw_with 0x84000 (0 ∷ 0x20000 ∷ [])))) ∷ [])
-unfolding after_each_line command_taken decode_pairs event_header event_payload event_traced lines_behind lines_of shown_at signed_word with_answer with_line with_posted with_shown
+unfolding after_each_line decode_pairs event_header event_payload event_traced lines_behind lines_of shown_at signed_word response_taken with_line with_response with_shown
 two_agents = refl
 
 -- a delayed response and a notification, which no command awaits
@@ -34,7 +34,15 @@ messages : record_left 2 (whole (codes "scmi_msg_dump: id=0 pt=11 t=DLYD msg_id=
 unfolding after_each_line decode_pairs event_header event_payload event_traced lines_behind lines_of shown_at signed_word with_line with_shown
 messages = refl
 
--- a response before a command, a command before the one of its agent that waits has its answer, a delayed response in place of an answer, an agent that the board lacks, a payload of no whole words, and a field that is missing
+-- two commands of an agent that wait at a time, whose responses are in the other order, and a response with another token
+two_commands : record_left 1 (whole (codes "scmi_msg_dump: pt=11 t=CMND msg_id=05 seq=0001 s=0 pyld=00000000\nscmi_msg_dump: pt=10 t=CMND msg_id=00 seq=0002 s=0 pyld=\nscmi_msg_dump: pt=10 t=RESP msg_id=00 seq=0002 s=0 pyld=00000200\nscmi_msg_dump: pt=11 t=RESP msg_id=05 seq=0003 s=0 pyld=00000040\n"))
+    ≡ Ok (
+    at 3 (Answered 1 (command 0x10 2 0 []) (Reply (raw_with 0x84000 (0 ∷ 0x20000 ∷ []))))
+    ∷ at 4 (Answered 1 (command 0x11 1 5 (0 ∷ [])) (Reply (raw_with 0xc4405 (0 ∷ 0x40000000 ∷ [])))) ∷ [])
+unfolding after_each_line decode_pairs event_header event_payload event_traced lines_behind lines_of shown_at signed_word response_taken with_line with_response with_shown
+two_commands = refl
+
+-- a response before a command, two commands without a response, a delayed response in place of an answer, an agent that the board lacks, a payload of no whole words, and a field that is missing
 ftrace_faults : map (λ text. record_left 2 (whole text)) (
     codes "scmi_msg_dump: pt=11 t=RESP msg_id=05 seq=0001 s=0 pyld=" ∷
     codes "scmi_msg_dump: pt=11 t=CMND msg_id=05 seq=0001 s=0 pyld=\nscmi_msg_dump: id=0 pt=11 t=CMND msg_id=05 seq=0002 s=0 pyld=" ∷
@@ -42,6 +50,6 @@ ftrace_faults : map (λ text. record_left 2 (whole text)) (
     codes "scmi_msg_dump: id=2 pt=11 t=NOTI msg_id=00 seq=0000 s=0 pyld=" ∷
     codes "scmi_msg_dump: id=0 pt=11 t=NOTI msg_id=00 seq=0000 s=0 pyld=000000" ∷
     codes "scmi_msg_dump: id=0 pt=11 t=NOTI msg_id=00 s=0 pyld=" ∷ [])
-    ≡ Err 1 ∷ Err 2 ∷ Err 1 ∷ Err 1 ∷ Err 1 ∷ Err 1 ∷ []
-unfolding after_each_line command_taken decode_pairs event_header event_payload event_traced lines_behind lines_of shown_at signed_word with_answer with_line with_posted with_shown
+    ≡ Err 1 ∷ Err 1 ∷ Err 1 ∷ Err 1 ∷ Err 1 ∷ Err 1 ∷ []
+unfolding after_each_line decode_pairs event_header event_payload event_traced lines_behind lines_of shown_at signed_word response_taken with_line with_response with_shown
 ftrace_faults = refl

@@ -4,12 +4,12 @@ use Rattle.std.proofs.KnownBytes.{Appends-trans}
 use Rattle.std.proofs.lemmas.List.{append-nil, append_assoc, take_more}
 use Rattle.std.specs.Io.KnownBytes.{Appends}
 use Rattle.scmi_check.specs.Report.{line_text, line_with, lines_from, lines_text}
-use Rattle.scmi_check.specs.Traces.{trace_in}
+use Rattle.scmi_check.specs.Origins.{origin_in}
 use Rattle.scmi_check.specs.declared.judged.Judged.{Judged}
 use Rattle.scmi_check.specs.declared.style.Style.{Style}
-use Rattle.scmi_check.specs.declared.trace.Trace.{Trace}
-use Rattle.scmi_check.specs.declared.traces.Traces.{Traces}
-use Rattle.scmi_check.proofs.Earlier.{AreTraces, trace-kept}
+use Rattle.scmi_check.specs.declared.origin.Origin.{Origin}
+use Rattle.scmi_check.specs.declared.origins.Origins.{Origins}
+use Rattle.scmi_check.proofs.Earlier.{AreOrigins, origin-kept}
 
 lines_from-more : (style : Style) (before judged : List Judged) (one : Judged)
     → lines_from style before (judged ++ one ∷ []) ≡ lines_from style before judged ++ line_text style (before ++ judged) one
@@ -22,16 +22,16 @@ lines_from-more style before (first ∷ judged) one =
     ∙ ap (λ js. (line ++ rest) ++ line_text style js one) (append_assoc before (first ∷ []) judged)
 
 -- one line more
-pub lines-more : (style : Style) (judged : List Judged) (i : ℕ) (one : Judged) (traces : Traces) (trace : Trace) (old now now' : Option (List ℕ))
-    → i < length judged → one ≡ get_or judged i one → AreTraces traces (take i judged) → trace ≡ trace_in traces one
-    → Appends old now (lines_text style (take i judged)) → Appends now now' (line_with style trace one) → Appends old now' (lines_text style (take (i + 1) judged))
-lines-more style judged i one traces trace old now now' below is kept traced written wrote =
+pub lines-more : (style : Style) (judged : List Judged) (i : ℕ) (one : Judged) (origins : Origins) (origin : Origin) (old now now' : Option (List ℕ))
+    → i < length judged → one ≡ get_or judged i one → AreOrigins origins (take i judged) → origin ≡ origin_in origins one
+    → Appends old now (lines_text style (take i judged)) → Appends now now' (line_with style origin one) → Appends old now' (lines_text style (take (i + 1) judged))
+lines-more style judged i one origins origin old now now' below is kept noted written wrote =
     let before = take i judged in
-    let line : line_with style trace one ≡ line_text style before one = ap (λ t. line_with style t one) (traced ∙ trace-kept traces before one kept) in
+    let line : line_with style origin one ≡ line_text style before one = ap (λ t. line_with style t one) (noted ∙ origin-kept origins before one kept) in
     let there : before ++ one ∷ [] ≡ take (i + 1) judged = ap (λ x. before ++ x ∷ []) is ∙ sym (take_more judged i one below) in
-    let text : lines_text style before ++ line_with style trace one ≡ lines_text style (take (i + 1) judged) =
+    let text : lines_text style before ++ line_with style origin one ≡ lines_text style (take (i + 1) judged) =
     ap (λ t. lines_text style before ++ t) line ∙ sym (lines_from-more style [] before one) ∙ ap (lines_text style) there in
-    subst (λ t. Appends old now' t) text (Appends-trans old now now' (lines_text style before) (line_with style trace one) written wrote)
+    subst (λ t. Appends old now' t) text (Appends-trans old now now' (lines_text style before) (line_with style origin one) written wrote)
 
 pub OnOk-append : {T E : Type 0} (r : Result T E) (a b c : Option (List ℕ)) (xs ys : List ℕ) → Appends a b xs → OnOk r (Appends b c ys) → OnOk r (Appends a c (xs ++ ys))
 OnOk-append (Ok x) a b c xs ys p q = Appends-trans a b c xs ys p q

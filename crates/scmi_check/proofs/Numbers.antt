@@ -1,6 +1,10 @@
--- The status of a difference, as the page on checks has it.
+-- The numbers that the code shares with the definitions, as the pages have them.
 use Rattle.std.proofs.Common.{◌≡◌, refl}
 use Rattle.scmi_check.specs.declared.run.TheConstants.{DIFFERS}
+use Rattle.scmi_check.specs.declared.subject.TheConstants.{POWER_STATE_CHANGED}
 
 differs : DIFFERS ≡ 5
 differs = refl
+
+state_changed : POWER_STATE_CHANGED ≡ 0
+state_changed = refl

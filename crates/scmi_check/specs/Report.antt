@@ -1,16 +1,17 @@
 -- A report of a record, as it is written.
 use Rattle.std.specs.Prelude.{ℕ, List, [], ◌∷◌, ◌++◌, codes, decimal, length, Option, Some, None}
 use Rattle.scmi_check.specs.Counts.{counts_of, found}
+use Rattle.scmi_check.specs.Deciding.{check_text}
 use Rattle.scmi_check.specs.Own.{rule_name}
 use Rattle.scmi_check.specs.Reasons.{reasons_text}
-use Rattle.scmi_check.specs.Trace.{trace_of}
+use Rattle.scmi_check.specs.Origin.{origin_of}
 use Rattle.scmi_check.specs.declared.counts.Counts.{Counts}
 use Rattle.scmi_check.specs.declared.finding.Finding.{Finding}
 use Rattle.scmi_check.specs.declared.finding.Finding.TheVariants.{Same, Own, Differs}
 use Rattle.scmi_check.specs.declared.judged.Judged.{Judged}
 use Rattle.scmi_check.specs.declared.style.Style.{Style}
 use Rattle.scmi_check.specs.declared.style.Style.TheVariants.{Plain, Tap}
-use Rattle.scmi_check.specs.declared.trace.Trace.{Trace}
+use Rattle.scmi_check.specs.declared.origin.Origin.{Origin}
 
 -- what was found, with the rule if it is one of the profile's own
 abbrev pub finding_text : Finding → List ℕ
@@ -30,20 +31,20 @@ line_named word None = []
 line_named word (Some line) = codes " " ++ word ++ codes " " ++ decimal line
 
 -- what a difference may follow from: the line of a set, and that of an earlier difference
-abbrev pub trace_text : Trace → List ℕ
-trace_text trace = line_named (codes "set") trace.set ++ line_named (codes "after") trace.after
+abbrev pub origin_text : Origin → List ℕ
+origin_text origin = line_named (codes "set") origin.set ++ line_named (codes "after") origin.after
 
 -- the number of an entry's line, and what was found
 abbrev pub found_text : Style → Judged → List ℕ
 found_text style one = mark_text style (found one) ++ decimal one.line ++ finding_text (found one)
 
--- the line of an entry: what was found, what was due and what was seen, and what it may follow from
-abbrev pub line_with : Style → Trace → Judged → List ℕ
-line_with style trace one = found_text style one ++ reasons_text one.entry one.verdict ++ trace_text trace ++ codes "\n"
+-- the line of an entry: what was found, what was due and what was seen, the check that decides, and what it may follow from
+abbrev pub line_with : Style → Origin → Judged → List ℕ
+line_with style origin one = found_text style one ++ reasons_text one.entry one.verdict ++ check_text one ++ origin_text origin ++ codes "\n"
 
 -- the line of an entry after those before it
 abbrev pub line_text : Style → List Judged → Judged → List ℕ
-line_text style before one = line_with style (trace_of before one) one
+line_text style before one = line_with style (origin_of before one) one
 
 -- the lines of entries after those before them
 abbrev pub lines_from : Style → List Judged → List Judged → List ℕ

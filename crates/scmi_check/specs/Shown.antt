@@ -17,11 +17,12 @@ use Rattle.scmi_text.specs.declared.step.AgentStep.TheVariants as agent
 use Rattle.scmi_text.specs.declared.step.Step.{Step}
 use Rattle.scmi_text.specs.declared.step.Step.TheVariants as step
 use Rattle.scmi_text.specs.declared.word_row.WordRow.{WordRow}
+use Rattle.scmi_check.specs.AreaShown.{a2p_shown, area_described, p2a_shown}
 use Rattle.scmi_check.specs.declared.seen.SeenForm.{SeenForm}
 use Rattle.scmi_check.specs.declared.seen.SeenForm.TheVariants as form
 use Rattle.scmi_check.specs.declared.seen.TheConstants.{SEEN_FORMS}
 use Rattle.scmi_check.specs.declared.shown.Shown.{Shown}
-use Rattle.scmi_check.specs.declared.shown.Shown.TheVariants.{Called, Posted, Got, Took, Skipped}
+use Rattle.scmi_check.specs.declared.shown.Shown.TheVariants.{Called, Posted, PostedBeside, Got, Responded, Took, Skipped}
 
 -- the command that a step posts: by `do`, `raw` or `bad`
 abbrev pub command_shown : Step → Option Shown
@@ -37,7 +38,7 @@ first_words view = do
   words ← payload_left header.1
   Some (raw_with header.0 words)
 
--- what follows the agent and the word: H W.., or nothing
+-- what follows the agent and the word: H W.., nothing, or the words of an area
 unfoldable pub seen_behind : SeenForm → ℕ → ItemsView → Option Shown
 seen_behind form.Reply a view = do
   message ← first_words view
@@ -51,12 +52,18 @@ seen_behind form.Error a view = do
 seen_behind form.P2a a view = do
   message ← first_words view
   Some (Took a message)
+seen_behind form.Area a view = do
+  area ← area_described view
+  a2p_shown a area
+seen_behind form.P2aArea a view = do
+  area ← area_described view
+  p2a_shown a area
 
 -- the forms of such lines, by their words
 abbrev pub seen_forms : List (WordRow (List ℕ) SeenForm)
 seen_forms = map (λ row. record { word = row.word.now; form = row.form }) SEEN_FORMS
 
--- what an agent got: A reply H W.., A released, A error, or A p2a H W..
+-- what an agent got: A reply H W.., A released, A error, or A p2a H W..; or what is in an area of its channels: A area W.., or A p2a-area W..
 unfoldable pub seen_at : ℕ → ItemsView → Option Shown
 seen_at agents view = do
   agent ← first_agent agents view
@@ -71,10 +78,10 @@ session_shown agents text = elim (plain_step_of_line agents text) [
   | None ↦ seen_at agents (items_left text)
 ]
 
--- what the message of an event shows: the agent posts a command, gets a response, and takes any other
+-- what the message of an event shows: the agent posts a command, over any of its channels, gets the response to that of its token, and takes any other
 abbrev pub message_shown : EventKind → ℕ → Message → Shown
-message_shown event.Command a message = Posted a (Good message)
-message_shown event.Response a message = Got a (Reply message)
+message_shown event.Command a message = PostedBeside a message
+message_shown event.Response a message = Responded a message
 message_shown event.Delayed a message = Took a message
 message_shown event.Notification a message = Took a message
 

@@ -1,5 +1,5 @@
 -- The subject of an entry: the power domain or clock that it is about.
-use Rattle.std.specs.Prelude.{ℕ, ◌==◌, ◌&&◌, ◌||◌, nat_lt, Bool, if◌then◌else◌, List, ◌∷◌, Option, Some, None, Result, Ok}
+use Rattle.std.specs.Prelude.{ℕ, ◌==◌, ◌&&◌, nat_lt, Bool, if◌then◌else◌, List, [], ◌∷◌, Option, Some, None, Result, Ok}
 use Rattle.scmi_codec.specs.Command.{command_of}
 use Rattle.scmi_codec.specs.Header.{HeaderFields}
 use Rattle.scmi_codec.specs.declared.clock_command.ClockCommand.{ClockCommand}
@@ -7,7 +7,10 @@ use Rattle.scmi_codec.specs.declared.clock_command.ClockCommand.TheVariants as c
 use Rattle.scmi_codec.specs.declared.command.Command.{Command}
 use Rattle.scmi_codec.specs.declared.command.Command.TheVariants.{Power, Clock as ClockKind}
 use Rattle.scmi_codec.specs.declared.frame.Frame.TheVariants.{Good, Malformed}
+use Rattle.scmi_codec.specs.declared.header.TheConstants.{DELAYED_RESPONSE, NOTIFICATION}
 use Rattle.scmi_codec.specs.declared.message.Message.{Message}
+use Rattle.scmi_codec.specs.declared.messages.Part.{Part}
+use Rattle.scmi_codec.specs.declared.messages.Part.TheVariants as part
 use Rattle.scmi_codec.specs.declared.power_command.PowerCommand.{PowerCommand}
 use Rattle.scmi_codec.specs.declared.power_command.PowerCommand.TheVariants as power
 use Rattle.scmi_codec.specs.declared.status.Status.{Status}
@@ -16,6 +19,8 @@ use Rattle.scmi_plan.specs.declared.resource.Resource.{Resource}
 use Rattle.scmi_plan.specs.declared.resource.Resource.TheVariants.{Domain, Clock}
 use Rattle.scmi_judge.specs.declared.entry.Entry.{Entry}
 use Rattle.scmi_judge.specs.declared.entry.Entry.TheVariants.{Answered, Delivered}
+use Rattle.scmi_check.specs.Later.{later_parts}
+use Rattle.scmi_check.specs.declared.subject.TheConstants.{POWER_STATE_CHANGED}
 
 -- the domain that a command of the power domain protocol names
 abbrev pub domain_named : PowerCommand → Option Resource
@@ -40,19 +45,26 @@ command_subject (Ok (Power command)) = domain_named command
 command_subject (Ok (ClockKind command)) = clock_named command
 command_subject _ = None
 
--- a delayed response to POWER_STATE_SET, or POWER_STATE_CHANGED: its second word is a domain (DEN0056B, power domain management protocol)
-abbrev pub names_domain : HeaderFields → Bool
-names_domain header = header.protocol == 0x11 && (header.kind == 2 && header.id == 4 || header.kind == 3 && header.id == 0)
+-- what a word is in a part of a message
+abbrev pub named_as : Part → ℕ → Option Resource
+named_as part.Domain word = Some (Domain word)
+named_as part.Clock word = Some (Clock word)
+named_as _ word = None
 
--- a delayed response to CLOCK_RATE_SET: its second word is a clock (DEN0056B, clock management protocol)
-abbrev pub names_clock : HeaderFields → Bool
-names_clock header = header.protocol == 0x14 && header.kind == 2 && header.id == 5
+-- what a word names that is the first of these parts
+abbrev pub named_first : List Part → ℕ → Option Resource
+named_first [] word = None
+named_first (p ∷ parts) word = named_as p word
 
--- what a message of a header names, whose second word this is
+-- a message is POWER_STATE_CHANGED, whose second word is a domain (DEN0056B, power domain management protocol)
+abbrev pub is_state_changed : HeaderFields → Bool
+is_state_changed header = header.kind == NOTIFICATION && header.protocol == 0x11 && header.id == POWER_STATE_CHANGED
+
+-- what a message of a header names, whose second word this is: that of a delayed response is the first part after its status
 abbrev pub named_in : HeaderFields → ℕ → Option Resource
 named_in header word =
-    if names_domain header then Some (Domain word)
-    else if names_clock header then Some (Clock word)
+    if header.kind == DELAYED_RESPONSE then named_first (later_parts header.protocol header.id) word
+    else if is_state_changed header then Some (Domain word)
     else None
 
 -- what a message of the platform names, by its second word

@@ -5,7 +5,7 @@ ghost use Rattle.scmi_check.specs.Shown.{event_shown, message_shown};
 
 use crate::shown::Shown;
 use scmi_board::LineError;
-use scmi_codec::{Answer, Frame, Message};
+use scmi_codec::Message;
 use scmi_decode::EventKind;
 
 /// What the message of an event shows. The agent is the one after its instance of SCMI (own);
@@ -24,20 +24,14 @@ pub(crate) fn event_shown(
     Ok(message_shown(kind, instance + 1, message))
 }
 
-/// What the message of an event shows of its agent: it posts a command, gets a response, and takes
-/// any other message.
+/// What the message of an event shows of its agent: it posts a command, over any of its channels,
+/// gets the response to that of its token, and takes any other message.
 fn message_shown(kind: EventKind, agent: u32, message: Message) -> Shown
     ensures { result ≡ message_shown kind agent message }
 {
     match kind {
-        EventKind::Command => Shown::Posted {
-            agent,
-            frame: Frame::Good(message),
-        },
-        EventKind::Response => Shown::Got {
-            agent,
-            answer: Answer::Reply(message),
-        },
+        EventKind::Command => Shown::PostedBeside { agent, message },
+        EventKind::Response => Shown::Responded { agent, message },
         EventKind::Delayed | EventKind::Notification => Shown::Took { agent, message },
     }
 }

@@ -7,14 +7,20 @@
 //! history.
 #![tactic(auto)]
 
+mod area_shown;
 mod check;
 mod check_error;
+mod check_row;
 mod command_shown;
 mod counts;
+mod deciding;
 mod event_shown;
 mod finding;
 mod judged;
 mod last_lines;
+mod later;
+mod origin;
+mod origins;
 mod own_rule;
 mod own_test;
 mod placed;
@@ -28,8 +34,6 @@ mod shown;
 mod so_far;
 mod style;
 mod subject;
-mod trace;
-mod traces;
 mod waiting;
 
 pub use check_error::CheckError;

@@ -46,7 +46,7 @@ pub(crate) fn is_by(
 }
 
 /// Whether a payload begins with a status.
-fn begins_with(payload: &[u32], status: Status) -> bool
+pub(crate) fn begins_with(payload: &[u32], status: Status) -> bool
     ensures { result ≡ begins_with payload.now status }
 {
     match payload {
@@ -76,7 +76,7 @@ fn is_longer_error(due: &[u32], seen: &[u32]) -> bool
 }
 
 /// Whether a command has a reserved bit of its flags set.
-fn has_reserved_flags(command: &Result<Command, Status>) -> bool
+pub(crate) fn has_reserved_flags(command: &Result<Command, Status>) -> bool
     ensures { result ≡ has_reserved_flags command.now }
 {
     match command {

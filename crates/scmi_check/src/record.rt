@@ -14,14 +14,14 @@ use std::alloc::Global;
 
 /// The entries that all lines that are left encode, in the order in which they were seen (own). A
 /// command is the line of a script that posts it, `do`, `raw` or `bad`; its answer, and a message
-/// of the platform, is the line of a run's output. Each may be a line of Linux's ftrace instead,
-/// with its event `scmi_msg_dump`; lines with other events of SCMI are skipped. The agents are those
-/// of the board, which has this many.
+/// of the platform, is the line of a run's output. Each may be an area of its channel instead, or a
+/// line of Linux's ftrace with its event `scmi_msg_dump`; lines with other events of SCMI are
+/// skipped. The agents are those of the board, which has this many.
 ///
 /// `Script` gives the number of the first line that is no line of a record there: of another form,
-/// of an agent that the board lacks, a command before its agent's waiting one has its answer, an
-/// answer to no command of its agent; else that of the first command that has no answer. `Memory`
-/// if out of memory.
+/// of an agent that the board lacks, a command, but of ftrace, before its agent's waiting one has
+/// its answer, an answer to no command of its agent; else that of the first command that has no
+/// answer. `Memory` if out of memory.
 pub fn read_record(
     alloc: Global,
     lines: &mut Lines<'_>,

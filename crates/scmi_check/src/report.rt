@@ -4,18 +4,20 @@ ghost use Rattle.std.specs.Io.KnownBytes.{Appends};
 ghost use Rattle.scmi_check.specs.Report.{finding_text, found_text, heading_text, line_with, lines_text, mark_text, report_text, summary_text};
 
 use crate::counts::Counts;
+use crate::deciding::write_check;
 use crate::finding::Finding;
 use crate::judged::Judged;
+use crate::origin::{Origin, write_origin};
+use crate::origins::Origins;
 use crate::reasons::write_reasons;
 use crate::style::Style;
-use crate::trace::{Trace, write_trace};
-use crate::traces::Traces;
 use std::io;
 use std::io::Write;
 
 /// Writes a line for each entry, and how many are the same, differ by a rule of the profile's own, and
-/// differ (own). The line of one that differs ends with the lines of earlier entries that it may
-/// follow from. The error is the writer's; some parts may then be written.
+/// differ (own). The line of one that differs ends with the check that decides, if an error was
+/// due, and with the lines of earlier entries that it may follow from. The error is the writer's;
+/// some parts may then be written.
 pub fn write_report<W: Write>(writer: &mut W, style: Style, judged: &[Judged]) -> io::Result<()>
     ensures { OnOk result (Appends (W.contents writer.old) (W.contents writer.new)
         (report_text style judged.now)) }
@@ -43,21 +45,27 @@ fn write_lines<W: Write>(writer: &mut W, style: Style, judged: &[Judged]) -> io:
     ensures { OnOk result (Appends (W.contents writer.old) (W.contents writer.new)
         (lines_text style judged.now)) }
 {
-    let mut traces = Traces::new();
+    let mut origins = Origins::new();
     'each: for one in judged {
-        write_line(writer, style, traces.trace_of(one), one)?;
-        traces.add(one);
+        write_line(writer, style, origins.origin_of(one), one)?;
+        origins.add(one);
     }
     Ok(())
 }
 
-fn write_line<W: Write>(writer: &mut W, style: Style, trace: Trace, one: &Judged) -> io::Result<()>
+fn write_line<W: Write>(
+    writer: &mut W,
+    style: Style,
+    origin: Origin,
+    one: &Judged,
+) -> io::Result<()>
     ensures { OnOk result (Appends (W.contents writer.old) (W.contents writer.new)
-        (line_with style trace one.now)) }
+        (line_with style origin one.now)) }
 {
     write_found(writer, style, one)?;
     write_reasons(writer, &one.entry, &one.verdict)?;
-    write_trace(writer, trace)?;
+    write_check(writer, one)?;
+    write_origin(writer, origin)?;
     writeln!(writer)
 }
 

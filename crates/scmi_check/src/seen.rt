@@ -3,6 +3,7 @@ ghost use Rattle.scmi_board.specs.Items.{items_left};
 ghost use Rattle.scmi_board.specs.LineError.{Gives};
 ghost use Rattle.scmi_check.specs.Shown.{first_words, seen_at, seen_behind};
 
+use crate::area_shown::{a2p_shown, p2a_shown, read_area};
 use crate::shown::Shown;
 use scmi_board::{Items, LineError};
 use scmi_codec::{Answer, Header, Message};
@@ -15,6 +16,8 @@ pub(crate) enum SeenForm {
     Released,
     Error,
     P2a,
+    Area,
+    P2aArea,
 }
 
 macro_rules! rows {
@@ -24,11 +27,13 @@ macro_rules! rows {
 }
 
 /// The words after the agent's number in such lines.
-pub(crate) const SEEN_FORMS: [HeldRow<SeenForm>; 4] = rows![
+pub(crate) const SEEN_FORMS: [HeldRow<SeenForm>; 6] = rows![
     b"reply" Reply;
     b"released" Released;
     b"error" Error;
     b"p2a" P2a;
+    b"area" Area;
+    b"p2a-area" P2aArea;
 ];
 
 /// What an agent of the board, which has this many, got.
@@ -69,6 +74,8 @@ fn read_seen_of(form: SeenForm, agent: u32, items: &mut Items<'_>) -> Result<Sho
             let message = read_words(items)?;
             Ok(Shown::Took { agent, message })
         }
+        SeenForm::Area => a2p_shown(agent, read_area(items)?),
+        SeenForm::P2aArea => p2a_shown(agent, read_area(items)?),
     }
 }
 

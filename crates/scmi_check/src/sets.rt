@@ -1,6 +1,6 @@
 //! The sets of a record that the definitions accept.
 ghost use Rattle.std.specs.Prelude.{◌≡◌};
-ghost use Rattle.scmi_check.specs.Trace.{gives_success, is_success_due, sets, sets_value};
+ghost use Rattle.scmi_check.specs.Origin.{gives_success, is_success_due, sets, sets_value};
 
 use crate::judged::Judged;
 use scmi_codec::{Answer, ClockCommand, Command, Frame, PowerCommand, Status, is_success};

@@ -18,8 +18,12 @@ pub(crate) enum Shown {
     Called { agent: u32, call: Call },
     /// An agent posts a frame.
     Posted { agent: u32, frame: Frame },
+    /// An agent posts a command, and others of it may wait, as over several channels.
+    PostedBeside { agent: u32, message: Message },
     /// An agent gets an answer.
     Got { agent: u32, answer: Answer },
+    /// An agent gets a response to the command of its token.
+    Responded { agent: u32, message: Message },
     /// An agent takes a message of the platform.
     Took { agent: u32, message: Message },
     /// Nothing: another event of Linux's ftrace.

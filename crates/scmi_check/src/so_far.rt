@@ -4,11 +4,11 @@ ghost use Rattle.scmi_codec.specs.declared.header.TheConstants.{TOKENS};
 ghost use Rattle.scmi_board.specs.LineError.{Gives, GivesUnless};
 ghost use Rattle.scmi_board.specs.TextError.{IsOfScript};
 ghost use Rattle.scmi_text.specs.TextLines.{GivesScript};
-ghost use Rattle.scmi_check.specs.RecordText.{all_answered, nothing_shown, shows_of, token_taken, with_answer, with_called, with_entry, with_posted, with_shown};
+ghost use Rattle.scmi_check.specs.RecordText.{all_answered, nothing_shown, shows_of, token_taken, with_answer, with_called, with_entry, with_posted, with_response, with_shown, with_waiting};
 
 use crate::placed::Placed;
 use crate::shown::Shown;
-use crate::waiting::{Waiting, place_of, take_command};
+use crate::waiting::{Waiting, place_of, take_command, take_response};
 use scmi_board::{LineError, TextError};
 use scmi_codec::{Answer, Frame, Header, Message, TOKENS};
 use scmi_judge::Entry;
@@ -20,7 +20,7 @@ use std::alloc::Global;
 #[derive(Drop)]
 pub(crate) struct SoFar {
     entries: Vec<Placed>,
-    // The commands whose answers are still to come, in order; of each agent one at most.
+    // The commands whose answers are still to come, in order.
     waiting: Vec<Waiting>,
     // The next token of each agent, from agent 1 on.
     tokens: [u16; AGENTS],
@@ -47,7 +47,11 @@ impl SoFar {
         match shown {
             Shown::Called { agent, call } => self.call(line, agent, call),
             Shown::Posted { agent, frame } => self.post(line, agent, frame),
+            Shown::PostedBeside { agent, message } => {
+                self.wait(line, agent, Frame::Good(message))
+            }
             Shown::Got { agent, answer } => self.answer(line, agent, answer),
+            Shown::Responded { agent, message } => self.respond(line, agent, message),
             Shown::Took { agent, message } => self.push(line, Entry::Delivered { agent, message }),
             Shown::Skipped => Ok(()),
         }
@@ -114,6 +118,14 @@ impl SoFar {
         if place_of(&self.waiting, agent).is_some() {
             return Err(LineError::Form);
         }
+        self.wait(line, agent, frame)
+    }
+
+    /// A command that waits for its answer.
+    fn wait(&mut self, line: u32, agent: u32, frame: Frame) -> Result<(), LineError>
+        ensures { GivesUnless (λ _. shows_of self.new) result
+            (Some (with_waiting (shows_of self.old) line agent frame)) }
+    {
         let Ok(()) = self.waiting.push(Waiting { line, agent, frame }) else {
             return Err(LineError::Memory);
         };
@@ -127,6 +139,24 @@ impl SoFar {
             (with_answer (shows_of self.old) line agent answer) }
     {
         let frame = take_command(&mut self.waiting, agent)?;
+        self.push(
+            line,
+            Entry::Answered {
+                agent,
+                frame,
+                answer,
+            },
+        )
+    }
+
+    /// The response to a command of its agent that waits, by its token. `Form` if none waits.
+    #[tactic(auto, unfolding(crate::specs::RecordText::with_response))]
+    fn respond(&mut self, line: u32, agent: u32, message: Message) -> Result<(), LineError>
+        ensures { GivesUnless (λ _. shows_of self.new) result
+            (with_response (shows_of self.old) line agent message) }
+    {
+        let frame = take_response(&mut self.waiting, agent, message.header.token)?;
+        let answer = Answer::Reply(message);
         self.push(
             line,
             Entry::Answered {

@@ -1,28 +1,17 @@
 //! The power domain or clock that an entry is about.
 ghost use Rattle.std.specs.Prelude.{◌≡◌};
-ghost use Rattle.scmi_check.specs.Subject.{clock_named, command_subject, domain_named, is_possible, message_subject, named_by, named_in, names_clock, names_domain, subject_of};
+ghost use Rattle.scmi_check.specs.Subject.{clock_named, command_subject, domain_named, is_possible, is_state_changed, message_subject, named_by, named_first, named_in, subject_of};
 
+use crate::later::later_parts;
 use scmi_codec::{
-    CLOCK_PROTOCOL, ClockCommand, Command, Frame, Header, Message, POWER_PROTOCOL, PowerCommand,
-    Status,
+    ClockCommand, Command, DELAYED_RESPONSE, Frame, Header, Message, NOTIFICATION, POWER_PROTOCOL,
+    Part, PowerCommand, Status,
 };
 use scmi_judge::Entry;
 use scmi_plan::{CLOCKS, DOMAINS, Resource};
 
-/// The type of a delayed response (DEN0056B, message header).
-const DELAYED_RESPONSE: u8 = 2;
-
-/// The type of a notification (DEN0056B, message header).
-const NOTIFICATION: u8 = 3;
-
-/// The message id of POWER_STATE_SET and of its delayed response, POWER_STATE_SET_COMPLETE.
-const POWER_STATE_SET: u8 = 0x4;
-
-/// The message id of the notification POWER_STATE_CHANGED.
-const POWER_STATE_CHANGED: u8 = 0x0;
-
-/// The message id of CLOCK_RATE_SET and of its delayed response, CLOCK_RATE_SET_COMPLETE.
-const CLOCK_RATE_SET: u8 = 0x5;
+/// The message id of the notification POWER_STATE_CHANGED, which no table has.
+pub(crate) const POWER_STATE_CHANGED: u8 = 0x0;
 
 /// The subject of an entry: the power domain or clock that its command or its message names. `None`
 /// if it names none, or one that no board can have.
@@ -105,34 +94,36 @@ fn message_subject(message: &Message) -> Option<Resource>
     }
 }
 
-/// What a message of this header names, whose second word this is.
+/// What a message of this header names, whose second word this is: that of a delayed response is the
+/// first part after its status.
 fn named_in(header: &Header, word: u32) -> Option<Resource>
     ensures { result ≡ named_in header.now word }
 {
-    if names_domain(header) {
+    if header.kind == DELAYED_RESPONSE {
+        named_first(later_parts(header.protocol, header.id), word)
+    } else if is_state_changed(header) {
         Some(Resource::Domain(word))
-    } else if names_clock(header) {
-        Some(Resource::Clock(word))
     } else {
         None
     }
 }
 
-/// Whether a message of this header is a delayed response to POWER_STATE_SET, or
-/// POWER_STATE_CHANGED.
-fn names_domain(header: &Header) -> bool
-    ensures { result ≡ names_domain header.now }
+/// What a word names that is the first of these parts.
+fn named_first(parts: &[Part], word: u32) -> Option<Resource>
+    ensures { result ≡ named_first parts.now word }
 {
-    header.protocol == POWER_PROTOCOL
-        && (header.kind == DELAYED_RESPONSE && header.id == POWER_STATE_SET
-            || header.kind == NOTIFICATION && header.id == POWER_STATE_CHANGED)
+    match parts {
+        [Part::Domain, ..] => Some(Resource::Domain(word)),
+        [Part::Clock, ..] => Some(Resource::Clock(word)),
+        _ => None,
+    }
 }
 
-/// Whether a message of this header is a delayed response to CLOCK_RATE_SET.
-fn names_clock(header: &Header) -> bool
-    ensures { result ≡ names_clock header.now }
+/// Whether a message of this header is POWER_STATE_CHANGED.
+fn is_state_changed(header: &Header) -> bool
+    ensures { result ≡ is_state_changed header.now }
 {
-    header.protocol == CLOCK_PROTOCOL
-        && header.kind == DELAYED_RESPONSE
-        && header.id == CLOCK_RATE_SET
+    header.kind == NOTIFICATION
+        && header.protocol == POWER_PROTOCOL
+        && header.id == POWER_STATE_CHANGED
 }

@@ -1,10 +1,10 @@
 //! Commands whose answers are still to come.
-ghost use Rattle.std.specs.Prelude.{◌≡◌, position};
+ghost use Rattle.std.specs.Prelude.{◌≡◌, ◌<◌, IfSome, length, position};
 ghost use Rattle.scmi_board.specs.LineError.{Gives};
-ghost use Rattle.scmi_check.specs.RecordText.{command_taken, is_by};
+ghost use Rattle.scmi_check.specs.RecordText.{command_taken, has_token, is_by, is_with, place_of_response, response_taken};
 
 use scmi_board::LineError;
-use scmi_codec::Frame;
+use scmi_codec::{Frame, Message};
 
 /// A command whose answer is still to come, and the number of its line.
 #[derive(PartialEq, Eq, Debug, Drop)]
@@ -31,4 +31,58 @@ pub(crate) fn place_of(waiting: &[Waiting], agent: u32) -> Option<usize>
     ensures { result ≡ position (is_by agent) waiting.now }
 {
     waiting.iter().position(|waiting| waiting.agent == agent)
+}
+
+/// Takes the command of an agent that a response with this token answers. `Form` if none waits.
+#[tactic(auto, unfolding(crate::specs::RecordText::response_taken))]
+pub(crate) fn take_response(
+    waiting: &mut Vec<Waiting>,
+    agent: u32,
+    token: u16,
+) -> Result<Frame, LineError>
+    ensures { Gives (λ frame. (frame, waiting.new.items)) result
+        (response_taken waiting.old.items agent token) }
+{
+    let Some(place) = place_of_response(waiting, agent, token) else {
+        return Err(LineError::Form);
+    };
+    Ok(waiting.remove(place).frame)
+}
+
+/// The place of the command that a response with this token answers: that of its token, or else the
+/// first of its agent.
+fn place_of_response(waiting: &[Waiting], agent: u32, token: u16) -> Option<usize>
+    ensures within { IfSome result (λ place. place < length waiting.now) }
+    ensures place { result ≡ place_of_response waiting.now agent token }
+{
+    match place_with(waiting, agent, token) {
+        Some(place) => Some(place),
+        None => place_of(waiting, agent),
+    }
+}
+
+/// The place of the command of an agent with this token among those that wait.
+fn place_with(waiting: &[Waiting], agent: u32, token: u16) -> Option<usize>
+    ensures { result ≡ position (is_with agent token) waiting.now }
+{
+    waiting
+        .iter()
+        .position(|waiting| is_with(agent, token, waiting))
+}
+
+/// Whether a command is this agent's and has this token.
+fn is_with(agent: u32, token: u16, waiting: &Waiting) -> bool
+    ensures { result ≡ is_with agent token waiting.now }
+{
+    waiting.agent == agent && has_token(&waiting.frame, token)
+}
+
+/// Whether a frame is a message with this token.
+fn has_token(frame: &Frame, token: u16) -> bool
+    ensures { result ≡ has_token token frame.now }
+{
+    match frame {
+        Frame::Good(Message { header, .. }) => header.token == token,
+        Frame::Malformed { .. } => false,
+    }
 }

@@ -1,10 +1,10 @@
 use Rattle.std.proofs.Common.{rules}
-use Rattle.scmi_check.proofs.Earlier.{no-traces, traces-more}
+use Rattle.scmi_check.proofs.Earlier.{no-origins, origins-more}
 use Rattle.scmi_check.proofs.LinesWritten.{lines-more}
 use Rattle.scmi_check.proofs.report.write_lines.Goals as goal
 
 pub each-init : goal.each-init
-each-init g c = record { written = search rules; kept = no-traces c.new-traces.result c.new-traces.ensures }
+each-init g c = record { written = search rules; kept = no-origins c.new-origins.result c.new-origins.ensures }
 
 pub each-preserved : goal.each-preserved
 each-preserved g c =
@@ -12,7 +12,7 @@ each-preserved g c =
     let one = c.one-item.result in
     let earlier = c.each.invariant.kept in
     record {
-      written = lines-more c.args.style judged c.each.one-index one c.each.traces c.trace_of.result _ _ _ c.each-test.true c.one-item.is earlier c.trace_of.ensures
+      written = lines-more c.args.style judged c.each.one-index one c.each.origins c.origin_of.result _ _ _ c.each-test.true c.one-item.is earlier c.origin_of.ensures
           c.each.invariant.written c.in_ok-write_line.ensures;
-      kept = traces-more judged c.each.one-index one c.each.traces c.add.new.self c.each-test.true c.one-item.is earlier c.add.ensures;
+      kept = origins-more judged c.each.one-index one c.each.origins c.add.new.self c.each-test.true c.one-item.is earlier c.add.ensures;
     }

@@ -1,35 +1,35 @@
 //! What a difference may follow from.
 ghost use Rattle.std.specs.Prelude.{OnOk};
 ghost use Rattle.std.specs.Io.KnownBytes.{Appends};
-ghost use Rattle.scmi_check.specs.Report.{line_named, trace_text};
+ghost use Rattle.scmi_check.specs.Report.{line_named, origin_text};
 
 use std::io;
 use std::io::Write;
 
 /// The lines of earlier entries that a difference may follow from, with the same subject as it.
 #[derive(Clone, Copy, PartialEq, Eq, Debug)]
-pub(crate) struct Trace {
+pub(crate) struct Origin {
     /// The line of the last set of the subject to which SUCCESS was due.
     pub set: Option<u32>,
     /// The line of the last difference.
     pub after: Option<u32>,
 }
 
-impl Trace {
+impl Origin {
     /// Nothing earlier is named.
-    pub const NONE: Trace = Trace {
+    pub const NONE: Origin = Origin {
         set: None,
         after: None,
     };
 }
 
 /// Writes what a difference may follow from.
-pub(crate) fn write_trace<W: Write>(writer: &mut W, trace: Trace) -> io::Result<()>
+pub(crate) fn write_origin<W: Write>(writer: &mut W, origin: Origin) -> io::Result<()>
     ensures { OnOk result (Appends (W.contents writer.old) (W.contents writer.new)
-        (trace_text trace)) }
+        (origin_text origin)) }
 {
-    write_line_named(writer, "set", trace.set)?;
-    write_line_named(writer, "after", trace.after)
+    write_line_named(writer, "set", origin.set)?;
+    write_line_named(writer, "after", origin.after)
 }
 
 /// Writes a word and the number of a line, if there is one.

@@ -21,7 +21,7 @@ use Rattle.scmi_judge.specs.declared.verdict.Verdict.TheVariants as verdict
 use Rattle.scmi_check.specs.Counts.{found, is_other}
 use Rattle.scmi_check.specs.Subject.{subject_of}
 use Rattle.scmi_check.specs.declared.judged.Judged.{Judged}
-use Rattle.scmi_check.specs.declared.trace.Trace.{Trace}
+use Rattle.scmi_check.specs.declared.origin.Origin.{Origin}
 
 -- two are the same domain, or the same clock
 abbrev pub is_same_resource : Resource → Resource → Bool
@@ -74,14 +74,14 @@ abbrev pub last_line : (Judged → Bool) → Resource → List Judged → Option
 last_line test resource judged = option_map (λ (one : Judged). one.line) (find (λ one. is_about resource one && test one) (reverse judged))
 
 -- nothing earlier is named
-abbrev pub no_trace : Trace
-no_trace = record { set = None; after = None }
+abbrev pub no_origin : Origin
+no_origin = record { set = None; after = None }
 
 -- the last set of a subject, and the last difference with that subject, among these entries
-abbrev pub trace_among : List Judged → Option Resource → Trace
-trace_among before None = no_trace
-trace_among before (Some resource) = record { set = last_line sets resource before; after = last_line differs resource before }
+abbrev pub origin_among : List Judged → Option Resource → Origin
+origin_among before None = no_origin
+origin_among before (Some resource) = record { set = last_line sets resource before; after = last_line differs resource before }
 
 -- what an entry that differs may follow from, after these entries; nothing is named for any other
-abbrev pub trace_of : List Judged → Judged → Trace
-trace_of before one = if differs one then trace_among before (subject_of one.entry) else no_trace
+abbrev pub origin_of : List Judged → Judged → Origin
+origin_of before one = if differs one then origin_among before (subject_of one.entry) else no_origin
