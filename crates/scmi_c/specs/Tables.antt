@@ -13,7 +13,8 @@ use Rattle.scmi_plan.specs.declared.limits.TheConstants.{AGENTS}
 use Rattle.scmi_plan.specs.declared.rates.Rates.{Rates}
 use Rattle.scmi_plan.specs.declared.rates.Rates.TheVariants as rates
 use Rattle.scmi_board.specs.declared.channel_line.ChannelLine.{ChannelLine}
-use Rattle.scmi_c.specs.Board.{unless_fault, with_channels}
+use Rattle.scmi_board.specs.Channels.{with_channels}
+use Rattle.scmi_c.specs.Board.{unless_fault}
 use Rattle.scmi_c.specs.declared.code.TheConstants.{MEMORY, RULE, TABLE}
 use Rattle.scmi_c.specs.declared.rows.AgentRow.{AgentRow}
 use Rattle.scmi_c.specs.declared.rows.ClockRow.{ClockRow}
