@@ -55,11 +55,12 @@ def marks_of(step, words):
 
 
 def found(picture):
-    """The marks of a picture, by their names."""
+    """The marks of a picture, by their names; those of dropped notifications are no lines' marks."""
     marks = Counter()
     for group in xml.etree.ElementTree.parse(picture).iter("{http://www.w3.org/2000/svg}g"):
         name = group.get("class").removeprefix("mark ")
-        marks[SIGN.get(name, name)] += 1
+        if name != "dropped":
+            marks[SIGN.get(name, name)] += 1
     return marks
 
 

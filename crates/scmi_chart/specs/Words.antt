@@ -64,3 +64,8 @@ domain_text board domain = get_or (map (λ d. d.name) board.domains) domain (num
 -- the name of a clock, or its number if the board lacks it
 abbrev pub clock_text : Board → ℕ → List ℕ
 clock_text board clock = get_or (map (λ c. c.name) board.clocks) clock (numbered_text (codes "clock") clock)
+
+-- that the notification of a domain's state for an agent was dropped
+unfoldable pub dropped_text : Board → (agent domain : ℕ) → List ℕ
+dropped_text board agent domain =
+    codes "the notification of " ++ domain_text board domain ++ codes " for " ++ agent_text board agent ++ codes " was dropped: its outbox has no room"

@@ -1,11 +1,13 @@
-//! The states of a board's domains, clocks and outboxes along the time axis.
+//! The states of a board's domains, clocks and outboxes along the time axis, and the notifications that
+//! were dropped.
 use crate::board_names::{agent_name, clock_name, domain_name};
+use crate::dropped_words::dropped_words;
 use crate::level::Level;
 use crate::subject::Subject;
 use crate::words::{rate_words, state_words};
 use scmi_core::Core;
 use scmi_plan::RawPlan;
-use scmi_svg::{Column, Span, State};
+use scmi_svg::{Column, Dropped, Span, State};
 use std::alloc::{AllocError, Global};
 
 /// The states of one domain, clock or outbox.
@@ -15,6 +17,7 @@ struct Track {
     value: Level,
     pending: Level,
     spans: Vec<Span>,
+    drops: Vec<Dropped>,
     // The time of the last change; 0 if there was none.
     changed: u16,
 }
@@ -23,6 +26,8 @@ struct Track {
 #[derive(Drop)]
 pub struct Levels {
     tracks: Vec<Track>,
+    // The time of the last look.
+    time: u16,
 }
 
 impl Levels {
@@ -39,13 +44,31 @@ impl Levels {
         for agent in 1..=board.agents() {
             tracks.push(Track::new(alloc, Subject::Outbox(agent), core))?;
         }
-        Ok(Levels { tracks })
+        Ok(Levels { tracks, time: 0 })
     }
 
     /// The states from this time on are those that the platform has now.
     pub fn look(&mut self, core: &Core, time: u16) -> Result<(), AllocError> {
+        self.time = time;
         for track in &mut self.tracks {
             track.look(core, time)?;
+        }
+        Ok(())
+    }
+
+    /// The notification of a domain's state for an agent was dropped at the time of the last look.
+    pub(crate) fn add_dropped(
+        &mut self,
+        alloc: Global,
+        board: &RawPlan,
+        agent: u32,
+        domain: u32,
+    ) -> Result<(), AllocError> {
+        let time = self.time;
+        for track in &mut self.tracks {
+            if track.subject.is_outbox_of(agent) {
+                track.add_dropped(time, dropped_words(alloc, board, agent, domain)?)?;
+            }
         }
         Ok(())
     }
@@ -69,7 +92,7 @@ impl Levels {
     ) -> Result<Vec<Column>, AllocError> {
         let mut columns = Vec::new(alloc);
         for track in self.tracks {
-            if track.changed > 0 {
+            if track.is_shown() {
                 let place = columns.len().min(255) as u8;
                 columns.push(track.column(alloc, board, time, place)?)?;
             }
@@ -91,6 +114,7 @@ impl Track {
                 state: None,
             },
             spans: Vec::new(alloc),
+            drops: Vec::new(alloc),
             changed: 0,
         }
     }
@@ -107,6 +131,29 @@ impl Track {
             self.changed = time;
         }
         Ok(())
+    }
+
+    /// A notification was dropped at this time.
+    fn add_dropped(&mut self, time: u16, words: Vec<u8>) -> Result<(), AllocError> {
+        if let Some(last) = self.drops.last_mut() {
+            if last.time == time {
+                last.count = last.count.saturating_add(1);
+                last.detail.extend_from_slice(b"; ")?;
+                last.detail.extend_from_slice(&words)?;
+                return Ok(());
+            }
+        }
+        self.drops.push(Dropped {
+            time,
+            count: 1,
+            detail: words,
+        })?;
+        Ok(())
+    }
+
+    /// Whether it has a column: it changed, or a notification was dropped.
+    fn is_shown(&self) -> bool {
+        self.changed > 0 || !self.drops.is_empty()
     }
 
     fn name(&self, alloc: Global, board: &RawPlan) -> Result<Vec<u8>, AllocError> {
@@ -148,6 +195,7 @@ impl Track {
             kind: self.subject.kind(),
             name,
             spans,
+            drops: self.drops,
         })
     }
 }

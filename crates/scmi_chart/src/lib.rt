@@ -15,6 +15,7 @@ mod close_marks;
 mod command_marks;
 mod delivery_marks;
 mod detail;
+mod dropped_words;
 mod exchange_marks;
 mod execution_marks;
 mod fields;

@@ -75,6 +75,15 @@ impl<'a> Recorder<'a> {
         self.mark(slot, step, came)
     }
 
+    /// Records that the notification of a domain's state for an agent was dropped in the step that was
+    /// recorded last.
+    pub fn record_dropped(&mut self, agent: u32, domain: u32) -> Result<(), AllocError>
+        ensures { OnOk result (self.new ≡ self.old) }
+    {
+        let levels = &mut self.levels;
+        levels.add_dropped(self.alloc, self.board, agent, domain)
+    }
+
     /// Gives a step its slots: two if a command is posted in it and its reply read.
     fn begin(
         &mut self,

@@ -23,6 +23,14 @@ impl Subject {
         }
     }
 
+    /// Whether it is the outbox of this agent.
+    pub(crate) fn is_outbox_of(self, agent: u32) -> bool {
+        match self {
+            Subject::Domain(_) | Subject::Clock(_) => false,
+            Subject::Outbox(owner) => owner == agent,
+        }
+    }
+
     /// Its state as the platform has it; `None` if the board lacks it.
     pub fn state(self, core: &Core) -> Option<State>
         ensures value { IfSome result (IsStateOf self core.now.board core.now.history) }

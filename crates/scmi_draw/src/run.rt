@@ -1,5 +1,5 @@
 //! A run, and its chart.
-ghost use Rattle.std.specs.Prelude.{◌≡◌, length, IfOk, IfErr};
+ghost use Rattle.std.specs.Prelude.{◌≡◌, length, IfOk, IfErr, OnOk};
 ghost use Rattle.std.specs.List.{All};
 ghost use Rattle.scmi_ends.specs.Shut.{ShowsClose};
 ghost use Rattle.scmi_plan.specs.RawPlan.{asked_board};
@@ -14,9 +14,10 @@ use crate::kind::Kind;
 use crate::mode::Mode;
 use scmi_board::{Lines, TextError, TextLine, read_board};
 use scmi_chart::Recorder;
+use scmi_core::Core;
 use scmi_link::{Channel, RingChannel};
 use scmi_plan::{Plan, RawPlan};
-use scmi_session::Session;
+use scmi_session::{Session, Standing};
 use scmi_svg::Chart;
 use scmi_text::{Step, StepList, read_hardware_steps, read_steps};
 use scmi_words::WordChannel;
@@ -88,7 +89,7 @@ fn behind_board(bytes: &[u8]) -> Lines<'_> {
     lines
 }
 
-/// Makes the steps one by one, and records each.
+/// Makes the steps one by one, and records each, with the notifications that it dropped.
 fn step_through<C: Channel>(
     alloc: Global,
     mode: Mode,
@@ -107,8 +108,10 @@ fn step_through<C: Channel>(
     let mut step = Step::Advance;
     'steps: for i in 0..steps.len() {
         steps.read_into(i, &mut step);
+        let before = Standing::of(session.core());
         let came = session.step(&step)?;
         recorder.record(next_text(lines), &step, &came, session.core())?;
+        record_dropped(alloc, &before, session.core(), &mut recorder)?;
     }
     let events = session.retire().len();
     let title = format!(in alloc; "{} {}", board.vendor, board.sub_vendor)?;
@@ -120,6 +123,22 @@ fn step_through<C: Channel>(
         plural(events)
     )?;
     Ok(recorder.finish(title.into_bytes(), subtitle.into_bytes())?)
+}
+
+/// Records the notifications that a platform has dropped since.
+fn record_dropped(
+    alloc: Global,
+    before: &Standing,
+    core: &Core,
+    recorder: &mut Recorder<'_>,
+) -> Result<(), AllocError>
+    ensures { OnOk result (recorder.new ≡ recorder.old) }
+{
+    let dropped = before.dropped(alloc, core)?;
+    'dropped: for notification in &dropped {
+        recorder.record_dropped(notification.agent, notification.domain)?;
+    }
+    Ok(())
 }
 
 /// The next line of the script.

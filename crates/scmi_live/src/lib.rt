@@ -5,7 +5,6 @@
 //! is the lines that these steps give, in order, and at the end the length of the history.
 #![tactic(auto)]
 
-mod drops;
 mod form;
 mod items;
 mod left_items;
@@ -20,7 +19,6 @@ mod named_step;
 mod payload;
 mod remark;
 mod run;
-mod standing;
 mod unknown;
 mod word;
 

@@ -4,14 +4,13 @@ ghost use Rattle.scmi_text.specs.StepLine.{step_text};
 ghost use Rattle.std.specs.Io.KnownBytes.{Appends, Keeps};
 ghost use Rattle.scmi_live.specs.Live.{answer_text};
 
-use crate::drops::Drops;
 use crate::listener::Listener;
 use crate::live_error::LiveError;
 use crate::meant::{Meant, line_meant};
 use crate::remark::write_remark;
 use scmi_link::Channel;
 use scmi_plan::{Plan, RawPlan};
-use scmi_session::Session;
+use scmi_session::{Session, Standing};
 use scmi_text::{Step, StepLine, write_step_line};
 use std::alloc::{AllocError, Global};
 use std::io::Write;
@@ -25,7 +24,7 @@ pub(crate) struct Live<'a, C: Channel> {
     board: &'a RawPlan,
     agents: u32,
     session: Session<C>,
-    drops: Drops,
+    dropped: usize,
     is_described: bool,
 }
 
@@ -57,12 +56,11 @@ impl<'a, C: Channel> Live<'a, C> {
     ghost use Rattle.scmi_text.specs.StepLine.{step_text};
     ghost use Rattle.scmi_live.specs.Live.{Answers, MakesStep};
 
-    /// A session over new channels, of a board of which this is the plan; it is kept twice.
+    /// A session over new channels, of a board of which this is the plan.
     pub(crate) fn open(
         alloc: Global,
         board: &'a RawPlan,
         plan: Plan,
-        second: Plan,
     ) -> Result<Live<'a, C>, AllocError>
         ensures new { IfOk result (λ live. IsNewSession plan live.session) }
         ensures board { IfOk result (λ live. live.board ≡ asked_board board.now) }
@@ -76,14 +74,14 @@ impl<'a, C: Channel> Live<'a, C> {
             board,
             agents,
             session,
-            drops: Drops::new(second),
+            dropped: 0,
             is_described: false,
         })
     }
 
     /// How many notifications were dropped.
     pub(crate) fn dropped(&self) -> usize {
-        self.drops.count()
+        self.dropped
     }
 
     /// Answers a line: makes the step that it encodes, and writes what came of it, and the reply in
@@ -109,7 +107,7 @@ impl<'a, C: Channel> Live<'a, C> {
         Ok(())
     }
 
-    /// Makes a step, and writes its line.
+    /// Makes a step, writes its line, and reports the notifications that it dropped.
     fn make<W: Write, L: Listener>(
         &mut self,
         step: &Step,
@@ -121,9 +119,22 @@ impl<'a, C: Channel> Live<'a, C> {
             (MakesStep C.FULL (ShowsClose C.caller_view C.close_shows) step.now self.old self.new
             (W.contents writer.old) (W.contents writer.new)) }
     {
+        let before = Standing::of(self.session.core());
         let line = self.session.step(step)?;
         write_answer(self.alloc, writer, &line, self.is_described)?;
-        self.drops.see(step, &line, listener);
+        self.report(&before, listener)?;
+        Ok(())
+    }
+
+    /// Reports each notification that was dropped since, and counts it.
+    fn report<L: Listener>(&mut self, before: &Standing, listener: &mut L) -> Result<(), AllocError>
+        ensures same { self.new ≡ self.old }
+    {
+        let dropped = before.dropped(self.alloc, self.session.core())?;
+        for notification in &dropped {
+            listener.dropped(notification.agent, notification.domain);
+        }
+        self.dropped = self.dropped.saturating_add(dropped.len());
         Ok(())
     }
 

@@ -35,7 +35,7 @@ pub fn run_live<C: Channel, R: CountedRead + Drop, W: Write, L: Listener>(
     ensures stops { StopsWith LiveError.Read result input.old.since_failure
         input.new.since_failure }
 {
-    let mut live = Live::<C>::open(alloc, board, plans.0, plans.1)?;
+    let mut live = Live::<C>::open(alloc, board, plans.0)?;
     let mut line = Vec::new(alloc);
     'lines: for number in 1..usize::MAX {
         let ended = input.read_line(&mut line)?;

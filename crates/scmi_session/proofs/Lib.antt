@@ -1,3 +1,4 @@
+mod DroppedSince
 pub mod Lines
 pub mod Refused
 pub mod Runs

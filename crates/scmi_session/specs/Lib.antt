@@ -2,3 +2,4 @@ pub mod StepLines
 pub mod SessionView
 pub mod Steps
 pub mod Run
+pub mod Standing

@@ -11,5 +11,7 @@ mod agent_steps;
 mod refused_steps;
 mod refusing;
 mod session;
+mod standing;
 
 pub use session::Session;
+pub use standing::{Dropped, Standing};

@@ -1,12 +1,13 @@
 -- The columns of states.
 use Rattle.std.specs.Prelude.{ℕ, ◌+◌, ◌-◌, ◌*◌, ◌==◌, Bool, if◌then◌else◌, List, [], ◌∷◌, ◌++◌, codes, flat_map}
-use Rattle.scmi_svg.specs.Piece.{fixed, number, parts_text}
+use Rattle.scmi_svg.specs.Piece.{fixed, number, outside, parts_text}
 use Rattle.scmi_svg.specs.Rate.{rate_text}
 use Rattle.scmi_svg.specs.Layout.{column_x, state_y}
 use Rattle.scmi_svg.specs.Shape.{box_text, words_text}
 use Rattle.scmi_svg.specs.declared.layout.Layout.{Layout}
 use Rattle.scmi_svg.specs.declared.shape.Point.{Point}
 use Rattle.scmi_svg.specs.declared.chart.Column.{Column}
+use Rattle.scmi_svg.specs.declared.chart.Dropped.{Dropped}
 use Rattle.scmi_svg.specs.declared.chart.Span.{Span}
 use Rattle.scmi_svg.specs.declared.chart.Kind.{Kind}
 use Rattle.scmi_svg.specs.declared.chart.Kind.TheVariants as kind
@@ -96,9 +97,38 @@ span_text x kind s = state_text kind s.state (record { x = x; y = state_y s.sinc
 abbrev pub spans_text : ℕ → Kind → List Span → List ℕ
 spans_text x kind spans = flat_map (span_text x kind) spans
 
+-- how many notifications were dropped, if it is not one
+unfoldable pub several_text : ℕ → List ℕ
+several_text count = if count == 1 then [] else parts_text (number count ∷ fixed (codes " ") ∷ [])
+
+-- which notifications were dropped, and a cross beside the widest bar
+unfoldable pub lost_text : Point → List ℕ → List ℕ
+lost_text at detail =
+    parts_text (fixed (codes "<g class=\"dropped\">\n<title>") ∷ outside detail ∷ fixed (codes "</title>\n<path class=\"lost\" d=\"M") ∷
+    number at.x ∷ fixed (codes " ") ∷ number at.y ∷ fixed (codes "m57 -9l10 10m0 -10l-10 10\"/>\n") ∷ [])
+
+-- the beginning of the words after the cross
+unfoldable pub beside_text : Point → List ℕ
+beside_text at =
+    parts_text (fixed (codes "<text dx=\"72\" x=\"") ∷ number at.x ∷ fixed (codes "\" y=\"") ∷ number at.y ∷ fixed (codes "\">") ∷ [])
+
+-- the words after the cross
+unfoldable pub dropped_words : Point → ℕ → List ℕ
+dropped_words at count = beside_text at ++ several_text count ++ parts_text (fixed (codes "dropped</text>\n</g>\n") ∷ [])
+
+-- notifications that were dropped at one time
+unfoldable pub dropped_text : ℕ → Dropped → List ℕ
+dropped_text x d =
+    lost_text (record { x = x; y = state_y d.time }) d.detail.items ++ dropped_words (record { x = x; y = state_y d.time }) d.count
+
+-- the notifications that were dropped at a column, in order
+abbrev pub drops_text : ℕ → List Dropped → List ℕ
+drops_text x drops = flat_map (dropped_text x) drops
+
 -- a column
 unfoldable pub column_text : Layout → Column → List ℕ
-column_text l c = heading_text (column_x l c.place) c ++ spans_text (column_x l c.place) c.kind c.spans.items
+column_text l c =
+    heading_text (column_x l c.place) c ++ spans_text (column_x l c.place) c.kind c.spans.items ++ drops_text (column_x l c.place) c.drops.items
 
 -- columns
 abbrev pub columns_text : Layout → List Column → List ℕ

@@ -1,5 +1,5 @@
 -- What the lines and signs of a chart mean, as far as it has them.
-use Rattle.std.specs.Prelude.{ℕ, ◌+◌, ◌||◌, Bool, true, false, if◌then◌else◌, List, [], ◌∷◌, ◌++◌, codes, fold}
+use Rattle.std.specs.Prelude.{ℕ, ◌+◌, ◌==◌, ◌||◌, Bool, true, false, not, if◌then◌else◌, List, [], ◌∷◌, ◌++◌, codes, fold, length}
 use Rattle.scmi_svg.specs.Piece.{fixed, number, parts_text}
 use Rattle.scmi_svg.specs.declared.legend.Entry.{Entry}
 use Rattle.scmi_svg.specs.declared.legend.Entry.TheVariants as entry
@@ -63,9 +63,18 @@ has_pending (s ∷ rest) = is_pending s || has_pending rest
 abbrev pub is_held : List Column → Bool
 is_held columns = fold (λ found c. found || has_pending c.spans.items) false columns
 
+-- whether a notification was dropped at a column
+abbrev pub has_drops : Column → Bool
+has_drops c = not (length c.drops.items == 0)
+
+-- whether a notification was dropped at any column
+abbrev pub is_dropping : List Column → Bool
+is_dropping columns = fold (λ found c. found || has_drops c) false columns
+
 -- whether a chart has a line or a sign
 abbrev pub is_used : Chart → Entry → Bool
 is_used c entry.Held = is_held c.columns.items
+is_used c entry.Dropped = is_dropping c.columns.items
 is_used c e = is_marked c.marks.items e
 
 -- the width of the explanation of a line or a sign
@@ -82,6 +91,7 @@ entry_width entry.Posted = 146
 entry_width entry.Fault = 126
 entry_width entry.Closed = 122
 entry_width entry.Held = 96
+entry_width entry.Dropped = 150
 
 -- the classes of a line or a sign
 abbrev pub entry_class : Entry → List ℕ
@@ -107,6 +117,7 @@ entry_text entry.Posted = codes "<circle class=\"post\" cx=\"5\" cy=\"12\" r=\"4
 entry_text entry.Fault = codes "<path class=\"lost\" d=\"M5 7l10 10m0 -10l-10 10\"/>\n<text x=\"22\" y=\"16\">hardware refused</text>\n"
 entry_text entry.Closed = codes "<path class=\"shut\" d=\"M5 7l10 10m0 -10l-10 10\"/>\n<text x=\"22\" y=\"16\">channels closed</text>\n"
 entry_text entry.Held = codes "<rect class=\"held\" x=\"5\" y=\"5\" width=\"6\" height=\"14\"/>\n<text x=\"17\" y=\"16\">set pending</text>\n"
+entry_text entry.Dropped = codes "<path class=\"lost\" d=\"M5 7l10 10m0 -10l-10 10\"/>\n<text x=\"22\" y=\"16\">notification dropped</text>\n"
 
 -- the width of these entries, as far as the chart has them
 abbrev pub entries_width : Chart → List Entry → ℕ

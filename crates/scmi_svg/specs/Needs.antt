@@ -1,8 +1,9 @@
 -- How much room the parts of a chart need, in pixels.
-use Rattle.std.specs.Prelude.{ℕ, ◌+◌, ◌*◌, ◌/◌, nat_lt, if◌then◌else◌, List, [], ◌∷◌, fold, max, min}
+use Rattle.std.specs.Prelude.{ℕ, ◌+◌, ◌*◌, ◌/◌, ◌==◌, nat_lt, if◌then◌else◌, List, [], ◌∷◌, fold, max, min}
 use Rattle.scmi_svg.specs.Measure.{width_of, width_in}
 use Rattle.scmi_svg.specs.declared.needs.TheConstants.{GAP, WIDE_GAP, MARGIN, SMALL, HEAD, WIDE_HEAD, COLUMN, WIDE_COLUMN}
 use Rattle.scmi_svg.specs.declared.chart.Column.{Column}
+use Rattle.scmi_svg.specs.declared.chart.Dropped.{Dropped}
 use Rattle.scmi_svg.specs.declared.chart.Lifeline.{Lifeline}
 use Rattle.scmi_svg.specs.declared.chart.Span.{Span}
 use Rattle.scmi_svg.specs.declared.chart.State.{State}
@@ -65,9 +66,17 @@ state_width state.Pending = 0
 abbrev pub span_width : Span → ℕ
 span_width s = state_width s.state
 
+-- the room that the name and the states of a column need
+abbrev pub spans_width : Column → ℕ
+spans_width c = fold (λ widest s. max widest (span_width s)) (20 + width_in c.name.items 12) c.spans.items
+
+-- the room that the mark of notifications that were dropped needs
+abbrev pub drop_width : Dropped → ℕ
+drop_width d = if d.count == 1 then 138 else 162
+
 -- the room that a column needs
 abbrev pub column_width : Column → ℕ
-column_width c = fold (λ widest s. max widest (span_width s)) (20 + width_in c.name.items 12) c.spans.items
+column_width c = fold (λ widest d. max widest (drop_width d)) (spans_width c) c.drops.items
 
 -- the width of columns
 abbrev pub column_of : List Column → ℕ

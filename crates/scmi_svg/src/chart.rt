@@ -63,6 +63,19 @@ pub struct Column {
     pub kind: Kind,
     pub name: Vec<u8>,
     pub spans: Vec<Span>,
+    /// The notifications that were dropped at an outbox, in the order of their times.
+    pub drops: Vec<Dropped>,
+}
+
+/// Notifications that were dropped at one time, since the outbox of their agent had no room.
+#[derive(Drop)]
+pub struct Dropped {
+    /// The time, as that of a span.
+    pub time: u16,
+    /// How many they are.
+    pub count: u8,
+    /// Which they are, for a reader who points at the mark.
+    pub detail: Vec<u8>,
 }
 
 /// A state that lasted. Time 0 is before the first slot, and time `n + 1` after the mark of slot `n`.

@@ -1,9 +1,9 @@
 //! The columns of states.
 ghost use Rattle.std.specs.Prelude.{◌≡◌, OnOk};
 ghost use Rattle.std.specs.Io.KnownBytes.{Appends};
-ghost use Rattle.scmi_svg.specs.Column.{columns_text, column_text, heading_text, kind_name, spans_text, span_text, state_text, on_text, off_text, pending_text, clock_text, rate_class, hertz_text, waiting_text, agent_of, queue_text, bar_text, count_text};
+ghost use Rattle.scmi_svg.specs.Column.{columns_text, column_text, heading_text, kind_name, spans_text, span_text, drops_text, dropped_text, lost_text, dropped_words, beside_text, several_text, state_text, on_text, off_text, pending_text, clock_text, rate_class, hertz_text, waiting_text, agent_of, queue_text, bar_text, count_text};
 
-use crate::chart::{Column, Kind, Span, State};
+use crate::chart::{Column, Dropped, Kind, Span, State};
 use crate::layout::{Layout, state_y};
 use crate::piece::{Piece, write_pieces};
 use crate::rate::write_rate;
@@ -33,7 +33,8 @@ fn write_column<W: Write>(writer: &mut W, layout: &Layout, column: &Column) -> i
 {
     let x = layout.column_x(column.place);
     write_heading(writer, x, column)?;
-    write_spans(writer, x, column.kind, &column.spans)
+    write_spans(writer, x, column.kind, &column.spans)?;
+    write_drops(writer, x, &column.drops)
 }
 
 /// Writes what a column shows.
@@ -73,6 +74,95 @@ fn write_spans<W: Write>(writer: &mut W, x: u32, kind: Kind, spans: &[Span]) -> 
         write_span(writer, x, kind, span)?;
     }
     Ok(())
+}
+
+/// Writes the notifications that were dropped at a column, in order.
+fn write_drops<W: Write>(writer: &mut W, x: u32, drops: &[Dropped]) -> io::Result<()>
+    ensures { OnOk result (Appends (W.contents writer.old) (W.contents writer.new)
+        (drops_text x drops.now)) }
+{
+    'drops: for dropped in drops {
+        write_dropped(writer, x, dropped)?;
+    }
+    Ok(())
+}
+
+/// Writes notifications that were dropped at one time.
+#[tactic(auto, unfolding(crate::specs::Column::dropped_text))]
+fn write_dropped<W: Write>(writer: &mut W, x: u32, dropped: &Dropped) -> io::Result<()>
+    ensures { OnOk result (Appends (W.contents writer.old) (W.contents writer.new)
+        (dropped_text x dropped.now)) }
+{
+    let at = Point {
+        x,
+        y: state_y(dropped.time),
+    };
+    write_lost(writer, at, &dropped.detail)?;
+    write_dropped_words(writer, at, dropped.count)
+}
+
+/// Writes which notifications were dropped, and a cross beside the widest bar.
+#[tactic(auto, unfolding(crate::specs::Column::lost_text))]
+fn write_lost<W: Write>(writer: &mut W, at: Point, detail: &[u8]) -> io::Result<()>
+    ensures { OnOk result (Appends (W.contents writer.old) (W.contents writer.new)
+        (lost_text at detail.now)) }
+{
+    write_pieces(
+        writer,
+        &[
+            Piece::Fixed("<g class=\"dropped\">\n<title>"),
+            Piece::Outside(detail),
+            Piece::Fixed("</title>\n<path class=\"lost\" d=\"M"),
+            Piece::Number(at.x),
+            Piece::Fixed(" "),
+            Piece::Number(at.y),
+            Piece::Fixed("m57 -9l10 10m0 -10l-10 10\"/>\n"),
+        ],
+    )
+}
+
+/// Writes the words after the cross.
+#[tactic(auto, unfolding(crate::specs::Column::dropped_words))]
+fn write_dropped_words<W: Write>(writer: &mut W, at: Point, count: u8) -> io::Result<()>
+    ensures { OnOk result (Appends (W.contents writer.old) (W.contents writer.new)
+        (dropped_words at count)) }
+{
+    write_beside(writer, at)?;
+    write_several(writer, count)?;
+    write_pieces(writer, &[Piece::Fixed("dropped</text>\n</g>\n")])
+}
+
+/// Writes the beginning of the words after the cross.
+#[tactic(auto, unfolding(crate::specs::Column::beside_text))]
+fn write_beside<W: Write>(writer: &mut W, at: Point) -> io::Result<()>
+    ensures { OnOk result (Appends (W.contents writer.old) (W.contents writer.new)
+        (beside_text at)) }
+{
+    write_pieces(
+        writer,
+        &[
+            Piece::Fixed("<text dx=\"72\" x=\""),
+            Piece::Number(at.x),
+            Piece::Fixed("\" y=\""),
+            Piece::Number(at.y),
+            Piece::Fixed("\">"),
+        ],
+    )
+}
+
+/// Writes how many they are, if they are not one.
+#[tactic(auto, unfolding(crate::specs::Column::several_text))]
+fn write_several<W: Write>(writer: &mut W, count: u8) -> io::Result<()>
+    ensures { OnOk result (Appends (W.contents writer.old) (W.contents writer.new)
+        (several_text count)) }
+{
+    if count == 1 {
+        return Ok(());
+    }
+    write_pieces(
+        writer,
+        &[Piece::Number(u32::from(count)), Piece::Fixed(" ")],
+    )
 }
 
 /// Writes a state along the time that it lasted.

@@ -1,7 +1,7 @@
 //! What the lines and signs of a chart mean, as far as it has them.
 ghost use Rattle.std.specs.Prelude.{◌≡◌, ◌≤◌, ◌+◌, ◌*◌, OnOk, length};
 ghost use Rattle.std.specs.Io.KnownBytes.{Appends};
-ghost use Rattle.scmi_svg.specs.Legend.{all_entries, is_pending, has_pending, shows, is_marked, is_held, is_used, entry_width, entry_class, entry_text, entries_width, legend_width, entries_text, one_entry_text, placed_text};
+ghost use Rattle.scmi_svg.specs.Legend.{all_entries, is_pending, has_pending, shows, is_marked, is_held, is_dropping, has_drops, is_used, entry_width, entry_class, entry_text, entries_width, legend_width, entries_text, one_entry_text, placed_text};
 
 use crate::chart::{Chart, Column, Span, State};
 use crate::mark::{Mark, Outcome};
@@ -24,10 +24,11 @@ pub(crate) enum Entry {
     Fault,
     Closed,
     Held,
+    Dropped,
 }
 
 /// All lines and signs, in order.
-const ENTRIES: [Entry; 12] = [
+const ENTRIES: [Entry; 13] = [
     Entry::Command,
     Entry::Lost,
     Entry::Reply,
@@ -40,13 +41,14 @@ const ENTRIES: [Entry; 12] = [
     Entry::Fault,
     Entry::Closed,
     Entry::Held,
+    Entry::Dropped,
 ];
 
 /// All lines and signs.
 #[tactic(auto, unfolding(crate::specs::Legend::all_entries))]
 pub(crate) fn all_entries() -> &'static [Entry]
     ensures value { result.now ≡ all_entries }
-    ensures few { length result.now ≤ 12 }
+    ensures few { length result.now ≤ 13 }
 {
     &ENTRIES
 }
@@ -117,12 +119,31 @@ fn is_held(columns: &[Column]) -> bool
     is_found
 }
 
+/// Whether a notification was dropped at a column.
+fn has_drops(column: &Column) -> bool
+    ensures { result ≡ has_drops column.now }
+{
+    !column.drops.is_empty()
+}
+
+/// Whether a notification was dropped at any column.
+fn is_dropping(columns: &[Column]) -> bool
+    ensures { result ≡ is_dropping columns.now }
+{
+    let mut is_found = false;
+    'columns: for column in columns {
+        is_found = is_found || has_drops(column);
+    }
+    is_found
+}
+
 /// Whether a chart has a line or a sign.
 fn is_used(chart: &Chart, entry: Entry) -> bool
     ensures { result ≡ is_used chart.now entry }
 {
     match entry {
         Entry::Held => is_held(&chart.columns),
+        Entry::Dropped => is_dropping(&chart.columns),
         _ => is_marked(&chart.marks, entry),
     }
 }
@@ -144,6 +165,7 @@ fn entry_width(entry: Entry) -> u32
         Entry::Fault => 126,
         Entry::Closed => 122,
         Entry::Held => 96,
+        Entry::Dropped => 150,
     }
 }
 
@@ -203,12 +225,15 @@ fn entry_text(entry: Entry) -> &'static str
         Entry::Held => {
             "<rect class=\"held\" x=\"5\" y=\"5\" width=\"6\" height=\"14\"/>\n<text x=\"17\" y=\"16\">set pending</text>\n"
         }
+        Entry::Dropped => {
+            "<path class=\"lost\" d=\"M5 7l10 10m0 -10l-10 10\"/>\n<text x=\"22\" y=\"16\">notification dropped</text>\n"
+        }
     }
 }
 
 /// The width of these entries, as far as the chart has them.
 fn entries_width(chart: &Chart, entries: &[Entry]) -> u32
-    requires { length entries.now ≤ 12 }
+    requires { length entries.now ≤ 13 }
     ensures value { result ≡ entries_width chart.now entries.now }
     ensures bound { result ≤ 160 * length entries.now }
 {
@@ -226,7 +251,7 @@ fn entries_width(chart: &Chart, entries: &[Entry]) -> u32
 /// The width of a chart's legend.
 pub(crate) fn legend_width(chart: &Chart) -> u32
     ensures value { result ≡ legend_width chart.now }
-    ensures bound { result ≤ 1920 }
+    ensures bound { result ≤ 2080 }
 {
     entries_width(chart, all_entries())
 }

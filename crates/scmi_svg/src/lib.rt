@@ -27,7 +27,7 @@ mod shape;
 mod style;
 mod write;
 
-pub use chart::{Chart, Column, Kind, Lifeline, Span, State, Step};
+pub use chart::{Chart, Column, Dropped, Kind, Lifeline, Span, State, Step};
 pub use mark::{Label, Mark, Message, Outcome, Side};
 pub use piece::write_escaped;
 pub use rate::write_rate;

@@ -1,8 +1,8 @@
 //! How much room the parts of a chart need, in pixels.
 ghost use Rattle.std.specs.Prelude.{◌≡◌, ◌≤◌, ◌<◌};
-ghost use Rattle.scmi_svg.specs.Needs.{part_width, label_width, mark_width, gap_of, head_of, rate_width, span_width, column_width, column_of};
+ghost use Rattle.scmi_svg.specs.Needs.{part_width, label_width, mark_width, gap_of, head_of, rate_width, span_width, spans_width, drop_width, column_width, column_of};
 
-use crate::chart::{Column, Lifeline, Span, State};
+use crate::chart::{Column, Dropped, Lifeline, Span, State};
 use crate::mark::{Label, Mark};
 use crate::measure::{width_in, width_of};
 
@@ -109,13 +109,31 @@ fn span_width(span: &Span) -> u32
     }
 }
 
-/// The room that a column needs.
-fn column_width(column: &Column) -> u32
-    ensures { result ≡ column_width column.now }
+/// The room that the name and the states of a column need.
+fn spans_width(column: &Column) -> u32
+    ensures { result ≡ spans_width column.now }
 {
     let mut widest = 20 + width_in(&column.name, 12);
     'spans: for span in &column.spans {
         widest = widest.max(span_width(span));
+    }
+    widest
+}
+
+/// The room that the mark of notifications that were dropped needs.
+fn drop_width(dropped: &Dropped) -> u32
+    ensures { result ≡ drop_width dropped.now }
+{
+    if dropped.count == 1 { 138 } else { 162 }
+}
+
+/// The room that a column needs.
+fn column_width(column: &Column) -> u32
+    ensures { result ≡ column_width column.now }
+{
+    let mut widest = spans_width(column);
+    'drops: for dropped in &column.drops {
+        widest = widest.max(drop_width(dropped));
     }
     widest
 }

@@ -38,6 +38,8 @@ svg{fill:#1b2733}\n\
 .none{fill:#d5dbe2}\n\
 .queue{stroke:none;opacity:.8}\n\
 .count{stroke:none;font-size:10px;font-weight:600}\n\
+.dropped{fill:#c0362c}\n\
+.dropped text{font-size:10px;font-weight:600}\n\
 .mark{stroke:#1b2733;fill:#1b2733}\n\
 .mark text{stroke:#fff;stroke-width:4;stroke-linejoin:round;paint-order:stroke;text-anchor:middle}\n\
 .name{font-weight:600}\n\
@@ -147,6 +149,7 @@ svg{fill:#e3e9ef}\n\
 .advance.idle .pill{fill:#12181f;stroke:#4d5b69}\n\
 .advance.idle .name,.advance.idle .object{fill:#9fb0c0}\n\
 .count{stroke:none}\n\
+.dropped{fill:#f0766c}\n\
 .queue{stroke:none}\n\
 #ink path{fill:#e3e9ef}\n\
 #good path{fill:#4fc98a}\n\

@@ -1,7 +1,6 @@
-use Rattle.std.proofs.Common.{◌≡◌, ◌+◌, fold, max, take}
-use Rattle.scmi_svg.specs.Needs.{span_width}
-use Rattle.scmi_svg.specs.Measure.{width_in}
+use Rattle.std.proofs.Common.{◌≡◌, fold, max, take}
+use Rattle.scmi_svg.specs.Needs.{drop_width, spans_width}
 use Rattle.scmi_svg.proofs.needs.column_width.Given as goal
 
-abbrev pub invariant-spans : goal.invariant-spans
-invariant-spans l = l.widest ≡ fold (λ widest x. max widest (span_width x)) (20 + width_in l.column.name.items 12) (take l.span-index l.column.spans.items)
+abbrev pub invariant-drops : goal.invariant-drops
+invariant-drops l = l.widest ≡ fold (λ widest x. max widest (drop_width x)) (spans_width l.column) (take l.dropped-index l.column.drops.items)
