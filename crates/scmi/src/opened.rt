@@ -63,14 +63,11 @@ impl Opened {
         &self.text
     }
 
-    /// Two plans of the board.
-    pub fn plans(&self, alloc: Global) -> Result<(Plan, Plan), PlanError>
-        ensures { IfOk result (λ plans. plans.0 ≡ asked_board self.now.board) }
+    /// The plan of the board.
+    pub fn plan(&self, alloc: Global) -> Result<Plan, PlanError>
+        ensures { IfOk result (λ plan. plan ≡ asked_board self.now.board) }
     {
-        Ok((
-            Plan::check(alloc, &self.board)?,
-            Plan::check(alloc, &self.board)?,
-        ))
+        Plan::check(alloc, &self.board)
     }
 }
 

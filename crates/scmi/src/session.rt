@@ -43,8 +43,8 @@ fn answer_lines<R: CountedRead + Drop, W: Write, L: Listener>(
     ensures { OnOk result (IsSession (asked_board opened.now.board) input.old.left
         (W.contents writer.old) (W.contents writer.new)) }
 {
-    let Ok(plans) = opened.plans(alloc) else {
+    let Ok(plan) = opened.plan(alloc) else {
         return Err(LiveError::Memory);
     };
-    run_live::<WordChannel, _, _, _>(alloc, opened.board(), plans, input, writer, listener)
+    run_live::<WordChannel, _, _, _>(alloc, opened.board(), plan, input, writer, listener)
 }

@@ -1,6 +1,10 @@
+mod Digits
 mod Forms
 mod Items
 mod Messages
 mod OneDump
+mod Pairs
+mod Rows
 mod UnderWay
 pub mod Words
+mod Zeros

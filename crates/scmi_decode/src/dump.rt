@@ -1,29 +1,140 @@
 //! The bytes of a line of a dump.
-ghost use Rattle.std.specs.Prelude.{◌≡◌, ◌≢◌, ◌/◌, [], IfOk, map, reverse, length};
+ghost use Rattle.std.specs.Prelude.{◌≡◌, ◌≢◌, ◌/◌, [], IfOk, map, reverse, length, false, true};
 ghost use Rattle.std.specs.Option.{option_map};
-ghost use Rattle.scmi_decode.specs.Dump.{Adds, bytes_of, digits_of, is_number, number_bytes, has_mark, item_bytes, items_bytes, line_bytes};
+ghost use Rattle.scmi_decode.specs.Dump.{Adds, bytes_of, digits_of, fitting, is_number, number_bytes, has_mark, item_bytes, items_bytes, line_bytes};
 
-use crate::lines::is_gap;
+use crate::number::pair_byte;
 use crate::row::ROW_BYTES;
-use hex::FromHexError;
+use crate::scan::item_length;
+use arrayvec::ArrayVec;
 use std::alloc::{AllocError, Global};
 
 /// An item of at most this many digits takes no memory of its own (own).
 const SHORT_DIGITS: usize = 64;
 
-/// The bytes of a line, `None` if an item of it is of another form. An item is bytes of two
-/// hexadecimal digits each; or a number, its lowest byte first: eight digits, or `0x` and digits
-/// (own). The only possible error: out of memory.
-pub fn line_bytes(alloc: Global, line: &[u8]) -> Result<Option<Vec<u8>>, AllocError>
-    ensures { IfOk result (λ found. option_map (λ bytes. bytes.items) found ≡ line_bytes line.now) }
+/// The bytes of a line, `None` if an item of it is of another form, or they are more than a row has.
+/// An item is bytes of two hexadecimal digits each; or a number, its lowest byte first: eight digits,
+/// or `0x` and digits (own).
+pub fn line_bytes(line: &[u8]) -> Option<ArrayVec<u8, ROW_BYTES>>
+    ensures { option_map (λ bytes. bytes.items) result ≡ fitting [] (line_bytes line.now) }
 {
-    let mut all = Vec::with_capacity(alloc, ROW_BYTES)?;
-    for item in line.split(|byte| is_gap(*byte)) {
-        if !add_item(alloc, &mut all, item)? {
-            return Ok(None);
+    let mut all = ArrayVec::new();
+    let mut rest = line;
+    'items: loop {
+        let (item, behind) = rest.split_at(item_length(rest));
+        if !add_to_row(&mut all, item) {
+            return None;
         }
+        let [_, next @ ..] = behind else {
+            return Some(all);
+        };
+        rest = next;
     }
-    Ok(Some(all))
+}
+
+/// Adds the bytes of an item to those of a row, and gives whether it has some, and they have room.
+fn add_to_row(row: &mut ArrayVec<u8, ROW_BYTES>, item: &[u8]) -> bool
+    ensures { Adds (fitting row.old.items (item_bytes item.now)) result row.old.items
+        row.new.items }
+{
+    if has_mark(item) {
+        return add_number(row, &item[2..]);
+    }
+    if item.len() == 8 {
+        return add_number(row, item);
+    }
+    add_bytes(row, item)
+}
+
+/// Adds the bytes of a number, the lowest first.
+fn add_number(row: &mut ArrayVec<u8, ROW_BYTES>, digits: &[u8]) -> bool
+    ensures { Adds (fitting row.old.items (number_bytes digits.now)) result row.old.items
+        row.new.items }
+{
+    match digits.len() {
+        2 => add_found(row, pair_of(digits)),
+        8 => add_found(row, word_of(digits)),
+        _ => add_other(row, digits, true),
+    }
+}
+
+/// Adds the bytes of digits, two for each.
+fn add_bytes(row: &mut ArrayVec<u8, ROW_BYTES>, digits: &[u8]) -> bool
+    ensures { Adds (fitting row.old.items (bytes_of digits.now)) result row.old.items
+        row.new.items }
+{
+    match digits.len() {
+        0 => add_found(row, Some([])),
+        2 => add_found(row, pair_of(digits)),
+        4 => add_found(row, pairs_of(digits)),
+        _ => add_other(row, digits, false),
+    }
+}
+
+/// Adds bytes, if they were found and have room.
+fn add_found<const N: usize>(row: &mut ArrayVec<u8, ROW_BYTES>, found: Option<[u8; N]>) -> bool
+    ensures { Adds (fitting row.old.items found.entry) result row.old.items row.new.items }
+{
+    match found {
+        Some(bytes) => row.try_extend_from_slice(&bytes).is_ok(),
+        None => false,
+    }
+}
+
+/// The byte of two digits.
+fn pair_of(digits: &[u8]) -> Option<[u8; 1]>
+    requires two { length digits.now ≡ 2 }
+    ensures bytes { result ≡ bytes_of digits.now }
+    ensures number { result ≡ number_bytes digits.now }
+{
+    match pair_byte(digits[0], digits[1]) {
+        Some(byte) => Some([byte]),
+        None => None,
+    }
+}
+
+/// The bytes of four digits.
+fn pairs_of(digits: &[u8]) -> Option<[u8; 2]>
+    requires four { length digits.now ≡ 4 }
+    ensures { result ≡ bytes_of digits.now }
+{
+    let first = pair_byte(digits[0], digits[1])?;
+    let second = pair_byte(digits[2], digits[3])?;
+    Some([first, second])
+}
+
+/// The bytes of a word of eight digits, the lowest first.
+fn word_of(digits: &[u8]) -> Option<[u8; 4]>
+    requires eight { length digits.now ≡ 8 }
+    ensures { result ≡ number_bytes digits.now }
+{
+    let highest = pair_byte(digits[0], digits[1])?;
+    let higher = pair_byte(digits[2], digits[3])?;
+    let lower = pair_byte(digits[4], digits[5])?;
+    let lowest = pair_byte(digits[6], digits[7])?;
+    Some([lowest, lower, higher, highest])
+}
+
+/// Adds the bytes of digits of any number, the lowest first if they are a number's.
+fn add_other(row: &mut ArrayVec<u8, ROW_BYTES>, digits: &[u8], is_number: bool) -> bool
+    ensures bytes { is_number ≡ false →
+        Adds (fitting row.old.items (bytes_of digits.now)) result row.old.items row.new.items }
+    ensures number { is_number ≡ true →
+        Adds (fitting row.old.items (number_bytes digits.now)) result row.old.items
+        row.new.items }
+{
+    if digits.len() > 2 * ROW_BYTES {
+        return false;
+    }
+    let mut buffer = [0; ROW_BYTES];
+    let found = &mut buffer[..digits.len() / 2];
+    if !decode_digits(digits, found) {
+        return false;
+    }
+    if is_number {
+        found.reverse();
+    }
+    row.try_extend_from_slice(found).is_ok()
 }
 
 /// The bytes of items, in order.
@@ -76,7 +187,16 @@ fn decode_digits(digits: &[u8], bytes: &mut [u8]) -> bool
     requires room { length bytes.old ≡ length digits.now / 2 }
     ensures { Adds (bytes_of digits.now) result [] bytes.new }
 {
-    hex::decode_to_slice(digits, bytes).is_ok()
+    if digits.len() % 2 != 0 {
+        return false;
+    }
+    'bytes: for i in 0..bytes.len() {
+        let Some(byte) = pair_byte(digits[2 * i], digits[2 * i + 1]) else {
+            return false;
+        };
+        bytes[i] = byte;
+    }
+    true
 }
 
 /// Whether an item is a number, of which the lowest byte comes first: it has its mark, or eight digits.
@@ -129,9 +249,10 @@ fn number_bytes(alloc: Global, digits: &[u8]) -> Result<Option<Vec<u8>>, AllocEr
 pub(crate) fn bytes_of(alloc: Global, digits: &[u8]) -> Result<Option<Vec<u8>>, AllocError>
     ensures { IfOk result (λ found. option_map (λ bytes. bytes.items) found ≡ bytes_of digits.now) }
 {
-    match hex::decode(alloc, digits) {
-        Ok(bytes) => Ok(Some(bytes)),
-        Err(FromHexError::OutOfMemory) => Err(AllocError),
-        Err(_) => Ok(None),
+    let mut bytes = vec![in alloc; 0u8; digits.len() / 2]?;
+    if decode_digits(digits, bytes.as_mut_slice()) {
+        Ok(Some(bytes))
+    } else {
+        Ok(None)
     }
 }

@@ -1,9 +1,9 @@
 //! The area that holds a message.
-ghost use Rattle.std.specs.Prelude.{◌≡◌, IfOk, true};
+ghost use Rattle.std.specs.Prelude.{◌≡◌, IfOk, true, [], ◌∷◌};
 ghost use Rattle.std.specs.Option.{option_map};
 ghost use Rattle.scmi_decode.specs.MessageArea.{fits_area, message_area, message_start, padded};
+ghost use Rattle.scmi_decode.specs.OpenDump.{copies};
 
-use crate::open_dump::copies;
 use scmi_codec::{AREA_BYTES, PAYLOAD_WORDS};
 use std::alloc::{AllocError, Global};
 
@@ -38,9 +38,9 @@ fn message_start(alloc: Global, status: u32, message: &[u8]) -> Result<Vec<u8>, 
     requires fits { fits_area message.now ≡ true }
     ensures { IfOk result (λ start. start.items ≡ message_start status message.now) }
 {
-    let mut start = copies(alloc, 4, &[0])?;
+    let mut start = zeros(alloc, 4)?;
     start.extend_from_slice(&status.to_le_bytes())?;
-    let between = copies(alloc, 12, &[0])?;
+    let between = zeros(alloc, 12)?;
     start.extend_from_slice(between.as_slice())?;
     start.extend_from_slice(&(message.len() as u32).to_le_bytes())?;
     start.extend_from_slice(message)?;
@@ -51,8 +51,15 @@ fn message_start(alloc: Global, status: u32, message: &[u8]) -> Result<Vec<u8>, 
 fn padded(alloc: Global, mut bytes: Vec<u8>) -> Result<Vec<u8>, AllocError>
     ensures { IfOk result (λ all. all.items ≡ padded bytes.items) }
 {
-    let count = AREA_BYTES.saturating_sub(bytes.len()) as u64;
-    let zeros = copies(alloc, count, &[0])?;
+    let zeros = zeros(alloc, AREA_BYTES.saturating_sub(bytes.len()))?;
     bytes.extend_from_slice(zeros.as_slice())?;
     Ok(bytes)
+}
+
+/// Zeros, as many as the number.
+fn zeros(alloc: Global, count: usize) -> Result<Vec<u8>, AllocError>
+    ensures { IfOk result (λ all. all.items ≡ copies count (0 ∷ [])) }
+{
+    let zeros = vec![in alloc; 0u8; count]?;
+    Ok(zeros)
 }

@@ -1,16 +1,41 @@
 //! The numbers of addresses.
 ghost use Rattle.std.specs.Prelude.{◌≡◌, length};
+ghost use Rattle.scmi_decode.specs.Dump.{pair_byte};
 ghost use Rattle.scmi_decode.specs.Row.{digit_value, number_from};
+
+/// The value of each byte as a hexadecimal digit of either case, 16 for what is none. It is a table
+/// because each digit of a dump is looked up.
+const DIGIT_VALUES: [u8; 256] = [
+    16, 16, 16, 16, 16, 16, 16, 16, 16, 16, 16, 16, 16, 16, 16, 16, 16, 16, 16, 16, 16, 16, 16, 16,
+    16, 16, 16, 16, 16, 16, 16, 16, 16, 16, 16, 16, 16, 16, 16, 16, 16, 16, 16, 16, 16, 16, 16, 16,
+    0, 1, 2, 3, 4, 5, 6, 7, 8, 9, 16, 16, 16, 16, 16, 16, 16, 10, 11, 12, 13, 14, 15, 16, 16, 16,
+    16, 16, 16, 16, 16, 16, 16, 16, 16, 16, 16, 16, 16, 16, 16, 16, 16, 16, 16, 16, 16, 16, 16, 10,
+    11, 12, 13, 14, 15, 16, 16, 16, 16, 16, 16, 16, 16, 16, 16, 16, 16, 16, 16, 16, 16, 16, 16, 16,
+    16, 16, 16, 16, 16, 16, 16, 16, 16, 16, 16, 16, 16, 16, 16, 16, 16, 16, 16, 16, 16, 16, 16, 16,
+    16, 16, 16, 16, 16, 16, 16, 16, 16, 16, 16, 16, 16, 16, 16, 16, 16, 16, 16, 16, 16, 16, 16, 16,
+    16, 16, 16, 16, 16, 16, 16, 16, 16, 16, 16, 16, 16, 16, 16, 16, 16, 16, 16, 16, 16, 16, 16, 16,
+    16, 16, 16, 16, 16, 16, 16, 16, 16, 16, 16, 16, 16, 16, 16, 16, 16, 16, 16, 16, 16, 16, 16, 16,
+    16, 16, 16, 16, 16, 16, 16, 16, 16, 16, 16, 16, 16, 16, 16, 16, 16, 16, 16, 16, 16, 16, 16, 16,
+    16, 16, 16, 16, 16, 16, 16, 16, 16, 16, 16, 16, 16, 16,
+];
 
 /// The value of a digit of either case, 16 for what is no hexadecimal digit.
 fn digit_value(byte: u8) -> u64
     ensures { result ≡ digit_value byte }
 {
-    match byte {
-        b'0'..=b'9' => u64::from(byte - b'0'),
-        b'a'..=b'f' => u64::from(byte - b'a') + 10,
-        b'A'..=b'F' => u64::from(byte - b'A') + 10,
-        _ => 16,
+    u64::from(DIGIT_VALUES[usize::from(byte)])
+}
+
+/// The byte of two hexadecimal digits.
+pub(crate) fn pair_byte(high: u8, low: u8) -> Option<u8>
+    ensures { result ≡ pair_byte high low }
+{
+    let high = digit_value(high);
+    let low = digit_value(low);
+    if high < 16 && low < 16 {
+        Some((high * 16 + low) as u8)
+    } else {
+        None
     }
 }
 

@@ -1,13 +1,13 @@
 //! A dump over several lines.
 ghost use Rattle.std.specs.Prelude.{◌≡◌, ◌+◌, ◌%◌, ◌^◌, length, OnOk, IfOk};
 ghost use Rattle.std.specs.Option.{is_some};
-ghost use Rattle.scmi_decode.specs.OpenDump.{no_dump, is_open, is_area, same_form, reaches, is_even, goes_on, copies, rows_before, last_row, filled, extended, added, begun, closed, beside, repeated, has_one_item, is_star, end_at};
+ghost use Rattle.scmi_decode.specs.OpenDump.{no_dump, is_open, is_area, same_form, reaches, is_even, goes_on, copies, rows_before, last_row, filled, extended, added, begun, closed, beside, repeated, has_one_item, is_star, line_is_star, end_at};
 
 use crate::form::Form;
 use crate::reading::Reading;
 use crate::readings::{Readings, Unsaid};
 use crate::row::{Row, address_of};
-use crate::scan::{after_gap, after_item, first_item};
+use crate::scan::{after_gap, after_item, first_item, item_length};
 use scmi_codec::{AREA_BYTES, is_channel_size};
 use std::alloc::{AllocError, Global};
 use std::marker::Model;
@@ -144,6 +144,9 @@ impl OpenDump {
     pub(crate) fn fill(&mut self, alloc: Global, address: u64) -> Result<(), AllocError>
         ensures { OnOk result (self.new ≡ filled self.old address) }
     {
+        if !self.repeats {
+            return Ok(());
+        }
         let count = self.rows_before(address);
         let row = copies(alloc, count, self.last_row())?;
         self.bytes.extend_from_slice(row.as_slice())?;
@@ -226,12 +229,7 @@ impl OpenDump {
     pub(crate) fn is_star(&self, line: &[u8]) -> bool
         ensures { result ≡ is_star self.now line.now }
     {
-        let item = first_item(line);
-        self.is_open()
-            && !same_form(self.form, Form::Plain)
-            && item.len() == 1
-            && item[0] == b'*'
-            && has_one_item(line)
+        self.is_open() && !same_form(self.form, Form::Plain) && is_star(line)
     }
 
     /// Repeats the last row up to the next address.
@@ -285,6 +283,16 @@ fn same_form(first: Form, second: Form) -> bool
     }
 }
 
+/// Whether a line is `*`.
+fn is_star(line: &[u8]) -> bool
+    ensures { result ≡ line_is_star line.now }
+{
+    match after_gap(line) {
+        [b'*', rest @ ..] => item_length(rest) == 0 && after_gap(rest).is_empty(),
+        _ => false,
+    }
+}
+
 /// Whether a line has one item.
 fn has_one_item(line: &[u8]) -> bool
     ensures { result ≡ has_one_item line.now }
@@ -293,7 +301,7 @@ fn has_one_item(line: &[u8]) -> bool
 }
 
 /// Copies of bytes, as many as the number.
-pub(crate) fn copies(alloc: Global, count: u64, row: &[u8]) -> Result<Vec<u8>, AllocError>
+fn copies(alloc: Global, count: u64, row: &[u8]) -> Result<Vec<u8>, AllocError>
     ensures { IfOk result (λ all. all.items ≡ copies count row.now) }
 {
     let mut all = Vec::new(alloc);

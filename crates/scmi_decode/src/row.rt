@@ -6,7 +6,7 @@ use crate::dump::{has_mark, line_bytes};
 use crate::form::Form;
 use crate::number::number_from;
 use crate::parts::parts_of;
-use std::alloc::{AllocError, Global};
+use arrayvec::ArrayVec;
 use std::marker::Model;
 
 /// The most bytes of a row; a longer line is a dump of its own (own).
@@ -20,7 +20,7 @@ pub const ROW_LINE_BYTES: usize = 512;
 pub(crate) struct Row {
     form: Form,
     address: u64,
-    bytes: Vec<u8>,
+    bytes: ArrayVec<u8, ROW_BYTES>,
 }
 
 impl Model for Row {
@@ -51,43 +51,33 @@ impl Row {
     }
 }
 
-/// The row that a line is, if it is one: it has bytes, and not too many (own). The only error is out
-/// of memory.
+/// The row that a line is, if it is one: it has bytes, and not too many (own).
 #[tactic(auto, unfolding(crate::specs::Row::row_of))]
-pub(crate) fn row_of(alloc: Global, line: &[u8]) -> Result<Option<Row>, AllocError>
-    ensures { IfOk result (λ found. found ≡ row_of line.now) }
+pub(crate) fn row_of(line: &[u8]) -> Option<Row>
+    ensures { result ≡ row_of line.now }
 {
     if line.len() > ROW_LINE_BYTES {
-        return Ok(None);
+        return None;
     }
     let parts = parts_of(line);
-    parts_row(alloc, parts.form, parts.digits, parts.bytes)
+    parts_row(parts.form, parts.digits, parts.bytes)
 }
 
 /// The row of a form, the digits of an address, and the text that has its bytes.
 #[tactic(auto, unfolding(crate::specs::Row::parts_row))]
-fn parts_row(
-    alloc: Global,
-    form: Form,
-    digits: &[u8],
-    bytes: &[u8],
-) -> Result<Option<Row>, AllocError>
-    ensures { IfOk result (λ found. found ≡ parts_row form digits.now bytes.now) }
+fn parts_row(form: Form, digits: &[u8], bytes: &[u8]) -> Option<Row>
+    ensures { result ≡ parts_row form digits.now bytes.now }
 {
-    let Some(address) = address_of(form, digits) else {
-        return Ok(None);
-    };
-    match line_bytes(alloc, bytes)? {
-        Some(bytes) => Ok(row_with(form, address, bytes)),
-        None => Ok(None),
-    }
+    let address = address_of(form, digits)?;
+    let bytes = line_bytes(bytes)?;
+    row_with(form, address, bytes)
 }
 
 /// A row of bytes, if it has some and not too many.
-fn row_with(form: Form, address: u64, bytes: Vec<u8>) -> Option<Row>
+fn row_with(form: Form, address: u64, bytes: ArrayVec<u8, ROW_BYTES>) -> Option<Row>
     ensures { result ≡ row_with form address bytes.items }
 {
-    if bytes.is_empty() || bytes.len() > ROW_BYTES {
+    if bytes.is_empty() {
         return None;
     }
     Some(Row {

@@ -20,7 +20,7 @@ fn gap_length(line: &[u8]) -> usize
 }
 
 /// How many bytes come before the first gap.
-fn item_length(line: &[u8]) -> usize
+pub(crate) fn item_length(line: &[u8]) -> usize
     ensures value { result ≡ item_length line.now }
     ensures bound { result ≤ length line.now }
 {

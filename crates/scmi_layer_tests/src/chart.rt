@@ -137,6 +137,7 @@ fn add_column(alloc: Global, columns: &mut Vec<Column>) -> Result<(), AllocError
         kind: Kind::Domain,
         name,
         spans,
+        drops: Vec::new(alloc),
     })?;
     Ok(())
 }

@@ -14,7 +14,7 @@ use scmi_plan::{Plan, RawPlan};
 use std::alloc::Global;
 use std::io::Write;
 
-/// Answers an input line by line, on a board of which these are two plans. The answer to a line is
+/// Answers an input line by line, on a board of which this is the plan. The answer to a line is
 /// written, and flushed, before the next line is read. At the end the length of the history is
 /// written, and the listener is given how many notifications were dropped.
 ///
@@ -23,19 +23,19 @@ use std::io::Write;
 pub fn run_live<C: Channel, R: CountedRead + Drop, W: Write, L: Listener>(
     alloc: Global,
     board: &RawPlan,
-    plans: (Plan, Plan),
+    plan: Plan,
     input: &mut Input<R>,
     writer: &mut W,
     listener: &mut L,
 ) -> Result<(), LiveError>
-    requires { plans.0 ≡ asked_board board.now }
+    requires { plan ≡ asked_board board.now }
     ensures text { OnOk result (IfSome input.old.left (λ bytes.
         IsTextOfLive C.FULL (ShowsClose C.caller_view C.close_shows) (asked_board board.now) bytes
         (W.contents writer.old) (W.contents writer.new))) }
     ensures stops { StopsWith LiveError.Read result input.old.since_failure
         input.new.since_failure }
 {
-    let mut live = Live::<C>::open(alloc, board, plans.0)?;
+    let mut live = Live::<C>::open(alloc, board, plan)?;
     let mut line = Vec::new(alloc);
     'lines: for number in 1..usize::MAX {
         let ended = input.read_line(&mut line)?;
