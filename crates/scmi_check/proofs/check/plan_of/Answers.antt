@@ -9,13 +9,13 @@ use Rattle.scmi_check.specs.Check.{whole}
 use Rattle.scmi_check.proofs.Faults.{rule_fails, whole-same}
 use Rattle.scmi_check.proofs.check.plan_of.Goals as goal
 
-pub returns-in_err-check-clause-faults : goal.returns-in_err-check-clause-faults
-returns-in_err-check-clause-faults c =
+pub returns-in_err-plan-clause-faults : goal.returns-in_err-plan-clause-faults
+returns-in_err-plan-clause-faults c =
     let text = c.args.text.now in
     let same = whole-same c.of_text.result text c.of_text.ensures.rest c.of_text.ensures.number in
     let found : described_left (whole text) ≡ Ok (described c.in_ok-said.said, lines_left c.read_board_with_channels.new.lines) = ap described_left (sym same) ∙ c.in_ok-said.ensures.board in
-    let p = err_from_is_err_and c.from_residual-in_err-check.result c.from_residual-in_err-check.ensures.1 in
-    rw (p.1, p.2) (rule_fails text (described c.in_ok-said.said) (lines_left c.read_board_with_channels.new.lines) c.in_err-check.field-0.0 found c.in_err-check.ensures.fault)
+    let p = err_from_is_err_and c.from_residual-in_err-plan.result c.from_residual-in_err-plan.ensures.1 in
+    rw (p.1, p.2) (rule_fails text (described c.in_ok-said.said) (lines_left c.read_board_with_channels.new.lines) c.in_err-plan.field-0.0 found c.in_err-plan.ensures.fault)
 
 pub set_channels-requires : goal.set_channels-requires
 set_channels-requires c = record {
@@ -32,5 +32,6 @@ returns-clause-board c =
       behind = lines_left c.read_board_with_channels.new.lines;
       said_is = ap described_left (sym same) ∙ c.in_ok-said.ensures.board;
       valid = c.in_ok-plan.ensures.no_fault;
-      board_is = c.set_channels.ensures.channels ∙ ap (λ b. with_channels b (described c.in_ok-said.said).1) c.in_ok-plan.ensures.ok;
+      board_is = c.set_channels.ensures.channels ∙ ap (with_channels c.in_ok-plan.plan) c.deref.ensures.value
+          ∙ ap (λ (b : Board). with_channels b (described c.in_ok-said.said).1) c.in_ok-plan.ensures.ok;
     }
