@@ -3,7 +3,7 @@ use Rattle.std.specs.Prelude.{ℕ, List, Option}
 use Rattle.std.specs.Io.KnownBytes.{Appends}
 use Rattle.scmi_modes.specs.Program.{AnswersOnce, RunsHardware, RunsSteps, RunsThreads}
 use Rattle.scmi_decode.specs.Decoded.{IsDecoded}
-use Rattle.scmi_draw.specs.Run.{IsPicture}
+use Rattle.scmi_draw.specs.Picture.{IsPicture}
 use Rattle.scmi_table.specs.Run.{WritesTable}
 use Rattle.scmi.specs.Texts.{text_of}
 use Rattle.scmi.specs.declared.request.Request.{Request}

@@ -36,10 +36,11 @@ lines of ftrace and of a session that show a message.",
         operands: Operands::Input,
         usage: "scmi chart [FILE]",
         summary: "draws a session as a picture (SVG)",
-        about: "Draws a session of one thread as a sequence chart.",
+        about: "Draws a session as a sequence chart.",
         details: "\
-The input is that of scmi run in the modes steps words, steps rings, hardware words and
-hardware rings, at most 2,000 steps.
+The input is that of scmi run in the modes steps words, steps rings, hardware words,
+hardware rings, threads words and threads rings, at most 2,000 steps. A run of agents in
+threads is drawn in the order in which the platform executed it.
 The output is an SVG. docs/CHART.md has the signs.",
         example: "scmi chart examples/two_agents.in > run.svg",
     },

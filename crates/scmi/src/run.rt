@@ -40,7 +40,7 @@ pub fn run_request<T: Threads + Wait + Sync, R: Read, W: Write, N: Readings>(
             writer,
         ),
         Request::Do(Task::Decode) => run_decode(alloc, reader, writer, readings),
-        Request::Do(Task::Chart) => run_draw(alloc, reader, writer),
+        Request::Do(Task::Chart) => run_draw(rt, alloc, &OpenGate, reader, writer),
         Request::Do(Task::Table) => run_table(alloc, reader, writer),
         // Their boards are read from files.
         Request::Do(Task::Session | Task::Check) => WRONG_ARGUMENT,

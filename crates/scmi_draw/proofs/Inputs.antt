@@ -4,20 +4,23 @@ use Rattle.std.proofs.lemmas.List.{length-take, take_all}
 use Rattle.scmi_board.specs.Lines.{LinesView}
 use Rattle.scmi_input.specs.Lines.{after_line, first_line}
 use Rattle.scmi_input.specs.declared.input.TheConstants.{KEPT_BYTES}
-use Rattle.scmi_draw.specs.Mode.{line_of}
+use Rattle.scmi_draw.specs.AnyMode.{any_line_of}
+use Rattle.scmi_draw.specs.declared.any_mode.AnyMode.{AnyMode}
+use Rattle.scmi_draw.specs.declared.any_mode.AnyMode.TheVariants.{Script, Threads}
 use Rattle.scmi_draw.specs.declared.kind.Kind.TheVariants.{Rings, Words}
-use Rattle.scmi_draw.specs.declared.mode.Mode.{Mode}
 use Rattle.scmi_draw.specs.declared.mode.Mode.TheVariants.{Steps, Hardware}
 
 -- the lines of an input that no one has read yet
 pub lines_same : (lines : LinesView) (bytes : List ℕ) → lines.rest ≡ bytes → lines.number ≡ 1 → lines ≡ record { rest = bytes; number = 1 }
 lines_same lines bytes rest first = ap (λ (r : List ℕ). record { rest = r; number = lines.number }) rest ∙ ap (λ (n : ℕ). record { rest = bytes; number = n }) first
 
-short : (m : Mode) → length (line_of m) < KEPT_BYTES
-short (Steps Rings) = omega arith
-short (Steps Words) = omega arith
-short (Hardware Rings) = omega arith
-short (Hardware Words) = omega arith
+short : (m : AnyMode) → length (any_line_of m) < KEPT_BYTES
+short (Script (Steps Rings)) = omega arith
+short (Script (Steps Words)) = omega arith
+short (Script (Hardware Rings)) = omega arith
+short (Script (Hardware Words)) = omega arith
+short (Threads Rings) = omega arith
+short (Threads Words) = omega arith
 
 -- a line whose first bytes are fewer than were to be kept is no longer
 whole : (line kept : List ℕ) → kept ≡ take KEPT_BYTES line → length kept < KEPT_BYTES → kept ≡ line
@@ -25,13 +28,13 @@ whole line kept is few =
     let all : length line ≤ KEPT_BYTES = omega (arith, few, ap length is ∙ length-take KEPT_BYTES line) in
     is ∙ take_all KEPT_BYTES line all
 
-named : (line kept : List ℕ) (m : Mode) → kept ≡ take KEPT_BYTES line → kept ≡ line_of m → line ≡ line_of m
+named : (line kept : List ℕ) (m : AnyMode) → kept ≡ take KEPT_BYTES line → kept ≡ any_line_of m → line ≡ any_line_of m
 named line kept m is mode =
     let few : length kept < KEPT_BYTES = omega (arith, short m, ap length mode) in
     sym (whole line kept is few) ∙ mode
 
 -- the first line of an input, if it is known, is that of the mode that its first bytes name
-pub named_line : (known : Option (List ℕ)) (kept : List ℕ) (m : Mode) → IfSome known (λ input. kept ≡ take KEPT_BYTES (first_line input)) → kept ≡ line_of m → IfSome known (λ input. first_line input ≡ line_of m)
+pub named_line : (known : Option (List ℕ)) (kept : List ℕ) (m : AnyMode) → IfSome known (λ input. kept ≡ take KEPT_BYTES (first_line input)) → kept ≡ any_line_of m → IfSome known (λ input. first_line input ≡ any_line_of m)
 named_line None kept m is mode = tt
 named_line (Some input) kept m is mode = named (first_line input) kept m is mode
 

@@ -1,3 +1,5 @@
+mod Histories
 mod Inputs
+mod Scripts
 mod Signs
 pub mod SoFar

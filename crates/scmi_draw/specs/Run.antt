@@ -1,7 +1,6 @@
 -- The chart of a run.
-use Rattle.std.specs.Prelude.{◌≡◌, ◌≤◌, ℕ, Bool, true, false, List, Option, IfSome, Result, Ok, length, map}
+use Rattle.std.specs.Prelude.{◌≡◌, ◌≤◌, ℕ, Bool, true, false, List, Result, Ok, length, map}
 use Rattle.std.specs.List.{All}
-use Rattle.std.specs.Io.KnownBytes.{Appends}
 use Rattle.scmi_link.specs.View.{CallerView}
 use Rattle.scmi_link.specs.RingCaller.{ring_caller_view, ring_close_shows}
 use Rattle.scmi_link.specs.declared.closing.Closing.{Closing}
@@ -10,7 +9,6 @@ use Rattle.scmi_words.specs.WordCaller.{word_caller_view, CloseShows}
 use Rattle.scmi_plan.specs.Board.{Board}
 use Rattle.scmi_board.specs.BoardText.{board_left}
 use Rattle.scmi_board.specs.Lines.{Line}
-use Rattle.scmi_input.specs.Lines.{after_line, first_line}
 use Rattle.scmi_ends.specs.Shut.{ShowsClose}
 use Rattle.scmi_text.specs.Step.{IsWithoutHardware}
 use Rattle.scmi_text.specs.StepText.{hardware_steps_of_lines, steps_of_lines}
@@ -18,11 +16,10 @@ use Rattle.scmi_text.specs.declared.step.Step.{Step}
 use Rattle.scmi_text.specs.declared.step_line.StepLine.{StepLine}
 use Rattle.scmi_session.specs.SessionView.{SessionView}
 use Rattle.scmi_session.specs.Run.{Runs}
-use Rattle.scmi_svg.specs.Chart.{svg_text}
 use Rattle.scmi_svg.specs.declared.chart.Chart.{Chart}
 use Rattle.scmi_chart.specs.Signs.{sign_of}
 use Rattle.scmi_chart.specs.Shown.{run_signs, none_later, head_of, heads_from}
-use Rattle.scmi_draw.specs.Mode.{kind_of, line_of}
+use Rattle.scmi_draw.specs.Mode.{kind_of}
 use Rattle.scmi_draw.specs.declared.kind.Kind.{Kind}
 use Rattle.scmi_draw.specs.declared.kind.Kind.TheVariants.{Rings, Words}
 use Rattle.scmi_draw.specs.declared.mode.Mode.{Mode}
@@ -70,13 +67,3 @@ pub record ShowsScript (mode : Mode) (input : List ℕ) (chart : Chart) : Type 0
   pub few : length steps ≤ 2000
   pub allowed : All (MayHave mode) steps
   pub shown : ShowsRun (may_be_full (kind_of mode)) (shows_close (kind_of mode)) board steps chart
-
--- what is written is the picture of the run of an input, which is this one if it is known
-pub record IsPicture (known old new : Option (List ℕ)) : Type 0 where
-  pub mode : Mode
-  pub rest : List ℕ
-  pub chart : Chart
-  pub named : IfSome known (λ input. first_line input ≡ line_of mode)
-  pub behind : IfSome known (λ input. after_line input ≡ rest)
-  pub shown : ShowsScript mode rest chart
-  pub text : Appends old new (svg_text chart)

@@ -12,11 +12,11 @@ use thiserror::Error;
 /// Why a run is not drawn. Its text is what follows the word `fault`, as of a run that is not drawn.
 #[derive(Clone, Copy, PartialEq, Eq, Error)]
 pub enum DrawError {
-    /// The first line names no mode of one thread.
+    /// The first line names no mode that is drawn.
     #[error("mode")]
     Mode,
     /// The first line, or what follows it, is longer than `INPUT_BYTES`, or the script has more than
-    /// `STEPS` lines.
+    /// `STEPS` lines, or the run of agents in threads more than `STEPS` steps.
     #[error("size")]
     Size,
     /// A read failed.

@@ -1,18 +1,25 @@
 //! A script in, the sequence chart of its run out, as an SVG.
 //!
-//! The main type is `Mode`, which steps a script may have and what its channels are made of. The
-//! main theorem is the contract of `run_draw`: if the status is 0, what was written is the picture
-//! of a chart whose marks are those of the lines of the input's steps on its board, in order.
+//! The main type is `AnyMode`: a script on one thread, or a script for each agent, each in a thread
+//! of its own. The main theorem is the contract of `run_draw`: if the status is 0, what was written
+//! is the picture of a chart whose marks are those of the lines of the input's steps on its board,
+//! in order; for agents in threads, of the steps of the one history that their run left.
 #![tactic(auto)]
 
+mod any_mode;
 mod draw;
 mod draw_error;
+mod history;
 mod kind;
 mod mode;
 mod run;
+mod step_text;
+mod threads;
 
+pub use any_mode::AnyMode;
 pub use draw::{draw_input, run_draw};
 pub use draw_error::DrawError;
 pub use kind::Kind;
 pub use mode::Mode;
 pub use run::{STEPS, chart_of};
+pub use threads::chart_of_threads;

@@ -114,7 +114,6 @@ fn step_through<C: Channel>(
         record_dropped(alloc, &before, session.core(), &mut recorder)?;
     }
     let events = session.retire().len();
-    let title = format!(in alloc; "{} {}", board.vendor, board.sub_vendor)?;
     let subtitle = format!(in alloc;
         "{}, {} step{}, a history of {events} event{}",
         mode.line(),
@@ -122,11 +121,17 @@ fn step_through<C: Channel>(
         plural(steps.len()),
         plural(events)
     )?;
-    Ok(recorder.finish(title.into_bytes(), subtitle.into_bytes())?)
+    Ok(recorder.finish(title_of(alloc, board)?, subtitle.into_bytes())?)
+}
+
+/// The title of a chart of a run on this board.
+pub(crate) fn title_of(alloc: Global, board: &RawPlan) -> Result<Vec<u8>, AllocError> {
+    let title = format!(in alloc; "{} {}", board.vendor, board.sub_vendor)?;
+    Ok(title.into_bytes())
 }
 
 /// Records the notifications that a platform has dropped since.
-fn record_dropped(
+pub(crate) fn record_dropped(
     alloc: Global,
     before: &Standing,
     core: &Core,
@@ -153,6 +158,6 @@ fn next_text<'a>(lines: &mut Lines<'a>) -> TextLine<'a> {
 }
 
 /// What follows a noun of which there are this many.
-fn plural(count: usize) -> &'static str {
+pub(crate) fn plural(count: usize) -> &'static str {
     if count == 1 { "" } else { "s" }
 }

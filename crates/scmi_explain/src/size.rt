@@ -12,6 +12,9 @@ const DRAWN_STEPS: usize = 2_000;
 /// What is too long about an input, of which the first bytes are given.
 pub(crate) fn size_cause(expected: Expected, input: &[u8]) -> What<'static> {
     if expected == Expected::Drawing {
+        if first_line(input).starts_with(b"threads ") && input.len() < INPUT_BYTES {
+            return What::LongRun;
+        }
         let steps = steps_of(behind_first(input));
         if steps > DRAWN_STEPS {
             return What::ManySteps(steps);

@@ -50,6 +50,8 @@ pub enum What<'a> {
     Long,
     /// The script has this many steps, more than a chart may have.
     ManySteps(usize),
+    /// A run of agents in threads has more steps than a chart may have.
+    LongRun,
     /// A read failed.
     NotRead,
     /// A script met a limit.
@@ -65,7 +67,7 @@ impl fmt::Display for What<'_> {
         match self {
             What::NoMode(line, Expected::Drawing) => write!(
                 f,
-                "{} is no mode of a chart, which is drawn of a run on one thread, as steps words",
+                "{} is no mode of a chart; a chart is of steps, hardware or threads, as steps words",
                 Quoted(line)
             ),
             What::NoMode(line, expected) => {
@@ -126,7 +128,9 @@ fn fmt_line<W: fmt::Write>(what: &What<'_>, f: &mut fmt::Formatter<W>) -> fmt::R
 
 fn write_wanted<W: fmt::Write>(f: &mut fmt::Formatter<W>, expected: Expected) -> fmt::Result {
     match expected {
-        Expected::Drawing => f.write_str("a chart is drawn of a run on one thread, as steps words"),
+        Expected::Drawing => f.write_str(
+            "a chart is of steps, hardware or threads, as steps words",
+        ),
         Expected::Dumps => f.write_str("dumps of areas are wanted, as xxd prints them"),
         Expected::Session => {
             f.write_str("line 1 is one of")?;
@@ -153,6 +157,7 @@ impl What<'_> {
             What::LongLine => "the first line is longer than 1,048,576 bytes",
             What::LongInput => "the input is longer than 1,048,576 bytes",
             What::Long => "the input behind line 1 is longer than 1,048,576 bytes",
+            What::LongRun => "a chart has at most 2,000 steps, and this run has more",
             What::NotRead => "the input could not be read",
             What::Limit => {
                 "a script met a limit: its reply, message or state did not come in as many turns as docs/SCRIPTS.md says"

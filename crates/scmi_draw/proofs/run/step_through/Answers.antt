@@ -1,4 +1,5 @@
-use Rattle.std.proofs.Common.{◌<◌, ◌≤◌, ◌∙◌, length, arith}
+use Rattle.std.proofs.Common.{◌<◌, ◌≤◌, ◌∙◌, length, arith, ap}
+use Rattle.scmi_chart.specs.Shown.{Shown, heads_from}
 use Rattle.scmi_draw.proofs.SoFar.{all_steps, no_step, step_more}
 use Rattle.scmi_draw.proofs.run.step_through.Goals as goal
 
@@ -18,4 +19,6 @@ steps-preserved g c =
 pub returns : goal.returns
 returns g c =
     let all : length c.args.steps.now ≤ c.steps.i = omega (arith, c.steps-test.false, c.len-i-end.ensures) in
-    all_steps _ _ _ _ c.steps.i _ _ _ all c.steps.invariant.so_far c.in_ok-finish.ensures.marks c.in_ok-finish.ensures.lifelines
+    all_steps _ _ _ _ c.steps.i _ _ _ all c.steps.invariant.so_far
+    (c.in_ok-finish.ensures.marks ∙ ap (λ (r : Shown). r.signs) c.recorder-2.view_is)
+    (c.in_ok-finish.ensures.lifelines ∙ ap (λ (r : Shown). heads_from 1 r.board.agents) c.recorder-2.view_is)

@@ -1,0 +1,17 @@
+-- The modes of what is drawn, and their texts.
+use Rattle.std.specs.Prelude.{ℕ, List, codes}
+use Rattle.scmi_draw.specs.Mode.{line_of}
+use Rattle.scmi_draw.specs.declared.any_mode.AnyMode.{AnyMode}
+use Rattle.scmi_draw.specs.declared.any_mode.AnyMode.TheVariants.{Script, Threads}
+use Rattle.scmi_draw.specs.declared.kind.Kind.{Kind}
+use Rattle.scmi_draw.specs.declared.kind.Kind.TheVariants.{Rings, Words}
+
+-- the text of a mode whose agents run in threads
+abbrev pub threads_line : Kind → List ℕ
+threads_line Rings = codes "threads rings"
+threads_line Words = codes "threads words"
+
+-- the text of any mode, which is the whole first line
+abbrev pub any_line_of : AnyMode → List ℕ
+any_line_of (Script mode) = line_of mode
+any_line_of (Threads kind) = threads_line kind

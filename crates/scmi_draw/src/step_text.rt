@@ -1,0 +1,78 @@
+//! A step as the line of a script.
+
+use scmi_codec::Header;
+use scmi_text::{AgentStep, Call, PlatformStep, Step};
+use std::fmt;
+
+/// A step, as the line of a script has it.
+#[derive(Clone, Copy)]
+pub(crate) struct StepText<'a> {
+    pub step: &'a Step,
+}
+
+impl fmt::Display for StepText<'_> {
+    fn fmt<W: fmt::Write>(&self, f: &mut fmt::Formatter<W>) -> fmt::Result {
+        match self.step {
+            Step::Agent { agent, step } => write_agent_step(f, *agent, step),
+            Step::Platform { agent, step } => write!(f, "{} {agent}", word_of(*step)),
+            Step::Do { agent, call } => write_call(f, "do", *agent, call),
+            Step::Advance => f.write_str("advance"),
+            Step::Fail { agent, call } => write_call(f, "fail", *agent, call),
+            Step::AdvanceFailed => f.write_str("advance failed"),
+        }
+    }
+}
+
+fn write_agent_step<W: fmt::Write>(
+    f: &mut fmt::Formatter<W>,
+    agent: u32,
+    step: &AgentStep,
+) -> fmt::Result {
+    match step {
+        AgentStep::Call(call) => write_call(f, "call", agent, call),
+        AgentStep::Raw(message) => {
+            let header: u32 = Header::pack(&message.header);
+            write!(f, "raw {agent} 0x{header:x}")?;
+            write_words(f, message.payload.as_slice())
+        }
+        AgentStep::Malformed { length, header } => {
+            write!(f, "bad {agent} {length} 0x{:x}", *header)
+        }
+        AgentStep::Collect => write!(f, "collect {agent}"),
+        AgentStep::P2a => write!(f, "p2a {agent}"),
+        AgentStep::Close => write!(f, "close {agent}"),
+    }
+}
+
+fn word_of(step: PlatformStep) -> &'static str {
+    match step {
+        PlatformStep::Serve => "serve",
+        PlatformStep::Flush => "flush",
+        PlatformStep::Shut => "shut",
+    }
+}
+
+fn write_call<W: fmt::Write>(
+    f: &mut fmt::Formatter<W>,
+    word: &str,
+    agent: u32,
+    call: &Call,
+) -> fmt::Result {
+    let protocol = call.protocol;
+    let message = call.message;
+    write!(f, "{word} {agent} 0x{protocol:x} 0x{message:x}")?;
+    write_words(f, call.payload.as_slice())
+}
+
+/// The payload words: digits as they are, other numbers in hexadecimal.
+fn write_words<W: fmt::Write>(f: &mut fmt::Formatter<W>, words: &[u32]) -> fmt::Result {
+    for word in words {
+        let word = *word;
+        if word < 10 {
+            write!(f, " {word}")?;
+        } else {
+            write!(f, " 0x{word:x}")?;
+        }
+    }
+    Ok(())
+}
