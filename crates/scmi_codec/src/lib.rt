@@ -46,7 +46,7 @@ pub use command::Command;
 pub use flag_word::single_flag;
 pub use frame::{Answer, Frame};
 pub use header::{DELAYED_RESPONSE, Header, NOTIFICATION, TOKENS};
-pub use listing::{is_listed, message_name, wanted_words};
+pub use listing::{is_listed, listed_row, message_name, rows_of, wanted_words};
 pub use message::Message;
 pub use messages::{BASE_MESSAGES, CLOCK_MESSAGES, HeldRow, MessageRow, POWER_MESSAGES, Part};
 pub use name::{NAME_BYTES, Name, name_words};

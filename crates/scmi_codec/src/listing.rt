@@ -48,17 +48,17 @@ pub(crate) fn misfit(protocol: u8, id: u8) -> Status
     }
 }
 
-/// The row of a message.
-fn listed_row(protocol: u8, id: u32) -> Option<HeldRow>
+/// The row of a message; `None` if no command of the profile has the id.
+pub fn listed_row(protocol: u8, id: u32) -> Option<HeldRow>
     ensures row { option_map said result ≡ listed_row protocol id }
     ensures few { IfSome result (λ r. words_of r.asks.now ≤ 8) }
 {
     row_in(rows_of(protocol), id)
 }
 
-/// The messages of a protocol.
+/// The messages of a protocol; none of a protocol that is not of the profile.
 #[tactic(auto, unfolding(crate::specs::Listing::rows_of))]
-fn rows_of(protocol: u8) -> &'static [HeldRow]
+pub fn rows_of(protocol: u8) -> &'static [HeldRow]
     ensures { map said result.now ≡ rows_of protocol }
 {
     match protocol {
@@ -69,6 +69,7 @@ fn rows_of(protocol: u8) -> &'static [HeldRow]
     }
 }
 
+/// The first row of an id.
 fn row_in(mut rows: &[HeldRow], id: u32) -> Option<HeldRow>
     ensures { option_map said result ≡ row_in id (map said rows.entry.now) }
 {
