@@ -7,8 +7,9 @@ use Rattle.std.proofs.lemmas.List.Elements.{All-cons, All-nil}
 use Rattle.scmi_plan.specs.Board.{Board}
 use Rattle.scmi_core.specs.declared.event.Event.{Event}
 use Rattle.scmi_judge.specs.Law.{HasHistory}
-use Rattle.scmi_judge.specs.Record.{events_of}
-use Rattle.scmi_judge.specs.Verdict.{verdict_of, verdicts_from}
+use Rattle.scmi_judge.specs.Correction.{steps_of}
+use Rattle.scmi_judge.specs.Verdict.{verdict_of}
+use Rattle.scmi_judge.specs.Whole.{verdicts_from}
 use Rattle.scmi_judge.specs.declared.verdict.Verdict.{Verdict}
 use Rattle.scmi_judge.specs.declared.verdict.Verdict.TheVariants.{Same}
 use Rattle.scmi_judge.proofs.Histories.{all_split}
@@ -22,7 +23,7 @@ verdicts_in judged = map (λ (one : Judged). one.verdict) judged
 
 verdicts-from : (board : Board) (h : List Event) (placed : List Placed) → verdicts_in (judged_from board h placed) ≡ verdicts_from board h (entries_of placed)
 verdicts-from board h [] = refl
-verdicts-from board h (one ∷ placed) = ap (λ vs. verdict_of board h one.entry ∷ vs) (verdicts-from board (h ++ events_of board h one.entry) placed)
+verdicts-from board h (one ∷ placed) = ap (λ vs. verdict_of board h one.entry ∷ vs) (verdicts-from board (h ++ steps_of board h one.entry) placed)
 
 -- each verdict is one of the entries'
 all-alone : (judged : List Judged) → All (λ one. one.verdict ≡ Same) judged ↔ All (λ v. v ≡ Same) (verdicts_in judged)
@@ -42,7 +43,7 @@ all_judged board placed judged are =
 
 -- one entry more
 pub one-judged : (board : Board) (h : List Event) (js : List Judged) (placed : List Placed) (i : ℕ) (one : Placed) → i < length placed → one ≡ get_or placed i one
-    → (js ++ judged_after board h one ∷ []) ++ judged_from board (h ++ events_of board h one.entry) (drop (suc i) placed) ≡ js ++ judged_from board h (drop i placed)
+    → (js ++ judged_after board h one ∷ []) ++ judged_from board (h ++ steps_of board h one.entry) (drop (suc i) placed) ≡ js ++ judged_from board h (drop i placed)
 one-judged board h js placed i one less is =
-    append_assoc js (judged_after board h one ∷ []) (judged_from board (h ++ events_of board h one.entry) (drop (suc i) placed))
+    append_assoc js (judged_after board h one ∷ []) (judged_from board (h ++ steps_of board h one.entry) (drop (suc i) placed))
     ∙ ap (λ ps. js ++ judged_from board h ps) (ap (λ x. x ∷ drop (suc i) placed) is ∙ sym (drop-cons placed i one less))

@@ -55,13 +55,13 @@ domain_0 : lines_text Plain (
 unfolding own_rule check_word digits rows_of
 domain_0 = refl
 
--- sets of clock 1, of its rate and its configuration, to which SUCCESS was due, though another reply was seen; a delayed response; and what names no domain or clock
+-- sets of clock 1, of its rate and its configuration, that are answered by BUSY though SUCCESS was due, so none is named; a delayed response; and what names no domain or clock
 clock_1 : lines_text Plain (
     other 2 0x14 5 (1 ∷ 1 ∷ 7 ∷ 0 ∷ []) (0xfffffffa ∷ []) (0 ∷ [])
     ∷ unasked 3 0x14 2 5 (0 ∷ 1 ∷ 7 ∷ 0 ∷ [])
     ∷ other 5 0x14 7 (1 ∷ 1 ∷ []) (0xfffffffa ∷ []) (0 ∷ [])
     ∷ other 7 0x14 6 (1 ∷ []) (0 ∷ 7 ∷ 0 ∷ []) (0 ∷ 0 ∷ 0 ∷ [])
     ∷ other 9 0x14 1 [] (0 ∷ 2 ∷ []) (0 ∷ 1 ∷ []) ∷ [])
-    ≡ codes "2 differs due SUCCESS 0x00045005 0x00000000, seen BUSY 0x00045005 0xfffffffa\n3 differs due no message, seen 0x00045205 0x00000000 0x00000001 0x00000007 0x00000000 set 2 after 2\n5 differs due SUCCESS 0x00045007 0x00000000, seen BUSY 0x00045007 0xfffffffa set 2 after 3\n7 differs due SUCCESS 0x00045006 0x00000000 0x00000000 0x00000000, seen SUCCESS 0x00045006 0x00000000 0x00000007 0x00000000 set 5 after 5\n9 differs due SUCCESS 0x00045001 0x00000000 0x00000001, seen SUCCESS 0x00045001 0x00000000 0x00000002\n"
+    ≡ codes "2 differs due SUCCESS 0x00045005 0x00000000, seen BUSY 0x00045005 0xfffffffa\n3 differs due no message, seen 0x00045205 0x00000000 0x00000001 0x00000007 0x00000000 after 2\n5 differs due SUCCESS 0x00045007 0x00000000, seen BUSY 0x00045007 0xfffffffa after 3\n7 differs due SUCCESS 0x00045006 0x00000000 0x00000000 0x00000000, seen SUCCESS 0x00045006 0x00000000 0x00000007 0x00000000 after 5\n9 differs due SUCCESS 0x00045001 0x00000000 0x00000001, seen SUCCESS 0x00045001 0x00000000 0x00000002\n"
 unfolding own_rule check_word digits rows_of
 clock_1 = refl

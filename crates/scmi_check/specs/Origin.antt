@@ -1,23 +1,15 @@
 -- What a difference may follow from: earlier entries with its subject.
-use Rattle.std.specs.Prelude.{ℕ, ◌==◌, ◌&&◌, Bool, true, false, if◌then◌else◌, List, reverse, Option, Some, None, Result, Ok}
+use Rattle.std.specs.Prelude.{ℕ, ◌==◌, ◌&&◌, Bool, false, if◌then◌else◌, List, reverse, Option, Some, None}
 use Rattle.std.specs.List.{find}
 use Rattle.std.specs.Option.{option_map}
 use Rattle.scmi_codec.specs.Command.{command_of}
-use Rattle.scmi_codec.specs.Payload.{begins_with_success}
-use Rattle.scmi_codec.specs.declared.clock_command.ClockCommand.TheVariants as clock
-use Rattle.scmi_codec.specs.declared.command.Command.{Command}
-use Rattle.scmi_codec.specs.declared.command.Command.TheVariants.{Power, Clock as ClockKind}
-use Rattle.scmi_codec.specs.declared.frame.Answer.{Answer}
-use Rattle.scmi_codec.specs.declared.frame.Answer.TheVariants.{Reply}
 use Rattle.scmi_codec.specs.declared.frame.Frame.TheVariants.{Good}
-use Rattle.scmi_codec.specs.declared.power_command.PowerCommand.TheVariants as power
-use Rattle.scmi_codec.specs.declared.status.Status.{Status}
 use Rattle.scmi_plan.specs.declared.resource.Resource.{Resource}
 use Rattle.scmi_plan.specs.declared.resource.Resource.TheVariants.{Domain, Clock}
+use Rattle.scmi_judge.specs.Correction.{sets_value}
+use Rattle.scmi_judge.specs.Record.{has_succeeded}
 use Rattle.scmi_judge.specs.declared.entry.Entry.{Entry}
 use Rattle.scmi_judge.specs.declared.entry.Entry.TheVariants.{Answered}
-use Rattle.scmi_judge.specs.declared.verdict.Verdict.{Verdict}
-use Rattle.scmi_judge.specs.declared.verdict.Verdict.TheVariants as verdict
 use Rattle.scmi_check.specs.Counts.{found, is_other}
 use Rattle.scmi_check.specs.Subject.{subject_of}
 use Rattle.scmi_check.specs.declared.judged.Judged.{Judged}
@@ -42,32 +34,14 @@ is_about resource one = is_this resource (subject_of one.entry)
 abbrev pub differs : Judged → Bool
 differs one = is_other (found one)
 
--- a command sets the state of a domain, or the rate or the configuration of a clock
-abbrev pub sets_value : Result Command Status → Bool
-sets_value (Ok (Power (power.Set flags domain state))) = true
-sets_value (Ok (ClockKind (clock.SetRate flags clock rate))) = true
-sets_value (Ok (ClockKind (clock.Config clock attributes))) = true
-sets_value _ = false
-
--- an answer is a reply of SUCCESS
-abbrev pub gives_success : Answer → Bool
-gives_success (Reply message) = begins_with_success message.payload.items
-gives_success _ = false
-
--- SUCCESS was due: it is the answer that was seen, if that is the same, and else the one of the verdict
-abbrev pub is_success_due : Answer → Verdict → Bool
-is_success_due seen verdict.Same = gives_success seen
-is_success_due seen (verdict.Answer due) = gives_success due
-is_success_due seen _ = false
-
--- an entry with this verdict is a set to which SUCCESS was due
-abbrev pub sets_by : Entry → Verdict → Bool
-sets_by (Answered a (Good command) seen) verdict = sets_value (command_of command) && is_success_due seen verdict
-sets_by _ verdict = false
+-- an entry is a set that was answered by SUCCESS
+abbrev pub is_set : Entry → Bool
+is_set (Answered a (Good command) seen) = sets_value (command_of command) && has_succeeded seen
+is_set entry = false
 
 -- the same of an entry with its verdict
 abbrev pub sets : Judged → Bool
-sets one = sets_by one.entry one.verdict
+sets one = is_set one.entry
 
 -- the number of the line of the last of these entries that has this subject and passes a test
 abbrev pub last_line : (Judged → Bool) → Resource → List Judged → Option ℕ
@@ -77,7 +51,7 @@ last_line test resource judged = option_map (λ (one : Judged). one.line) (find 
 abbrev pub no_origin : Origin
 no_origin = record { set = None; after = None }
 
--- the last set of a subject, and the last difference with that subject, among these entries
+-- the last set of a subject that was accepted, and the last difference with that subject, among these entries
 abbrev pub origin_among : List Judged → Option Resource → Origin
 origin_among before None = no_origin
 origin_among before (Some resource) = record { set = last_line sets resource before; after = last_line differs resource before }

@@ -33,8 +33,8 @@ impl Judged {
 }
 
 /// Judges the entries of a record of a platform of a board, in order, each after what those before
-/// it encode, also after a difference. All are the same if and only if the record has a legal
-/// history. `Memory` is the only error.
+/// it encode; after a difference from what the record shows (`Judge::correct`). All are the same if
+/// and only if the record has a legal history. `Memory` is the only error.
 pub fn judge_all(alloc: Global, plan: Plan, placed: &[Placed]) -> Result<Vec<Judged>, CoreError>
     ensures judged { IfOk result (λ judged. judged.items ≡ judged_of plan placed.now) }
     ensures history { IfOk result (λ judged. All (λ one. one.verdict ≡ Same) judged.items
@@ -47,6 +47,7 @@ pub fn judge_all(alloc: Global, plan: Plan, placed: &[Placed]) -> Result<Vec<Jud
     let mut judged = Vec::new(alloc);
     'each: for one in placed {
         let verdict = judge.judge(&one.entry)?;
+        judge.correct(&one.entry, &verdict)?;
         let line = one.line;
         let entry = one.entry.copy();
         if judged

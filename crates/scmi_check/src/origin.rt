@@ -9,7 +9,7 @@ use std::io::Write;
 /// The lines of earlier entries that a difference may follow from, with the same subject as it.
 #[derive(Clone, Copy, PartialEq, Eq, Debug)]
 pub(crate) struct Origin {
-    /// The line of the last set of the subject to which SUCCESS was due.
+    /// The line of the last set of the subject that was answered by SUCCESS.
     pub set: Option<u32>,
     /// The line of the last difference.
     pub after: Option<u32>,

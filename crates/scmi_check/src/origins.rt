@@ -51,7 +51,7 @@ impl Origins {
         let Some(resource) = subject_of(&one.entry) else {
             return;
         };
-        if is_set(one) {
+        if is_set(&one.entry) {
             self.sets.set(resource, one.line);
         }
         if differs(one) {

@@ -1,4 +1,4 @@
--- Five records of a platform of board B, judged by the definitions. What is due is worked out by hand, from docs/PROTOCOL.md.
+-- Records of a platform of board B, judged by the definitions. What is due is worked out by hand, from docs/PROTOCOL.md.
 use Rattle.std.proofs.Common.{◌≡◌, ℕ, List, [], ◌∷◌, refl}
 use Rattle.scmi_codec.specs.declared.message.Message.{Message}
 use Rattle.scmi_codec.specs.declared.frame.Frame.TheVariants.{Good}
@@ -10,8 +10,10 @@ use Rattle.scmi_core.specs.Deed.{fold_with_prefix}
 use Rattle.scmi_core.specs.Reply.{reply_words}
 use Rattle.scmi_core.specs.History.{deeds, outbox}
 use Rattle.scmi_core.specs.BoardB.{board_b}
-use Rattle.scmi_judge.specs.Record.{completions_shown, events_of}
-use Rattle.scmi_judge.specs.Verdict.{verdict_of, verdicts_of}
+use Rattle.scmi_judge.specs.Record.{endings_shown, events_of}
+use Rattle.scmi_judge.specs.Correction.{corrections}
+use Rattle.scmi_judge.specs.Verdict.{verdict_of}
+use Rattle.scmi_judge.specs.Whole.{verdicts_of}
 use Rattle.scmi_judge.specs.declared.entry.Entry.{Entry}
 use Rattle.scmi_judge.specs.declared.entry.Entry.TheVariants.{Answered, Delivered}
 use Rattle.scmi_judge.specs.declared.verdict.Verdict.TheVariants as verdict
@@ -36,7 +38,7 @@ plain_exchange =
     ∷ exchange 1 2 0x11 0x4 (0 ∷ 0 ∷ 0 ∷ []) (0 ∷ []) ∷ exchange 2 0 0x11 0x5 (0 ∷ []) (0 ∷ 0 ∷ []) ∷ []
 
 plain_exchange-judged : verdicts_of board_b plain_exchange ≡ verdict.Same ∷ verdict.Same ∷ verdict.Same ∷ verdict.Same ∷ []
-unfolding plain_exchange verdict_of events_of completions_shown deeds outbox reply_words base_reply power_reply clock_reply fold_with_prefix
+unfolding plain_exchange verdict_of events_of endings_shown corrections deeds outbox reply_words base_reply power_reply clock_reply fold_with_prefix
 plain_exchange-judged = refl
 
 -- a set that is answered by BUSY while nothing is pending, and a get after it: the set was to succeed, and the record shows that it changed nothing
@@ -46,7 +48,7 @@ wrong_status =
 
 wrong_status-judged : verdicts_of board_b wrong_status
     ≡ verdict.Answer (Reply (message_of 0 0 0x11 0x4 (0 ∷ []))) ∷ verdict.Same ∷ []
-unfolding wrong_status verdict_of events_of completions_shown deeds outbox reply_words base_reply power_reply clock_reply fold_with_prefix
+unfolding wrong_status verdict_of events_of endings_shown corrections deeds outbox reply_words base_reply power_reply clock_reply fold_with_prefix
 wrong_status-judged = refl
 
 -- sets of a state and of a rate, which the hardware refuses, with a read after each, a configuration that it refuses, and a get with the same status
@@ -58,7 +60,7 @@ refused_changes =
 
 refused_changes-judged : verdicts_of board_b refused_changes
     ≡ verdict.Same ∷ verdict.Same ∷ verdict.Same ∷ verdict.Same ∷ verdict.Same ∷ verdict.Answer (Reply (message_of 0 5 0x11 0x5 (0 ∷ 0x40000000 ∷ []))) ∷ []
-unfolding refused_changes verdict_of events_of completions_shown deeds outbox reply_words base_reply power_reply clock_reply fold_with_prefix
+unfolding refused_changes verdict_of events_of endings_shown corrections deeds outbox reply_words base_reply power_reply clock_reply fold_with_prefix
 refused_changes-judged = refl
 
 -- an asynchronous set, the state before it is complete, its delayed response, and the state after it
@@ -68,7 +70,7 @@ delayed_response =
     ∷ delayed 1 1 0x11 0x4 (0 ∷ 0 ∷ 0 ∷ []) ∷ exchange 1 3 0x11 0x5 (0 ∷ []) (0 ∷ 0 ∷ []) ∷ []
 
 delayed_response-judged : verdicts_of board_b delayed_response ≡ verdict.Same ∷ verdict.Same ∷ verdict.Same ∷ verdict.Same ∷ []
-unfolding delayed_response verdict_of events_of completions_shown deeds outbox reply_words base_reply power_reply clock_reply fold_with_prefix
+unfolding delayed_response verdict_of events_of endings_shown corrections deeds outbox reply_words base_reply power_reply clock_reply fold_with_prefix
 delayed_response-judged = refl
 
 -- a delayed response to a set that was refused, since the domain has no asynchronous sets, and one more to a number that is no agent's
@@ -78,5 +80,55 @@ no_set_accepted =
     ∷ delayed 3 1 0x11 0x4 (0 ∷ 1 ∷ 0 ∷ []) ∷ []
 
 no_set_accepted-judged : verdicts_of board_b no_set_accepted ≡ verdict.Same ∷ verdict.NoMessage ∷ verdict.NoAgent ∷ []
-unfolding no_set_accepted verdict_of events_of completions_shown deeds outbox reply_words base_reply power_reply clock_reply fold_with_prefix
+unfolding no_set_accepted verdict_of events_of endings_shown corrections deeds outbox reply_words base_reply power_reply clock_reply fold_with_prefix
 no_set_accepted-judged = refl
+
+-- a set that the hardware refuses when it is to complete, and the state after it
+failed_response : List Entry
+failed_response =
+    exchange 1 1 0x11 0x4 (1 ∷ 0 ∷ 0 ∷ []) (0 ∷ []) ∷ delayed 1 1 0x11 0x4 (0xfffffff7 ∷ []) ∷ exchange 1 2 0x11 0x5 (0 ∷ []) (0 ∷ 0x40000000 ∷ []) ∷ []
+
+failed_response-judged : verdicts_of board_b failed_response ≡ verdict.Same ∷ verdict.Same ∷ verdict.Same ∷ []
+unfolding failed_response verdict_of events_of endings_shown corrections deeds outbox reply_words base_reply power_reply clock_reply fold_with_prefix
+failed_response-judged = refl
+
+-- agent 2 may not set the first domain, and the record shows that it did: the state after it is the one that was set
+accepted_set : List Entry
+accepted_set =
+    exchange 1 0 0x10 0x9 (2 ∷ 0 ∷ 0 ∷ []) (0 ∷ []) ∷ exchange 2 0 0x11 0x4 (0 ∷ 0 ∷ 0 ∷ []) (0 ∷ []) ∷ exchange 1 1 0x11 0x5 (0 ∷ []) (0 ∷ 0 ∷ []) ∷ []
+
+accepted_set-judged : verdicts_of board_b accepted_set
+    ≡ verdict.Same ∷ verdict.Answer (Reply (message_of 0 0 0x11 0x4 (0xfffffffd ∷ []))) ∷ verdict.Same ∷ []
+unfolding accepted_set verdict_of events_of endings_shown corrections deeds outbox reply_words base_reply power_reply clock_reply fold_with_prefix
+accepted_set-judged = refl
+
+-- a state and a rate that are not those of the board, each read twice
+other_values : List Entry
+other_values =
+    exchange 1 0 0x11 0x5 (0 ∷ []) (0 ∷ 0 ∷ []) ∷ exchange 2 0 0x11 0x5 (0 ∷ []) (0 ∷ 0 ∷ [])
+    ∷ exchange 1 1 0x14 0x6 (0 ∷ []) (0 ∷ 200 ∷ 0 ∷ []) ∷ exchange 2 1 0x14 0x6 (0 ∷ []) (0 ∷ 200 ∷ 0 ∷ []) ∷ []
+
+other_values-judged : verdicts_of board_b other_values
+    ≡ verdict.Answer (Reply (message_of 0 0 0x11 0x5 (0 ∷ 0x40000000 ∷ []))) ∷ verdict.Same
+    ∷ verdict.Answer (Reply (message_of 0 1 0x14 0x6 (0 ∷ 100 ∷ 0 ∷ []))) ∷ verdict.Same ∷ []
+unfolding other_values verdict_of events_of endings_shown corrections deeds outbox reply_words base_reply power_reply clock_reply fold_with_prefix
+other_values-judged = refl
+
+-- agent 2 is notified of the first domain, so the state that is read is not given to it, and differs again
+watched_value : List Entry
+watched_value =
+    exchange 2 0 0x11 0x6 (0 ∷ 1 ∷ []) (0 ∷ []) ∷ exchange 1 0 0x11 0x5 (0 ∷ []) (0 ∷ 0 ∷ []) ∷ exchange 1 1 0x11 0x5 (0 ∷ []) (0 ∷ 0 ∷ []) ∷ []
+
+watched_value-judged : verdicts_of board_b watched_value
+    ≡ verdict.Same ∷ verdict.Answer (Reply (message_of 0 0 0x11 0x5 (0 ∷ 0x40000000 ∷ []))) ∷ verdict.Answer (Reply (message_of 0 1 0x11 0x5 (0 ∷ 0x40000000 ∷ []))) ∷ []
+unfolding watched_value verdict_of events_of endings_shown corrections deeds outbox reply_words base_reply power_reply clock_reply fold_with_prefix
+watched_value-judged = refl
+
+-- an asynchronous set that the record shows as refused, and a set of the same domain by another agent, which is then not BUSY
+withdrawn_set : List Entry
+withdrawn_set =
+    exchange 1 0 0x11 0x4 (1 ∷ 0 ∷ 0 ∷ []) (0xffffffff ∷ []) ∷ exchange 2 0 0x11 0x4 (0 ∷ 0 ∷ 0 ∷ []) (0 ∷ []) ∷ []
+
+withdrawn_set-judged : verdicts_of board_b withdrawn_set ≡ verdict.Answer (Reply (message_of 0 0 0x11 0x4 (0 ∷ []))) ∷ verdict.Same ∷ []
+unfolding withdrawn_set verdict_of events_of endings_shown corrections deeds outbox reply_words base_reply power_reply clock_reply fold_with_prefix
+withdrawn_set-judged = refl

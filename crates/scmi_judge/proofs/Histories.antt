@@ -1,86 +1,91 @@
 -- A record with all entries as the definitions give them is one that has a legal history, and the other way round.
 use Rattle.std.proofs.Common.{◌≡◌, ◌↔◌, inl, inr, ℕ, zero, suc, ◌<◌, List, [], ◌∷◌, ◌++◌, length, slice_get, Some, refl, sym, ap, ◌∙◌, subst, arith}
-use Rattle.std.specs.Prelude.{replicate}
+use Rattle.std.specs.Prelude.{map, take}
 use Rattle.std.specs.List.{All}
-use Rattle.std.proofs.lemmas.List.{append_assoc, append-nil, append_cancel_left}
+use Rattle.std.proofs.lemmas.List.{append_assoc, append-nil}
 use Rattle.std.proofs.lemmas.List.Elements.{All-cons, All-nil}
 use Rattle.scmi_plan.specs.Agent.{IsAgent}
 use Rattle.scmi_plan.specs.Board.{Board}
 use Rattle.scmi_codec.specs.declared.message.Message.{Message}
 use Rattle.scmi_core.specs.declared.event.Event.{Event}
-use Rattle.scmi_core.specs.declared.event.Event.TheVariants.{Command, Advance, Sent, CommandFailed}
+use Rattle.scmi_core.specs.declared.event.Event.TheVariants.{Command, Sent, CommandFailed}
 use Rattle.scmi_core.specs.declared.pending_set.PendingSet.{PendingSet}
-use Rattle.scmi_core.specs.History.{IsIdle, deeds, outbox}
+use Rattle.scmi_core.specs.History.{deeds, outbox}
 use Rattle.scmi_core.specs.Legal.{IsLegal}
 use Rattle.scmi_core.specs.Pending.{pending_sets}
-use Rattle.scmi_judge.specs.Law.{ArePieces, HasHistory, IsPiece, IsSplitBy}
-use Rattle.scmi_judge.specs.Record.{IsAnswerTo, IsShown, command_shown, completions_of, completions_shown, events_of, history_from, history_of, shown_to, taking, where_nothing_waits}
-use Rattle.scmi_judge.specs.Verdict.{verdict_of, verdicts_from, verdicts_of}
+use Rattle.scmi_judge.specs.Correction.{steps_of}
+use Rattle.scmi_judge.specs.Law.{ArePieces, HasHistory, IsPiece, IsSplitBy, first_endings}
+use Rattle.scmi_judge.specs.Record.{IsAnswerTo, IsShown, command_shown, ending_of, endings_of, endings_shown, events_of, shown_to, taking, where_nothing_waits}
+use Rattle.scmi_judge.specs.Verdict.{verdict_of}
+use Rattle.scmi_judge.specs.Whole.{history_from, history_of, verdicts_from, verdicts_of}
 use Rattle.scmi_judge.specs.declared.entry.Entry.{Entry}
 use Rattle.scmi_judge.specs.declared.entry.Entry.TheVariants.{Answered, Delivered}
 use Rattle.scmi_judge.specs.declared.verdict.Verdict.{Verdict}
 use Rattle.scmi_judge.specs.declared.verdict.Verdict.TheVariants.{Same}
-use Rattle.scmi_judge.proofs.Completing.{none-waiting, one-more, shown-none}
+use Rattle.scmi_judge.proofs.Corrections.{steps-shown, takes}
+use Rattle.scmi_judge.proofs.Ending.{none-of}
 use Rattle.scmi_judge.proofs.Laws.{law}
 use Rattle.scmi_judge.proofs.Records.{AreShown, all_same}
 use Rattle.scmi_judge.proofs.Changes.{shown-done, shown-failed}
 use Rattle.scmi_judge.proofs.Verdicts.{agent_decides, answered-events, same_says, taken-events}
 
--- completions that are this many, before each of which no message waited for an agent
-record AreWaited (board : Board) (a : ℕ) (h events : List Event) : Type 0 where
+-- ends of the first of these sets that are this many, before each of which no message waited for an agent
+record AreWaited (board : Board) (a : ℕ) (m : Message) (ps : List PendingSet) (h events : List Event) : Type 0 where
   count : ℕ
-  are : events ≡ replicate count Advance
-  nothing_waited : (k : ℕ) → k < count → outbox board a (h ++ replicate k Advance) ≡ []
+  are : events ≡ map (ending_of a m) (take count ps)
+  nothing_waited : (k : ℕ) → k < count → outbox board a (h ++ map (ending_of a m) (take k ps)) ≡ []
 
--- one completion, and then others
-one-first : (h : List Event) (k : ℕ) → h ++ replicate (suc k) Advance ≡ (h ++ Advance ∷ []) ++ replicate k Advance
-one-first h k = sym (append_assoc h (Advance ∷ []) (replicate k Advance))
+-- one event, and then others
+one-first : (h : List Event) (e : Event) (es : List Event) → h ++ (e ∷ es) ≡ (h ++ e ∷ []) ++ es
+one-first h e es = sym (append_assoc h (e ∷ []) es)
 
-waited-of : (board : Board) (a : ℕ) (ps : List PendingSet) (h : List Event) (waiting : List Message) → outbox board a h ≡ waiting
-    → AreWaited board a h (completions_of board a ps h)
-waited-of board a [] h waiting is = record { count = 0; are = refl; nothing_waited = λ k less. absurd (omega (arith, less)) }
-waited-of board a (p ∷ ps) h (m ∷ more) is = record {
+waited-of : (board : Board) (a : ℕ) (m : Message) (ps : List PendingSet) (h : List Event) (waiting : List Message) → outbox board a h ≡ waiting
+    → AreWaited board a m ps h (endings_of board a m ps h)
+waited-of board a m [] h waiting is = record { count = 0; are = refl; nothing_waited = λ k less. absurd (omega (arith, less)) }
+waited-of board a m (p ∷ ps) h (n ∷ more) is = record {
   count = 0;
-  are = ap (λ ws. where_nothing_waits ws (Advance ∷ completions_of board a ps (h ++ Advance ∷ []))) is;
+  are = ap (λ ws. where_nothing_waits ws (ending_of a m p ∷ endings_of board a m ps (h ++ ending_of a m p ∷ []))) is;
   nothing_waited = λ k less. absurd (omega (arith, less));
 }
-waited-of board a (p ∷ ps) h [] is =
-    let next = h ++ Advance ∷ [] in
-    let later = waited-of board a ps next (outbox board a next) refl in
+waited-of board a m (p ∷ ps) h [] is =
+    let e = ending_of a m p in
+    let next = h ++ e ∷ [] in
+    let later = waited-of board a m ps next (outbox board a next) refl in
     record {
       count = suc later.count;
-      are = ap (λ ws. where_nothing_waits ws (Advance ∷ completions_of board a ps next)) is ∙ ap (λ es. Advance ∷ es) later.are;
+      are = ap (λ ws. where_nothing_waits ws (e ∷ endings_of board a m ps next)) is ∙ ap (λ es. e ∷ es) later.are;
       nothing_waited = at later.count later.nothing_waited;
     } where
-      at : (count : ℕ) → ((k : ℕ) → k < count → outbox board a ((h ++ Advance ∷ []) ++ replicate k Advance) ≡ []) → (k : ℕ) → k < suc count → outbox board a (h ++ replicate k Advance) ≡ []
+      at : (count : ℕ) → ((k : ℕ) → k < count → outbox board a ((h ++ ending_of a m p ∷ []) ++ map (ending_of a m) (take k ps)) ≡ [])
+          → (k : ℕ) → k < suc count → outbox board a (h ++ map (ending_of a m) (take k (p ∷ ps))) ≡ []
       at count nothing zero less = ap (outbox board a) (append-nil h) ∙ is
-      at count nothing (suc k) less = ap (outbox board a) (one-first h k) ∙ nothing k (omega (arith, less))
+      at count nothing (suc k) less = ap (outbox board a) (one-first h (ending_of a m p) (map (ending_of a m) (take k ps))) ∙ nothing k (omega (arith, less))
 
--- the completions that a message shows are this many
-waited : (board : Board) (a : ℕ) (h : List Event) → AreWaited board a h (completions_shown board a h)
-unfolding completions_shown
-waited board a h = waited-of board a (pending_sets board (deeds board h)) h (outbox board a h) refl
+-- the ends of sets that a message shows are this many
+waited : (board : Board) (a : ℕ) (m : Message) (h : List Event) → AreWaited board a m (pending_sets board (deeds board h)) h (endings_shown board a m h)
+unfolding endings_shown
+waited board a m h = waited-of board a m (pending_sets board (deeds board h)) h (outbox board a h) refl
 
--- in a legal history, completions before each of which nothing waited, and after which a message waits, are those that it shows
-shown-by : (board : Board) (a : ℕ) (m : Message) (total rest : List Event) → IsLegal board total → (k : ℕ) (h : List Event) → total ≡ h ++ (replicate k Advance ++ rest)
-    → ((j : ℕ) → j < k → outbox board a (h ++ replicate j Advance) ≡ []) → slice_get (outbox board a (h ++ replicate k Advance)) 0 ≡ Some m
-    → shown_to board a h ≡ h ++ replicate k Advance
-shown-by board a m total rest legal zero h is nothing first =
-    shown-none board a h (none-waiting board a h m (ap (λ k. slice_get (outbox board a k) 0) (sym (append-nil h)) ∙ first)) ∙ sym (append-nil h)
-shown-by board a m total rest legal (suc k) h is nothing first =
-    let next = h ++ Advance ∷ [] in
-    let may : 0 < length (pending_sets board (deeds board h)) = legal.each h (replicate k Advance ++ rest) Advance is in
-    let some : ¬ (IsIdle board h) = λ idle. absurd (let none : length (pending_sets board (deeds board h)) ≡ 0 = ap length idle in omega (arith, may, none)) in
-    let none = ap (λ ms. slice_get ms 0) (ap (outbox board a) (sym (append-nil h)) ∙ nothing 0 (omega arith)) in
-    sym (one-more board a h some none)
-    ∙ shown-by board a m total rest legal k next (is ∙ sym (append_assoc h (Advance ∷ []) (replicate k Advance ++ rest)))
-    (λ j less. ap (outbox board a) (sym (one-first h j)) ∙ nothing (suc j) (omega (arith, less)))
-    (ap (λ k. slice_get (outbox board a k) 0) (sym (one-first h k)) ∙ first)
-    ∙ sym (one-first h k)
+-- ends of the first of these sets, before each of which nothing waited, and after which a message waits, are those that it shows
+shown-of : (board : Board) (a : ℕ) (m : Message) (ps : List PendingSet) (k : ℕ) (h : List Event) → ((j : ℕ) → j < k → outbox board a (h ++ map (ending_of a m) (take j ps)) ≡ [])
+    → slice_get (outbox board a (h ++ map (ending_of a m) (take k ps))) 0 ≡ Some m → endings_of board a m ps h ≡ map (ending_of a m) (take k ps)
+shown-of board a m [] zero h nothing first = refl
+shown-of board a m [] (suc k) h nothing first = refl
+shown-of board a m (p ∷ ps) zero h nothing first =
+    none-of board a m h m (p ∷ ps) (outbox board a h) refl (ap (λ k. slice_get (outbox board a k) 0) (sym (append-nil h)) ∙ first)
+shown-of board a m (p ∷ ps) (suc k) h nothing first =
+    let e = ending_of a m p in
+    let next = h ++ e ∷ [] in
+    let none = ap (outbox board a) (sym (append-nil h)) ∙ nothing 0 (omega arith) in
+    ap (λ ws. where_nothing_waits ws (e ∷ endings_of board a m ps next)) none
+    ∙ ap (λ es. e ∷ es) (shown-of board a m ps k next
+    (λ j less. ap (outbox board a) (sym (one-first h e (map (ending_of a m) (take j ps)))) ∙ nothing (suc j) (omega (arith, less)))
+    (ap (λ es. slice_get (outbox board a es) 0) (sym (one-first h e (map (ending_of a m) (take k ps)))) ∙ first))
 
-takes : (a : ℕ) (m : Message) (waiting : List Message) → slice_get waiting 0 ≡ Some m → taking a waiting ≡ Sent a ∷ []
-takes a m [] first = absurd (cc)
-takes a m (n ∷ waiting) first = refl
+shown-by : (board : Board) (a : ℕ) (m : Message) (k : ℕ) (h : List Event) → ((j : ℕ) → j < k → outbox board a (h ++ first_endings board a m h j) ≡ [])
+    → slice_get (outbox board a (h ++ first_endings board a m h k)) 0 ≡ Some m → endings_shown board a m h ≡ first_endings board a m h k
+unfolding endings_shown
+shown-by board a m k h nothing first = shown-of board a m (pending_sets board (deeds board h)) k h nothing first
 
 -- an entry that is what the definitions give shows a piece, which is what it encodes
 piece-of : (board : Board) (h : List Event) (entry : Entry) → IsShown board h entry → IsPiece board h entry (events_of board h entry)
@@ -92,15 +97,15 @@ piece-of board h (Answered a f x) is = by is.1 where
   by (inl due) = inl (record { are = shown ∙ ap (λ e. e ∷ []) (shown-done board h a f x due); due = due })
   by (inr failed) = inr (record { are = shown ∙ ap (λ e. e ∷ []) (shown-failed board h a f x failed.0 failed.1); due = failed.1 })
 piece-of board h (Delivered a m) is =
-    let so = waited board a h in
+    let so = waited board a m h in
     record {
-      completions = so.count;
+      count = so.count;
       are = message-piece ∙ ap (λ es. es ++ Sent a ∷ []) so.are;
       nothing_waited = so.nothing_waited;
       first = ap (λ es. slice_get (outbox board a (h ++ es)) 0) (sym so.are) ∙ is.1;
     } where
-      message-piece : events_of board h (Delivered a m) ≡ completions_shown board a h ++ Sent a ∷ []
-      message-piece = taken-events board h a m ((agent_decides board a).1 is.0) ∙ ap (λ es. completions_shown board a h ++ es) (takes a m (outbox board a (shown_to board a h)) is.1)
+      message-piece : events_of board h (Delivered a m) ≡ endings_shown board a m h ++ Sent a ∷ []
+      message-piece = taken-events board h a m ((agent_decides board a).1 is.0) ∙ ap (λ es. endings_shown board a m h ++ es) (sym (takes a m (outbox board a (shown_to board a m h)) is.1))
 
 -- what entries that are all what the definitions give encode
 record HasPieces (board : Board) (h : List Event) (entries : List Entry) : Type 0 where
@@ -112,10 +117,12 @@ pieces-of : (board : Board) (h : List Event) (entries : List Entry) → AreShown
 pieces-of board h [] shown = record { events = []; are = sym (append-nil h); pieces = refl }
 pieces-of board h (e ∷ entries) shown =
     let now = events_of board h e in
-    let later = pieces-of board (h ++ now) entries (λ before after entry is. shown (e ∷ before) after entry (ap (λ es. e ∷ es) is)) in
+    let steps : h ++ steps_of board h e ≡ h ++ now = ap (λ es. h ++ es) (steps-shown board h e (shown [] entries e refl)) in
+    let later = pieces-of board (h ++ now) entries
+    (λ before after entry is. subst (λ k. IsShown board (history_from board k before) entry) steps (shown (e ∷ before) after entry (ap (λ es. e ∷ es) is))) in
     record {
       events = now ++ later.events;
-      are = later.are ∙ append_assoc h now later.events;
+      are = ap (λ k. history_from board k entries) steps ∙ later.are ∙ append_assoc h now later.events;
       pieces = record { piece = now; rest = later.events; are = refl; shown = piece-of board h e (shown [] entries e refl); on = later.pieces };
     }
 
@@ -133,16 +140,16 @@ piece-shown board total rest legal h (Answered a f x) piece is (inr shown) =
       answered-events board h a f x ((agent_decides board a).1 may.0) ∙ ap (λ e. e ∷ []) (shown-failed board h a f x may.1 shown.due) ∙ sym shown.are,
     )
 piece-shown board total rest legal h (Delivered a m) piece is shown =
-    let done = replicate shown.completions Advance in
+    let done = first_endings board a m h shown.count in
     let parted : total ≡ h ++ (done ++ (Sent a ∷ rest)) = is ∙ ap (λ es. h ++ (es ++ rest)) shown.are ∙ ap (λ es. h ++ es) (append_assoc done (Sent a ∷ []) rest) in
     let may = legal.each (h ++ done) rest (Sent a) (parted ∙ sym (append_assoc h done (Sent a ∷ rest))) in
     let agent : IsAgent (length board.agents) a = (may.0, may.1) in
     let here = (agent_decides board a).1 agent in
-    let to : shown_to board a h ≡ h ++ done = shown-by board a m total (Sent a ∷ rest) legal shown.completions h parted shown.nothing_waited shown.first in
-    let first = ap (λ k. slice_get (outbox board a k) 0) to ∙ shown.first in (
+    let ends : endings_shown board a m h ≡ done = shown-by board a m shown.count h shown.nothing_waited shown.first in
+    let first = ap (λ es. slice_get (outbox board a (h ++ es)) 0) ends ∙ shown.first in (
       (agent, first),
-      taken-events board h a m here ∙ ap (λ es. completions_shown board a h ++ es) (takes a m (outbox board a (shown_to board a h)) first)
-          ∙ ap (λ es. es ++ Sent a ∷ []) (append_cancel_left h (completions_shown board a h) done to) ∙ sym shown.are,
+      taken-events board h a m here ∙ ap (λ es. endings_shown board a m h ++ es) (sym (takes a m (outbox board a (shown_to board a m h)) first))
+          ∙ ap (λ es. es ++ Sent a ∷ []) ends ∙ sym shown.are,
     )
 
 -- entries whose pieces are a legal history's are all `Same`, and the history is the one that they encode
@@ -151,10 +158,10 @@ pieces-same : (board : Board) (total : List Event) → IsLegal board total → (
 pieces-same board total legal h [] events is pieces = (All-nil (λ v. v ≡ Same), sym (is ∙ ap (λ es. h ++ es) pieces ∙ append-nil h))
 pieces-same board total legal h (e ∷ entries) events is pieces =
     let both = piece-shown board total pieces.rest legal h e pieces.piece (is ∙ ap (λ es. h ++ es) pieces.are) pieces.shown in
-    let next : h ++ pieces.piece ≡ h ++ events_of board h e = ap (λ es. h ++ es) (sym both.1) in
+    let next : h ++ pieces.piece ≡ h ++ steps_of board h e = ap (λ es. h ++ es) (sym (steps-shown board h e both.0 ∙ both.1)) in
     let parted : total ≡ (h ++ pieces.piece) ++ pieces.rest = is ∙ ap (λ es. h ++ es) pieces.are ∙ sym (append_assoc h pieces.piece pieces.rest) in
     let later = pieces-same board total legal (h ++ pieces.piece) entries pieces.rest parted pieces.on in (
-      All-cons (λ v. v ≡ Same) (verdict_of board h e) (verdicts_from board (h ++ events_of board h e) entries) ((same_says board h e).1 both.0)
+      All-cons (λ v. v ≡ Same) (verdict_of board h e) (verdicts_from board (h ++ steps_of board h e) entries) ((same_says board h e).1 both.0)
           (subst (λ k. All (λ v. v ≡ Same) (verdicts_from board k entries)) next later.0),
       ap (λ k. history_from board k entries) (sym next) ∙ later.1,
     )

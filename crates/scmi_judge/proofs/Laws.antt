@@ -1,5 +1,5 @@
 -- A record with all entries as the definitions give them is one of a legal history, with each agent's frames, answers and messages.
-use Rattle.std.proofs.Common.{◌≡◌, ◌≢◌, ◌⊎◌, inl, inr, ◌==◌, ℕ, ◌<◌, true, false, List, [], ◌∷◌, ◌++◌, length, drop, slice_get, Option, Some, None, refl, sym, ap, ◌∙◌, subst, arith, if◌then◌else◌}
+use Rattle.std.proofs.Common.{◌≡◌, ◌≢◌, ◌⊎◌, inl, inr, ◌==◌, ℕ, ◌<◌, Bool, true, false, List, [], ◌∷◌, ◌++◌, length, drop, slice_get, Option, Some, None, refl, sym, ap, ◌∙◌, subst, arith, if◌then◌else◌}
 use Rattle.std.specs.List.{filter_map, cons_option}
 use Rattle.std.proofs.lemmas.List.{append_assoc, append-nil}
 use Rattle.std.proofs.lemmas.List.Elements.{filter_map-append}
@@ -10,7 +10,7 @@ use Rattle.scmi_codec.specs.declared.message.Message.{Message}
 use Rattle.scmi_codec.specs.declared.frame.Frame.{Frame}
 use Rattle.scmi_codec.specs.declared.frame.Answer.{Answer}
 use Rattle.scmi_core.specs.declared.event.Event.{Event}
-use Rattle.scmi_core.specs.declared.event.Event.TheVariants.{Advance, Sent}
+use Rattle.scmi_core.specs.declared.event.Event.TheVariants.{Advance, AdvanceFailed, Sent}
 use Rattle.scmi_core.specs.declared.pending_set.PendingSet.{PendingSet}
 use Rattle.scmi_core.specs.Agents.{answers_to, frames_of}
 use Rattle.scmi_core.specs.History.{deeds, delivered_messages, outbox}
@@ -19,12 +19,15 @@ use Rattle.scmi_core.specs.Outbox.{is_sent_by}
 use Rattle.scmi_core.specs.Pending.{pending_sets}
 use Rattle.scmi_core.proofs.Deeds.{IsLegal-push}
 use Rattle.scmi_core.proofs.Legal.{Grown, empty, grow, grown}
-use Rattle.scmi_core.proofs.Laws.{advance, sent_to, answers_empty, answers_failed_other, answers_failed_own, answers_other, answers_own, answers_quiet, delivered_empty, delivered_kept, delivered_other, delivered_sent, empty_is_legal, frames_empty, frames_failed_other, frames_failed_own, frames_other, frames_own, frames_quiet}
+use Rattle.scmi_core.proofs.Laws.{advance, advance_failed, sent_to, answers_empty, answers_failed_other, answers_failed_own, answers_other, answers_own, answers_quiet, delivered_empty, delivered_kept, delivered_other, delivered_sent, empty_is_legal, frames_empty, frames_failed_other, frames_failed_own, frames_other, frames_own, frames_quiet}
 use Rattle.scmi_judge.specs.Law.{IsHistoryOf, answer_shown, frame_shown, message_shown}
-use Rattle.scmi_judge.specs.Record.{IsAnswerTo, IsRecordOf, IsShown, command_shown, completions_of, completions_shown, events_of, history_from, history_of, shown_to, taking, where_nothing_waits}
+use Rattle.scmi_judge.specs.Correction.{steps_of}
+use Rattle.scmi_judge.specs.Record.{IsAnswerTo, IsShown, command_shown, ending_of, endings_of, endings_shown, events_of, is_failure_of, shown_to, taking, where_nothing_waits}
+use Rattle.scmi_judge.specs.Whole.{IsRecordOf, history_from, history_of}
 use Rattle.scmi_judge.specs.declared.entry.Entry.{Entry}
 use Rattle.scmi_judge.specs.declared.entry.Entry.TheVariants.{Answered, Delivered}
-use Rattle.scmi_judge.proofs.Completing.{pending-after}
+use Rattle.scmi_judge.proofs.Corrections.{steps-shown, takes}
+use Rattle.scmi_judge.proofs.Ending.{pending-after}
 use Rattle.scmi_judge.proofs.Changes.{shown-done, shown-failed}
 use Rattle.scmi_judge.proofs.Verdicts.{agent_decides, answered-events, message-events}
 
@@ -36,31 +39,41 @@ record Has (board : Board) (h : List Event) (frames : ℕ → List Frame) (answe
   messages_are : (a : ℕ) → delivered_messages board a h ≡ messages a
 
 module _ (board : Board) (fs : ℕ → List Frame) (xs : ℕ → List Answer) (ms : ℕ → List Message) where
-  -- a completion adds none of them
-  completed : (h : List Event) → 0 < length (pending_sets board (deeds board h)) → Has board h fs xs ms → Has board (h ++ Advance ∷ []) fs xs ms
-  completed h some has = record {
-    legal = IsLegal-push board h Advance has.legal some;
-    frames_are = λ a. frames_quiet a h Advance advance ∙ has.frames_are a;
-    answers_are = λ a. answers_quiet board a h Advance advance ∙ has.answers_are a;
-    messages_are = λ a. delivered_kept board a h Advance has.legal refl ∙ has.messages_are a;
-  }
+  -- the end of a set adds none of them
+  ended : (a : ℕ) (m : Message) (p : PendingSet) (h : List Event) → 0 < length (pending_sets board (deeds board h)) → Has board h fs xs ms
+      → Has board (h ++ ending_of a m p ∷ []) fs xs ms
+  ended a m p h some has = by (is_failure_of a m p) where
+    by : (failed : Bool) → Has board (h ++ (if failed then AdvanceFailed else Advance) ∷ []) fs xs ms
+    by true = record {
+      legal = IsLegal-push board h AdvanceFailed has.legal some;
+      frames_are = λ a. frames_quiet a h AdvanceFailed advance_failed ∙ has.frames_are a;
+      answers_are = λ a. answers_quiet board a h AdvanceFailed advance_failed ∙ has.answers_are a;
+      messages_are = λ a. delivered_kept board a h AdvanceFailed has.legal refl ∙ has.messages_are a;
+    }
+    by false = record {
+      legal = IsLegal-push board h Advance has.legal some;
+      frames_are = λ a. frames_quiet a h Advance advance ∙ has.frames_are a;
+      answers_are = λ a. answers_quiet board a h Advance advance ∙ has.answers_are a;
+      messages_are = λ a. delivered_kept board a h Advance has.legal refl ∙ has.messages_are a;
+    }
 
-  all_completed : (a : ℕ) (ps : List PendingSet) (h : List Event) → pending_sets board (deeds board h) ≡ ps → Has board h fs xs ms
-      → (waiting : List Message) → outbox board a h ≡ waiting → Has board (h ++ completions_of board a ps h) fs xs ms
-  all_completed a [] h are has waiting is = subst (λ k. Has board k fs xs ms) (sym (append-nil h)) has
-  all_completed a (p ∷ ps) h are has (m ∷ more) is =
-      let none : completions_of board a (p ∷ ps) h ≡ [] = ap (λ ws. where_nothing_waits ws (Advance ∷ completions_of board a ps (h ++ Advance ∷ []))) is in
+  all_ended : (a : ℕ) (m : Message) (ps : List PendingSet) (h : List Event) → pending_sets board (deeds board h) ≡ ps → Has board h fs xs ms
+      → (waiting : List Message) → outbox board a h ≡ waiting → Has board (h ++ endings_of board a m ps h) fs xs ms
+  all_ended a m [] h are has waiting is = subst (λ k. Has board k fs xs ms) (sym (append-nil h)) has
+  all_ended a m (p ∷ ps) h are has (n ∷ more) is =
+      let none : endings_of board a m (p ∷ ps) h ≡ [] = ap (λ ws. where_nothing_waits ws (ending_of a m p ∷ endings_of board a m ps (h ++ ending_of a m p ∷ []))) is in
       subst (λ k. Has board k fs xs ms) (sym (ap (λ es. h ++ es) none ∙ append-nil h)) has
-  all_completed a (p ∷ ps) h are has [] is =
-      let next = h ++ Advance ∷ [] in
-      let one : completions_of board a (p ∷ ps) h ≡ Advance ∷ completions_of board a ps next = ap (λ ws. where_nothing_waits ws (Advance ∷ completions_of board a ps next)) is in
+  all_ended a m (p ∷ ps) h are has [] is =
+      let e = ending_of a m p in
+      let next = h ++ e ∷ [] in
+      let one : endings_of board a m (p ∷ ps) h ≡ e ∷ endings_of board a m ps next = ap (λ ws. where_nothing_waits ws (e ∷ endings_of board a m ps next)) is in
       let some : 0 < length (pending_sets board (deeds board h)) = rw are (omega arith) in
-      subst (λ k. Has board k fs xs ms) (append_assoc h (Advance ∷ []) (completions_of board a ps next) ∙ ap (λ es. h ++ es) (sym one))
-      (all_completed a ps next (pending-after board h ∙ ap (drop 1) are) (completed h some has) (outbox board a next) refl)
+      subst (λ k. Has board k fs xs ms) (append_assoc h (e ∷ []) (endings_of board a m ps next) ∙ ap (λ es. h ++ es) (sym one))
+      (all_ended a m ps next (pending-after board a m p h ∙ ap (drop 1) are) (ended a m p h some has) (outbox board a next) refl)
 
-  shown : (a : ℕ) (h : List Event) → Has board h fs xs ms → Has board (shown_to board a h) fs xs ms
-  unfolding completions_shown
-  shown a h has = all_completed a (pending_sets board (deeds board h)) h refl has (outbox board a h) refl
+  shown : (a : ℕ) (m : Message) (h : List Event) → Has board h fs xs ms → Has board (shown_to board a m h) fs xs ms
+  unfolding endings_shown
+  shown a m h has = all_ended a m (pending_sets board (deeds board h)) h refl has (outbox board a h) refl
 
 -- what an entry adds to a list of each agent
 abbrev more : {X : Type 0} → (ℕ → List X) → (ℕ → Entry → Option X) → Entry → ℕ → List X
@@ -147,17 +160,14 @@ module _ (board : Board) (fs : ℕ → List Frame) (xs : ℕ → List Answer) (m
       (after_answer h b f x (command_shown board b f x h) (answers board h b f x is.0 is.1) has)
   after_entry h (Delivered b m) is has =
       subst (λ k. Has board k (more fs frame_shown (Delivered b m)) (more xs answer_shown (Delivered b m)) (more ms message_shown (Delivered b m)))
-      (ap (λ es. shown_to board b h ++ es) (takes (outbox board b (shown_to board b h)) is.1) ∙ sym (message-events board h b m ((agent_decides board b).1 is.0)))
-      (after_message (shown_to board b h) b m is.0 is.1 (shown board fs xs ms b h has)) where
-        takes : (waiting : List Message) → slice_get waiting 0 ≡ Some m → Sent b ∷ [] ≡ taking b waiting
-        takes [] first = absurd (cc)
-        takes (n ∷ waiting) first = refl
+      (ap (λ es. shown_to board b m h ++ es) (takes b m (outbox board b (shown_to board b m h)) is.1) ∙ sym (message-events board h b m ((agent_decides board b).1 is.0)))
+      (after_message (shown_to board b m h) b m is.0 is.1 (shown board fs xs ms b m h has))
 
 -- an entry more of a record
 history-push : (board : Board) (h : List Event) (entries : List Entry) (entry : Entry)
-    → history_from board h (entries ++ entry ∷ []) ≡ history_from board h entries ++ events_of board (history_from board h entries) entry
+    → history_from board h (entries ++ entry ∷ []) ≡ history_from board h entries ++ steps_of board (history_from board h entries) entry
 history-push board h [] entry = refl
-history-push board h (e ∷ entries) entry = history-push board (h ++ events_of board h e) entries entry
+history-push board h (e ∷ entries) entry = history-push board (h ++ steps_of board h e) entries entry
 
 of_front : (board : Board) (entries : List Entry) (e : Entry) → IsRecordOf board (entries ++ e ∷ []) → IsRecordOf board entries
 of_front board entries e whole = record {
@@ -178,7 +188,7 @@ law_of board (grow {xs = entries} g e) whole =
     = record { legal = front.legal; frames_are = front.frames; answers_are = front.answers; messages_are = front.messages } in
     let now = after_entry board (λ a. filter_map (frame_shown a) entries) (λ a. filter_map (answer_shown a) entries) (λ a. filter_map (message_shown a) entries)
     (history_of board entries) e (whole.each entries [] e refl) has in
-    subst (λ h. IsHistoryOf board (entries ++ e ∷ []) h) (sym (history-push board [] entries e))
+    subst (λ h. IsHistoryOf board (entries ++ e ∷ []) h) (sym (history-push board [] entries e ∙ ap (λ es. history_of board entries ++ es) (steps-shown board (history_of board entries) e (whole.each entries [] e refl))))
     (record {
       legal = now.legal;
       frames = λ a. now.frames_are a ∙ sym (filter_map-append (frame_shown a) entries (e ∷ []));

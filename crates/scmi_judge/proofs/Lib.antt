@@ -1,8 +1,10 @@
 pub mod Alike
 pub mod Changes
-pub mod Completing
+pub mod Corrections
+pub mod Ending
 pub mod Examples
 pub mod Histories
 pub mod Laws
 pub mod Records
+pub mod Setters
 pub mod Verdicts

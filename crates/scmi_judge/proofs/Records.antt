@@ -6,8 +6,10 @@ use Rattle.std.proofs.lemmas.List.{append_assoc}
 use Rattle.std.proofs.lemmas.List.Elements.{All-cons, All-nil}
 use Rattle.scmi_plan.specs.Board.{Board}
 use Rattle.scmi_core.specs.declared.event.Event.{Event}
-use Rattle.scmi_judge.specs.Record.{IsRecordOf, IsShown, events_of, history_from}
-use Rattle.scmi_judge.specs.Verdict.{verdict_of, verdicts_from, verdicts_of}
+use Rattle.scmi_judge.specs.Correction.{steps_of}
+use Rattle.scmi_judge.specs.Record.{IsShown}
+use Rattle.scmi_judge.specs.Verdict.{verdict_of}
+use Rattle.scmi_judge.specs.Whole.{IsRecordOf, history_from, verdicts_from, verdicts_of}
 use Rattle.scmi_judge.specs.declared.entry.Entry.{Entry}
 use Rattle.scmi_judge.specs.declared.verdict.Verdict.{Verdict}
 use Rattle.scmi_judge.specs.declared.verdict.Verdict.TheVariants.{Same}
@@ -25,16 +27,16 @@ tail-of v vs all = λ k d less. all (suc k) d (omega (arith, less))
 
 shown-at : (board : Board) (h : List Event) (before after : List Entry) (entry : Entry)
     → All (λ v. v ≡ Same) (verdicts_from board h (before ++ entry ∷ after)) → IsShown board (history_from board h before) entry
-shown-at board h [] after entry all = (same_says board h entry).0 (head-of (verdict_of board h entry) (verdicts_from board (h ++ events_of board h entry) after) all)
+shown-at board h [] after entry all = (same_says board h entry).0 (head-of (verdict_of board h entry) (verdicts_from board (h ++ steps_of board h entry) after) all)
 shown-at board h (e ∷ before) after entry all =
-    shown-at board (h ++ events_of board h e) before after entry (tail-of (verdict_of board h e) (verdicts_from board (h ++ events_of board h e) (before ++ entry ∷ after)) all)
+    shown-at board (h ++ steps_of board h e) before after entry (tail-of (verdict_of board h e) (verdicts_from board (h ++ steps_of board h e) (before ++ entry ∷ after)) all)
 
 same-of : (board : Board) (h : List Event) (entries : List Entry) → AreShown board h entries → All (λ v. v ≡ Same) (verdicts_from board h entries)
 same-of board h [] shown = All-nil (λ v. v ≡ Same)
 same-of board h (e ∷ entries) shown =
-    All-cons (λ v. v ≡ Same) (verdict_of board h e) (verdicts_from board (h ++ events_of board h e) entries)
+    All-cons (λ v. v ≡ Same) (verdict_of board h e) (verdicts_from board (h ++ steps_of board h e) entries)
     ((same_says board h e).1 (shown [] entries e refl))
-    (same-of board (h ++ events_of board h e) entries (λ before after entry is. shown (e ∷ before) after entry (ap (λ es. e ∷ es) is)))
+    (same-of board (h ++ steps_of board h e) entries (λ before after entry is. shown (e ∷ before) after entry (ap (λ es. e ∷ es) is)))
 
 pub all_same : (board : Board) (entries : List Entry) (verdicts : List Verdict) → verdicts ≡ verdicts_of board entries → All (λ v. v ≡ Same) verdicts ↔ IsRecordOf board entries
 all_same board entries verdicts are = (
@@ -47,7 +49,7 @@ all_same board entries verdicts are = (
 
 -- one entry of a record after those before it
 pub one-entry : (board : Board) (h : List Event) (vs : List Verdict) (entries : List Entry) (i : ℕ) (e : Entry) → i < length entries → e ≡ get_or entries i e
-    → (vs ++ verdict_of board h e ∷ []) ++ verdicts_from board (h ++ events_of board h e) (drop (suc i) entries) ≡ vs ++ verdicts_from board h (drop i entries)
+    → (vs ++ verdict_of board h e ∷ []) ++ verdicts_from board (h ++ steps_of board h e) (drop (suc i) entries) ≡ vs ++ verdicts_from board h (drop i entries)
 one-entry board h vs entries i e less is =
-    append_assoc vs (verdict_of board h e ∷ []) (verdicts_from board (h ++ events_of board h e) (drop (suc i) entries))
+    append_assoc vs (verdict_of board h e ∷ []) (verdicts_from board (h ++ steps_of board h e) (drop (suc i) entries))
     ∙ ap (λ es. vs ++ verdicts_from board h es) (ap (λ x. x ∷ drop (suc i) entries) is ∙ sym (drop-cons entries i e less))

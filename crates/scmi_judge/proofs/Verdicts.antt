@@ -17,7 +17,7 @@ use Rattle.scmi_core.specs.declared.event.Event.TheVariants.{Command, CommandFai
 use Rattle.scmi_core.specs.History.{answer_to, outbox}
 use Rattle.scmi_core.specs.Outbox.{message_with}
 use Rattle.scmi_core.specs.Reply.{failed_answer}
-use Rattle.scmi_judge.specs.Record.{IsShown, command_shown, completions_shown, events_of, is_agent, is_refusal, shown_to, taking}
+use Rattle.scmi_judge.specs.Record.{IsShown, command_shown, endings_shown, events_of, is_agent, is_refusal, shown_to, taking}
 use Rattle.scmi_judge.specs.Same.{is_same_answer, is_same_message}
 use Rattle.scmi_judge.specs.Verdict.{due_answer, verdict_of, verdict_on_answer, verdict_on_message}
 use Rattle.scmi_judge.specs.declared.entry.Entry.{Entry}
@@ -25,7 +25,7 @@ use Rattle.scmi_judge.specs.declared.entry.Entry.TheVariants.{Answered, Delivere
 use Rattle.scmi_judge.specs.declared.verdict.Verdict.{Verdict}
 use Rattle.scmi_judge.specs.declared.verdict.Verdict.TheVariants as verdict
 use Rattle.scmi_judge.proofs.Alike.{same_answer_decides, same_message_decides}
-use Rattle.scmi_judge.proofs.Completing.{nothing-first}
+use Rattle.scmi_judge.proofs.Ending.{nothing-first}
 use Rattle.scmi_judge.proofs.Changes.{due-beside, due-says, refusal-changes, refusal-differs, refusal-due, says-due}
 
 leb_decides : (m n : ℕ) → Decides (nat_le m n) (m ≤ n)
@@ -82,31 +82,31 @@ refused-events board h a f x here is = answered-events board h a f x here ∙ ap
 -- a message to a number that is away agent's
 pub stranger-message : (board : Board) (h : List Event) (a : ℕ) (m : Message) → is_agent board a ≡ false → verdict_of board h (Delivered a m) ≡ verdict.NoAgent
 unfolding verdict_of
-stranger-message board h a m away = ap (λ is. if is then verdict_on_message (outbox board a (shown_to board a h)) m else verdict.NoAgent) away
+stranger-message board h a m away = ap (λ is. if is then verdict_on_message (outbox board a (shown_to board a m h)) m else verdict.NoAgent) away
 
 pub stranger-taking : (board : Board) (h : List Event) (a : ℕ) (m : Message) → is_agent board a ≡ false → events_of board h (Delivered a m) ≡ []
 unfolding events_of
-stranger-taking board h a m away = ap (λ is. if is then completions_shown board a h ++ taking a (outbox board a (shown_to board a h)) else []) away
+stranger-taking board h a m away = ap (λ is. if is then endings_shown board a m h ++ taking a (outbox board a (shown_to board a m h)) else []) away
 
 -- a message to an agent
 pub message-verdict : (board : Board) (h : List Event) (a : ℕ) (m : Message) → is_agent board a ≡ true
-    → verdict_of board h (Delivered a m) ≡ verdict_on_message (outbox board a (shown_to board a h)) m
+    → verdict_of board h (Delivered a m) ≡ verdict_on_message (outbox board a (shown_to board a m h)) m
 unfolding verdict_of
-message-verdict board h a m here = ap (λ is. if is then verdict_on_message (outbox board a (shown_to board a h)) m else verdict.NoAgent) here
+message-verdict board h a m here = ap (λ is. if is then verdict_on_message (outbox board a (shown_to board a m h)) m else verdict.NoAgent) here
 
 pub taken-events : (board : Board) (h : List Event) (a : ℕ) (m : Message) → is_agent board a ≡ true
-    → events_of board h (Delivered a m) ≡ completions_shown board a h ++ taking a (outbox board a (shown_to board a h))
+    → events_of board h (Delivered a m) ≡ endings_shown board a m h ++ taking a (outbox board a (shown_to board a m h))
 unfolding events_of
-taken-events board h a m here = ap (λ is. if is then completions_shown board a h ++ taking a (outbox board a (shown_to board a h)) else []) here
+taken-events board h a m here = ap (λ is. if is then endings_shown board a m h ++ taking a (outbox board a (shown_to board a m h)) else []) here
 
 pub message-events : (board : Board) (h : List Event) (a : ℕ) (m : Message) → is_agent board a ≡ true
-    → h ++ events_of board h (Delivered a m) ≡ shown_to board a h ++ taking a (outbox board a (shown_to board a h))
+    → h ++ events_of board h (Delivered a m) ≡ shown_to board a m h ++ taking a (outbox board a (shown_to board a m h))
 message-events board h a m here =
     ap (λ es. h ++ es) (taken-events board h a m here)
-    ∙ sym (append_assoc h (completions_shown board a h) (taking a (outbox board a (shown_to board a h))))
+    ∙ sym (append_assoc h (endings_shown board a m h) (taking a (outbox board a (shown_to board a m h))))
 
 -- from two histories that show the same to an agent a message is judged alike, and leaves the same
-pub message-again : (board : Board) (h k : List Event) (a : ℕ) (m : Message) → is_agent board a ≡ true → shown_to board a k ≡ shown_to board a h
+pub message-again : (board : Board) (h k : List Event) (a : ℕ) (m : Message) → is_agent board a ≡ true → shown_to board a m k ≡ shown_to board a m h
     → (verdict_of board k (Delivered a m) ≡ verdict_of board h (Delivered a m)) × (k ++ events_of board k (Delivered a m) ≡ h ++ events_of board h (Delivered a m))
 message-again board h k a m here same = (
   message-verdict board k a m here ∙ ap (λ s. verdict_on_message (outbox board a s) m) same ∙ sym (message-verdict board h a m here),
@@ -114,12 +114,12 @@ message-again board h k a m here same = (
 )
 
 -- if no message waits, none was to come
-pub none-came : (board : Board) (h k : List Event) (a : ℕ) (m : Message) → is_agent board a ≡ true → k ≡ shown_to board a h → slice_get (outbox board a k) 0 ≡ None
+pub none-came : (board : Board) (h k : List Event) (a : ℕ) (m : Message) → is_agent board a ≡ true → k ≡ shown_to board a m h → slice_get (outbox board a k) 0 ≡ None
     → (verdict.NoMessage ≡ verdict_of board h (Delivered a m)) × (k ≡ h ++ events_of board h (Delivered a m))
 none-came board h k a m here shown none =
-    let nothing : outbox board a (shown_to board a h) ≡ [] = sym (ap (outbox board a) shown) ∙ nothing-first (outbox board a k) none in (
+    let nothing : outbox board a (shown_to board a m h) ≡ [] = sym (ap (outbox board a) shown) ∙ nothing-first (outbox board a k) none in (
       sym (message-verdict board h a m here ∙ ap (λ ms. verdict_on_message ms m) nothing),
-      shown ∙ sym (append-nil (shown_to board a h)) ∙ ap (λ ms. shown_to board a h ++ taking a ms) (sym nothing) ∙ sym (message-events board h a m here),
+      shown ∙ sym (append-nil (shown_to board a m h)) ∙ ap (λ ms. shown_to board a m h ++ taking a ms) (sym nothing) ∙ sym (message-events board h a m here),
     )
 
 first-of : (a : ℕ) (ms : List Message) (due m : Message) → slice_get ms 0 ≡ Some due
@@ -128,13 +128,13 @@ first-of a [] due m first = absurd (cc)
 first-of a (n ∷ ms) due m first = let same : due ≡ n = cc in (ap (λ d. verdict_on_message (d ∷ []) m) same, refl)
 
 -- if a message waits, it was to come
-pub one-came : (board : Board) (h k : List Event) (a : ℕ) (m due : Message) → is_agent board a ≡ true → k ≡ shown_to board a h → slice_get (outbox board a k) 0 ≡ Some due
+pub one-came : (board : Board) (h k : List Event) (a : ℕ) (m due : Message) → is_agent board a ≡ true → k ≡ shown_to board a m h → slice_get (outbox board a k) 0 ≡ Some due
     → (verdict_on_message (due ∷ []) m ≡ verdict_of board h (Delivered a m)) × (k ++ Sent a ∷ [] ≡ h ++ events_of board h (Delivered a m))
 one-came board h k a m due here shown first =
     let waits = sym (ap (λ s. slice_get (outbox board a s) 0) shown) ∙ first in
-    let both = first-of a (outbox board a (shown_to board a h)) due m waits in (
+    let both = first-of a (outbox board a (shown_to board a m h)) due m waits in (
       both.0 ∙ sym (message-verdict board h a m here),
-      ap (λ s. s ++ Sent a ∷ []) shown ∙ ap (λ es. shown_to board a h ++ es) both.1 ∙ sym (message-events board h a m here),
+      ap (λ s. s ++ Sent a ∷ []) shown ∙ ap (λ es. shown_to board a m h ++ es) both.1 ∙ sym (message-events board h a m here),
     )
 
 answer_on : (due x : Answer) → (verdict_on_answer due x ≡ verdict.Same) ↔ (x ≡ due)
@@ -172,8 +172,8 @@ same_says board h (Delivered a m) = by (cases_Bool (is_agent board a)) where
   by : (is_agent board a ≡ true) ⊎ (is_agent board a ≡ false) → (verdict_of board h (Delivered a m) ≡ verdict.Same) ↔ IsShown board h (Delivered a m)
   by (inl here) =
       let is = message-verdict board h a m here in (
-        λ s. ((agent_decides board a).0 here, (message_on (outbox board a (shown_to board a h)) m).0 (sym is ∙ s)),
-        λ s. is ∙ (message_on (outbox board a (shown_to board a h)) m).1 s.1,
+        λ s. ((agent_decides board a).0 here, (message_on (outbox board a (shown_to board a m h)) m).0 (sym is ∙ s)),
+        λ s. is ∙ (message_on (outbox board a (shown_to board a m h)) m).1 s.1,
       )
   by (inr away) = (
     λ s. absurd (let other : verdict.NoAgent ≡ verdict.Same = sym (stranger-message board h a m away) ∙ s in cc),

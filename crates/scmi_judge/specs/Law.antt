@@ -1,16 +1,18 @@
 -- What a record and a history have in common.
-use Rattle.std.specs.Prelude.{◌≡◌, ◌⊎◌, ℕ, ◌==◌, ◌<◌, ◌++◌, if◌then◌else◌, List, [], ◌∷◌, Option, Some, None, replicate, slice_get}
+use Rattle.std.specs.Prelude.{◌≡◌, ◌⊎◌, ℕ, ◌==◌, ◌<◌, ◌++◌, if◌then◌else◌, List, [], ◌∷◌, Option, Some, None, map, take, slice_get}
 use Rattle.std.specs.List.{filter_map}
 use Rattle.scmi_plan.specs.Board.{Board}
 use Rattle.scmi_codec.specs.declared.message.Message.{Message}
 use Rattle.scmi_codec.specs.declared.frame.Frame.{Frame}
 use Rattle.scmi_codec.specs.declared.frame.Answer.{Answer}
 use Rattle.scmi_core.specs.declared.event.Event.{Event}
-use Rattle.scmi_core.specs.declared.event.Event.TheVariants.{Command, Advance, Sent, CommandFailed}
+use Rattle.scmi_core.specs.declared.event.Event.TheVariants.{Command, Sent, CommandFailed}
 use Rattle.scmi_core.specs.Agents.{answers_to, frames_of}
-use Rattle.scmi_core.specs.History.{answer_to, delivered_messages, outbox}
+use Rattle.scmi_core.specs.History.{answer_to, deeds, delivered_messages, outbox}
 use Rattle.scmi_core.specs.Legal.{IsLegal}
+use Rattle.scmi_core.specs.Pending.{pending_sets}
 use Rattle.scmi_core.specs.Reply.{failed_answer}
+use Rattle.scmi_judge.specs.Record.{ending_of}
 use Rattle.scmi_judge.specs.declared.entry.Entry.{Entry}
 use Rattle.scmi_judge.specs.declared.entry.Entry.TheVariants.{Answered, Delivered}
 
@@ -47,12 +49,16 @@ pub record IsFailed (a : ℕ) (frame : Frame) (answer : Answer) (events : List E
   pub are : events ≡ CommandFailed a frame ∷ []
   pub due : answer ≡ failed_answer frame
 
--- after a history these events are completions, before each of which no message waited for agent a, and then its taking of the first that waits
+-- the first of the pending sets end before agent a takes a message, in order, so many
+abbrev pub first_endings : Board → ℕ → Message → List Event → ℕ → List Event
+first_endings board a m h count = map (ending_of a m) (take count (pending_sets board (deeds board h)))
+
+-- after a history these events are ends of the first pending sets, before each of which no message waited for agent a, and then its taking of the first that waits
 pub record IsTaken (board : Board) (h : List Event) (a : ℕ) (message : Message) (events : List Event) : Type 0 where
-  pub completions : ℕ
-  pub are : events ≡ replicate completions Advance ++ Sent a ∷ []
-  pub nothing_waited : (k : ℕ) → k < completions → outbox board a (h ++ replicate k Advance) ≡ []
-  pub first : slice_get (outbox board a (h ++ replicate completions Advance)) 0 ≡ Some message
+  pub count : ℕ
+  pub are : events ≡ first_endings board a message h count ++ Sent a ∷ []
+  pub nothing_waited : (k : ℕ) → k < count → outbox board a (h ++ first_endings board a message h k) ≡ []
+  pub first : slice_get (outbox board a (h ++ first_endings board a message h count)) 0 ≡ Some message
 
 -- an entry shows these events after a history
 abbrev pub IsPiece : Board → List Event → Entry → List Event → Type 0

@@ -1,4 +1,6 @@
+pub mod Correction
 pub mod Law
 pub mod Record
 pub mod Same
 pub mod Verdict
+pub mod Whole

@@ -1,5 +1,5 @@
 -- The history that a record encodes. Each entry is judged at its prefix: what the entries before it encode.
-use Rattle.std.specs.Prelude.{◌≡◌, ◌≢◌, ◌⊎◌, ℕ, List, [], ◌∷◌, ◌++◌, length, slice_get, Bool, false, not, ◌&&◌, nat_le, if◌then◌else◌, Some, None, is_some}
+use Rattle.std.specs.Prelude.{◌≡◌, ◌≢◌, ◌⊎◌, ℕ, ◌==◌, List, [], ◌∷◌, ◌++◌, length, slice_get, Bool, false, not, ◌&&◌, nat_le, if◌then◌else◌, Some, None, is_some}
 use Rattle.scmi_plan.specs.Agent.{IsAgent}
 use Rattle.scmi_plan.specs.Board.{Board}
 use Rattle.scmi_codec.specs.Payload.{begins_with_success}
@@ -8,12 +8,14 @@ use Rattle.scmi_codec.specs.declared.frame.Frame.{Frame}
 use Rattle.scmi_codec.specs.declared.frame.Answer.{Answer}
 use Rattle.scmi_codec.specs.declared.frame.Answer.TheVariants.{Reply, Released, ChannelError}
 use Rattle.scmi_core.specs.declared.event.Event.{Event}
-use Rattle.scmi_core.specs.declared.event.Event.TheVariants.{Command, Advance, Sent, CommandFailed}
+use Rattle.scmi_core.specs.declared.event.Event.TheVariants.{Command, Advance, AdvanceFailed, Sent, CommandFailed}
 use Rattle.scmi_core.specs.declared.pending_set.PendingSet.{PendingSet}
 use Rattle.scmi_core.specs.Effect.{effect_after}
 use Rattle.scmi_core.specs.History.{answer_to, deeds, outbox}
+use Rattle.scmi_core.specs.Outbox.{failed_response_to}
 use Rattle.scmi_core.specs.Pending.{pending_sets}
 use Rattle.scmi_core.specs.Reply.{failed_answer}
+use Rattle.scmi_judge.specs.Same.{is_same_message}
 use Rattle.scmi_judge.specs.declared.entry.Entry.{Entry}
 use Rattle.scmi_judge.specs.declared.entry.Entry.TheVariants.{Answered, Delivered}
 
@@ -31,19 +33,27 @@ abbrev pub where_nothing_waits : List Message → List Event → List Event
 where_nothing_waits [] events = events
 where_nothing_waits (m ∷ ms) events = []
 
--- of these pending sets, in order: the completions of those that end before a message waits for agent a
-abbrev pub completions_of : Board → ℕ → List PendingSet → List Event → List Event
-completions_of board a [] h = []
-completions_of board a (p ∷ ps) h =
-    where_nothing_waits (outbox board a h) (Advance ∷ completions_of board a ps (h ++ Advance ∷ []))
+-- whether a message to agent a is the delayed response to a set of it whose change the hardware refused
+abbrev pub is_failure_of : ℕ → Message → PendingSet → Bool
+is_failure_of a m p = p.agent == a && (p.wanted && is_same_message (failed_response_to p.header) m)
 
--- the completions that a message to agent a shows: pending sets complete until one waits for it, and no more
-unfoldable pub completions_shown : Board → ℕ → List Event → List Event
-completions_shown board a h = completions_of board a (pending_sets board (deeds board h)) h
+-- how a pending set ends before agent a takes a message: the hardware refused its change if the message says so, or else it completes
+abbrev pub ending_of : ℕ → Message → PendingSet → Event
+ending_of a m p = if is_failure_of a m p then AdvanceFailed else Advance
 
--- a history with the completions that a message to agent a shows
-abbrev pub shown_to : Board → ℕ → List Event → List Event
-shown_to board a h = h ++ completions_shown board a h
+-- of these pending sets, in order: the ends of those that end before a message waits for agent a, which then takes m
+abbrev pub endings_of : Board → ℕ → Message → List PendingSet → List Event → List Event
+endings_of board a m [] h = []
+endings_of board a m (p ∷ ps) h =
+    where_nothing_waits (outbox board a h) (ending_of a m p ∷ endings_of board a m ps (h ++ ending_of a m p ∷ []))
+
+-- the ends of sets that a message to agent a shows: pending sets end until one waits for it, and no more
+unfoldable pub endings_shown : Board → ℕ → Message → List Event → List Event
+endings_shown board a m h = endings_of board a m (pending_sets board (deeds board h)) h
+
+-- a history with the ends of sets that a message to agent a shows
+abbrev pub shown_to : Board → ℕ → Message → List Event → List Event
+shown_to board a m h = h ++ endings_shown board a m h
 
 -- an agent's taking of a message, if one waits
 abbrev pub taking : ℕ → List Message → List Event
@@ -72,16 +82,7 @@ command_shown board a frame answer h = if is_refusal board a frame answer h then
 unfoldable pub events_of : Board → List Event → Entry → List Event
 events_of board h (Answered a frame answer) = if is_agent board a then command_shown board a frame answer h ∷ [] else []
 events_of board h (Delivered a message) =
-    if is_agent board a then completions_shown board a h ++ taking a (outbox board a (shown_to board a h)) else []
-
--- the history that a record encodes, after a history
-abbrev pub history_from : Board → List Event → List Entry → List Event
-history_from board h [] = h
-history_from board h (entry ∷ entries) = history_from board (h ++ events_of board h entry) entries
-
--- the history that a record encodes
-abbrev pub history_of : Board → List Entry → List Event
-history_of board entries = history_from board [] entries
+    if is_agent board a then endings_shown board a message h ++ taking a (outbox board a (shown_to board a message h)) else []
 
 -- an answer is one that the definitions give to a frame of agent a after a history: the one of the protocol, or, if it
 -- is to change the hardware, the one that it gets if the hardware refuses
@@ -94,8 +95,4 @@ IsAnswerTo board a frame answer h =
 abbrev pub IsShown : Board → List Event → Entry → Type 0
 IsShown board h (Answered a frame answer) = IsAgent (length board.agents) a × IsAnswerTo board a frame answer h
 IsShown board h (Delivered a message) =
-    IsAgent (length board.agents) a × (slice_get (outbox board a (shown_to board a h)) 0 ≡ Some message)
-
--- each entry is what the definitions give, after what those before it encode
-pub record IsRecordOf (board : Board) (entries : List Entry) : Type 0 where
-  pub each : (before after : List Entry) (entry : Entry) → entries ≡ before ++ entry ∷ after → IsShown board (history_of board before) entry
+    IsAgent (length board.agents) a × (slice_get (outbox board a (shown_to board a message h)) 0 ≡ Some message)

@@ -1,5 +1,5 @@
 -- What the definitions say of an entry.
-use Rattle.std.specs.Prelude.{ℕ, List, [], ◌∷◌, ◌++◌, ◌&&◌, if◌then◌else◌}
+use Rattle.std.specs.Prelude.{ℕ, List, [], ◌∷◌, ◌&&◌, if◌then◌else◌}
 use Rattle.scmi_plan.specs.Board.{Board}
 use Rattle.scmi_codec.specs.declared.message.Message.{Message}
 use Rattle.scmi_codec.specs.declared.frame.Frame.{Frame}
@@ -7,7 +7,7 @@ use Rattle.scmi_codec.specs.declared.frame.Answer.{Answer}
 use Rattle.scmi_core.specs.declared.event.Event.{Event}
 use Rattle.scmi_core.specs.History.{answer_to, outbox}
 use Rattle.scmi_core.specs.Reply.{failed_answer}
-use Rattle.scmi_judge.specs.Record.{events_of, is_agent, is_to_change, shown_to}
+use Rattle.scmi_judge.specs.Record.{is_agent, is_to_change, shown_to}
 use Rattle.scmi_judge.specs.Same.{is_same_answer, is_same_message}
 use Rattle.scmi_judge.specs.declared.entry.Entry.{Entry}
 use Rattle.scmi_judge.specs.declared.entry.Entry.TheVariants.{Answered, Delivered}
@@ -34,13 +34,4 @@ unfoldable pub verdict_of : Board → List Event → Entry → Verdict
 verdict_of board h (Answered a frame answer) =
     if is_agent board a then verdict_on_answer (due_answer board a frame answer h) answer else verdict.NoAgent
 verdict_of board h (Delivered a message) =
-    if is_agent board a then verdict_on_message (outbox board a (shown_to board a h)) message else verdict.NoAgent
-
--- what is said of each entry of a record, after a history
-abbrev pub verdicts_from : Board → List Event → List Entry → List Verdict
-verdicts_from board h [] = []
-verdicts_from board h (entry ∷ entries) = verdict_of board h entry ∷ verdicts_from board (h ++ events_of board h entry) entries
-
--- what is said of each entry of a record
-abbrev pub verdicts_of : Board → List Entry → List Verdict
-verdicts_of board entries = verdicts_from board [] entries
+    if is_agent board a then verdict_on_message (outbox board a (shown_to board a message h)) message else verdict.NoAgent

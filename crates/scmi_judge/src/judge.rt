@@ -4,10 +4,12 @@ ghost use Rattle.scmi_clock.specs.declared.discovery.TheConstants.{PENDING_SETS}
 ghost use Rattle.scmi_core.specs.History.{deeds, is_pending_after};
 ghost use Rattle.scmi_core.specs.Legal.{IsLegal};
 ghost use Rattle.scmi_core.specs.Pending.{pending_sets};
+ghost use Rattle.scmi_judge.specs.Correction.{corrections};
 ghost use Rattle.scmi_judge.specs.Record.{IsAnswer, IsShown, events_of};
 ghost use Rattle.scmi_judge.specs.Verdict.{verdict_of};
 ghost use Rattle.scmi_judge.specs.declared.verdict.Verdict.TheVariants.{Same};
 
+use crate::correction;
 use crate::entry::Entry;
 use crate::judging::{judge_answer, judge_message};
 use crate::verdict::Verdict;
@@ -45,13 +47,14 @@ impl Judge {
         Judge { core }
     }
 
-    /// Judges the next entry, and goes on from what it encodes, also after a difference. A command
-    /// that was to change the hardware, and whose answer is no success, is one whose change the
-    /// hardware refused; HARDWARE_ERROR alone is then due. Any other command is executed, and a
-    /// message that was due is taken, whatever the record shows. For a message, pending sets
-    /// complete until one waits for its agent, and no more; if none comes, all have completed.
+    /// Judges the next entry, and adds what it encodes, also if it differs. A command that was to
+    /// change the hardware, and whose answer is no success, is one whose change the hardware
+    /// refused: due is HARDWARE_ERROR if the record shows that, and else SUCCESS. Any other command
+    /// is executed, and a message that was due is taken, whatever the record shows. For a message,
+    /// pending sets end until one waits for its agent, and no more; if none comes, all have ended.
+    /// They complete, but for the one to which the message is the response of HARDWARE_ERROR.
     /// `Memory` is the only refusal, of an answer only if there is no room; then no event was added
-    /// but completions that the entry shows, and the same entry can be judged again.
+    /// but ends of sets that the entry shows, and the same entry can be judged again.
     pub fn judge(&mut self, entry: &Entry) -> Result<Verdict, CoreError>
         ensures verdict { IfOk result (λ verdict.
             verdict ≡ verdict_of self.old.board self.old.history entry.now) }
@@ -79,6 +82,22 @@ impl Judge {
             } => judge_answer(&mut self.core, *agent, frame, answer),
             Entry::Delivered { agent, message } => judge_message(&mut self.core, *agent, message),
         }
+    }
+
+    /// Goes on from what the entry just judged shows, if it differs by this verdict. A value that a
+    /// reply of success shows, where another answer was due, is given to its domain or clock by an
+    /// agent that may set it; if none may, or if an agent is notified of the domain's changes,
+    /// nothing is done. A pending set that the record shows as refused is withdrawn, if it is the
+    /// only one and no message waits for its agent. `Memory` is the only refusal; then the judge is
+    /// of no further use.
+    pub fn correct(&mut self, entry: &Entry, verdict: &Verdict) -> Result<(), CoreError>
+        ensures event { OnOk result (self.new.history ≡ self.old.history
+            ++ corrections self.old.board self.old.history entry.now verdict.now) }
+        ensures board { self.new.board ≡ self.old.board }
+        ensures legal { IsLegal self.new.board self.new.history }
+        ensures errors { IfErr result (λ e. e ≡ CoreError.Memory) }
+    {
+        correction::correct(&mut self.core, entry, verdict)
     }
 
     /// The board.

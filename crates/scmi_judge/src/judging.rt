@@ -5,7 +5,7 @@ ghost use Rattle.scmi_judge.specs.Record.{events_of};
 ghost use Rattle.scmi_judge.specs.Verdict.{verdict_of};
 ghost use Rattle.scmi_judge.specs.declared.entry.Entry.TheVariants.{Answered, Delivered};
 
-use crate::completions::{complete_for, has_agent};
+use crate::endings::{end_for, has_agent};
 use crate::refusals::{is_refusal, judge_refusal};
 use crate::verdict::Verdict;
 use scmi_codec::{Answer, Frame, Message};
@@ -66,7 +66,7 @@ pub(crate) fn judge_message(
     if !has_agent(core, agent) {
         return Ok(Verdict::NoAgent);
     }
-    complete_for(core, agent)?;
+    end_for(core, agent, message)?;
     let Some(due) = core.first(agent) else {
         return Ok(Verdict::NoMessage);
     };

@@ -3,7 +3,7 @@ ghost use Rattle.std.specs.Prelude.{◌≡◌, List};
 ghost use Rattle.scmi_plan.specs.Board.{Board};
 ghost use Rattle.scmi_core.specs.declared.event.Event.{Event};
 ghost use Rattle.scmi_judge.specs.Law.{IsHistoryOf, IsSplitBy};
-ghost use Rattle.scmi_judge.specs.Record.{IsRecordOf, history_of};
+ghost use Rattle.scmi_judge.specs.Whole.{IsRecordOf, history_of};
 ghost use Rattle.scmi_judge.specs.declared.entry.Entry.{Entry};
 
 /// What every record keeps whose entries are all what the definitions give, whoever made it: the

@@ -6,9 +6,11 @@
 //! definitions give after the history that the entries before it encode (specs/Record.antt). By
 //! `judge_record` all are the same if and only if the record has a legal history (specs/Law.antt).
 //! In that history the hardware may refuse a change: then the command is answered HARDWARE_ERROR.
+//! After a difference, `Judge::correct` goes on from what the record shows (specs/Correction.antt).
 #![tactic(auto)]
 
-mod completions;
+mod correction;
+mod endings;
 mod entry;
 mod judge;
 mod judging;
@@ -16,11 +18,14 @@ mod legal_record;
 mod record;
 mod refusals;
 mod same;
+mod set_shown;
 mod verdict;
 
 pub use entry::Entry;
 pub use judge::Judge;
 pub use legal_record::every_record;
 pub use record::judge_record;
+pub use refusals::has_succeeded;
 pub use same::is_same_header;
+pub use set_shown::sets_value;
 pub use verdict::Verdict;

@@ -2,8 +2,7 @@
 ghost use Rattle.std.specs.Prelude.{◌≡◌, ◌↔◌, IfOk, IfErr};
 ghost use Rattle.std.specs.List.{All};
 ghost use Rattle.scmi_judge.specs.Law.{HasHistory};
-ghost use Rattle.scmi_judge.specs.Record.{IsRecordOf};
-ghost use Rattle.scmi_judge.specs.Verdict.{verdicts_of};
+ghost use Rattle.scmi_judge.specs.Whole.{IsRecordOf, verdicts_of};
 ghost use Rattle.scmi_judge.specs.declared.verdict.Verdict.TheVariants.{Same};
 
 use crate::entry::Entry;
@@ -17,8 +16,8 @@ use std::alloc::Global;
 /// if each is what the definitions give after the history that those before it encode, and that
 /// holds if and only if a legal history of the board splits into one piece for each entry: a
 /// command with the answer at its place, a command that failed since the hardware refused its
-/// change, with the answer to that, or the completions that a message shows, and the taking of that
-/// message. `Memory` is the only refusal.
+/// change, with the answer to that, or the ends of sets that a message shows, and the taking of that
+/// message. After a difference it goes on as by `Judge::correct`. `Memory` is the only refusal.
 pub fn judge_record(alloc: Global, plan: Plan, entries: &[Entry]) -> Result<Vec<Verdict>, CoreError>
     ensures verdicts { IfOk result (λ verdicts. verdicts.items ≡ verdicts_of plan entries.now) }
     ensures theorem { IfOk result (λ verdicts.
@@ -31,6 +30,7 @@ pub fn judge_record(alloc: Global, plan: Plan, entries: &[Entry]) -> Result<Vec<
     let mut verdicts = Vec::new(alloc);
     'each: for entry in entries {
         let verdict = judge.judge(entry)?;
+        judge.correct(entry, &verdict)?;
         if verdicts.push(verdict).is_err() {
             return Err(CoreError::Memory);
         }

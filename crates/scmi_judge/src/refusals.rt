@@ -27,7 +27,7 @@ pub(crate) fn is_refusal(core: &Core, agent: u32, frame: &Frame, answer: &Answer
 }
 
 /// Whether an answer is a reply that begins with SUCCESS.
-fn has_succeeded(answer: &Answer) -> bool
+pub fn has_succeeded(answer: &Answer) -> bool
     ensures { result ≡ has_succeeded answer.now }
 {
     match answer {

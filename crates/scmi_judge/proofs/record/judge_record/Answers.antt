@@ -1,6 +1,6 @@
 use Rattle.std.proofs.Common.{◌≡◌, rules, arith}
 use Rattle.std.proofs.lemmas.Grind.{common_steps}
-use Rattle.scmi_judge.specs.Verdict.{verdicts_of}
+use Rattle.scmi_judge.specs.Whole.{verdicts_of}
 use Rattle.scmi_judge.proofs.Histories.{all_split}
 use Rattle.scmi_judge.proofs.Records.{all_same}
 use Rattle.scmi_judge.proofs.record.judge_record.Goals as goal

@@ -1,5 +1,5 @@
 use Rattle.std.proofs.Common.{◌≡◌, ◌++◌, drop}
-use Rattle.scmi_judge.specs.Verdict.{verdicts_from, verdicts_of}
+use Rattle.scmi_judge.specs.Whole.{verdicts_from, verdicts_of}
 use Rattle.scmi_judge.proofs.record.judge_record.Given as goal
 
 abbrev pub invariant-each : goal.invariant-each

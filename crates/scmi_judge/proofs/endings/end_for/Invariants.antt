@@ -4,14 +4,14 @@ use Rattle.scmi_core.specs.History.{deeds}
 use Rattle.scmi_core.specs.Legal.{IsLegal}
 use Rattle.scmi_core.specs.Pending.{pending_sets}
 use Rattle.scmi_judge.specs.Record.{shown_to}
-use Rattle.scmi_judge.proofs.completions.complete_for.Given as goal
+use Rattle.scmi_judge.proofs.endings.end_for.Given as goal
 
 abbrev pub invariant-sets : goal.invariant-sets
 invariant-sets l =
     record {
       board : l.core.board ≡ l.initial.core.board;
       agent : IsAgent (length l.core.board.agents) l.agent;
-      shown : shown_to l.core.board l.agent l.core.history ≡ shown_to l.initial.core.board l.agent l.initial.core.history;
+      shown : shown_to l.core.board l.agent l.message l.core.history ≡ shown_to l.initial.core.board l.agent l.message l.initial.core.history;
       legal : IsLegal l.initial.core.board l.initial.core.history → IsLegal l.core.board l.core.history;
     }
 

@@ -1,0 +1,27 @@
+use Rattle.std.proofs.Common.{◌≡◌, ◌==◌, ◌&&◌, ◌∷◌, ◌++◌, [], true, rules, sym, ap, ◌∙◌, arith, length, slice_get, None, Some}
+use Rattle.std.proofs.lemmas.Grind.{common_steps}
+use Rattle.scmi_core.specs.History.{deeds, outbox}
+use Rattle.scmi_core.specs.Pending.{pending_sets}
+use Rattle.scmi_core.specs.declared.event.Event.TheVariants.{AdvanceFailed, Sent}
+use Rattle.scmi_judge.specs.Record.{is_agent}
+use Rattle.scmi_judge.specs.Same.{is_same_header}
+use Rattle.scmi_judge.proofs.Corrections.{withdrawn-taken}
+use Rattle.scmi_judge.proofs.Ending.{none-is, only-one, some-is}
+use Rattle.scmi_judge.proofs.correction.withdraw.Goals as goal
+
+pub returns-in_ok-sent-clause-event : goal.returns-in_ok-sent-clause-event
+returns-in_ok-sent-clause-event c =
+    let board = c.args.core.now.board in
+    let h = c.args.core.now.history in
+    let a = c.args.agent in
+    let set = c.set-item.result in
+    let count : length (pending_sets board (deeds board h)) ≡ 1 = first_of (search rules, grind (arith, common_steps)) in
+    let at : slice_get (pending_sets board (deeds board h)) 0 ≡ Some set = first_of (search rules, grind (arith, common_steps)) in
+    let one = only-one (pending_sets board (deeds board h)) set count at in
+    let is : ((set.agent == a && is_same_header set.header c.args.command.now.header) && is_agent board a) ≡ true = search rules in
+    let none : slice_get (outbox board a h) 0 ≡ None = sym c.first.ensures ∙ none-is c.first.result (search rules) in
+    let some = some-is c.first-2.result (search rules) in
+    let event : c.advance_failed.new.self.history ≡ h ++ AdvanceFailed ∷ [] = search rules in
+    let same : c.advance_failed.new.self.board ≡ board = search rules in
+    let first : slice_get (outbox board a (h ++ AdvanceFailed ∷ [])) 0 ≡ Some some.0 = rw (sym same, sym event) (sym c.first-2.ensures ∙ some.1) in
+    c.in_ok-sent.ensures.event ∙ ap (λ k. k ++ Sent a ∷ []) event ∙ withdrawn-taken board h a c.args.command.now some.0 set one is none first
