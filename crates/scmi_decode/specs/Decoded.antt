@@ -12,6 +12,8 @@ use Rattle.scmi_describe.specs.Text.{description_text}
 use Rattle.scmi_decode.specs.MessageLine.{alone_bytes}
 use Rattle.scmi_decode.specs.OpenDump.{DumpView, no_dump, is_area, is_open, goes_on, added, begun, beside, closed, filled, repeated, is_star, end_at}
 use Rattle.scmi_decode.specs.Row.{RowView, row_of}
+use Rattle.scmi_decode.specs.declared.hint.TheConstants.{HINT_START, HINT_END}
+use Rattle.scmi_decode.specs.declared.line.TheConstants.{NO_AREA, NO_DIGITS, BYTES, TO, LINE_END}
 
 -- whether a line is neither empty nor begins with `#`
 abbrev pub is_described : List ℕ → Bool
@@ -20,7 +22,7 @@ is_described line = nat_lt 0 (length line) && not (slice_index line 0 == 35)
 -- bytes that are too few or too many for an area, or no whole words
 unfoldable pub other_size_text : ℕ → List ℕ
 other_size_text count =
-    codes "no area: " ++ decimal count ++ codes " bytes; an area has a multiple of 4, " ++ decimal LEAST_AREA_BYTES ++ codes " to " ++ decimal AREA_BYTES ++ codes "\n"
+    NO_AREA.now ++ decimal count ++ BYTES.now ++ decimal LEAST_AREA_BYTES ++ TO.now ++ decimal AREA_BYTES ++ LINE_END.now
 
 -- the length of an area's frame as a word of the other byte order
 abbrev pub swapped_length : List ℕ → ℕ
@@ -30,13 +32,9 @@ swapped_length area = big_from 0x14 4 area
 abbrev pub looks_swapped : List ℕ → Bool
 looks_swapped area = not (is_well_formed (length_at area)) && is_well_formed (swapped_length area)
 
--- the hint, with the length of the other byte order
-unfoldable pub swapped_text : ℕ → List ℕ
-swapped_text len = codes "    hint        length " ++ decimal len ++ codes " in the other byte order: are words printed in that?\n"
-
--- a hint that an area's words were printed in the other byte order, if it looks so
+-- a hint that an area's words were printed in the other byte order, with the length in that, if it looks so
 unfoldable pub hint_text : List ℕ → List ℕ
-hint_text area = if looks_swapped area then swapped_text (swapped_length area) else []
+hint_text area = if looks_swapped area then HINT_START.now ++ decimal (swapped_length area) ++ HINT_END.now else []
 
 -- what an area is, and the hint
 abbrev pub area_text : List ℕ → List ℕ
@@ -48,7 +46,7 @@ bytes_text bytes = if is_area bytes then area_text bytes else other_size_text (l
 
 -- what a line is, if it has bytes
 abbrev pub found_text : Option (List ℕ) → List ℕ
-found_text None = codes "no area: not hexadecimal digits\n"
+found_text None = NO_AREA.now ++ NO_DIGITS.now
 found_text (Some bytes) = bytes_text bytes
 
 -- the number of a line, and what the line is

@@ -1,5 +1,5 @@
 -- The message that a line of Linux's event `scmi_msg_dump` reports, by its fields.
-use Rattle.std.specs.Prelude.{ℕ, ◌-◌, ◌%◌, ◌^◌, ◌==◌, ◌&&◌, nat_lt, Bool, true, false, if◌then◌else◌, List, [], ◌∷◌, ◌++◌, codes, drop, Option, Some, None}
+use Rattle.std.specs.Prelude.{ℕ, ◌-◌, ◌%◌, ◌^◌, ◌==◌, ◌&&◌, nat_lt, Bool, true, false, if◌then◌else◌, List, [], ◌∷◌, ◌++◌, drop, Option, Some, None}
 use Rattle.std.specs.Int.{to_le_bytes, w32}
 use Rattle.scmi_codec.specs.Header.{HeaderFields, header_word}
 use Rattle.scmi_decode.specs.Dump.{both_bytes, bytes_of}
@@ -7,6 +7,7 @@ use Rattle.scmi_decode.specs.MessageArea.{message_area}
 use Rattle.scmi_decode.specs.Row.{number_from}
 use Rattle.scmi_decode.specs.declared.event.EventKind.{EventKind}
 use Rattle.scmi_decode.specs.declared.event.EventKind.TheVariants.{Command, Response, Delayed, Notification}
+use Rattle.scmi_decode.specs.declared.message_words.TheConstants.{COMMAND, RESPONSE, DELAYED, NOTIFICATION, KIND, PROTOCOL, MESSAGE_ID, TOKEN, STATUS, PAYLOAD}
 
 -- whether an item is this word
 abbrev pub is_word : (word item : List ℕ) → Bool
@@ -50,8 +51,8 @@ field_number limit (Some digits) = digits_number 16 limit digits
 abbrev pub kind_of : Option (List ℕ) → Option EventKind
 kind_of None = None
 kind_of (Some t) =
-    if is_word (codes "CMND") t then Some Command else if is_word (codes "RESP") t then Some Response
-    else if is_word (codes "DLYD") t then Some Delayed else if is_word (codes "NOTI") t then Some Notification else None
+    if is_word COMMAND.now t then Some Command else if is_word RESPONSE.now t then Some Response
+    else if is_word DELAYED.now t then Some Delayed else if is_word NOTIFICATION.now t then Some Notification else None
 
 -- the message type of an event's message
 abbrev pub message_type : EventKind → ℕ
@@ -76,8 +77,8 @@ header_with k _ _ _ = None
 -- the header of an event's message: `pt=` has its protocol, `msg_id=` its message id and `seq=` its token
 unfoldable pub event_header : EventKind → List (List ℕ) → Option HeaderFields
 event_header k items =
-    header_with k (field_number 256 (value_of (codes "pt=") items)) (field_number 256 (value_of (codes "msg_id=") items))
-    (field_number 1024 (value_of (codes "seq=") items))
+    header_with k (field_number 256 (value_of PROTOCOL.now items)) (field_number 256 (value_of MESSAGE_ID.now items))
+    (field_number 1024 (value_of TOKEN.now items))
 
 -- the word of a negative number
 abbrev pub negative_word : Option ℕ → Option ℕ
@@ -112,8 +113,8 @@ status_bytes (Some word) = Some (to_le_bytes w32 word)
 -- the payload of an event's message: `s=` has its status, if it has one, and `pyld=` the bytes after it
 unfoldable pub event_payload : EventKind → List (List ℕ) → Option (List ℕ)
 event_payload k items =
-    if has_status k then both_bytes (status_bytes (status_word (value_of (codes "s=") items))) (payload_bytes (value_of (codes "pyld=") items))
-    else payload_bytes (value_of (codes "pyld=") items)
+    if has_status k then both_bytes (status_bytes (status_word (value_of STATUS.now items))) (payload_bytes (value_of PAYLOAD.now items))
+    else payload_bytes (value_of PAYLOAD.now items)
 
 -- the status word of the channel that holds an event's message: free with a response, and busy with any other
 abbrev pub channel_word : EventKind → ℕ
@@ -134,4 +135,4 @@ event_area_of (Some k) items = event_area_with k (event_header k items) (event_p
 
 -- the area that holds an event's message, of the items after the event's name
 unfoldable pub event_area : List (List ℕ) → Option (List ℕ)
-event_area items = event_area_of (kind_of (value_of (codes "t=") items)) items
+event_area items = event_area_of (kind_of (value_of KIND.now items)) items

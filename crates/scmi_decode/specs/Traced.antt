@@ -1,5 +1,5 @@
 -- Lines of Linux's ftrace, and the messages that they report.
-use Rattle.std.specs.Prelude.{ℕ, ◌^◌, ◌&&◌, ◌||◌, nat_lt, Bool, false, if◌then◌else◌, List, [], ◌∷◌, ◌++◌, codes, length, Option, Some, None, is_some}
+use Rattle.std.specs.Prelude.{ℕ, ◌^◌, ◌&&◌, ◌||◌, nat_lt, Bool, false, if◌then◌else◌, List, [], ◌∷◌, ◌++◌, length, Option, Some, None, is_some}
 use Rattle.std.specs.List.{slice_split}
 use Rattle.scmi_codec.specs.Header.{HeaderFields}
 use Rattle.scmi_codec.specs.Word.{word_at}
@@ -11,6 +11,7 @@ use Rattle.scmi_decode.specs.Row.{ends_in_colon}
 use Rattle.scmi_decode.specs.declared.event.EventKind.{EventKind}
 use Rattle.scmi_decode.specs.declared.traced.Traced.{Traced}
 use Rattle.scmi_decode.specs.declared.traced.Traced.TheVariants.{Message, Unreadable, Other, Nothing}
+use Rattle.scmi_decode.specs.declared.message_words.TheConstants.{EVENT_START, INSTANCE, KIND}
 
 -- the instance of SCMI that an event is of: a decimal number, 0 without the field
 abbrev pub instance_of : Option (List ℕ) → Option ℕ
@@ -38,15 +39,15 @@ traced_with k _ _ _ = Unreadable
 abbrev pub event_traced_of : Option EventKind → List (List ℕ) → Traced
 event_traced_of None items = Unreadable
 event_traced_of (Some k) items =
-    traced_with k (instance_of (value_of (codes "id=") items)) (event_header k items) (payload_of_bytes (event_payload k items))
+    traced_with k (instance_of (value_of INSTANCE.now items)) (event_header k items) (payload_of_bytes (event_payload k items))
 
 -- the message of an event, of the items after its name
 unfoldable pub event_traced : List (List ℕ) → Traced
-event_traced items = event_traced_of (kind_of (value_of (codes "t=") items)) items
+event_traced items = event_traced_of (kind_of (value_of KIND.now items)) items
 
 -- whether an item is the name of an event of SCMI
 abbrev pub is_event_name : List ℕ → Bool
-is_event_name item = is_some (behind_name (codes "scmi_") item) && ends_in_colon item
+is_event_name item = is_some (behind_name EVENT_START.now item) && ends_in_colon item
 
 -- whether one of the items is
 abbrev pub names_event : List (List ℕ) → Bool

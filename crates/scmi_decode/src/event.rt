@@ -6,6 +6,9 @@ ghost use Rattle.scmi_decode.specs.Event.{behind_name, channel_word, digits_numb
 
 use crate::dump::bytes_of;
 use crate::message_area::message_area;
+use crate::message_words::{
+    COMMAND, DELAYED, KIND, MESSAGE_ID, NOTIFICATION, PAYLOAD, PROTOCOL, RESPONSE, STATUS, TOKEN,
+};
 use crate::number::number_from;
 use scmi_codec::Header;
 use std::alloc::{AllocError, Global};
@@ -26,7 +29,7 @@ pub(crate) fn event_area(alloc: Global, items: &[&[u8]]) -> Result<Option<Vec<u8
     ensures { IfOk result (λ found.
         option_map (λ bytes. bytes.items) found ≡ event_area (map (λ item. item.now) items.now)) }
 {
-    match kind_of(value_of(b"t=", items)) {
+    match kind_of(value_of(KIND, items)) {
         Some(kind) => event_area_of(alloc, kind, items),
         None => Ok(None),
     }
@@ -58,9 +61,9 @@ fn event_area_of(
 pub(crate) fn event_header(kind: EventKind, items: &[&[u8]]) -> Option<Header>
     ensures { result ≡ event_header kind (map (λ item. item.now) items.now) }
 {
-    let protocol = field_number(256, value_of(b"pt=", items))?;
-    let id = field_number(256, value_of(b"msg_id=", items))?;
-    let token = field_number(1024, value_of(b"seq=", items))?;
+    let protocol = field_number(256, value_of(PROTOCOL, items))?;
+    let id = field_number(256, value_of(MESSAGE_ID, items))?;
+    let token = field_number(1024, value_of(TOKEN, items))?;
     Some(Header {
         reserved: 0,
         token: token as u16,
@@ -81,11 +84,11 @@ pub(crate) fn event_payload(
     ensures { IfOk result (λ found. option_map (λ bytes. bytes.items) found ≡
         event_payload kind (map (λ item. item.now) items.now)) }
 {
-    let found = payload_bytes(alloc, value_of(b"pyld=", items))?;
+    let found = payload_bytes(alloc, value_of(PAYLOAD, items))?;
     if !has_status(kind) {
         return Ok(found);
     }
-    let Some(status) = status_word(value_of(b"s=", items)) else {
+    let Some(status) = status_word(value_of(STATUS, items)) else {
         return Ok(None);
     };
     let Some(bytes) = found else {
@@ -144,13 +147,13 @@ pub(crate) fn kind_of(value: Option<&[u8]>) -> Option<EventKind>
     ensures { result ≡ kind_of (option_copied value.entry) }
 {
     let value = value?;
-    if is_word(b"CMND", value) {
+    if is_word(COMMAND, value) {
         Some(EventKind::Command)
-    } else if is_word(b"RESP", value) {
+    } else if is_word(RESPONSE, value) {
         Some(EventKind::Response)
-    } else if is_word(b"DLYD", value) {
+    } else if is_word(DELAYED, value) {
         Some(EventKind::Delayed)
-    } else if is_word(b"NOTI", value) {
+    } else if is_word(NOTIFICATION, value) {
         Some(EventKind::Notification)
     } else {
         None

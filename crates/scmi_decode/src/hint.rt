@@ -2,7 +2,7 @@
 ghost use Rattle.std.specs.Prelude.{◌≡◌, ◌≤◌, ◌++◌, length, OnOk};
 ghost use Rattle.std.specs.Io.KnownBytes.{Appends};
 ghost use Rattle.scmi_codec.specs.Area.{length_at};
-ghost use Rattle.scmi_decode.specs.Decoded.{hint_text, looks_swapped, swapped_length, swapped_text};
+ghost use Rattle.scmi_decode.specs.Decoded.{hint_text, looks_swapped, swapped_length};
 ghost use Rattle.scmi_describe.specs.Text.{description_text};
 
 use byteorder::{BigEndian, ByteOrder, LittleEndian};
@@ -13,6 +13,11 @@ use std::io::Write;
 
 // The place of the length, in bytes (DEN0056B, shared memory transport).
 const LENGTH_AT: usize = 0x14;
+
+/// The texts before and after the length of the other byte order.
+pub(crate) const HINT_START: &str = "    hint        length ";
+
+pub(crate) const HINT_END: &str = " in the other byte order: are words printed in that?\n";
 
 /// Writes what an area is, by its description, and the hint.
 pub(crate) fn write_hinted<W: Write>(
@@ -38,19 +43,8 @@ fn write_hint<W: Write>(writer: &mut W, area: &[u8]) -> io::Result<()>
     if !looks_swapped(area) {
         return Ok(());
     }
-    write_swapped(writer, swapped_length(area))
-}
-
-/// Writes the hint, with the length of the other byte order.
-#[tactic(auto, unfolding(crate::specs::Decoded::swapped_text))]
-fn write_swapped<W: Write>(writer: &mut W, length: u32) -> io::Result<()>
-    ensures { OnOk result (Appends (W.contents writer.old) (W.contents writer.new)
-        (swapped_text length)) }
-{
-    writeln!(
-        writer,
-        "    hint        length {length} in the other byte order: are words printed in that?"
-    )
+    let length = swapped_length(area);
+    write!(writer, "{HINT_START}{length}{HINT_END}")
 }
 
 /// Whether the length of an area's frame is that of no frame, but in the other byte order that of one.

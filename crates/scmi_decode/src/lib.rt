@@ -19,6 +19,7 @@ mod line;
 mod lines;
 mod message_area;
 mod message_line;
+mod message_words;
 mod number;
 mod open_dump;
 mod parts;

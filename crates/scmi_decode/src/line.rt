@@ -1,11 +1,11 @@
 //! What is written of a line, and of a dump.
-ghost use Rattle.std.specs.Prelude.{◌≡◌, ◌⊎◌, OnOk, IfOk, IfErr, IfSome, codes};
+ghost use Rattle.std.specs.Prelude.{◌≡◌, ◌⊎◌, OnOk, IfOk, IfErr, IfSome};
 ghost use Rattle.std.specs.Option.{is_some, option_copied, option_map};
 ghost use Rattle.std.specs.List.{slice_split};
 ghost use Rattle.scmi_decode.specs.Dump.{is_gap};
 ghost use Rattle.scmi_decode.specs.Reading.{alone_reading};
 ghost use Rattle.std.specs.Io.KnownBytes.{Appends};
-ghost use Rattle.scmi_decode.specs.Decoded.{are_area, bytes_text, dump_text, found_text, line_is_area, line_text, numbered_text, other_size_text};
+ghost use Rattle.scmi_decode.specs.Decoded.{are_area, bytes_text, dump_text, line_is_area, line_text, numbered_text, other_size_text};
 
 use crate::decode_error::DecodeError;
 use crate::hint::write_hinted;
@@ -18,6 +18,18 @@ use scmi_describe::describe_channel;
 use std::alloc::Global;
 use std::io;
 use std::io::Write;
+
+/// The texts of what is no area.
+pub(crate) const NO_AREA: &str = "no area: ";
+
+pub(crate) const NO_DIGITS: &str = "not hexadecimal digits\n";
+
+/// The texts between the number of bytes and those that an area may have, and after these.
+pub(crate) const BYTES: &str = " bytes; an area has a multiple of 4, ";
+
+pub(crate) const TO: &str = " to ";
+
+pub(crate) const LINE_END: &str = "\n";
 
 /// Writes the text of a line that is a dump of its own, after its number: its area, or that it is
 /// no area; nothing of a line that is empty or begins with `#`. Gives how it is read, if it is an
@@ -60,11 +72,11 @@ fn write_found_line<W: Write>(
 {
     match found {
         Some(bytes) => {
-            write_bytes_line(writer, number, bytes)?;
+            write_numbered_line(writer, number, Some(bytes))?;
             Ok(is_area(bytes))
         }
         None => {
-            write_no_digits_line(writer, number)?;
+            write_numbered_line(writer, number, None)?;
             Ok(false)
         }
     }
@@ -79,35 +91,20 @@ pub(crate) fn write_dump<W: Write>(writer: &mut W, dump: &OpenDump) -> Result<()
     if !dump.is_open() {
         return Ok(());
     }
-    write_bytes_line(writer, dump.first(), dump.bytes())
+    write_numbered_line(writer, dump.first(), Some(dump.bytes()))
 }
 
-/// Writes the text of bytes, after the number of a line.
-fn write_bytes_line<W: Write>(
+/// Writes the text of a line, after its number.
+fn write_numbered_line<W: Write>(
     writer: &mut W,
     number: usize,
-    bytes: &[u8],
+    found: Option<&[u8]>,
 ) -> Result<(), DecodeError>
     ensures text { OnOk result (Appends (W.contents writer.old) (W.contents writer.new) (
-        numbered_text number (Some bytes.now))) }
+        numbered_text number (option_copied found.entry))) }
     ensures errors { IfErr result (λ e. e ≡ DecodeError.Write) }
 {
-    match write_numbered(writer, number, Some(bytes)) {
-        Ok(()) => Ok(()),
-        Err(_) => Err(DecodeError::Write),
-    }
-}
-
-/// Writes that a line has another form, after its number.
-fn write_no_digits_line<W: Write>(writer: &mut W, number: usize) -> Result<(), DecodeError>
-    ensures text { OnOk result (Appends (W.contents writer.old) (W.contents writer.new) (
-        numbered_text number None)) }
-    ensures errors { IfErr result (λ e. e ≡ DecodeError.Write) }
-{
-    match write_numbered(writer, number, None) {
-        Ok(()) => Ok(()),
-        Err(_) => Err(DecodeError::Write),
-    }
+    write_numbered(writer, number, found).map_err(|_| DecodeError::Write)
 }
 
 /// Writes the number of a line, and what the line is.
@@ -117,26 +114,10 @@ fn write_numbered<W: Write>(writer: &mut W, number: usize, found: Option<&[u8]>)
         numbered_text number (option_copied found.entry))) }
 {
     write!(writer, "{number} ")?;
-    write_found(writer, found)
-}
-
-/// Writes what a line is.
-fn write_found<W: Write>(writer: &mut W, found: Option<&[u8]>) -> io::Result<()>
-    ensures { OnOk result (Appends (W.contents writer.old) (W.contents writer.new) (
-        found_text (option_copied found.entry))) }
-{
     match found {
         Some(bytes) => write_bytes(writer, bytes),
-        None => write_no_digits(writer),
+        None => write!(writer, "{NO_AREA}{NO_DIGITS}"),
     }
-}
-
-/// Writes that a line has another form.
-fn write_no_digits<W: Write>(writer: &mut W) -> io::Result<()>
-    ensures { OnOk result (Appends (W.contents writer.old) (W.contents writer.new) (
-        codes "no area: not hexadecimal digits\n")) }
-{
-    writeln!(writer, "no area: not hexadecimal digits")
 }
 
 /// Writes what bytes are.
@@ -156,8 +137,8 @@ fn write_other_size<W: Write>(writer: &mut W, count: usize) -> io::Result<()>
     ensures { OnOk result (Appends (W.contents writer.old) (W.contents writer.new)
         (other_size_text count)) }
 {
-    writeln!(
+    write!(
         writer,
-        "no area: {count} bytes; an area has a multiple of 4, {LEAST_AREA_BYTES} to {AREA_BYTES}"
+        "{NO_AREA}{count}{BYTES}{LEAST_AREA_BYTES}{TO}{AREA_BYTES}{LINE_END}"
     )
 }

@@ -6,6 +6,7 @@ ghost use Rattle.scmi_decode.specs.MessageLine.{behind_event, behind_got, got_or
 use crate::dump::items_bytes;
 use crate::event::{digits_number, event_area, is_word};
 use crate::message_area::message_area;
+use crate::message_words::{EVENT, GOT, P2A, REPLY};
 use std::alloc::{AllocError, Global};
 
 /// The bytes that the items of a line encode alone: the area of the message that they report, or
@@ -28,7 +29,7 @@ pub(crate) fn behind_event<'a, 'b>(items: &'b [&'a [u8]]) -> Option<&'b [&'a [u8
     let [item, items @ ..] = items else {
         return None;
     };
-    if is_word(b"scmi_msg_dump:", item) {
+    if is_word(EVENT, item) {
         Some(items)
     } else {
         behind_event(items)
@@ -78,5 +79,5 @@ fn is_agent(item: &[u8]) -> bool
 fn is_got(item: &[u8]) -> bool
     ensures { result ≡ is_got item.now }
 {
-    is_word(b"reply", item) || is_word(b"got", item) || is_word(b"p2a", item)
+    is_word(REPLY, item) || is_word(GOT, item) || is_word(P2A, item)
 }

@@ -9,6 +9,7 @@ use crate::event::{
 };
 use crate::lines::items_of;
 use crate::message_line::behind_event;
+use crate::message_words::{EVENT_START, INSTANCE, KIND};
 use crate::parts::ends_in_colon;
 use arrayvec::ArrayVec;
 use byteorder::{ByteOrder, LittleEndian};
@@ -70,7 +71,7 @@ fn names_event(items: &[&[u8]]) -> bool
 fn is_event_name(item: &[u8]) -> bool
     ensures { result ≡ is_event_name item.now }
 {
-    behind_name(b"scmi_", item).is_some() && ends_in_colon(item)
+    behind_name(EVENT_START, item).is_some() && ends_in_colon(item)
 }
 
 /// The message of an event, of the items after its name.
@@ -78,7 +79,7 @@ fn is_event_name(item: &[u8]) -> bool
 fn read_event(alloc: Global, items: &[&[u8]]) -> Result<Traced, AllocError>
     ensures { IfOk result (λ traced. traced ≡ event_traced (map (λ item. item.now) items.now)) }
 {
-    match kind_of(value_of(b"t=", items)) {
+    match kind_of(value_of(KIND, items)) {
         Some(kind) => read_event_of(alloc, kind, items),
         None => Ok(Traced::Unreadable),
     }
@@ -89,7 +90,7 @@ fn read_event_of(alloc: Global, kind: EventKind, items: &[&[u8]]) -> Result<Trac
     ensures { IfOk result (λ traced.
         traced ≡ event_traced_of (Some kind) (map (λ item. item.now) items.now)) }
 {
-    let Some(instance) = instance_of(value_of(b"id=", items)) else {
+    let Some(instance) = instance_of(value_of(INSTANCE, items)) else {
         return Ok(Traced::Unreadable);
     };
     let Some(header) = event_header(kind, items) else {

@@ -2,3 +2,5 @@ pub mod Run
 pub mod Rows
 pub mod Table
 pub mod TableError
+pub mod Template
+pub mod Value

@@ -1,6 +1,5 @@
 -- The rows of a board's tables in C, as they are written.
-use Rattle.std.specs.Prelude.{ℕ, ◌+◌, ◌-◌, ◌^◌, ◌==◌, ◌||◌, min, Bool, if◌then◌else◌, List, [], ◌∷◌, ◌++◌, length, flat_map, codes, decimal, false}
-use Rattle.std.specs.Fmt.{digits}
+use Rattle.std.specs.Prelude.{ℕ, ◌+◌, ◌-◌, ◌^◌, ◌==◌, min, if◌then◌else◌, List, [], ◌∷◌, ◌++◌, length, flat_map, decimal}
 use Rattle.scmi_codec.specs.ChannelArea.{channel_bytes}
 use Rattle.scmi_plan.specs.Board.{whole_channel}
 use Rattle.scmi_plan.specs.declared.agent_channel.AgentChannel.{AgentChannel}
@@ -11,49 +10,9 @@ use Rattle.scmi_plan.specs.declared.rates.Rates.{Rates}
 use Rattle.scmi_plan.specs.declared.rates.Rates.TheVariants as rates
 use Rattle.scmi_board.specs.Lines.{number_behind}
 use Rattle.scmi_board.specs.declared.channel_line.ChannelLine.{ChannelLine}
-use Rattle.scmi_table.specs.declared.fixed.Fixed.{Fixed}
-use Rattle.scmi_table.specs.declared.fixed.Fixed.TheVariants.{Include, Quote, NameStart, DomainsStart, ClocksStart, RowEnd, BoardStart, SubVendorStart, VersionStart, BoardEnd}
-
--- the texts that stand between names and numbers
-unfoldable pub fixed_text : Fixed → List ℕ
-fixed_text Include = codes "#include \"scmi.h\"\n\n"
-fixed_text Quote = codes "\""
-fixed_text NameStart = codes "    { .name = "
-fixed_text DomainsStart = codes "    { .domains = "
-fixed_text ClocksStart = codes ", .clocks = "
-fixed_text RowEnd = codes " },\n"
-fixed_text BoardStart = codes "const scmi_board board = {\n    .heading = { .vendor = "
-fixed_text SubVendorStart = codes ", .sub_vendor = "
-fixed_text VersionStart = codes ", .version = "
-fixed_text BoardEnd = codes "};\n"
-
--- whether a byte needs a backslash in a string: a quotation mark, a backslash, or a question mark, two of which could begin a trigraph
-abbrev pub is_marked : ℕ → Bool
-is_marked byte = (byte == 34) || (byte == 63) || (byte == 92)
-
--- a byte of a name in a string: marked if C would read it as another
-abbrev pub byte_text : ℕ → List ℕ
-byte_text byte = if is_marked byte then 92 ∷ byte ∷ [] else byte ∷ []
-
--- a name as a string
-unfoldable pub string_text : List ℕ → List ℕ
-string_text name = fixed_text Quote ++ flat_map byte_text name ++ fixed_text Quote
-
--- the beginning of a row that has a name
-unfoldable pub named_text : List ℕ → List ℕ
-named_text name = fixed_text NameStart ++ string_text name
-
--- a member of a row after others, and its number
-unfoldable pub member_text : List ℕ → ℕ → List ℕ
-member_text name number = codes ", ." ++ name ++ codes " = " ++ decimal number
-
--- the same of a rate, which may be as large as a number of 64 bits
-unfoldable pub rate_member_text : List ℕ → ℕ → List ℕ
-rate_member_text name rate = codes ", ." ++ name ++ codes " = " ++ decimal rate ++ codes "u"
-
--- 1 or 0
-abbrev pub bit_of : Bool → ℕ
-bit_of bit = if bit then 1 else 0
+use Rattle.scmi_table.specs.Template.{filled}
+use Rattle.scmi_table.specs.Value.{bit_text, hex_text, in_string}
+use Rattle.scmi_table.specs.declared.texts.TheConstants.{AGENT_ROW, DOMAIN_ROW, CLOCK_START, LIST_END, STEPS_END, RATE_ROW, DEVICE_ROW}
 
 -- the channels of an agent, by the lines that say them; whole where none does
 abbrev pub channel_said : List ChannelLine → ℕ → AgentChannel
@@ -62,8 +21,7 @@ channel_said (line ∷ lines) agent = if line.agent == agent then line.channel e
 
 -- the row of an agent
 unfoldable pub agent_text : List ℕ → AgentChannel → List ℕ
-agent_text name channel =
-    named_text name ++ member_text (codes "bytes") (channel_bytes channel.words) ++ member_text (codes "one_way") (bit_of channel.one_way) ++ fixed_text RowEnd
+agent_text name channel = filled AGENT_ROW.now (in_string name ∷ decimal (channel_bytes channel.words) ∷ bit_text channel.one_way ∷ [])
 
 -- agents, the first of which has the number behind this one
 abbrev pub agents_text : List ChannelLine → ℕ → List (List ℕ) → List ℕ
@@ -71,27 +29,21 @@ agents_text lines before [] = []
 agents_text lines before (name ∷ names) =
     agent_text name (channel_said lines (number_behind before)) ++ agents_text lines (number_behind before) names
 
--- what a domain supports
-unfoldable pub support_text : Domain → List ℕ
-support_text domain =
-    member_text (codes "synchronous") (bit_of domain.synchronous) ++ member_text (codes "asynchronous") (bit_of domain.asynchronous)
-    ++ member_text (codes "notify") (bit_of domain.notify)
-
 -- the row of a domain
 unfoldable pub domain_text : Domain → List ℕ
-domain_text domain = named_text domain.name ++ member_text (codes "on") (bit_of domain.on) ++ support_text domain ++ fixed_text RowEnd
+domain_text domain =
+    filled DOMAIN_ROW.now
+    (in_string domain.name ∷ bit_text domain.on ∷ bit_text domain.synchronous ∷ bit_text domain.asynchronous ∷ bit_text domain.notify ∷ [])
 
--- a list by its place in the table of rates, or steps
+-- the end of a row: a list by its place in the table of rates, or steps
 unfoldable pub kind_text : ℕ → Rates → List ℕ
-kind_text first (rates.List list) = member_text (codes "first") first ++ member_text (codes "count") (length list)
-kind_text first (rates.Steps low high step) =
-    rate_member_text (codes "low") low ++ rate_member_text (codes "high") high ++ rate_member_text (codes "step") step
+kind_text first (rates.List list) = filled LIST_END.now (decimal first ∷ decimal (length list) ∷ [])
+kind_text first (rates.Steps low high step) = filled STEPS_END.now (decimal low ∷ decimal high ∷ decimal step ∷ [])
 
 -- the row of a clock
 unfoldable pub clock_text : ℕ → Clock → List ℕ
 clock_text first clock =
-    named_text clock.name ++ member_text (codes "enabled") (bit_of clock.enabled) ++ rate_member_text (codes "rate") clock.rate
-    ++ kind_text first clock.rates ++ fixed_text RowEnd
+    filled CLOCK_START.now (in_string clock.name ∷ bit_text clock.enabled ∷ decimal clock.rate ∷ []) ++ kind_text first clock.rates
 
 -- the place behind a clock's rates; the places stay at 2^64 - 1 once they are there
 abbrev pub place_behind : ℕ → Rates → ℕ
@@ -110,18 +62,13 @@ place_behind_all first (clock ∷ clocks) = place_behind_all (place_behind first
 
 -- the row of a rate
 unfoldable pub rate_text : ℕ → List ℕ
-rate_text rate = codes "    " ++ decimal rate ++ codes "u,\n"
+rate_text rate = filled RATE_ROW.now (decimal rate ∷ [])
 
 -- the rates of a list
 abbrev pub list_text : Rates → List ℕ
 list_text (rates.List list) = flat_map rate_text list
 list_text (rates.Steps low high step) = []
 
--- a number of domains or clocks as bits
-unfoldable pub set_text : ℕ → List ℕ
-set_text set = codes "0x" ++ digits 16 false set
-
 -- the row of a device
 unfoldable pub device_text : Device → List ℕ
-device_text device =
-    fixed_text DomainsStart ++ set_text device.domains ++ fixed_text ClocksStart ++ set_text device.clocks ++ fixed_text RowEnd
+device_text device = filled DEVICE_ROW.now (hex_text device.domains ∷ hex_text device.clocks ∷ [])

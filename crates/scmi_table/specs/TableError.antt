@@ -1,5 +1,5 @@
 -- Why a board has no tables: exit statuses, texts, and whence they come.
-use Rattle.std.specs.Prelude.{ℕ, List, ◌++◌, codes, decimal}
+use Rattle.std.specs.Prelude.{ℕ, List, [], ◌∷◌, ◌++◌, decimal}
 use Rattle.scmi_board.specs.declared.text_error.TextError.{TextError}
 use Rattle.scmi_board.specs.declared.text_error.TextError.TheVariants as text
 use Rattle.scmi_input.specs.declared.input_error.InputError.{InputError}
@@ -7,6 +7,8 @@ use Rattle.scmi_input.specs.declared.input_error.InputError.TheVariants as input
 use Rattle.scmi_plan.specs.PlanError.{number}
 use Rattle.scmi_plan.specs.declared.plan_error.PlanError.{PlanError}
 use Rattle.scmi_plan.specs.declared.plan_error.PlanError.TheVariants as plan
+use Rattle.scmi_table.specs.Template.{filled}
+use Rattle.scmi_table.specs.declared.table_error.TheConstants.{SIZE, READ, BOARD, PLAN, MEMORY, WRITE, FAULT_LINE}
 use Rattle.scmi_table.specs.declared.table_error.TableError.{TableError}
 use Rattle.scmi_table.specs.declared.table_error.TableError.TheVariants.{Size, Read, Board, Plan, Memory, Write}
 
@@ -18,16 +20,16 @@ status_of _ = 2
 
 -- the text of a fault (own)
 abbrev pub fault_text : TableError → List ℕ
-fault_text Size = codes "size"
-fault_text Read = codes "read"
-fault_text (Board line) = codes "board " ++ decimal line
-fault_text (Plan rule) = codes "plan " ++ decimal rule
-fault_text Memory = codes "memory"
-fault_text Write = codes "write"
+fault_text Size = SIZE.now
+fault_text Read = READ.now
+fault_text (Board line) = BOARD.now ++ decimal line
+fault_text (Plan rule) = PLAN.now ++ decimal rule
+fault_text Memory = MEMORY.now
+fault_text Write = WRITE.now
 
 -- the line of a fault, with its line feed
 abbrev pub fault_line : TableError → List ℕ
-fault_line fault = codes "fault " ++ fault_text fault ++ codes "\n"
+fault_line fault = filled FAULT_LINE.now (fault_text fault ∷ [])
 
 -- an input that is not read
 abbrev pub error_of_input : InputError → TableError

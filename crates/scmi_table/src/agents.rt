@@ -3,8 +3,9 @@ ghost use Rattle.std.specs.Prelude.{◌≡◌, OnOk, map, string_bytes};
 ghost use Rattle.std.specs.Io.KnownBytes.{Appends};
 ghost use Rattle.scmi_table.specs.Rows.{agent_text, agents_text, channel_said};
 
-use crate::fixed::{Fixed, write_fixed};
-use crate::members::{write_member, write_named};
+use crate::template::write_filled;
+use crate::texts::AGENT_ROW;
+use crate::value::Value::{Bit, Name, Number};
 use scmi_board::ChannelLine;
 use scmi_codec::{AREA_BYTES, PAYLOAD_WORDS};
 use scmi_plan::{AgentChannel, WHOLE_CHANNEL};
@@ -38,10 +39,12 @@ fn write_agent<W: Write>(writer: &mut W, name: &str, channel: AgentChannel) -> i
     ensures { OnOk result (Appends (W.contents writer.old) (W.contents writer.new)
         (agent_text name.now channel)) }
 {
-    write_named(writer, name)?;
-    write_member(writer, "bytes", HEAD_BYTES + 4 * u64::from(channel.words))?;
-    write_member(writer, "one_way", u64::from(channel.one_way))?;
-    write_fixed(writer, Fixed::RowEnd)
+    let bytes = HEAD_BYTES + 4 * u64::from(channel.words);
+    write_filled(
+        writer,
+        AGENT_ROW,
+        &[Name(name), Number(bytes), Bit(channel.one_way)],
+    )
 }
 
 /// The channels of an agent, by the lines that contain them; whole if none does.

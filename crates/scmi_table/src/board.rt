@@ -2,12 +2,15 @@
 ghost use Rattle.std.specs.Prelude.{◌≡◌, OnOk};
 ghost use Rattle.std.specs.Io.KnownBytes.{Appends};
 ghost use Rattle.scmi_plan.specs.RawPlan.{asked_board};
-ghost use Rattle.scmi_table.specs.Table.{board_text, field_text, fields_text, heading_text, names_text, rate_count};
+ghost use Rattle.scmi_table.specs.Table.{board_text, fields_text, heading_text, part_text, rate_count};
 
 use crate::clocks::place_behind_all;
-use crate::fixed::{Fixed, write_fixed};
-use crate::members::{write_member, write_set};
-use crate::string::write_string;
+use crate::template::write_filled;
+use crate::texts::{
+    AGENTS_FIELD, BOARD_END, BOARD_START, CLOCKS_FIELD, DEVICES_FIELD, DOMAINS_FIELD, HEADING,
+    RATES_FIELD,
+};
+use crate::value::Value::{Hex, Name, Number};
 use scmi_plan::RawPlan;
 use std::io;
 use std::io::Write;
@@ -18,9 +21,10 @@ pub(crate) fn write_board<W: Write>(writer: &mut W, board: &RawPlan) -> io::Resu
     ensures { OnOk result (Appends (W.contents writer.old) (W.contents writer.new)
         (board_text (asked_board board.now))) }
 {
+    writer.write_all(BOARD_START)?;
     write_heading(writer, board)?;
     write_fields(writer, board)?;
-    write_fixed(writer, Fixed::BoardEnd)
+    writer.write_all(BOARD_END)
 }
 
 #[tactic(auto, unfolding(crate::specs::Table::heading_text))]
@@ -28,22 +32,16 @@ fn write_heading<W: Write>(writer: &mut W, board: &RawPlan) -> io::Result<()>
     ensures { OnOk result (Appends (W.contents writer.old) (W.contents writer.new)
         (heading_text (asked_board board.now))) }
 {
-    write_names(writer, board)?;
-    write_fixed(writer, Fixed::VersionStart)?;
-    write_set(writer, board.version)?;
-    write_member(writer, "trusted", u64::from(board.trusted))?;
-    write_fixed(writer, Fixed::RowEnd)
-}
-
-#[tactic(auto, unfolding(crate::specs::Table::names_text))]
-fn write_names<W: Write>(writer: &mut W, board: &RawPlan) -> io::Result<()>
-    ensures { OnOk result (Appends (W.contents writer.old) (W.contents writer.new)
-        (names_text (asked_board board.now))) }
-{
-    write_fixed(writer, Fixed::BoardStart)?;
-    write_string(writer, &board.vendor)?;
-    write_fixed(writer, Fixed::SubVendorStart)?;
-    write_string(writer, &board.sub_vendor)
+    write_filled(
+        writer,
+        HEADING,
+        &[
+            Name(&board.vendor),
+            Name(&board.sub_vendor),
+            Hex(board.version),
+            Number(u64::from(board.trusted)),
+        ],
+    )
 }
 
 #[tactic(auto, unfolding(crate::specs::Table::fields_text))]
@@ -51,26 +49,24 @@ fn write_fields<W: Write>(writer: &mut W, board: &RawPlan) -> io::Result<()>
     ensures { OnOk result (Appends (W.contents writer.old) (W.contents writer.new)
         (fields_text (asked_board board.now))) }
 {
-    write_field(writer, board.agents.len(), "agents", "agent")?;
-    write_field(writer, board.domains.len(), "domains", "domain")?;
-    write_field(writer, board.clocks.len(), "clocks", "clock")?;
-    write_field(writer, rate_count(board), "rates", "rate")?;
-    write_field(writer, board.devices.len(), "devices", "device")
+    write_part(writer, board.agents.len(), AGENTS_FIELD)?;
+    write_part(writer, board.domains.len(), DOMAINS_FIELD)?;
+    write_part(writer, board.clocks.len(), CLOCKS_FIELD)?;
+    write_part(writer, rate_count(board), RATES_FIELD)?;
+    write_part(writer, board.devices.len(), DEVICES_FIELD)
 }
 
-/// Writes the line of a table that has rows.
-#[tactic(auto, unfolding(crate::specs::Table::field_text))]
-fn write_field<W: Write>(writer: &mut W, count: usize, name: &str, one: &str) -> io::Result<()>
+/// Writes a part of a table that has this many rows, if it has one: its first line, its last, or
+/// its line of the board, which counts them.
+#[tactic(auto, unfolding(crate::specs::Table::part_text))]
+pub(crate) fn write_part<W: Write>(writer: &mut W, count: usize, template: &[u8]) -> io::Result<()>
     ensures { OnOk result (Appends (W.contents writer.old) (W.contents writer.new)
-        (field_text count name.now one.now)) }
+        (part_text count template.now)) }
 {
     if count == 0 {
         return Ok(());
     }
-    writeln!(
-        writer,
-        "    .{name} = board_{name}, .{one}_count = {count},"
-    )
+    write_filled(writer, template, &[Number(count as u64)])
 }
 
 /// How many rates the table has.

@@ -4,8 +4,9 @@ ghost use Rattle.std.specs.Io.KnownBytes.{Appends};
 ghost use Rattle.scmi_plan.specs.RawPlan.{asked_clock};
 ghost use Rattle.scmi_table.specs.Rows.{clock_text, clocks_text, kind_text, place_behind, place_behind_all};
 
-use crate::fixed::{Fixed, write_fixed};
-use crate::members::{write_member, write_named, write_rate_member};
+use crate::template::write_filled;
+use crate::texts::{CLOCK_START, LIST_END, STEPS_END};
+use crate::value::Value::{Bit, Name, Number};
 use scmi_plan::{Rates, RawClock};
 use std::io;
 use std::io::Write;
@@ -31,29 +32,31 @@ fn write_clock<W: Write>(writer: &mut W, first: usize, clock: &RawClock) -> io::
     ensures { OnOk result (Appends (W.contents writer.old) (W.contents writer.new)
         (clock_text first (asked_clock clock.now))) }
 {
-    write_named(writer, &clock.name)?;
-    write_member(writer, "enabled", u64::from(clock.enabled))?;
-    write_rate_member(writer, "rate", clock.rate)?;
-    write_kind(writer, first, &clock.rates)?;
-    write_fixed(writer, Fixed::RowEnd)
+    write_filled(
+        writer,
+        CLOCK_START,
+        &[Name(&clock.name), Bit(clock.enabled), Number(clock.rate)],
+    )?;
+    write_kind(writer, first, &clock.rates)
 }
 
-/// Writes a list by its place in the table of rates, or steps.
+/// Writes the end of a row: a list by its place in the table of rates, or steps.
 #[tactic(auto, unfolding(crate::specs::Rows::kind_text))]
 fn write_kind<W: Write>(writer: &mut W, first: usize, rates: &Rates) -> io::Result<()>
     ensures { OnOk result (Appends (W.contents writer.old) (W.contents writer.new)
         (kind_text first rates.now)) }
 {
     match rates {
-        Rates::List(list) => {
-            write_member(writer, "first", first as u64)?;
-            write_member(writer, "count", list.as_slice().len() as u64)
-        }
-        Rates::Steps { low, high, step } => {
-            write_rate_member(writer, "low", *low)?;
-            write_rate_member(writer, "high", *high)?;
-            write_rate_member(writer, "step", *step)
-        }
+        Rates::List(list) => write_filled(
+            writer,
+            LIST_END,
+            &[Number(first as u64), Number(list.as_slice().len() as u64)],
+        ),
+        Rates::Steps { low, high, step } => write_filled(
+            writer,
+            STEPS_END,
+            &[Number(*low), Number(*high), Number(*step)],
+        ),
     }
 }
 

@@ -8,13 +8,13 @@
 mod agents;
 mod board;
 mod clocks;
-mod fixed;
-mod members;
 mod read;
 mod rows;
 mod run;
-mod string;
 mod table;
 mod table_error;
+mod template;
+mod texts;
+mod value;
 
 pub use run::run_table;

@@ -2,10 +2,11 @@
 ghost use Rattle.std.specs.Prelude.{◌≡◌, OnOk, flat_map, map};
 ghost use Rattle.std.specs.Io.KnownBytes.{Appends};
 ghost use Rattle.scmi_plan.specs.RawPlan.{asked_clock, asked_domain};
-ghost use Rattle.scmi_table.specs.Rows.{device_text, domain_text, list_text, rate_text, support_text};
+ghost use Rattle.scmi_table.specs.Rows.{device_text, domain_text, list_text, rate_text};
 
-use crate::fixed::{Fixed, write_fixed};
-use crate::members::{write_member, write_named, write_set};
+use crate::template::write_filled;
+use crate::texts::{DEVICE_ROW, DOMAIN_ROW, RATE_ROW};
+use crate::value::Value::{Bit, Hex, Name, Number};
 use scmi_plan::{Device, RateList, Rates, RawClock, RawDomain};
 use std::io;
 use std::io::Write;
@@ -25,21 +26,17 @@ fn write_domain<W: Write>(writer: &mut W, domain: &RawDomain) -> io::Result<()>
     ensures { OnOk result (Appends (W.contents writer.old) (W.contents writer.new)
         (domain_text (asked_domain domain.now))) }
 {
-    write_named(writer, &domain.name)?;
-    write_member(writer, "on", u64::from(domain.on))?;
-    write_support(writer, domain)?;
-    write_fixed(writer, Fixed::RowEnd)
-}
-
-/// Writes what a domain supports.
-#[tactic(auto, unfolding(crate::specs::Rows::support_text))]
-fn write_support<W: Write>(writer: &mut W, domain: &RawDomain) -> io::Result<()>
-    ensures { OnOk result (Appends (W.contents writer.old) (W.contents writer.new)
-        (support_text (asked_domain domain.now))) }
-{
-    write_member(writer, "synchronous", u64::from(domain.synchronous))?;
-    write_member(writer, "asynchronous", u64::from(domain.asynchronous))?;
-    write_member(writer, "notify", u64::from(domain.notify))
+    write_filled(
+        writer,
+        DOMAIN_ROW,
+        &[
+            Name(&domain.name),
+            Bit(domain.on),
+            Bit(domain.synchronous),
+            Bit(domain.asynchronous),
+            Bit(domain.notify),
+        ],
+    )
 }
 
 /// Writes the rates of the lists of clocks.
@@ -78,7 +75,7 @@ fn write_rate<W: Write>(writer: &mut W, rate: u64) -> io::Result<()>
     ensures { OnOk result (Appends (W.contents writer.old) (W.contents writer.new)
         (rate_text rate)) }
 {
-    writeln!(writer, "    {rate}u,")
+    write_filled(writer, RATE_ROW, &[Number(rate)])
 }
 
 pub(crate) fn write_devices<W: Write>(writer: &mut W, devices: &[Device]) -> io::Result<()>
@@ -96,9 +93,9 @@ fn write_device<W: Write>(writer: &mut W, device: &Device) -> io::Result<()>
     ensures { OnOk result (Appends (W.contents writer.old) (W.contents writer.new)
         (device_text device.now)) }
 {
-    write_fixed(writer, Fixed::DomainsStart)?;
-    write_set(writer, device.domains)?;
-    write_fixed(writer, Fixed::ClocksStart)?;
-    write_set(writer, device.clocks)?;
-    write_fixed(writer, Fixed::RowEnd)
+    write_filled(
+        writer,
+        DEVICE_ROW,
+        &[Hex(device.domains), Hex(device.clocks)],
+    )
 }

@@ -6,7 +6,9 @@ ghost use Rattle.scmi_table.specs.TableError.{fault_line, status_of};
 
 use crate::read::read_board;
 use crate::table::write_table;
-use crate::table_error::TableError;
+use crate::table_error::{FAULT_LINE, TableError};
+use crate::template::write_filled;
+use crate::value::Value::Fault;
 use std::alloc::Global;
 use std::io::{Read, Write};
 
@@ -38,7 +40,7 @@ fn write_fault<W: Write>(writer: &mut W, fault: TableError) -> u8
     ensures fault { result ≢ 1 → (result ≡ status_of fault) × Appends (W.contents writer.old)
         (W.contents writer.new) (fault_line fault) }
 {
-    match writeln!(writer, "fault {fault}") {
+    match write_filled(writer, FAULT_LINE, &[Fault(fault)]) {
         Ok(()) => fault.status(),
         Err(_) => TableError::Write.status(),
     }

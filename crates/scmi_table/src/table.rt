@@ -3,26 +3,28 @@ ghost use Rattle.std.specs.Prelude.{◌≡◌, OnOk};
 ghost use Rattle.std.specs.Io.KnownBytes.{Appends};
 ghost use Rattle.scmi_plan.specs.RawPlan.{asked_board};
 ghost use Rattle.scmi_board.specs.Channels.{described};
-ghost use Rattle.scmi_table.specs.Table.{agents_table, clocks_table, devices_table, domains_table, end_text, head_text, rates_table, table_text, tables_text};
+ghost use Rattle.scmi_table.specs.Table.{agents_table, clocks_table, devices_table, domains_table, rates_table, table_text, tables_text};
 
 use crate::agents::write_agents;
-use crate::board::{rate_count, write_board};
+use crate::board::{rate_count, write_board, write_part};
 use crate::clocks::write_clocks;
-use crate::fixed::{Fixed, write_fixed};
 use crate::rows::{write_devices, write_domains, write_rates};
+use crate::texts::{
+    AGENTS_START, CLOCKS_START, DEVICES_START, DOMAINS_START, INCLUDE, RATES_START, TABLE_END,
+};
 use scmi_board::BoardWithChannels;
 use scmi_plan::RawPlan;
 use std::io;
 use std::io::Write;
 
-/// Writes a board as a file in C: its tables with one row a line, and the board over them. The error is
-/// the writer's; some parts may then be written.
+/// Writes a board as a file in C: its tables with one row a line, and the board over them. The
+/// error is the writer's; some parts may then be written.
 #[tactic(auto, unfolding(crate::specs::Table::table_text))]
 pub(crate) fn write_table<W: Write>(writer: &mut W, said: &BoardWithChannels) -> io::Result<()>
     ensures { OnOk result (Appends (W.contents writer.old) (W.contents writer.new)
         (table_text (described said.now))) }
 {
-    write_fixed(writer, Fixed::Include)?;
+    writer.write_all(INCLUDE)?;
     write_tables(writer, said)?;
     write_board(writer, &said.board)
 }
@@ -45,9 +47,9 @@ fn write_agents_table<W: Write>(writer: &mut W, said: &BoardWithChannels) -> io:
         (agents_table (described said.now))) }
 {
     let count = said.board.agents.len();
-    write_head(writer, count, "scmi_board_agent", "agents")?;
+    write_part(writer, count, AGENTS_START)?;
     write_agents(writer, &said.channels, 0, &said.board.agents)?;
-    write_end(writer, count)
+    write_part(writer, count, TABLE_END)
 }
 
 #[tactic(auto, unfolding(crate::specs::Table::domains_table))]
@@ -56,9 +58,9 @@ fn write_domains_table<W: Write>(writer: &mut W, board: &RawPlan) -> io::Result<
         (domains_table (asked_board board.now))) }
 {
     let count = board.domains.len();
-    write_head(writer, count, "scmi_board_domain", "domains")?;
+    write_part(writer, count, DOMAINS_START)?;
     write_domains(writer, &board.domains)?;
-    write_end(writer, count)
+    write_part(writer, count, TABLE_END)
 }
 
 #[tactic(auto, unfolding(crate::specs::Table::clocks_table))]
@@ -67,9 +69,9 @@ fn write_clocks_table<W: Write>(writer: &mut W, board: &RawPlan) -> io::Result<(
         (clocks_table (asked_board board.now))) }
 {
     let count = board.clocks.len();
-    write_head(writer, count, "scmi_board_clock", "clocks")?;
+    write_part(writer, count, CLOCKS_START)?;
     write_clocks(writer, 0, &board.clocks)?;
-    write_end(writer, count)
+    write_part(writer, count, TABLE_END)
 }
 
 #[tactic(auto, unfolding(crate::specs::Table::rates_table))]
@@ -78,9 +80,9 @@ fn write_rates_table<W: Write>(writer: &mut W, board: &RawPlan) -> io::Result<()
         (rates_table (asked_board board.now))) }
 {
     let count = rate_count(board);
-    write_head(writer, count, "uint64_t", "rates")?;
+    write_part(writer, count, RATES_START)?;
     write_rates(writer, &board.clocks)?;
-    write_end(writer, count)
+    write_part(writer, count, TABLE_END)
 }
 
 #[tactic(auto, unfolding(crate::specs::Table::devices_table))]
@@ -89,30 +91,7 @@ fn write_devices_table<W: Write>(writer: &mut W, board: &RawPlan) -> io::Result<
         (devices_table (asked_board board.now))) }
 {
     let count = board.devices.len();
-    write_head(writer, count, "scmi_board_device", "devices")?;
+    write_part(writer, count, DEVICES_START)?;
     write_devices(writer, &board.devices)?;
-    write_end(writer, count)
-}
-
-/// Begins a table of this many rows of a type, if it has one.
-#[tactic(auto, unfolding(crate::specs::Table::head_text))]
-fn write_head<W: Write>(writer: &mut W, count: usize, kind: &str, name: &str) -> io::Result<()>
-    ensures { OnOk result (Appends (W.contents writer.old) (W.contents writer.new)
-        (head_text count kind.now name.now)) }
-{
-    if count == 0 {
-        return Ok(());
-    }
-    writeln!(writer, "static const {kind} board_{name}[] = {{")
-}
-
-#[tactic(auto, unfolding(crate::specs::Table::end_text))]
-fn write_end<W: Write>(writer: &mut W, count: usize) -> io::Result<()>
-    ensures { OnOk result (Appends (W.contents writer.old) (W.contents writer.new)
-        (end_text count)) }
-{
-    if count == 0 {
-        return Ok(());
-    }
-    write!(writer, "}};\n\n")
+    write_part(writer, count, TABLE_END)
 }

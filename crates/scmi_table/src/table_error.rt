@@ -8,6 +8,22 @@ use scmi_plan::PlanError;
 use std::error::Error;
 use std::fmt;
 
+/// The texts of errors. A number follows those that end in a space.
+pub(crate) const SIZE: &str = "size";
+
+pub(crate) const READ: &str = "read";
+
+pub(crate) const BOARD: &str = "board ";
+
+pub(crate) const PLAN: &str = "plan ";
+
+pub(crate) const MEMORY: &str = "memory";
+
+pub(crate) const WRITE: &str = "write";
+
+/// The line of an error.
+pub(crate) const FAULT_LINE: &[u8] = b"fault %\n";
+
 /// Why a board has no tables. Its text is what follows the word `fault`.
 #[derive(Clone, Copy, Debug, PartialEq, Eq)]
 pub enum TableError {
@@ -48,12 +64,12 @@ impl fmt::Display for TableError {
 
     fn fmt<W: fmt::Write>(&self, f: &mut fmt::Formatter<W>) -> fmt::Result {
         match self {
-            TableError::Size => write!(f, "size"),
-            TableError::Read => write!(f, "read"),
-            TableError::Board(line) => write!(f, "board {line}"),
-            TableError::Plan(rule) => write!(f, "plan {rule}"),
-            TableError::Memory => write!(f, "memory"),
-            TableError::Write => write!(f, "write"),
+            TableError::Size => f.write_str(SIZE),
+            TableError::Read => f.write_str(READ),
+            TableError::Board(line) => write!(f, "{BOARD}{line}"),
+            TableError::Plan(rule) => write!(f, "{PLAN}{rule}"),
+            TableError::Memory => f.write_str(MEMORY),
+            TableError::Write => f.write_str(WRITE),
         }
     }
 }

@@ -1,7 +1,7 @@
 use Rattle.std.proofs.Common.{take, flat_map}
 use Rattle.std.specs.Io.KnownBytes.{Appends}
-use Rattle.scmi_table.specs.Rows.{byte_text}
-use Rattle.scmi_table.proofs.string.write_bytes.Given as goal
+use Rattle.scmi_table.specs.Value.{byte_text}
+use Rattle.scmi_table.proofs.value.write_in_string.Given as goal
 
 abbrev pub invariant-bytes : goal.invariant-bytes
 invariant-bytes g l =
