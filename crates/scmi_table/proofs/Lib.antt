@@ -1,2 +1,1 @@
 pub mod Faults
-mod TemplateExamples

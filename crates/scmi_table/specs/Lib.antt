@@ -2,5 +2,4 @@ pub mod Run
 pub mod Rows
 pub mod Table
 pub mod TableError
-pub mod Template
 pub mod Value

@@ -7,7 +7,7 @@ use Rattle.scmi_input.specs.declared.input_error.InputError.TheVariants as input
 use Rattle.scmi_plan.specs.PlanError.{number}
 use Rattle.scmi_plan.specs.declared.plan_error.PlanError.{PlanError}
 use Rattle.scmi_plan.specs.declared.plan_error.PlanError.TheVariants as plan
-use Rattle.scmi_table.specs.Template.{filled}
+use Rattle.scmi_template.specs.Filled.{filled}
 use Rattle.scmi_table.specs.declared.table_error.TheConstants.{SIZE, READ, BOARD, PLAN, MEMORY, WRITE, FAULT_LINE}
 use Rattle.scmi_table.specs.declared.table_error.TableError.{TableError}
 use Rattle.scmi_table.specs.declared.table_error.TableError.TheVariants.{Size, Read, Board, Plan, Memory, Write}

@@ -1,4 +1,4 @@
--- What fills the holes of templates.
+-- What fills the holes of texts.
 use Rattle.std.specs.Prelude.{ℕ, ◌==◌, ◌||◌, Bool, false, if◌then◌else◌, List, [], ◌∷◌, flat_map, decimal}
 use Rattle.std.specs.Fmt.{digits}
 use Rattle.scmi_table.specs.TableError.{fault_text}

@@ -3,12 +3,12 @@ ghost use Rattle.std.specs.Prelude.{◌≡◌, OnOk, map, string_bytes};
 ghost use Rattle.std.specs.Io.KnownBytes.{Appends};
 ghost use Rattle.scmi_table.specs.Rows.{agent_text, agents_text, channel_said};
 
-use crate::template::write_filled;
 use crate::texts::AGENT_ROW;
 use crate::value::Value::{Bit, Name, Number};
 use scmi_board::ChannelLine;
 use scmi_codec::{AREA_BYTES, PAYLOAD_WORDS};
 use scmi_plan::{AgentChannel, WHOLE_CHANNEL};
+use scmi_template::write_filled;
 use std::io;
 use std::io::Write;
 

@@ -5,13 +5,13 @@ ghost use Rattle.scmi_plan.specs.RawPlan.{asked_board};
 ghost use Rattle.scmi_table.specs.Table.{board_text, fields_text, heading_text, part_text, rate_count};
 
 use crate::clocks::place_behind_all;
-use crate::template::write_filled;
 use crate::texts::{
     AGENTS_FIELD, BOARD_END, BOARD_START, CLOCKS_FIELD, DEVICES_FIELD, DOMAINS_FIELD, HEADING,
     RATES_FIELD,
 };
 use crate::value::Value::{Hex, Name, Number};
 use scmi_plan::RawPlan;
+use scmi_template::write_filled;
 use std::io;
 use std::io::Write;
 
@@ -59,7 +59,7 @@ fn write_fields<W: Write>(writer: &mut W, board: &RawPlan) -> io::Result<()>
 /// Writes a part of a table that has this many rows, if it has one: its first line, its last, or
 /// its line of the board, which counts them.
 #[tactic(auto, unfolding(crate::specs::Table::part_text))]
-pub(crate) fn write_part<W: Write>(writer: &mut W, count: usize, template: &[u8]) -> io::Result<()>
+pub(crate) fn write_part<W: Write>(writer: &mut W, count: usize, template: &str) -> io::Result<()>
     ensures { OnOk result (Appends (W.contents writer.old) (W.contents writer.new)
         (part_text count template.now)) }
 {

@@ -4,10 +4,10 @@ ghost use Rattle.std.specs.Io.KnownBytes.{Appends};
 ghost use Rattle.scmi_plan.specs.RawPlan.{asked_clock};
 ghost use Rattle.scmi_table.specs.Rows.{clock_text, clocks_text, kind_text, place_behind, place_behind_all};
 
-use crate::template::write_filled;
 use crate::texts::{CLOCK_START, LIST_END, STEPS_END};
 use crate::value::Value::{Bit, Name, Number};
 use scmi_plan::{Rates, RawClock};
+use scmi_template::write_filled;
 use std::io;
 use std::io::Write;
 

@@ -13,7 +13,6 @@ mod rows;
 mod run;
 mod table;
 mod table_error;
-mod template;
 mod texts;
 mod value;
 

@@ -4,10 +4,10 @@ ghost use Rattle.std.specs.Io.KnownBytes.{Appends};
 ghost use Rattle.scmi_plan.specs.RawPlan.{asked_clock, asked_domain};
 ghost use Rattle.scmi_table.specs.Rows.{device_text, domain_text, list_text, rate_text};
 
-use crate::template::write_filled;
 use crate::texts::{DEVICE_ROW, DOMAIN_ROW, RATE_ROW};
 use crate::value::Value::{Bit, Hex, Name, Number};
 use scmi_plan::{Device, RateList, Rates, RawClock, RawDomain};
+use scmi_template::write_filled;
 use std::io;
 use std::io::Write;
 

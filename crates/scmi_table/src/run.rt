@@ -7,8 +7,8 @@ ghost use Rattle.scmi_table.specs.TableError.{fault_line, status_of};
 use crate::read::read_board;
 use crate::table::write_table;
 use crate::table_error::{FAULT_LINE, TableError};
-use crate::template::write_filled;
 use crate::value::Value::Fault;
+use scmi_template::write_filled;
 use std::alloc::Global;
 use std::io::{Read, Write};
 

@@ -22,7 +22,7 @@ pub(crate) const MEMORY: &str = "memory";
 pub(crate) const WRITE: &str = "write";
 
 /// The line of an error.
-pub(crate) const FAULT_LINE: &[u8] = b"fault %\n";
+pub(crate) const FAULT_LINE: &str = "fault %\n";
 
 /// Why a board has no tables. Its text is what follows the word `fault`.
 #[derive(Clone, Copy, Debug, PartialEq, Eq)]

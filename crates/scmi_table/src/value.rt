@@ -1,9 +1,10 @@
-//! What fills the holes of templates.
+//! What fills the holes of texts.
 ghost use Rattle.std.specs.Prelude.{◌≡◌, OnOk};
 ghost use Rattle.std.specs.Io.KnownBytes.{Appends};
 ghost use Rattle.scmi_table.specs.Value.{byte_text, in_string, is_marked, value_text};
 
 use crate::table_error::TableError;
+use scmi_template::Piece;
 use std::io;
 use std::io::Write;
 
@@ -20,16 +21,17 @@ pub(crate) enum Value<'a> {
     Fault(TableError),
 }
 
-pub(crate) fn write_value<W: Write>(writer: &mut W, value: &Value) -> io::Result<()>
-    ensures { OnOk result (Appends (W.contents writer.old) (W.contents writer.new)
-        (value_text value.now)) }
-{
-    match value {
-        Value::Number(number) => write!(writer, "{number}"),
-        Value::Bit(bit) => write!(writer, "{}", u8::from(*bit)),
-        Value::Hex(number) => write!(writer, "{number:x}"),
-        Value::Name(name) => write_in_string(writer, name.as_bytes()),
-        Value::Fault(fault) => write!(writer, "{fault}"),
+impl Piece for Value<'_> {
+    ghost text = { value_text };
+
+    fn write<W: Write>(&self, writer: &mut W) -> io::Result<()> {
+        match *self {
+            Value::Number(number) => write!(writer, "{number}"),
+            Value::Bit(bit) => write!(writer, "{}", u8::from(bit)),
+            Value::Hex(number) => write!(writer, "{number:x}"),
+            Value::Name(name) => write_in_string(writer, name.as_bytes()),
+            Value::Fault(fault) => write!(writer, "{fault}"),
+        }
     }
 }
 
