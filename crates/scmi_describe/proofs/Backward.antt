@@ -3,7 +3,7 @@ use Rattle.std.proofs.Common.{◌≡◌, ◌≢◌, ℕ, ◌/◌, ◌%◌, ◌^�
 use Rattle.std.proofs.lemmas.Bool.Decides.{nat_tests}
 use Rattle.std.specs.List.{AllByRecursion}
 use Rattle.std.specs.Fmt.{digit_glyph}
-use Rattle.scmi_describe.specs.Literal.{literal}
+use Rattle.scmi_template.specs.Filled.{filled}
 use Rattle.scmi_describe.specs.Digits.{last_digit, eight_digits}
 use Rattle.scmi_describe.specs.Words.{word_text, each_word}
 
@@ -36,7 +36,7 @@ words_back [] onto = onto
 words_back (w ∷ ws) onto = eight_back w (32 ∷ words_back ws onto)
 
 back-word : (w : ℕ) (onto : List ℕ) → back (word_text w) onto ≡ eight_back w (32 ∷ onto)
-unfolding word_text literal eight_digits
+unfolding word_text filled eight_digits
 back-word w onto = refl
 
 pub back-each_word : (ws vs onto : List ℕ) → back (each_word ws) (words_back vs onto) ≡ words_back (back ws vs) onto

@@ -20,12 +20,11 @@ figure-first : (xs : List ℕ) → BeginsWithFigure xs → get_or xs 0 0 < 58
 figure-first [] h = absurd h
 figure-first (x ∷ xs) h = h.1
 
--- of a text that begins with a number, and has four parts after it
-pub decimal_first : (n : ℕ) (a b c d : List ℕ) → n < 2 ^ 64 → get_or (decimal n ++ a ++ b ++ c ++ d) 0 0 < 58
-decimal_first n a b c d h =
-    figure-first (decimal n ++ a ++ b ++ c ++ d)
-    (BeginsWithFigure-append (decimal n ++ a ++ b ++ c) d (BeginsWithFigure-append (decimal n ++ a ++ b) c
-    (BeginsWithFigure-append (decimal n ++ a) b (BeginsWithFigure-append (decimal n) a (decimal-begins n h)))))
+-- of a text that begins with a number, and has three parts after it
+pub decimal_first : (n : ℕ) (a b c : List ℕ) → n < 2 ^ 64 → get_or (decimal n ++ a ++ b ++ c) 0 0 < 58
+decimal_first n a b c h =
+    figure-first (decimal n ++ a ++ b ++ c)
+    (BeginsWithFigure-append (decimal n ++ a ++ b) c (BeginsWithFigure-append (decimal n ++ a) b (BeginsWithFigure-append (decimal n) a (decimal-begins n h))))
 
 -- no space stands here
 abbrev HasNoSpace : List ℕ → Type 0

@@ -1,8 +1,8 @@
 pub mod Backward
-pub mod Chains
 pub mod Figures
 pub mod Readable
 pub mod SameText
 pub mod StandingFrame
+pub mod TextExamples
 pub mod TextMarks
 pub mod DescriptionAt

@@ -1,5 +1,5 @@
 -- Areas that are described with the same text have the same frame, and their channels are in the same state.
-use Rattle.std.proofs.Common.{◌≡◌, ◌≢◌, ℕ, ◌^◌, ◌<◌, inl, inr, List, [], ◌∷◌, ◌++◌, get_or, drop, refl, sym, ap, ◌∙◌, subst, arith, codes}
+use Rattle.std.proofs.Common.{◌≡◌, ◌≢◌, ℕ, ◌^◌, ◌<◌, inl, inr, List, [], ◌∷◌, ◌++◌, get_or, drop, refl, sym, ap, ◌∙◌, subst, arith}
 use Rattle.std.proofs.lemmas.List.{append_cancel_left}
 use Rattle.scmi_codec.specs.Area.{frame_of}
 use Rattle.scmi_codec.specs.Header.{header_of, header_word}
@@ -7,10 +7,12 @@ use Rattle.scmi_codec.specs.declared.message.Message.{Message}
 use Rattle.scmi_codec.specs.declared.frame.Frame.{Frame}
 use Rattle.scmi_codec.specs.declared.frame.Frame.TheVariants.{Good, Malformed}
 use Rattle.scmi_describe.specs.Alike.{StandAlike}
+use Rattle.scmi_describe.specs.Literal.{literal}
 use Rattle.scmi_describe.specs.Words.{words_text}
 use Rattle.scmi_describe.specs.Text.{description_text, length_text}
 use Rattle.scmi_describe.specs.Description.{described_area}
 use Rattle.scmi_describe.specs.declared.description.Description.{Description}
+use Rattle.scmi_describe.specs.declared.lines.TheConstants.{UNUSED}
 use Rattle.scmi_describe.proofs.Backward.{back, eight_back-injective, laid_back-injective, laid_mark}
 use Rattle.scmi_describe.proofs.Figures.{decimal-known}
 use Rattle.scmi_describe.proofs.Readable.{FitsWords, IsReadable, AreBytes, frame_of_readable}
@@ -51,7 +53,8 @@ tenth-words m text front e =
 tenth-length : (len header : ℕ) (text front : List ℕ) → text ≡ front ++ length_text len header → tenth text ≡ 120
 tenth-length len header text front e = ap tenth e ∙ ap (λ xs. get_or xs 9 0) (back_header front len header).1
 
-tenth-unused : (text : List ℕ) → text ≡ codes "free: unused\n" → tenth text ≡ 101
+tenth-unused : (text : List ℕ) → text ≡ literal UNUSED.now → tenth text ≡ 101
+unfolding literal
 tenth-unused text e = ap tenth e
 
 -- texts of different frames end otherwise
@@ -67,7 +70,7 @@ words-or_length m len header s t u words (inr unused) e =
     let same : 32 ≡ 101 = sym a ∙ ap tenth e ∙ b in
     omega (arith, same)
 
-length-or_unused : (len header : ℕ) (front xs ys : List ℕ) → xs ≡ front ++ length_text len header → ys ≡ codes "free: unused\n" → xs ≢ ys
+length-or_unused : (len header : ℕ) (front xs ys : List ℕ) → xs ≡ front ++ length_text len header → ys ≡ literal UNUSED.now → xs ≢ ys
 length-or_unused len header front xs ys length unused e =
     let same : 120 ≡ 101 = sym (tenth-length len header xs front length) ∙ ap tenth e ∙ tenth-unused ys unused in
     omega (arith, same)

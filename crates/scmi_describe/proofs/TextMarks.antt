@@ -1,5 +1,6 @@
 -- What the text of an area shows at its begin and at its end: the state of the channel, the header word and the payload words.
-use Rattle.std.proofs.Common.{◌≡◌, ℕ, ◌^◌, ◌<◌, ◌⊎◌, inl, inr, true, false, List, [], ◌∷◌, ◌++◌, length, get_or, drop, decimal, Result, Err, refl, ap, ◌∙◌, arith, append_assoc, codes}
+use Rattle.std.proofs.Common.{◌≡◌, ◌==◌, ℕ, ◌^◌, ◌<◌, ◌⊎◌, inl, inr, true, false, List, [], ◌∷◌, ◌++◌, length, get_or, drop, decimal, Result, Err, refl, ap, ◌∙◌, arith, codes}
+use Rattle.std.specs.List.{after_first, before_first}
 use Rattle.scmi_codec.specs.Header.{header_word}
 use Rattle.scmi_codec.specs.declared.command.Command.{Command}
 use Rattle.scmi_codec.specs.declared.message.Message.{Message}
@@ -9,10 +10,13 @@ use Rattle.scmi_codec.specs.declared.frame.Frame.{Frame}
 use Rattle.scmi_codec.specs.declared.frame.Frame.TheVariants.{Good, Malformed}
 use Rattle.scmi_describe.specs.Literal.{literal}
 use Rattle.scmi_describe.specs.Digits.{eight_digits}
-use Rattle.scmi_describe.specs.Heading.{state_text}
+use Rattle.scmi_template.specs.Filled.{filled}
+use Rattle.scmi_describe.specs.LinePart.{state_text, why_text}
 use Rattle.scmi_describe.specs.Words.{words_text, words_start, each_word}
-use Rattle.scmi_describe.specs.Text.{description_text, command_text, command_line, withdrawn_text, withdrawn_line, misfit_line, misfit_start, misfit_end, request_fields_text, taken_back_line, unnamed_line, response_text, reply_text, delayed_text, delayed_line, delayed_start, notification_text, notification_line, channel_error_text, malformed_text, length_text, length_start, why_text, header_end, foreign_text, foreign_start}
+use Rattle.scmi_describe.specs.Text.{description_text, command_text, command_line, withdrawn_text, withdrawn_line, request_fields_text, response_text, reply_text, delayed_text, delayed_line, notification_text, notification_line, channel_error_text, malformed_text, length_text, foreign_text}
 use Rattle.scmi_describe.specs.declared.description.Description.{Description}
+use Rattle.scmi_template.specs.declared.filled.TheConstants.{HOLE}
+use Rattle.scmi_describe.specs.declared.lines.TheConstants.{ERROR_MALFORMED, LENGTH, MALFORMED, UNUSED}
 use Rattle.scmi_describe.proofs.Backward.{back, back-append, eight_back, words_back, back-each_word}
 use Rattle.scmi_describe.proofs.Figures.{decimal_first}
 use Rattle.scmi_describe.proofs.Readable.{IsReadable}
@@ -22,15 +26,20 @@ use Rattle.scmi_describe.proofs.DescriptionAt.{State, Busy, Free, Failed, descri
 abbrev pub text_at : State → Frame → List ℕ
 text_at s f = description_text (described_at s f)
 
+command_first : (m : Message) (r : Result Command Status) → get_or (command_text m r) 0 0 ≡ 98
+unfolding command_text command_line filled
+command_first m (Err ProtocolError) = refl
+command_first m r = refl
+
 -- the text of a busy channel begins with `b`
 pub busy_first : (f : Frame) → get_or (text_at Busy f) 0 0 ≡ 98
-unfolding command_text command_line delayed_text delayed_line delayed_start notification_text notification_line foreign_text foreign_start malformed_text state_text literal
-busy_first (Good m) = posted-cases (λ t. get_or (description_text t) 0 0 ≡ 98) m (λ r. refl) refl refl refl
+unfolding delayed_text delayed_line notification_text notification_line foreign_text malformed_text state_text filled literal
+busy_first (Good m) = posted-cases (λ t. get_or (description_text t) 0 0 ≡ 98) m (command_first m) refl refl refl
 busy_first (Malformed len header) = refl
 
 -- the text of a channel error begins with `f`, and has `ch` behind six characters
 pub failed_first : (f : Frame) → (get_or (text_at Failed f) 0 0 ≡ 102) × (get_or (text_at Failed f) 6 0 ≡ 99) × (get_or (text_at Failed f) 7 0 ≡ 104)
-unfolding channel_error_text state_text literal
+unfolding channel_error_text literal
 failed_first (Good m) = (refl, refl, refl)
 failed_first (Malformed len header) = (refl, refl, refl)
 
@@ -39,15 +48,15 @@ abbrev pub SaysFree : List ℕ → Type 0
 SaysFree text = (get_or text 0 0 ≡ 102) × (get_or text 6 0 ≡ 99 → get_or text 7 0 ≡ 104 → ⊥)
 
 withdrawn_first : (m : Message) (r : Result Command Status) → length m.payload.items < 2 ^ 64 → SaysFree (withdrawn_text m r)
-unfolding withdrawn_text withdrawn_line misfit_line misfit_start taken_back_line unnamed_line state_text literal
+unfolding withdrawn_text withdrawn_line filled
 withdrawn_first m (Err ProtocolError) few =
-    let figure = decimal_first (length m.payload.items) (codes " payload words that no command ") (misfit_end m.header) (request_fields_text (Err ProtocolError)) (words_text m) few in
+    let figure : get_or (withdrawn_text m (Err ProtocolError)) 6 0 < 58 = decimal_first (length m.payload.items) _ (request_fields_text (Err ProtocolError)) (words_text m) few in
     (refl, λ c h. omega (arith, figure, c))
 withdrawn_first m r few = (refl, λ c h. omega arith)
 
 -- the text of a free channel begins with `f`, and has no `ch` behind six characters
 pub free_first : (f : Frame) → IsReadable f → SaysFree (text_at Free f)
-unfolding reply_text response_text delayed_text delayed_line delayed_start notification_text notification_line foreign_text foreign_start malformed_text state_text literal
+unfolding reply_text response_text delayed_text delayed_line notification_text notification_line foreign_text malformed_text state_text filled literal
 free_first (Good m) fits =
     left-cases (λ t. SaysFree (description_text t)) m (λ r. withdrawn_first m r fits.count) (refl, λ c h. omega arith) (λ s. (refl, λ c h. omega arith))
     (refl, λ c h. omega arith) (refl, λ c h. omega arith) (refl, λ c h. omega arith)
@@ -66,14 +75,14 @@ ends_in_words Failed m = (_, refl)
 
 -- what is before the length of a malformed frame
 abbrev pub malformed_front : State → List ℕ
-malformed_front Busy = state_text false ++ literal (codes "malformed: ")
-malformed_front Free = state_text true ++ literal (codes "malformed: ")
-malformed_front Failed = state_text true ++ literal (codes "channel error: the frame was malformed: ")
+malformed_front Busy = filled MALFORMED.now (state_text false ∷ [])
+malformed_front Free = filled MALFORMED.now (state_text true ∷ [])
+malformed_front Failed = literal ERROR_MALFORMED.now
 
 -- the length and the header word stand at the end, or nothing does
 abbrev pub EndsInLength : List ℕ → ℕ → ℕ → Description → Type 0
 EndsInLength front len header t =
-    (description_text t ≡ front ++ length_text len header) ⊎ ((description_text t ≡ codes "free: unused\n") × (len ≡ 0) × (header ≡ 0))
+    (description_text t ≡ front ++ length_text len header) ⊎ ((description_text t ≡ literal UNUSED.now) × (len ≡ 0) × (header ≡ 0))
 
 pub ends_in_length : (s : State) (len header : ℕ) → EndsInLength (malformed_front s) len header (described_at s (Malformed len header))
 unfolding malformed_text channel_error_text
@@ -83,7 +92,7 @@ ends_in_length Failed len header = inl refl
 
 -- the words of a message from the end of its text
 pub back_words : (m : Message) (front : List ℕ) → (rest : List ℕ) × (back (front ++ words_text m) [] ≡ 10 ∷ words_back (back m.payload.items (header_word m.header ∷ [])) (32 ∷ rest))
-unfolding words_text words_start literal eight_digits
+unfolding words_text words_start filled eight_digits
 back_words m front =
     let h : ℕ = header_word m.header in
     let blank : List ℕ = 32 ∷ 32 ∷ 32 ∷ 32 ∷ 32 ∷ 115 ∷ 100 ∷ 114 ∷ 111 ∷ 119 ∷ 32 ∷ 32 ∷ 32 ∷ 32 ∷ back front [] in
@@ -94,19 +103,23 @@ back_words m front =
     back-append (words_start h) (each_word m.payload.items) (back front []) in
     (blank, whole ∙ line ∙ ap (λ xs. 10 ∷ xs) (parts ∙ back-each_word m.payload.items (h ∷ []) (32 ∷ blank)))
 
+-- a text with a hole from its end
+back-filled : (text piece : List ℕ) (pieces : List (List ℕ)) (onto : List ℕ)
+    → back (filled text (piece ∷ pieces)) onto ≡ back (filled (after_first (λ b. b == HOLE) text) pieces) (back (before_first (λ b. b == HOLE) text ++ piece) onto)
+unfolding filled
+back-filled text piece pieces onto =
+    back-append (before_first (λ b. b == HOLE) text ++ piece) (filled (after_first (λ b. b == HOLE) text) pieces) onto
+
 -- the header word of a malformed frame from the end of its text
 pub back_header : (front : List ℕ) (len header : ℕ) → (rest : List ℕ) × (back (front ++ length_text len header) [] ≡ 10 ∷ eight_back header (120 ∷ rest))
-unfolding length_text header_end literal eight_digits
-back_header front len header =
-    let start : List ℕ = length_start len ++ why_text len in
-    let rest : List ℕ = 48 ∷ 32 ∷ 114 ∷ 101 ∷ 100 ∷ 97 ∷ 101 ∷ 104 ∷ 32 ∷ 59 ∷ back start (back front []) in
-    (rest, back-append front (length_text len header) [] ∙ back-append start (header_end header) (back front []))
+unfolding length_text filled eight_digits
+back_header front len header = (
+  _,
+  back-append front (length_text len header) [] ∙ back-filled LENGTH.now (decimal len) (why_text len ∷ eight_digits header ∷ []) (back front [])
+      ∙ back-filled (after_first (λ b. b == HOLE) LENGTH.now) (why_text len) (eight_digits header ∷ []) _,
+)
 
 -- the length of a malformed frame
 pub length_split : (len header : ℕ) → (rest : List ℕ) × (drop 7 (length_text len header) ≡ decimal len ++ 32 ∷ rest)
-unfolding length_text length_start literal
-length_split len header =
-    let is : List ℕ = codes " is " in
-    let why : List ℕ = why_text len in
-    let last : List ℕ = header_end header in
-    (_, append_assoc (decimal len ++ is) why last ∙ append_assoc (decimal len) is (why ++ last))
+unfolding length_text filled
+length_split len header = (_, refl)

@@ -3,9 +3,12 @@ pub mod Commands
 pub mod Digits
 pub mod Field
 pub mod Heading
+pub mod LinePart
+pub mod Lists
 pub mod Literal
 pub mod Names
 pub mod Replies
 pub mod Text
+pub mod Value
 pub mod Description
 pub mod Words

@@ -1,14 +1,15 @@
 //! What a command is, in words.
-ghost use Rattle.std.specs.Prelude.{◌≡◌, OnOk};
+ghost use Rattle.std.specs.Prelude.{OnOk};
 ghost use Rattle.std.specs.Io.KnownBytes.{Appends};
-ghost use Rattle.scmi_describe.specs.Text.{command_text, withdrawn_text, command_line, taken_back_line, unnamed_line, withdrawn_line, misfit_line, misfit_name, misfit_end, misfit_start, request_fields_text, count_text};
+ghost use Rattle.scmi_describe.specs.Text.{command_line, command_text, request_fields_text, withdrawn_line, withdrawn_text};
 
 use crate::commands::command_fields;
-use crate::heading::{write_heading, write_message_name, write_state, write_token};
-use crate::literal::write_text;
-use crate::values::write_fields;
+use crate::field_text::write_fields;
+use crate::line_part::LinePart::{Count, Name, Token};
+use crate::lines::{COMMAND, MISFIT, OTHER_SIZE, UNNAMED, WITHDRAWN};
 use crate::words::write_words;
-use scmi_codec::{Command, Header, Message, Status, wanted_words};
+use scmi_codec::{Command, Message, Status, wanted_words};
+use scmi_template::write_filled;
 use std::io;
 use std::io::Write;
 
@@ -26,6 +27,8 @@ pub(crate) fn write_command<W: Write>(
     write_words(writer, message)
 }
 
+/// Writes the first line of a command that waits, with the number of payload words if the command
+/// has another.
 #[tactic(auto, unfolding(crate::specs::Text::command_line))]
 fn write_command_line<W: Write>(
     writer: &mut W,
@@ -35,34 +38,15 @@ fn write_command_line<W: Write>(
     ensures { OnOk result (Appends (W.contents writer.old) (W.contents writer.new)
         (command_line message.now request.now)) }
 {
-    write_state(writer, false)?;
-    write_text(writer, "command ")?;
-    write_heading(writer, &message.header)?;
-    write_count(writer, message, request)?;
-    writeln!(writer)
-}
-
-/// Writes the number of payload words if the command has another.
-#[tactic(auto, unfolding(crate::specs::Text::count_text))]
-fn write_count<W: Write>(
-    writer: &mut W,
-    message: &Message,
-    request: &Result<Command, Status>,
-) -> io::Result<()>
-    ensures { OnOk result (Appends (W.contents writer.old) (W.contents writer.new)
-        (count_text message.now request.now)) }
-{
+    let header = message.header;
     match request {
         Err(Status::ProtocolError) => {
             let count = message.payload.len();
-            let wanted = wanted_words(message.header.protocol, message.header.id);
-            write_text(writer, ": ")?;
-            write!(writer, "{count}")?;
-            write_text(writer, " payload words where ")?;
-            write!(writer, "{wanted}")?;
-            write_text(writer, " belong")
+            let wanted = wanted_words(header.protocol, header.id);
+            let pieces = [Name(header), Token(header), Count(count), Count(wanted)];
+            write_filled(writer, OTHER_SIZE, &pieces)
         }
-        _ => Ok(()),
+        _ => write_filled(writer, COMMAND, &[Name(header), Token(header)]),
     }
 }
 
@@ -98,6 +82,9 @@ pub(crate) fn write_withdrawn<W: Write>(
     write_words(writer, message)
 }
 
+/// Writes the first line of a message that is no reply by its form: of another length than its
+/// command and the reply to it, of no table, so that its words do not distinguish a reply from a
+/// command, or a command that was withdrawn.
 #[tactic(auto, unfolding(crate::specs::Text::withdrawn_line))]
 fn write_withdrawn_line<W: Write>(
     writer: &mut W,
@@ -107,77 +94,13 @@ fn write_withdrawn_line<W: Write>(
     ensures { OnOk result (Appends (W.contents writer.old) (W.contents writer.new)
         (withdrawn_line message.now request.now)) }
 {
-    let header = &message.header;
+    let header = message.header;
     match request {
-        Err(Status::ProtocolError) => write_misfit_line(writer, message),
-        Err(Status::NotSupported) => write_unnamed(writer, header),
-        _ => write_taken_back(writer, header),
+        Err(Status::ProtocolError) => {
+            let count = message.payload.len();
+            write_filled(writer, MISFIT, &[Count(count), Name(header), Token(header)])
+        }
+        Err(Status::NotSupported) => write_filled(writer, UNNAMED, &[Name(header), Token(header)]),
+        _ => write_filled(writer, WITHDRAWN, &[Name(header), Token(header)]),
     }
-}
-
-/// Writes the first line of a message that no table has, so that its words do not distinguish a
-/// reply from a command.
-#[tactic(auto, unfolding(crate::specs::Text::unnamed_line))]
-fn write_unnamed<W: Write>(writer: &mut W, header: &Header) -> io::Result<()>
-    ensures { OnOk result (Appends (W.contents writer.old) (W.contents writer.new)
-        (unnamed_line header.now)) }
-{
-    write_state(writer, true)?;
-    write_text(writer, "reply or withdrawn command, ")?;
-    write_heading(writer, header)?;
-    writeln!(writer)
-}
-
-/// Writes the first line of a command that was withdrawn.
-#[tactic(auto, unfolding(crate::specs::Text::taken_back_line))]
-fn write_taken_back<W: Write>(writer: &mut W, header: &Header) -> io::Result<()>
-    ensures { OnOk result (Appends (W.contents writer.old) (W.contents writer.new)
-        (taken_back_line header.now)) }
-{
-    write_state(writer, true)?;
-    write_text(writer, "command ")?;
-    write_message_name(writer, header.protocol, header.id)?;
-    write_text(writer, " that was withdrawn, ")?;
-    write_token(writer, header)?;
-    writeln!(writer)
-}
-
-/// Writes the first line of a message of another length than its command and the reply to it.
-#[tactic(auto, unfolding(crate::specs::Text::misfit_line))]
-fn write_misfit_line<W: Write>(writer: &mut W, message: &Message) -> io::Result<()>
-    ensures { OnOk result (Appends (W.contents writer.old) (W.contents writer.new)
-        (misfit_line message.now)) }
-{
-    write_misfit_start(writer, message)?;
-    write_misfit_end(writer, &message.header)
-}
-
-#[tactic(auto, unfolding(crate::specs::Text::misfit_end))]
-fn write_misfit_end<W: Write>(writer: &mut W, header: &Header) -> io::Result<()>
-    ensures { OnOk result (Appends (W.contents writer.old) (W.contents writer.new)
-        (misfit_end header.now)) }
-{
-    write_misfit_name(writer, header.protocol, header.id)?;
-    write_token(writer, header)?;
-    writeln!(writer)
-}
-
-#[tactic(auto, unfolding(crate::specs::Text::misfit_name))]
-fn write_misfit_name<W: Write>(writer: &mut W, protocol: u8, id: u8) -> io::Result<()>
-    ensures { OnOk result (Appends (W.contents writer.old) (W.contents writer.new)
-        (misfit_name protocol id)) }
-{
-    write_message_name(writer, protocol, id)?;
-    write_text(writer, " and no reply to it has, ")
-}
-
-#[tactic(auto, unfolding(crate::specs::Text::misfit_start))]
-fn write_misfit_start<W: Write>(writer: &mut W, message: &Message) -> io::Result<()>
-    ensures { OnOk result (Appends (W.contents writer.old) (W.contents writer.new)
-        (misfit_start message.now)) }
-{
-    let count = message.payload.len();
-    write_state(writer, true)?;
-    write!(writer, "{count}")?;
-    write_text(writer, " payload words that no command ")
 }

@@ -1,6 +1,5 @@
 //! The fields of messages.
 ghost use Rattle.std.specs.Prelude.{◌≡◌, ◌≤◌, length};
-ghost use Rattle.scmi_describe.specs.Field.{label_text};
 ghost use Rattle.scmi_describe.specs.declared.field.TheConstants.{FIELDS};
 
 use arrayvec::ArrayVec;
@@ -81,34 +80,4 @@ pub(crate) fn fields_of(list: &[Field]) -> Fields
     let mut fields = ArrayVec::new();
     let _ = fields.try_extend_from_slice(list);
     fields
-}
-
-/// The name of a field, filled with spaces to a column of eleven.
-pub(crate) fn label(field: &Field) -> &'static str
-    ensures { result.now ≡ label_text field.now }
-{
-    match field {
-        Field::Version(_) | Field::Implementation(_) => "version    ",
-        Field::Counts(_) => "has        ",
-        Field::Message(_) => "message    ",
-        Field::Attributes(_) | Field::ClockAttributes(_) => "attributes ",
-        Field::Name(_) => "name       ",
-        Field::Skip(_) => "skip       ",
-        Field::Agent(_) | Field::Subject(_) => "agent      ",
-        Field::Device(_) => "device     ",
-        Field::Protocol(_) => "protocol   ",
-        Field::PermitFlags(_) | Field::ResetFlags(_) | Field::PowerFlags(_) | Field::RateFlags(_) =>
-            "flags      ",
-        Field::Domains(_) => "domains    ",
-        Field::Statistics(_) => "statistics ",
-        Field::Domain(_) => "domain     ",
-        Field::DomainAttributes(_) => "supports   ",
-        Field::State(_) => "state      ",
-        Field::Enable(_) => "notify     ",
-        Field::Clocks(_) => "clocks     ",
-        Field::Clock(_) => "clock      ",
-        Field::Index(_) => "index      ",
-        Field::Rate(_) => "rate       ",
-        Field::By(_) => "by         ",
-    }
 }

@@ -6,12 +6,14 @@
 //! answer; `describe_channel` is the same for an area of any size that a channel has), of
 //! `write_description` (the text, to its last byte) and of `are_described_alike` (the text loses
 //! nothing of the frame and of the channel's state).
+//!
+//! Each text is a constant with holes (`lines`, `field_lines`, `lists`), which code fills and the
+//! definitions cite.
 #![tactic(auto)]
 
 mod alike;
 mod answering;
 mod area;
-mod attributes;
 mod channel;
 mod command_text;
 mod commands;
@@ -19,15 +21,21 @@ mod describing;
 mod description;
 mod digits;
 mod field;
+mod field_lines;
+mod field_text;
+mod flags;
 mod frame_text;
 mod heading;
+mod line_part;
+mod lines;
+mod lists;
 mod literal;
 mod name_text;
 mod names;
 mod reply;
 mod reply_text;
 mod text;
-mod values;
+mod value;
 mod words;
 
 pub use alike::are_described_alike;

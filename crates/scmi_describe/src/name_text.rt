@@ -1,26 +1,29 @@
 //! Names in replies, as they are written.
 ghost use Rattle.std.specs.Prelude.{◌≡◌, ◌/◌, ◌%◌, ◌^◌, ◌==◌, ◌<◌, ◌&&◌, OnOk, if◌then◌else◌, not, []};
 ghost use Rattle.std.specs.Io.KnownBytes.{Appends};
-ghost use Rattle.scmi_describe.specs.Field.{name_text, name_words, quoted_text, name_half, name_part, character, goes_on, before_zero, part_of, are_same_words};
+ghost use Rattle.scmi_describe.specs.Field.{are_same_words, before_zero, goes_on, name_line, name_words, part_of};
+ghost use Rattle.scmi_describe.specs.Value.{character, characters};
 
-use crate::literal::write_text;
-use crate::values::write_if;
+use crate::field_lines::{MORE_BYTES, NAME, OTHER_CHARACTER};
+use crate::value::Value;
+use scmi_template::write_filled;
 use std::io;
 use std::io::Write;
 
 /// Writes a name in quotation marks, up to its first zero byte, and whether other bytes follow that.
-#[tactic(auto, unfolding(crate::specs::Field::name_text))]
 pub(crate) fn write_name<W: Write>(writer: &mut W, words: &[u32; 4]) -> io::Result<()>
     ensures { OnOk result (Appends (W.contents writer.old) (W.contents writer.new)
-        (name_text words.now)) }
+        (name_line words.now)) }
 {
     let name = name_words(words);
-    write_quoted(writer, &name)?;
-    write_if(
-        writer,
-        !are_same_words(&name, words),
-        ", and bytes behind its end",
-    )
+    let pieces = [
+        Value::Characters(name[0]),
+        Value::Characters(name[1]),
+        Value::Characters(name[2]),
+        Value::Characters(name[3]),
+        Value::Mark(!are_same_words(&name, words), MORE_BYTES),
+    ];
+    write_filled(writer, NAME, &pieces)
 }
 
 /// The words of a name, with zeros from its first zero byte on.
@@ -76,33 +79,11 @@ fn are_same_words(first: &[u32; 4], second: &[u32; 4]) -> bool
     first[0] == second[0] && first[1] == second[1] && first[2] == second[2] && first[3] == second[3]
 }
 
-/// Writes four words of characters in quotation marks.
-#[tactic(auto, unfolding(crate::specs::Field::quoted_text))]
-fn write_quoted<W: Write>(writer: &mut W, words: &[u32; 4]) -> io::Result<()>
-    ensures { OnOk result (Appends (W.contents writer.old) (W.contents writer.new)
-        (quoted_text words.now)) }
-{
-    write_text(writer, " \"")?;
-    write_name_half(writer, words[0], words[1])?;
-    write_name_half(writer, words[2], words[3])?;
-    write_text(writer, "\"")
-}
-
-/// Writes eight bytes of a name, those of the first word first.
-#[tactic(auto, unfolding(crate::specs::Field::name_half))]
-fn write_name_half<W: Write>(writer: &mut W, first: u32, second: u32) -> io::Result<()>
-    ensures { OnOk result (Appends (W.contents writer.old) (W.contents writer.new)
-        (name_half first second)) }
-{
-    write_name_part(writer, first)?;
-    write_name_part(writer, second)
-}
-
 /// Writes the four bytes of a word as characters, the lowest first.
-#[tactic(auto, unfolding(crate::specs::Field::name_part))]
-fn write_name_part<W: Write>(writer: &mut W, word: u32) -> io::Result<()>
+#[tactic(auto, unfolding(crate::specs::Value::characters))]
+pub(crate) fn write_characters<W: Write>(writer: &mut W, word: u32) -> io::Result<()>
     ensures { OnOk result (Appends (W.contents writer.old) (W.contents writer.new)
-        (name_part word)) }
+        (characters word)) }
 {
     write_character(writer, word % 256)?;
     write_character(writer, word / 256 % 256)?;
@@ -120,7 +101,7 @@ fn write_character<W: Write>(writer: &mut W, byte: u32) -> io::Result<()>
         return Ok(());
     }
     if byte < 0x20 || byte > 0x7e {
-        return writer.write_all(b"?");
+        return writer.write_all(&[OTHER_CHARACTER]);
     }
     writer.write_all(&[byte as u8])
 }

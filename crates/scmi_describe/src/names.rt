@@ -5,6 +5,14 @@ ghost use Rattle.scmi_describe.specs.Names.{status_text, protocol_text, notifica
 
 use scmi_codec::{BASE_PROTOCOL, CLOCK_PROTOCOL, POWER_PROTOCOL, Status};
 
+const BASE: &str = "base";
+
+const POWER: &str = "power";
+
+const CLOCK: &str = "clock";
+
+const POWER_STATE_CHANGED: &str = "POWER_STATE_CHANGED";
+
 /// The name of a status.
 pub fn status_name(status: Status) -> &'static str
     ensures { result.now ≡ status_text status }
@@ -17,9 +25,9 @@ pub fn protocol_name(protocol: u8) -> Option<&'static str>
     ensures { option_copied result ≡ protocol_text protocol }
 {
     match protocol {
-        BASE_PROTOCOL => Some("base"),
-        POWER_PROTOCOL => Some("power"),
-        CLOCK_PROTOCOL => Some("clock"),
+        BASE_PROTOCOL => Some(BASE),
+        POWER_PROTOCOL => Some(POWER),
+        CLOCK_PROTOCOL => Some(CLOCK),
         _ => None,
     }
 }
@@ -29,7 +37,7 @@ pub fn notification_name(protocol: u8, id: u8) -> Option<&'static str>
     ensures { option_copied result ≡ notification_text protocol id }
 {
     match (protocol, id) {
-        (POWER_PROTOCOL, 0x0) => Some("POWER_STATE_CHANGED"),
+        (POWER_PROTOCOL, 0x0) => Some(POWER_STATE_CHANGED),
         _ => None,
     }
 }

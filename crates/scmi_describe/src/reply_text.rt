@@ -4,13 +4,14 @@ ghost use Rattle.std.specs.Io.KnownBytes.{Appends};
 ghost use Rattle.scmi_describe.specs.Text.{reply_text, response_text, row_text, listed_text, reply_fields_text};
 
 use crate::field::Fields;
-use crate::heading::{write_heading, write_state};
-use crate::literal::write_text;
-use crate::names::status_name;
+use crate::field_text::write_fields;
+use crate::line_part::LinePart;
+use crate::lines::RESPONSE;
+use crate::lists::{write_protocols, write_rates};
 use crate::reply::reply_fields;
-use crate::values::write_fields;
-use crate::words::{write_protocols, write_rates, write_words};
+use crate::words::write_words;
 use scmi_codec::{BASE_PROTOCOL, CLOCK_PROTOCOL, Message, Status};
+use scmi_template::write_filled;
 use std::io;
 use std::io::Write;
 
@@ -24,11 +25,13 @@ pub(crate) fn write_response<W: Write>(
     ensures { OnOk result (Appends (W.contents writer.old) (W.contents writer.new)
         (response_text message.now status)) }
 {
-    write_state(writer, true)?;
-    write_text(writer, "reply to ")?;
-    write_heading(writer, &message.header)?;
-    write_text(writer, ": ")?;
-    writeln!(writer, "{}", status_name(status))
+    let header = message.header;
+    let pieces = [
+        LinePart::Name(header),
+        LinePart::Token(header),
+        LinePart::Status(status),
+    ];
+    write_filled(writer, RESPONSE, &pieces)
 }
 
 #[tactic(auto, unfolding(crate::specs::Text::reply_text))]

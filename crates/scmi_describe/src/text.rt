@@ -1,21 +1,20 @@
 //! What an area is, in words.
-ghost use Rattle.std.specs.Prelude.{OnOk};
+ghost use Rattle.std.specs.Prelude.{◌≡◌, OnOk};
 ghost use Rattle.std.specs.Io.KnownBytes.{Appends};
-ghost use Rattle.scmi_describe.specs.Text.{description_text, delayed_text, notification_text, delayed_start, delayed_line, notification_line};
+ghost use Rattle.scmi_describe.specs.Text.{delayed_line, delayed_text, description_text, first_status, notification_line, notification_text};
 
 use crate::command_text::{write_command, write_withdrawn};
 use crate::description::Description;
+use crate::field_text::write_fields;
 use crate::frame_text::{write_channel_error, write_foreign, write_malformed};
-use crate::heading::{
-    write_heading, write_notification_name, write_own_token, write_state, write_status_word,
-    write_taken,
-};
+use crate::line_part::LinePart::{Name, Notification, OwnStatus, OwnToken, State, Taken, Token};
+use crate::lines::{DELAYED, NOTIFICATION, UNUSED};
 use crate::literal::write_text;
 use crate::reply::{delayed_fields, notification_fields};
 use crate::reply_text::{write_reply, write_response};
-use crate::values::write_fields;
 use crate::words::write_words;
-use scmi_codec::Message;
+use scmi_codec::{Message, Status};
+use scmi_template::write_filled;
 use std::io;
 use std::io::Write;
 
@@ -27,7 +26,7 @@ pub fn write_description<W: Write>(writer: &mut W, description: &Description) ->
         (description_text description.now)) }
 {
     match description {
-        Description::Unused => writeln!(writer, "free: unused"),
+        Description::Unused => write_text(writer, UNUSED),
         Description::Command { message, request } => write_command(writer, message, request),
         Description::Withdrawn { message, request } => write_withdrawn(writer, message, request),
         Description::Reply { message } => write_reply(writer, message),
@@ -60,25 +59,31 @@ fn write_delayed<W: Write>(writer: &mut W, is_free: bool, message: &Message) -> 
     write_words(writer, message)
 }
 
+/// Writes the first line of a delayed response.
 #[tactic(auto, unfolding(crate::specs::Text::delayed_line))]
 fn write_delayed_line<W: Write>(writer: &mut W, is_free: bool, message: &Message) -> io::Result<()>
     ensures { OnOk result (Appends (W.contents writer.old) (W.contents writer.new)
         (delayed_line is_free message.now)) }
 {
-    write_delayed_start(writer, is_free, message)?;
-    write_text(writer, ": ")?;
-    write_status_word(writer, message)?;
-    write_taken(writer, is_free)
+    let header = message.header;
+    let pieces = [
+        State(is_free),
+        Name(header),
+        Token(header),
+        OwnStatus(first_status(message)),
+        Taken(is_free),
+    ];
+    write_filled(writer, DELAYED, &pieces)
 }
 
-#[tactic(auto, unfolding(crate::specs::Text::delayed_start))]
-fn write_delayed_start<W: Write>(writer: &mut W, is_free: bool, message: &Message) -> io::Result<()>
-    ensures { OnOk result (Appends (W.contents writer.old) (W.contents writer.new)
-        (delayed_start is_free message.now)) }
+/// The status that a message begins with.
+fn first_status(message: &Message) -> Option<Status>
+    ensures { result ≡ first_status message.now.payload.items }
 {
-    write_state(writer, is_free)?;
-    write_text(writer, "delayed response to ")?;
-    write_heading(writer, &message.header)
+    let [word, ..] = message.payload.as_slice() else {
+        return None;
+    };
+    Status::of_word(*word)
 }
 
 #[tactic(auto, unfolding(crate::specs::Text::notification_text))]
@@ -92,6 +97,7 @@ fn write_notification<W: Write>(writer: &mut W, is_free: bool, message: &Message
     write_words(writer, message)
 }
 
+/// Writes the first line of a notification.
 #[tactic(auto, unfolding(crate::specs::Text::notification_line))]
 fn write_notification_line<W: Write>(
     writer: &mut W,
@@ -101,10 +107,12 @@ fn write_notification_line<W: Write>(
     ensures { OnOk result (Appends (W.contents writer.old) (W.contents writer.new)
         (notification_line is_free message.now)) }
 {
-    let header = &message.header;
-    write_state(writer, is_free)?;
-    write_text(writer, "notification ")?;
-    write_notification_name(writer, header.protocol, header.id)?;
-    write_own_token(writer, header)?;
-    write_taken(writer, is_free)
+    let header = message.header;
+    let pieces = [
+        State(is_free),
+        Notification(header),
+        OwnToken(header),
+        Taken(is_free),
+    ];
+    write_filled(writer, NOTIFICATION, &pieces)
 }
