@@ -1,4 +1,5 @@
 pub mod EightDigits
+mod LineExamples
 pub mod Packing
 pub mod Payloads
 pub mod ScriptAgents

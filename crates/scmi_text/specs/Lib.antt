@@ -8,5 +8,6 @@ pub mod Step
 pub mod StepLine
 pub mod StepText
 pub mod TextLines
+pub mod Value
 pub mod WordRow
 pub mod Words

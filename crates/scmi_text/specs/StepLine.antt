@@ -1,44 +1,46 @@
 -- The lines of a script that runs on one thread.
-use Rattle.std.specs.Prelude.{ℕ, List, ◌++◌, codes, decimal, Option, Some, None}
+use Rattle.std.specs.Prelude.{ℕ, List, [], ◌∷◌, decimal, Option, Some, None}
 use Rattle.scmi_codec.specs.declared.frame.Frame.{Frame}
 use Rattle.scmi_codec.specs.declared.frame.Frame.TheVariants.{Good, Malformed}
 use Rattle.scmi_codec.specs.declared.frame.Answer.TheVariants.{Reply, Released, ChannelError}
 use Rattle.scmi_link.specs.declared.collected.Collected.{Collected}
 use Rattle.scmi_link.specs.declared.collected.Collected.TheVariants.{Nothing, Got, Closed as CollectedClosed}
+use Rattle.scmi_template.specs.Filled.{filled}
 use Rattle.scmi_text.specs.Words.{message_text}
-use Rattle.scmi_text.specs.Names.{refusal_text, served_text, flushed_text, close_text, shut_text, advanced_text, failed_text}
+use Rattle.scmi_text.specs.Names.{refusal_text, served_text, flushed_text, close_text, shut_text, advanced_text}
 use Rattle.scmi_text.specs.declared.step_line.StepLine.{StepLine}
 use Rattle.scmi_text.specs.declared.step_line.StepLine.TheVariants.{Token, Posted, NotPosted, Served, Collected as StepCollected, Advanced, AdvanceFailed, Flushed, P2a, Closed, Shut, Trace}
+use Rattle.scmi_text.specs.declared.lines.TheConstants.{ADVANCED, ADVANCE_FAILED, CLOSE, CLOSED, ERROR, FLUSHED, NOT_ANSWERED, NOT_POSTED, NO_P2A, P2A, P2A_ERROR, POSTED, RELEASED, REPLY, SERVED, SHUT, TOKEN, TRACE}
 
--- what an agent collected, as the rest of its line
-abbrev pub collected_text : Collected → List ℕ
-collected_text Nothing = codes " nothing"
-collected_text (Got (Reply message)) = codes " reply" ++ message_text message
-collected_text (Got Released) = codes " released"
-collected_text (Got ChannelError) = codes " error"
-collected_text CollectedClosed = codes " closed"
+-- what an agent collected, as a line
+abbrev pub collected_text : ℕ → Collected → List ℕ
+collected_text agent Nothing = filled NOT_ANSWERED.now (decimal agent ∷ [])
+collected_text agent (Got (Reply message)) = filled REPLY.now (decimal agent ∷ message_text message ∷ [])
+collected_text agent (Got Released) = filled RELEASED.now (decimal agent ∷ [])
+collected_text agent (Got ChannelError) = filled ERROR.now (decimal agent ∷ [])
+collected_text agent CollectedClosed = filled CLOSED.now (decimal agent ∷ [])
 
--- a P2A frame, as the rest of its line
-abbrev pub frame_text : Frame → List ℕ
-frame_text (Good message) = message_text message
-frame_text (Malformed len header) = codes " error"
+-- a P2A frame, as a line
+abbrev pub frame_text : ℕ → Frame → List ℕ
+frame_text agent (Good message) = filled P2A.now (decimal agent ∷ message_text message ∷ [])
+frame_text agent (Malformed len header) = filled P2A_ERROR.now (decimal agent ∷ [])
 
--- the P2A frame that was taken, if there was one, as the rest of its line
-abbrev pub p2a_text : Option Frame → List ℕ
-p2a_text None = codes " none"
-p2a_text (Some frame) = frame_text frame
+-- the P2A frame that was taken, if there was one, as a line
+abbrev pub p2a_text : ℕ → Option Frame → List ℕ
+p2a_text agent None = filled NO_P2A.now (decimal agent ∷ [])
+p2a_text agent (Some frame) = frame_text agent frame
 
 -- a line of a run, with its line feed
 abbrev pub step_text : StepLine → List ℕ
-step_text (Token agent token) = decimal agent ++ codes " token " ++ decimal token ++ codes "\n"
-step_text (Posted agent) = decimal agent ++ codes " posted\n"
-step_text (NotPosted agent refusal) = decimal agent ++ codes " post " ++ refusal_text refusal ++ codes "\n"
-step_text (Served agent served) = codes "serve " ++ decimal agent ++ codes " " ++ served_text served ++ codes "\n"
-step_text (StepCollected agent collected) = decimal agent ++ collected_text collected ++ codes "\n"
-step_text (Advanced more) = codes "advance " ++ advanced_text more ++ codes "\n"
-step_text (AdvanceFailed more) = codes "advance " ++ failed_text more ++ codes "\n"
-step_text (Flushed agent flushed) = codes "flush " ++ decimal agent ++ codes " " ++ flushed_text flushed ++ codes "\n"
-step_text (P2a agent frame) = decimal agent ++ codes " p2a" ++ p2a_text frame ++ codes "\n"
-step_text (Closed agent closing) = decimal agent ++ codes " close " ++ close_text closing ++ codes "\n"
-step_text (Shut agent closing) = codes "shut " ++ decimal agent ++ codes " " ++ shut_text closing ++ codes "\n"
-step_text (Trace events) = codes "trace " ++ decimal events ++ codes "\n"
+step_text (Token agent token) = filled TOKEN.now (decimal agent ∷ decimal token ∷ [])
+step_text (Posted agent) = filled POSTED.now (decimal agent ∷ [])
+step_text (NotPosted agent refusal) = filled NOT_POSTED.now (decimal agent ∷ refusal_text refusal ∷ [])
+step_text (Served agent served) = filled SERVED.now (decimal agent ∷ served_text served ∷ [])
+step_text (StepCollected agent collected) = collected_text agent collected
+step_text (Advanced more) = filled ADVANCED.now (advanced_text more ∷ [])
+step_text (AdvanceFailed more) = filled ADVANCE_FAILED.now (advanced_text more ∷ [])
+step_text (Flushed agent flushed) = filled FLUSHED.now (decimal agent ∷ flushed_text flushed ∷ [])
+step_text (P2a agent frame) = p2a_text agent frame
+step_text (Closed agent closing) = filled CLOSE.now (decimal agent ∷ close_text closing ∷ [])
+step_text (Shut agent closing) = filled SHUT.now (decimal agent ∷ shut_text closing ∷ [])
+step_text (Trace events) = filled TRACE.now (decimal events ∷ [])

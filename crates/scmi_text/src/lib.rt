@@ -9,9 +9,11 @@
 
 mod fields;
 mod head;
+mod lines;
 mod names;
 mod order_form;
 mod packed_step;
+mod received;
 mod script_line;
 mod script_list;
 mod scripts;
@@ -21,6 +23,7 @@ mod step_kinds;
 mod step_line;
 mod step_list;
 mod steps;
+mod value;
 mod word_row;
 mod words;
 

@@ -1,18 +1,50 @@
 //! The results of calls, each as one item of a line.
 ghost use Rattle.std.specs.Prelude.{◌≡◌};
-ghost use Rattle.scmi_text.specs.Names.{refusal_text, served_text, flushed_text, closing_text, close_error_text, shut_error_text, close_text, shut_text, advanced_text, failed_text};
+ghost use Rattle.scmi_text.specs.Names.{refusal_text, served_text, flushed_text, closing_text, close_error_text, shut_error_text, close_text, shut_text, advanced_text};
 
 use scmi_ends::{Flushed, Served, ShutError};
 use scmi_link::{CloseError, Closing, PostError};
+
+const OUTSTANDING: &str = "outstanding";
+
+const CLOSED: &str = "closed";
+
+const FULL: &str = "full";
+
+const WELL_FORMED: &str = "well-formed";
+
+const NOTHING: &str = "nothing";
+
+const DONE: &str = "done";
+
+const WAITING: &str = "waiting";
+
+const POSTED: &str = "posted";
+
+const IDLE: &str = "idle";
+
+const WITHDRAWN: &str = "withdrawn";
+
+const IN_SERVICE: &str = "in-service";
+
+const REPLY_WAITING: &str = "reply-waiting";
+
+const NO_AGENT: &str = "no-agent";
+
+const OK: &str = "ok";
+
+const YES: &str = "yes";
+
+const NO: &str = "no";
 
 pub(crate) fn refusal_name(refusal: PostError) -> &'static str
     ensures { result.now ≡ refusal_text refusal }
 {
     match refusal {
-        PostError::Outstanding => "outstanding",
-        PostError::Closed => "closed",
-        PostError::Full => "full",
-        PostError::WellFormed => "well-formed",
+        PostError::Outstanding => OUTSTANDING,
+        PostError::Closed => CLOSED,
+        PostError::Full => FULL,
+        PostError::WellFormed => WELL_FORMED,
     }
 }
 
@@ -20,8 +52,8 @@ pub(crate) fn served_name(served: Served) -> &'static str
     ensures { result.now ≡ served_text served }
 {
     match served {
-        Served::Nothing => "nothing",
-        Served::Done => "done",
+        Served::Nothing => NOTHING,
+        Served::Done => DONE,
     }
 }
 
@@ -29,10 +61,10 @@ pub(crate) fn flushed_name(flushed: Flushed) -> &'static str
     ensures { result.now ≡ flushed_text flushed }
 {
     match flushed {
-        Flushed::Nothing => "nothing",
-        Flushed::Waiting => "waiting",
-        Flushed::Posted => "posted",
-        Flushed::Closed => "closed",
+        Flushed::Nothing => NOTHING,
+        Flushed::Waiting => WAITING,
+        Flushed::Posted => POSTED,
+        Flushed::Closed => CLOSED,
     }
 }
 
@@ -40,8 +72,8 @@ pub(crate) fn closing_name(closing: Closing) -> &'static str
     ensures { result.now ≡ closing_text closing }
 {
     match closing {
-        Closing::Idle => "idle",
-        Closing::Withdrawn => "withdrawn",
+        Closing::Idle => IDLE,
+        Closing::Withdrawn => WITHDRAWN,
     }
 }
 
@@ -49,8 +81,8 @@ pub(crate) fn close_error_name(error: CloseError) -> &'static str
     ensures { result.now ≡ close_error_text error }
 {
     match error {
-        CloseError::InService => "in-service",
-        CloseError::ReplyWaiting => "reply-waiting",
+        CloseError::InService => IN_SERVICE,
+        CloseError::ReplyWaiting => REPLY_WAITING,
     }
 }
 
@@ -67,21 +99,15 @@ pub(crate) fn shut_name(closing: &Result<(), ShutError>) -> &'static str
     ensures { result.now ≡ shut_text closing.now }
 {
     match closing {
-        Ok(()) => "ok",
-        Err(ShutError::InService) => "in-service",
-        Err(ShutError::ReplyWaiting) => "reply-waiting",
-        Err(ShutError::NoAgent) => "no-agent",
+        Ok(()) => OK,
+        Err(ShutError::InService) => IN_SERVICE,
+        Err(ShutError::ReplyWaiting) => REPLY_WAITING,
+        Err(ShutError::NoAgent) => NO_AGENT,
     }
 }
 
-pub(crate) fn advanced_name(more: bool) -> &'static str
+pub(crate) fn yes_or_no(more: bool) -> &'static str
     ensures { result.now ≡ advanced_text more }
 {
-    if more { "yes" } else { "no" }
-}
-
-pub(crate) fn failed_name(more: bool) -> &'static str
-    ensures { result.now ≡ failed_text more }
-{
-    if more { "failed yes" } else { "failed no" }
+    if more { YES } else { NO }
 }

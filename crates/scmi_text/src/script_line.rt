@@ -3,9 +3,12 @@ ghost use Rattle.std.specs.Prelude.{◌≡◌, OnOk};
 ghost use Rattle.std.specs.Io.KnownBytes.{Appends};
 ghost use Rattle.scmi_text.specs.ScriptLine.{line_text, lines_text};
 
+use crate::lines::{CLOSE, CLOSED, ERROR, GOT, LIMIT, NOT_POSTED, UNTIL_LIMIT, UNTIL_OK};
 use crate::names::{close_error_name, closing_name, refusal_name};
-use crate::step_line::write_frame;
-use crate::words::write_words;
+use crate::received::write_frame;
+use crate::value::Value::{Name, Number, Words};
+use crate::value::write_agent_line;
+use scmi_template::write_filled;
 use scmi_threads::Line;
 use std::io;
 use std::io::Write;
@@ -17,20 +20,22 @@ pub fn write_script_line<W: Write>(writer: &mut W, agent: u32, line: &Line) -> i
         (Appends (W.contents writer.old) (W.contents writer.new) (line_text agent line.now)) }
 {
     match line {
-        Line::Got(payload) => {
-            write!(writer, "{agent} got")?;
-            write_words(writer, payload.as_slice())?;
-            writeln!(writer)
+        Line::Got(payload) => write_agent_line(writer, GOT, agent, Words(payload.as_slice())),
+        Line::Error => write_filled(writer, ERROR, &[Number(agent)]),
+        Line::Closed => write_filled(writer, CLOSED, &[Number(agent)]),
+        Line::NotPosted(refusal) => {
+            write_agent_line(writer, NOT_POSTED, agent, Name(refusal_name(*refusal)))
         }
-        Line::Error => writeln!(writer, "{agent} error"),
-        Line::Closed => writeln!(writer, "{agent} closed"),
-        Line::NotPosted(refusal) => writeln!(writer, "{agent} post {}", refusal_name(*refusal)),
-        Line::Limit => writeln!(writer, "{agent} limit"),
-        Line::UntilOk => writeln!(writer, "{agent} until ok"),
-        Line::UntilLimit => writeln!(writer, "{agent} until limit"),
+        Line::Limit => write_filled(writer, LIMIT, &[Number(agent)]),
+        Line::UntilOk => write_filled(writer, UNTIL_OK, &[Number(agent)]),
+        Line::UntilLimit => write_filled(writer, UNTIL_LIMIT, &[Number(agent)]),
         Line::P2a(frame) => write_frame(writer, agent, frame),
-        Line::Close(closing) => writeln!(writer, "{agent} close {}", closing_name(*closing)),
-        Line::NotClosed(error) => writeln!(writer, "{agent} close {}", close_error_name(*error)),
+        Line::Close(closing) => {
+            write_agent_line(writer, CLOSE, agent, Name(closing_name(*closing)))
+        }
+        Line::NotClosed(error) => {
+            write_agent_line(writer, CLOSE, agent, Name(close_error_name(*error)))
+        }
     }
 }
 

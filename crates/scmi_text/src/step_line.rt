@@ -1,15 +1,19 @@
 //! The lines of a script that runs on one thread, as they are written.
-ghost use Rattle.std.specs.Prelude.{◌≡◌, OnOk, ◌++◌, codes, decimal};
+ghost use Rattle.std.specs.Prelude.{OnOk};
 ghost use Rattle.std.specs.Io.KnownBytes.{Appends};
-ghost use Rattle.scmi_text.specs.StepLine.{step_text, collected_text, frame_text, p2a_text};
+ghost use Rattle.scmi_text.specs.StepLine.{step_text};
 
-use crate::names::{
-    advanced_name, close_name, failed_name, flushed_name, refusal_name, served_name, shut_name,
+use crate::lines::{
+    ADVANCE_FAILED, ADVANCED, CLOSE, FLUSHED, NOT_POSTED, POSTED, SERVED, SHUT, TOKEN, TRACE,
 };
-use crate::words::write_message_text;
-use scmi_codec::{Answer, Frame};
+use crate::names::{close_name, flushed_name, refusal_name, served_name, shut_name, yes_or_no};
+use crate::received::{write_collected, write_p2a};
+use crate::value::Value::{Count, Name, Number};
+use crate::value::write_agent_line;
+use scmi_codec::Frame;
 use scmi_ends::{Flushed, Served, ShutError};
 use scmi_link::{CloseError, Closing, Collected, PostError};
+use scmi_template::write_filled;
 use std::io;
 use std::io::Write;
 
@@ -82,73 +86,32 @@ pub fn write_step_line<W: Write>(writer: &mut W, line: &StepLine) -> io::Result<
         (step_text line.now)) }
 {
     match line {
-        StepLine::Token { agent, token } => writeln!(writer, "{agent} token {token}"),
-        StepLine::Posted { agent } => writeln!(writer, "{agent} posted"),
+        StepLine::Token { agent, token } => {
+            write_agent_line(writer, TOKEN, *agent, Number(u32::from(*token)))
+        }
+        StepLine::Posted { agent } => write_filled(writer, POSTED, &[Number(*agent)]),
         StepLine::NotPosted { agent, refusal } => {
-            writeln!(writer, "{agent} post {}", refusal_name(*refusal))
+            write_agent_line(writer, NOT_POSTED, *agent, Name(refusal_name(*refusal)))
         }
         StepLine::Served { agent, served } => {
-            writeln!(writer, "serve {agent} {}", served_name(*served))
+            write_agent_line(writer, SERVED, *agent, Name(served_name(*served)))
         }
         StepLine::Collected { agent, collected } => write_collected(writer, *agent, collected),
-        StepLine::Advanced { more } => writeln!(writer, "advance {}", advanced_name(*more)),
-        StepLine::AdvanceFailed { more } => writeln!(writer, "advance {}", failed_name(*more)),
+        StepLine::Advanced { more } => write_filled(writer, ADVANCED, &[Name(yes_or_no(*more))]),
+        StepLine::AdvanceFailed { more } => {
+            write_filled(writer, ADVANCE_FAILED, &[Name(yes_or_no(*more))])
+        }
         StepLine::Flushed { agent, flushed } => {
-            writeln!(writer, "flush {agent} {}", flushed_name(*flushed))
+            write_agent_line(writer, FLUSHED, *agent, Name(flushed_name(*flushed)))
         }
         StepLine::P2a { agent, frame } => write_p2a(writer, *agent, frame),
         StepLine::Closed { agent, closing } => {
-            writeln!(writer, "{agent} close {}", close_name(closing))
+            write_agent_line(writer, CLOSE, *agent, Name(close_name(closing)))
         }
         StepLine::Shut {
             agent,
             result: closing,
-        } => { writeln!(writer, "shut {agent} {}", shut_name(closing)) }
-        StepLine::Trace { events } => writeln!(writer, "trace {events}"),
-    }
-}
-
-fn write_collected<W: Write>(writer: &mut W, agent: u32, collected: &Collected) -> io::Result<()>
-    ensures { OnOk result
-        (Appends (W.contents writer.old) (W.contents writer.new)
-        (decimal agent ++ collected_text collected.now ++ codes "\n")) }
-{
-    match collected {
-        Collected::Nothing => writeln!(writer, "{agent} nothing"),
-        Collected::Got(Answer::Reply(message)) => {
-            write!(writer, "{agent} reply")?;
-            write_message_text(writer, message)?;
-            writeln!(writer)
-        }
-        Collected::Got(Answer::Released) => writeln!(writer, "{agent} released"),
-        Collected::Got(Answer::ChannelError) => writeln!(writer, "{agent} error"),
-        Collected::Closed => writeln!(writer, "{agent} closed"),
-    }
-}
-
-fn write_p2a<W: Write>(writer: &mut W, agent: u32, frame: &Option<Frame>) -> io::Result<()>
-    ensures { OnOk result
-        (Appends (W.contents writer.old) (W.contents writer.new)
-        (decimal agent ++ codes " p2a" ++ p2a_text frame.now ++ codes "\n")) }
-{
-    match frame {
-        None => writeln!(writer, "{agent} p2a none"),
-        Some(frame) => write_frame(writer, agent, frame),
-    }
-}
-
-/// Writes the line of a P2A frame that an agent took.
-pub(crate) fn write_frame<W: Write>(writer: &mut W, agent: u32, frame: &Frame) -> io::Result<()>
-    ensures { OnOk result
-        (Appends (W.contents writer.old) (W.contents writer.new)
-        (decimal agent ++ codes " p2a" ++ frame_text frame.now ++ codes "\n")) }
-{
-    match frame {
-        Frame::Good(message) => {
-            write!(writer, "{agent} p2a")?;
-            write_message_text(writer, message)?;
-            writeln!(writer)
-        }
-        Frame::Malformed { .. } => writeln!(writer, "{agent} p2a error"),
+        } => { write_agent_line(writer, SHUT, *agent, Name(shut_name(closing))) }
+        StepLine::Trace { events } => write_filled(writer, TRACE, &[Count(*events)]),
     }
 }

@@ -2,11 +2,14 @@
 ghost use Rattle.std.specs.Prelude.{◌≡◌, ◌%◌, OnOk, false};
 ghost use Rattle.std.specs.Fmt.{digit_glyph};
 ghost use Rattle.std.specs.Io.KnownBytes.{Appends};
-ghost use Rattle.scmi_text.specs.Words.{word_text, words_text, message_text};
+ghost use Rattle.scmi_text.specs.Words.{digits_text, word_text, words_text, message_text};
 
 use scmi_codec::Message;
 use std::io;
 use std::io::Write;
+
+/// What is before the digits of a word.
+const WORD_MARK: &str = " 0x";
 
 /// Writes the header word and the payload words, each after a space (own). The error is the
 /// writer's; some words may then be written.
@@ -34,10 +37,16 @@ fn write_word<W: Write>(writer: &mut W, word: u32) -> io::Result<()>
     ensures { OnOk result (Appends (W.contents writer.old) (W.contents writer.new)
         (word_text word)) }
 {
+    write!(writer, "{WORD_MARK}")?;
+    write_digits(writer, word)
+}
+
+/// Writes a word in eight hexadecimal digits.
+fn write_digits<W: Write>(writer: &mut W, word: u32) -> io::Result<()>
+    ensures { OnOk result (Appends (W.contents writer.old) (W.contents writer.new)
+        (digits_text word)) }
+{
     let text = [
-        b' ',
-        b'0',
-        b'x',
         last_digit(word >> 28),
         last_digit(word >> 24),
         last_digit(word >> 20),
