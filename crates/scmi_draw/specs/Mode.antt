@@ -1,16 +1,17 @@
 -- The modes of a run that is drawn.
-use Rattle.std.specs.Prelude.{ℕ, List, codes}
+use Rattle.std.specs.Prelude.{ℕ, List}
 use Rattle.scmi_draw.specs.declared.kind.Kind.{Kind}
 use Rattle.scmi_draw.specs.declared.kind.Kind.TheVariants.{Rings, Words}
 use Rattle.scmi_draw.specs.declared.mode.Mode.{Mode}
 use Rattle.scmi_draw.specs.declared.mode.Mode.TheVariants.{Steps, Hardware}
+use Rattle.scmi_modes.specs.declared.mode_lines.TheConstants.{HARDWARE_RINGS, HARDWARE_WORDS, STEPS_RINGS, STEPS_WORDS}
 
 -- the text of a mode, which is the whole first line
 abbrev pub line_of : Mode → List ℕ
-line_of (Steps Rings) = codes "steps rings"
-line_of (Steps Words) = codes "steps words"
-line_of (Hardware Rings) = codes "hardware rings"
-line_of (Hardware Words) = codes "hardware words"
+line_of (Steps Rings) = STEPS_RINGS.now
+line_of (Steps Words) = STEPS_WORDS.now
+line_of (Hardware Rings) = HARDWARE_RINGS.now
+line_of (Hardware Words) = HARDWARE_WORDS.now
 
 -- what the channels of a run in this mode are made of
 abbrev pub kind_of : Mode → Kind

@@ -6,6 +6,7 @@ ghost use Rattle.scmi_draw.specs.declared.kind.Kind.{Kind as KindOf};
 
 use crate::kind::Kind;
 use crate::mode::Mode;
+use scmi_modes::{THREADS_RINGS, THREADS_WORDS};
 
 /// What is drawn, and what the channels of its run are made of.
 #[derive(Clone, Copy)]
@@ -48,7 +49,7 @@ pub(crate) fn threads_line(kind: Kind) -> &'static str
     ensures { result.now ≡ threads_line kind }
 {
     match kind {
-        Kind::Rings => "threads rings",
-        Kind::Words => "threads words",
+        Kind::Rings => THREADS_RINGS,
+        Kind::Words => THREADS_WORDS,
     }
 }

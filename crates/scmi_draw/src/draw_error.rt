@@ -1,41 +1,34 @@
 //! Why a run is not drawn.
 ghost use Rattle.std.specs.Prelude.{◌≡◌};
-ghost use Rattle.scmi_draw.specs.DrawError.{status_of, fault_of_input, fault_of_text, fault_of_plan};
+ghost use Rattle.scmi_draw.specs.DrawError.{status_of, fault_of_input, fault_of_text, fault_of_plan, run_error_of};
 
 use scmi_board::TextError;
 use scmi_input::InputError;
+use scmi_modes::RunError;
 use scmi_plan::PlanError;
 use std::alloc::AllocError;
+use std::error::Error;
 use std::fmt;
-use thiserror::Error;
 
 /// Why a run is not drawn. Its text is what follows the word `fault`, as of a run that is not drawn.
-#[derive(Clone, Copy, PartialEq, Eq, Error)]
+#[derive(Clone, Copy, PartialEq, Eq)]
 pub enum DrawError {
     /// The first line names no mode that is drawn.
-    #[error("mode")]
     Mode,
     /// The first line, or what follows it, is longer than `INPUT_BYTES`, or the script has more than
     /// `STEPS` lines, or the run of agents in threads more than `STEPS` steps.
-    #[error("size")]
     Size,
     /// A read failed.
-    #[error("read")]
     Read,
     /// This line is no line of a board.
-    #[error("board {0}")]
     Board(u32),
     /// This line is no line of a script.
-    #[error("script {0}")]
     Script(u32),
     /// The board breaks this rule.
-    #[error("plan {0}")]
     Plan(u8),
     /// Out of memory.
-    #[error("memory")]
     Memory,
     /// The output failed.
-    #[error("write")]
     Write,
 }
 
@@ -53,10 +46,40 @@ impl DrawError {
     }
 }
 
+impl Error for DrawError {}
+
+impl fmt::Display for DrawError {
+    ghost use Rattle.std.specs.Prelude.{Some};
+    ghost use Rattle.scmi_draw.specs.DrawError.{fault_text};
+
+    ghost output = { λ fault. Some (fault_text fault) };
+
+    fn fmt<W: fmt::Write>(&self, f: &mut fmt::Formatter<W>) -> fmt::Result {
+        fmt::Display::fmt(&RunError::from(*self), f)
+    }
+}
+
 // The text is all that there is to see, and the proof of a derived `Debug` is long.
 impl fmt::Debug for DrawError {
     fn fmt<W: fmt::Write>(&self, f: &mut fmt::Formatter<W>) -> fmt::Result {
         fmt::Display::fmt(self, f)
+    }
+}
+
+impl From<DrawError> for RunError {
+    ghost from_gives = { λ error fault. fault ≡ run_error_of error };
+
+    fn from(error: DrawError) -> RunError {
+        match error {
+            DrawError::Mode => RunError::Mode,
+            DrawError::Size => RunError::Size,
+            DrawError::Read => RunError::Read,
+            DrawError::Board(line) => RunError::Board(line),
+            DrawError::Script(line) => RunError::Script(line),
+            DrawError::Plan(rule) => RunError::Plan(rule),
+            DrawError::Memory => RunError::Memory,
+            DrawError::Write => RunError::Write,
+        }
     }
 }
 

@@ -4,6 +4,7 @@ ghost use Rattle.scmi_draw.specs.Mode.{line_of};
 ghost use Rattle.scmi_draw.specs.declared.mode.Mode.{Mode};
 
 use crate::kind::Kind;
+use scmi_modes::{HARDWARE_RINGS, HARDWARE_WORDS, STEPS_RINGS, STEPS_WORDS};
 
 /// Which steps a script on one thread may have, and what its channels are made of.
 #[derive(Clone, Copy)]
@@ -20,13 +21,13 @@ impl Mode {
         ensures some { IfSome result (λ mode. line.now ≡ line_of mode) }
         ensures none { IfNone result ((mode : Mode) → line.now ≢ line_of mode) }
     {
-        if line == b"steps rings".as_slice() {
+        if line == STEPS_RINGS.as_bytes() {
             Some(Mode::Steps(Kind::Rings))
-        } else if line == b"steps words".as_slice() {
+        } else if line == STEPS_WORDS.as_bytes() {
             Some(Mode::Steps(Kind::Words))
-        } else if line == b"hardware rings".as_slice() {
+        } else if line == HARDWARE_RINGS.as_bytes() {
             Some(Mode::Hardware(Kind::Rings))
-        } else if line == b"hardware words".as_slice() {
+        } else if line == HARDWARE_WORDS.as_bytes() {
             Some(Mode::Hardware(Kind::Words))
         } else {
             None
@@ -38,10 +39,10 @@ impl Mode {
         ensures { result.now ≡ line_of self }
     {
         match self {
-            Mode::Steps(Kind::Rings) => "steps rings",
-            Mode::Steps(Kind::Words) => "steps words",
-            Mode::Hardware(Kind::Rings) => "hardware rings",
-            Mode::Hardware(Kind::Words) => "hardware words",
+            Mode::Steps(Kind::Rings) => STEPS_RINGS,
+            Mode::Steps(Kind::Words) => STEPS_WORDS,
+            Mode::Hardware(Kind::Rings) => HARDWARE_RINGS,
+            Mode::Hardware(Kind::Words) => HARDWARE_WORDS,
         }
     }
 }

@@ -1,5 +1,5 @@
 -- The modes that a program takes, and their texts.
-use Rattle.std.specs.Prelude.{ℕ, List, codes}
+use Rattle.std.specs.Prelude.{ℕ, List}
 use Rattle.scmi_modes.specs.Mode.{text_of}
 use Rattle.scmi_modes.specs.declared.any_mode.AnyMode.{AnyMode}
 use Rattle.scmi_modes.specs.declared.any_mode.AnyMode.TheVariants as any
@@ -7,11 +7,12 @@ use Rattle.scmi_modes.specs.declared.any_mode.Modes.{Modes}
 use Rattle.scmi_modes.specs.declared.any_mode.Modes.TheVariants as modes
 use Rattle.scmi_modes.specs.declared.kind.Kind.{Kind}
 use Rattle.scmi_modes.specs.declared.kind.Kind.TheVariants.{Rings, Words}
+use Rattle.scmi_modes.specs.declared.mode_lines.TheConstants.{HARDWARE_RINGS, HARDWARE_WORDS}
 
 -- the text of a mode beside hardware that may refuse
 abbrev pub hardware_text : Kind → List ℕ
-hardware_text Rings = codes "hardware rings"
-hardware_text Words = codes "hardware words"
+hardware_text Rings = HARDWARE_RINGS.now
+hardware_text Words = HARDWARE_WORDS.now
 
 -- the text of any mode, which is the whole first line
 abbrev pub any_text_of : AnyMode → List ℕ

@@ -1,5 +1,7 @@
 -- The faults of a run: exit statuses, texts, and whence they come.
-use Rattle.std.specs.Prelude.{ℕ, List, ◌++◌, codes, decimal}
+use Rattle.std.specs.Prelude.{ℕ, List, [], ◌∷◌, ◌++◌, decimal}
+use Rattle.scmi_modes.specs.declared.fault_line.TheConstants.{FAULT_LINE}
+use Rattle.scmi_modes.specs.declared.fault_words.TheConstants.{MODE, SIZE, READ, AREA, BOARD, SCRIPT, PLAN, LIMIT, MEMORY, WRITE}
 use Rattle.scmi_modes.specs.declared.run_error.RunError.{RunError}
 use Rattle.scmi_modes.specs.declared.run_error.RunError.TheVariants.{Mode, Size, Read, Area, Board, Script, Plan, Limit, Memory, Write}
 use Rattle.scmi_board.specs.declared.text_error.TextError.{TextError}
@@ -9,6 +11,7 @@ use Rattle.scmi_input.specs.declared.input_error.InputError.TheVariants as input
 use Rattle.scmi_plan.specs.PlanError.{number}
 use Rattle.scmi_plan.specs.declared.plan_error.PlanError.{PlanError}
 use Rattle.scmi_plan.specs.declared.plan_error.PlanError.TheVariants as plan
+use Rattle.scmi_template.specs.Filled.{filled}
 
 -- 1 for a failed output, 3 for a limit, 4 for out of memory, and 2 for a refused input (own)
 abbrev pub status_of : RunError → ℕ
@@ -19,20 +22,20 @@ status_of _ = 2
 
 -- the text of a fault (own)
 abbrev pub fault_text : RunError → List ℕ
-fault_text Mode = codes "mode"
-fault_text Size = codes "size"
-fault_text Read = codes "read"
-fault_text Area = codes "area"
-fault_text (Board line) = codes "board " ++ decimal line
-fault_text (Script line) = codes "script " ++ decimal line
-fault_text (Plan rule) = codes "plan " ++ decimal rule
-fault_text Limit = codes "limit"
-fault_text Memory = codes "memory"
-fault_text Write = codes "write"
+fault_text Mode = MODE.now
+fault_text Size = SIZE.now
+fault_text Read = READ.now
+fault_text Area = AREA.now
+fault_text (Board line) = BOARD.now ++ decimal line
+fault_text (Script line) = SCRIPT.now ++ decimal line
+fault_text (Plan rule) = PLAN.now ++ decimal rule
+fault_text Limit = LIMIT.now
+fault_text Memory = MEMORY.now
+fault_text Write = WRITE.now
 
 -- the line of a fault, with its line feed
 abbrev pub fault_line : RunError → List ℕ
-fault_line fault = codes "fault " ++ fault_text fault ++ codes "\n"
+fault_line fault = filled FAULT_LINE.now (fault_text fault ∷ [])
 
 -- an input that is not read
 abbrev pub fault_of_input : InputError → RunError

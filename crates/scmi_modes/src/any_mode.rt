@@ -6,6 +6,7 @@ ghost use Rattle.scmi_modes.specs.declared.kind.Kind.{Kind as KindOf};
 
 use crate::kind::Kind;
 use crate::mode::Mode;
+use crate::mode_lines::{HARDWARE_RINGS, HARDWARE_WORDS};
 
 /// What a run does with its input, in any of the modes.
 #[derive(Clone, Copy, Debug, PartialEq, Eq)]
@@ -48,9 +49,9 @@ fn hardware_mode(line: &[u8]) -> Option<AnyMode>
     ensures some { IfSome result (λ mode. line.now ≡ any_text_of mode) }
     ensures none { IfNone result ((kind : KindOf) → line.now ≢ hardware_text kind) }
 {
-    if line == b"hardware rings".as_slice() {
+    if line == HARDWARE_RINGS.as_bytes() {
         Some(AnyMode::Hardware(Kind::Rings))
-    } else if line == b"hardware words".as_slice() {
+    } else if line == HARDWARE_WORDS.as_bytes() {
         Some(AnyMode::Hardware(Kind::Words))
     } else {
         None

@@ -8,9 +8,12 @@
 
 mod answer;
 mod any_mode;
+mod fault_line;
+mod fault_words;
 mod kind;
 mod lines;
 mod mode;
+mod mode_lines;
 mod once;
 mod reference_board;
 mod run;
@@ -21,8 +24,12 @@ mod threads;
 
 pub use answer::answer_area;
 pub use any_mode::{AnyMode, Modes};
+pub use fault_line::write_fault;
 pub use kind::Kind;
 pub use mode::Mode;
+pub use mode_lines::{
+    HARDWARE_RINGS, HARDWARE_WORDS, ONCE, STEPS_RINGS, STEPS_WORDS, THREADS_RINGS, THREADS_WORDS,
+};
 pub use once::run_once;
 pub use run::{run_input, run_program};
 pub use run_error::RunError;

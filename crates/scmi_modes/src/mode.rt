@@ -4,6 +4,7 @@ ghost use Rattle.scmi_modes.specs.Mode.{text_of};
 ghost use Rattle.scmi_modes.specs.declared.mode.Mode.{Mode};
 
 use crate::kind::Kind;
+use crate::mode_lines::{ONCE, STEPS_RINGS, STEPS_WORDS, THREADS_RINGS, THREADS_WORDS};
 
 /// What a run does with its input.
 #[derive(Clone, Copy, Debug, PartialEq, Eq)]
@@ -22,15 +23,15 @@ impl Mode {
         ensures some { IfSome result (λ mode. line.now ≡ text_of mode) }
         ensures none { IfNone result ((mode : Mode) → line.now ≢ text_of mode) }
     {
-        if line == b"once".as_slice() {
+        if line == ONCE.as_bytes() {
             Some(Mode::Once)
-        } else if line == b"steps rings".as_slice() {
+        } else if line == STEPS_RINGS.as_bytes() {
             Some(Mode::Steps(Kind::Rings))
-        } else if line == b"steps words".as_slice() {
+        } else if line == STEPS_WORDS.as_bytes() {
             Some(Mode::Steps(Kind::Words))
-        } else if line == b"threads rings".as_slice() {
+        } else if line == THREADS_RINGS.as_bytes() {
             Some(Mode::Threads(Kind::Rings))
-        } else if line == b"threads words".as_slice() {
+        } else if line == THREADS_WORDS.as_bytes() {
             Some(Mode::Threads(Kind::Words))
         } else {
             None

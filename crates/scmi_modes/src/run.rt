@@ -1,17 +1,17 @@
 //! A run from its first line to its exit status.
 ghost use Rattle.std.specs.Prelude.{◌≡◌, ◌≢◌, ◌≤◌, ◌+◌, ◌*◌, IfErr, IfSome, OnOk};
-ghost use Rattle.std.specs.Io.KnownBytes.{Appends};
 ghost use Rattle.scmi_input.specs.declared.input.TheConstants.{INPUT_BYTES};
 ghost use Rattle.scmi_modes.specs.Once.{IsAnswerTo};
 ghost use Rattle.scmi_modes.specs.Program.{AnswersOnce, NamesNoHardware, RunsHardware, RunsSteps, RunsThreads};
 ghost use Rattle.scmi_modes.specs.Reads.{StopsAtFailure};
 ghost use Rattle.scmi_modes.specs.Fault.{EndsWithFault, IsFaultIn, IsFaultOfRun};
-ghost use Rattle.scmi_modes.specs.RunError.{fault_line, status_of};
+ghost use Rattle.scmi_modes.specs.RunError.{status_of};
 ghost use Rattle.scmi_modes.specs.Runs.{IsTextOfRun, may_be_full};
 ghost use Rattle.scmi_modes.specs.Steps.{WritesHardware, WritesSteps};
 ghost use Rattle.scmi_modes.specs.declared.kind.Kind.{Kind as KindOf};
 
 use crate::any_mode::{AnyMode, Modes};
+use crate::fault_line::write_fault;
 use crate::mode::Mode;
 use crate::once::run_once;
 use crate::run_error::RunError;
@@ -78,18 +78,6 @@ pub fn run_input<T: Threads + Wait + Sync, G: Gate, R: CountedRead + Drop, W: Wr
         Ok(()) => 0,
         Err(RunError::Write) => RunError::Write.status(),
         Err(fault) => write_fault(writer, fault),
-    }
-}
-
-/// Writes the line of a fault, and gives its exit status, or that of a failed output.
-fn write_fault<W: Write>(writer: &mut W, fault: RunError) -> u8
-    ensures not_done { result ≢ 0 }
-    ensures fault { result ≢ 1 → (result ≡ status_of fault) × Appends (W.contents writer.old)
-        (W.contents writer.new) (fault_line fault) }
-{
-    match writeln!(writer, "fault {fault}") {
-        Ok(()) => fault.status(),
-        Err(_) => RunError::Write.status(),
     }
 }
 

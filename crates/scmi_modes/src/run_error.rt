@@ -2,6 +2,7 @@
 ghost use Rattle.std.specs.Prelude.{◌≡◌};
 ghost use Rattle.scmi_modes.specs.RunError.{status_of, fault_of_input, fault_of_text, fault_of_plan};
 
+use crate::fault_words::{AREA, BOARD, LIMIT, MEMORY, MODE, PLAN, READ, SCRIPT, SIZE, WRITE};
 use scmi_board::TextError;
 use scmi_input::InputError;
 use scmi_plan::PlanError;
@@ -59,16 +60,16 @@ impl fmt::Display for RunError {
 
     fn fmt<W: fmt::Write>(&self, f: &mut fmt::Formatter<W>) -> fmt::Result {
         match self {
-            RunError::Mode => write!(f, "mode"),
-            RunError::Size => write!(f, "size"),
-            RunError::Read => write!(f, "read"),
-            RunError::Area => write!(f, "area"),
-            RunError::Board(line) => write!(f, "board {line}"),
-            RunError::Script(line) => write!(f, "script {line}"),
-            RunError::Plan(rule) => write!(f, "plan {rule}"),
-            RunError::Limit => write!(f, "limit"),
-            RunError::Memory => write!(f, "memory"),
-            RunError::Write => write!(f, "write"),
+            RunError::Mode => f.write_str(MODE),
+            RunError::Size => f.write_str(SIZE),
+            RunError::Read => f.write_str(READ),
+            RunError::Area => f.write_str(AREA),
+            RunError::Board(line) => write!(f, "{BOARD}{line}"),
+            RunError::Script(line) => write!(f, "{SCRIPT}{line}"),
+            RunError::Plan(rule) => write!(f, "{PLAN}{rule}"),
+            RunError::Limit => f.write_str(LIMIT),
+            RunError::Memory => f.write_str(MEMORY),
+            RunError::Write => f.write_str(WRITE),
         }
     }
 }
