@@ -1,16 +1,16 @@
 -- Texts from outside, as they are written and read again.
-use Rattle.std.proofs.Common.{◌≡◌, ◌∙◌, sym, ap, refl, ℕ, ◌==◌, ◌&&◌, nat_le, Bool, true, false, if◌then◌else◌, List, [], ◌∷◌, ◌++◌, codes, map}
+use Rattle.std.proofs.Common.{◌≡◌, ◌∙◌, sym, ap, refl, ℕ, ◌==◌, ◌&&◌, nat_le, Bool, true, false, if◌then◌else◌, List, [], ◌∷◌, ◌++◌, map}
 use Rattle.std.specs.List.{list_all}
 use Rattle.std.proofs.lemmas.Bool.{eqb-true, and_from}
 use Rattle.std.proofs.lemmas.List.Folds.{list_all-append}
-use Rattle.scmi_svg.specs.Escape.{is_plain, shown_byte, read_text}
-use Rattle.scmi_svg.specs.Piece.{escaped_text, escaped_byte}
+use Rattle.scmi_svg.specs.Escape.{escaped_byte, escaped_text, is_plain, read_text, shown_byte}
+use Rattle.scmi_svg.specs.declared.escape.TheConstants.{AMPERSAND, GREATER, LESS, QUOTE, UNSHOWN}
 
 plain-byte : (byte : ℕ) → list_all is_plain (escaped_byte byte) ≡ true
 unfolding escaped_byte
 plain-byte byte = by (byte == 60) (byte == 62) (byte == 38) (byte == 34) (nat_le 32 byte && nat_le byte 126) refl refl refl where
   by : (lt gt amp quote printable : Bool) → (byte == 60) ≡ lt → (byte == 62) ≡ gt → (byte == 34) ≡ quote
-      → list_all is_plain (if lt then codes "&lt;" else if gt then codes "&gt;" else if amp then codes "&amp;" else if quote then codes "&quot;" else if printable then byte ∷ [] else codes "?") ≡ true
+      → list_all is_plain (if lt then LESS.now else if gt then GREATER.now else if amp then AMPERSAND.now else if quote then QUOTE.now else if printable then byte ∷ [] else UNSHOWN ∷ []) ≡ true
   by true gt amp quote printable l g q = refl
   by false true amp quote printable l g q = refl
   by false false true quote printable l g q = refl
@@ -30,7 +30,7 @@ read-byte byte rest = by (byte == 60) (byte == 62) (byte == 38) (byte == 34) (na
   again character is shows = ap (λ c. c ∷ read_text false rest) (sym shows ∙ ap shown_byte (sym is))
 
   by : (lt gt amp quote printable : Bool) → (byte == 60) ≡ lt → (byte == 62) ≡ gt → (byte == 38) ≡ amp → (byte == 34) ≡ quote → (nat_le 32 byte && nat_le byte 126) ≡ printable
-      → read_text false ((if lt then codes "&lt;" else if gt then codes "&gt;" else if amp then codes "&amp;" else if quote then codes "&quot;" else if printable then byte ∷ [] else codes "?") ++ rest) ≡ shown_byte byte ∷ read_text false rest
+      → read_text false ((if lt then LESS.now else if gt then GREATER.now else if amp then AMPERSAND.now else if quote then QUOTE.now else if printable then byte ∷ [] else UNSHOWN ∷ []) ++ rest) ≡ shown_byte byte ∷ read_text false rest
   by true gt amp quote printable l g a q p = again 60 (eqb-true byte 60 l) refl
   by false true amp quote printable l g a q p = again 62 (eqb-true byte 62 g) refl
   by false false true quote printable l g a q p = again 38 (eqb-true byte 38 a) refl

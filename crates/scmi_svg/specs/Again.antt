@@ -1,9 +1,12 @@
 -- The names of lifelines and columns, again for a reader who has scrolled.
-use Rattle.std.specs.Prelude.{ℕ, ◌+◌, ◌-◌, ◌%◌, ◌==◌, ◌||◌, not, if◌then◌else◌, List, [], ◌∷◌, ◌++◌, codes, flat_map}
-use Rattle.scmi_svg.specs.Piece.{fixed, number, outside, parts_text}
+use Rattle.std.specs.Prelude.{ℕ, ◌+◌, ◌-◌, ◌%◌, ◌==◌, ◌||◌, not, if◌then◌else◌, List, [], ◌∷◌, ◌++◌, flat_map, decimal}
+use Rattle.scmi_template.specs.Filled.{filled}
+use Rattle.scmi_svg.specs.Escape.{escaped_text}
 use Rattle.scmi_svg.specs.Layout.{agent_x, platform_x, column_x, slot_y}
 use Rattle.scmi_svg.specs.Shape.{words_text}
-use Rattle.scmi_svg.specs.declared.again.TheConstants.{STRETCH}
+use Rattle.scmi_svg.specs.declared.again.TheConstants.{AGENT, STRETCH}
+use Rattle.scmi_svg.specs.declared.class.TheConstants as class
+use Rattle.scmi_svg.specs.declared.platform.TheConstants.{PLATFORM}
 use Rattle.scmi_svg.specs.declared.layout.Layout.{Layout}
 use Rattle.scmi_svg.specs.declared.chart.Chart.{Chart}
 use Rattle.scmi_svg.specs.declared.chart.Column.{Column}
@@ -13,8 +16,7 @@ use Rattle.scmi_svg.specs.declared.chart.Step.{Step}
 -- the name of an agent on its lifeline
 unfoldable pub agent_text : Layout → ℕ → Lifeline → List ℕ
 agent_text l y lifeline =
-    parts_text (fixed (codes "<text class=\"a") ∷ number lifeline.agent ∷ fixed (codes " again\" x=\"") ∷ number (agent_x l lifeline.agent) ∷ fixed (codes "\" y=\"") ∷
-    number y ∷ fixed (codes "\">") ∷ outside lifeline.name.items ∷ fixed (codes "</text>\n") ∷ [])
+    filled AGENT.now (decimal lifeline.agent ∷ decimal (agent_x l lifeline.agent) ∷ decimal y ∷ escaped_text lifeline.name.items ∷ [])
 
 -- the names of agents on their lifelines
 abbrev pub agents_text : Layout → ℕ → List Lifeline → List ℕ
@@ -22,11 +24,11 @@ agents_text l y lifelines = flat_map (agent_text l y) lifelines
 
 -- the platform's name on its lifeline
 unfoldable pub platform_text : ℕ → ℕ → List ℕ
-platform_text x y = words_text (codes "again") (record { x = x; y = y }) 0 0 (codes "platform")
+platform_text x y = words_text class.AGAIN.now (record { x = x; y = y }) 0 0 PLATFORM.now
 
 -- the name of a column
 unfoldable pub heading_text : Layout → ℕ → Column → List ℕ
-heading_text l y c = words_text (codes "again left") (record { x = column_x l c.place - 6; y = y }) 0 0 c.name.items
+heading_text l y c = words_text class.AGAIN_LEFT.now (record { x = column_x l c.place - 6; y = y }) 0 0 c.name.items
 
 -- the names of columns
 abbrev pub headings_text : Layout → ℕ → List Column → List ℕ

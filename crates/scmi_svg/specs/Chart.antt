@@ -1,8 +1,10 @@
 -- The whole picture.
 use Rattle.std.specs.Prelude.{ℕ, List, ◌++◌}
 use Rattle.scmi_svg.specs.Layout.{layout_of}
-use Rattle.scmi_svg.specs.Frame.{head_text, title_text, steps_text, border_text, legend_text}
-use Rattle.scmi_svg.specs.Lifeline.{lifelines_text, platform_text}
+use Rattle.scmi_svg.specs.Frame.{head_text, title_text, border_text, legend_text}
+use Rattle.scmi_svg.specs.Script.{steps_text}
+use Rattle.scmi_svg.specs.Lifeline.{lifelines_text}
+use Rattle.scmi_svg.specs.Platform.{platform_text}
 use Rattle.scmi_svg.specs.Column.{columns_text}
 use Rattle.scmi_svg.specs.Again.{again_text}
 use Rattle.scmi_svg.specs.Mark.{marks_text}

@@ -1,13 +1,24 @@
--- What a reader of XML makes of a text from outside.
-use Rattle.std.specs.Prelude.{ℕ, ◌==◌, ◌&&◌, not, nat_le, Bool, true, false, if◌then◌else◌, List, [], ◌∷◌}
+-- Texts from outside, as they are written, and what a reader of XML makes of them.
+use Rattle.std.specs.Prelude.{ℕ, ◌==◌, ◌&&◌, not, nat_le, Bool, true, false, if◌then◌else◌, List, [], ◌∷◌, flat_map}
+use Rattle.scmi_svg.specs.declared.escape.TheConstants.{AMPERSAND, GREATER, LESS, QUOTE, UNSHOWN}
+
+-- a byte of a text from outside: printable ones of ASCII as themselves, those that XML gives a meaning by their entities, and a sign for any other
+unfoldable pub escaped_byte : ℕ → List ℕ
+escaped_byte byte =
+    if byte == 60 then LESS.now else if byte == 62 then GREATER.now else if byte == 38 then AMPERSAND.now else if byte == 34 then QUOTE.now
+    else if nat_le 32 byte && nat_le byte 126 then byte ∷ [] else UNSHOWN ∷ []
+
+-- a text from outside
+abbrev pub escaped_text : List ℕ → List ℕ
+escaped_text bytes = flat_map escaped_byte bytes
 
 -- a byte that does not end the text that it is in, between tags or in quotes
 abbrev pub is_plain : ℕ → Bool
 is_plain byte = not (byte == 60) && not (byte == 62) && not (byte == 34)
 
--- a byte as it is shown: a printable one of ASCII as itself, and `?` for any other
+-- a byte as it is shown: a printable one of ASCII as itself, and a sign for any other
 abbrev pub shown_byte : ℕ → ℕ
-shown_byte byte = if nat_le 32 byte && nat_le byte 126 then byte else 63
+shown_byte byte = if nat_le 32 byte && nat_le byte 126 then byte else UNSHOWN
 
 -- the character of an entity by what follows its `&`: `lt;`, `gt;`, `amp;` or `quot;`
 abbrev pub entity_character : List ℕ → ℕ

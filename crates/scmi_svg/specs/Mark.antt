@@ -1,8 +1,12 @@
 -- Marks, as they are drawn.
-use Rattle.std.specs.Prelude.{ℕ, true, false, List, [], ◌∷◌, ◌++◌, codes, flat_map, Some, None}
-use Rattle.scmi_svg.specs.Piece.{fixed, outside, parts_text}
+use Rattle.std.specs.Prelude.{ℕ, true, false, List, [], ◌∷◌, ◌++◌, flat_map, Some, None}
+use Rattle.scmi_template.specs.Filled.{filled}
+use Rattle.scmi_svg.specs.Escape.{escaped_text}
 use Rattle.scmi_svg.specs.Message.{command_text, withdrawn_text, refused_text, answer_text, posted_text, post_text}
-use Rattle.scmi_svg.specs.Event.{execution_text, advance_text, closed_text, remark_text, fault_text}
+use Rattle.scmi_svg.specs.Event.{execution_text, advance_text}
+use Rattle.scmi_svg.specs.Remark.{closed_text, remark_text, fault_text}
+use Rattle.scmi_svg.specs.declared.class.TheConstants as class
+use Rattle.scmi_svg.specs.declared.marks.TheConstants.{OPENING, DETAIL, CLOSING}
 use Rattle.scmi_svg.specs.declared.layout.Layout.{Layout}
 use Rattle.scmi_svg.specs.declared.mark.Mark.{Mark}
 use Rattle.scmi_svg.specs.declared.mark.Mark.TheVariants as mark
@@ -11,26 +15,26 @@ use Rattle.scmi_svg.specs.declared.mark.Outcome.TheVariants as outcome
 
 -- the classes of a reply
 abbrev pub reply_kind : Outcome → List ℕ
-reply_kind outcome.Success = codes "reply"
-reply_kind outcome.Pending = codes "reply pending"
-reply_kind outcome.Refusal = codes "reply refusal"
+reply_kind outcome.Success = class.REPLY.now
+reply_kind outcome.Pending = class.PENDING.now
+reply_kind outcome.Refusal = class.REFUSAL.now
 
 -- the classes of a mark
 abbrev pub mark_kind : Mark → List ℕ
-mark_kind (mark.Command m token) = codes "command"
-mark_kind (mark.Withdrawn m token) = codes "withdrawn"
-mark_kind (mark.Refused m) = codes "refused"
-mark_kind (mark.Execution slot until) = codes "execution"
+mark_kind (mark.Command m token) = class.COMMAND.now
+mark_kind (mark.Withdrawn m token) = class.WITHDRAWN.now
+mark_kind (mark.Refused m) = class.REFUSED.now
+mark_kind (mark.Execution slot until) = class.EXECUTION.now
 mark_kind (mark.Reply m outcome) = reply_kind outcome
-mark_kind (mark.Delayed m token) = codes "delayed"
-mark_kind (mark.Notification m) = codes "notification"
-mark_kind (mark.Posted slot) = codes "posted"
-mark_kind (mark.Advance slot true text) = codes "advance"
-mark_kind (mark.Advance slot false text) = codes "advance idle"
-mark_kind (mark.Closed agent slot by text) = codes "closed"
-mark_kind (mark.Remark agent slot beside text) = codes "remark"
-mark_kind (mark.Failed slot text) = codes "advance refusal"
-mark_kind (mark.Fault agent slot text) = codes "fault"
+mark_kind (mark.Delayed m token) = class.DELAYED.now
+mark_kind (mark.Notification m) = class.NOTIFICATION.now
+mark_kind (mark.Posted slot) = class.POSTED.now
+mark_kind (mark.Advance slot true text) = class.ADVANCE.now
+mark_kind (mark.Advance slot false text) = class.IDLE.now
+mark_kind (mark.Closed agent slot by text) = class.CLOSED.now
+mark_kind (mark.Remark agent slot beside text) = class.REMARK.now
+mark_kind (mark.Failed slot text) = class.FAILED.now
+mark_kind (mark.Fault agent slot text) = class.FAULT.now
 
 -- the shapes of a mark
 abbrev pub shapes_text : Layout → Mark → List ℕ
@@ -51,7 +55,7 @@ shapes_text l (mark.Fault agent slot text) = fault_text l agent slot text.items
 -- the header and words of a message, if they are known
 unfoldable pub detail_text : List ℕ → List ℕ
 detail_text [] = []
-detail_text (byte ∷ bytes) = parts_text (fixed (codes "<title>") ∷ outside (byte ∷ bytes) ∷ fixed (codes "</title>\n") ∷ [])
+detail_text (byte ∷ bytes) = filled DETAIL.now (escaped_text (byte ∷ bytes) ∷ [])
 
 -- what is shown when a reader points at a mark: the header and words of its message
 abbrev pub hover_text : Mark → List ℕ
@@ -63,14 +67,9 @@ hover_text (mark.Delayed m token) = detail_text m.detail.items
 hover_text (mark.Notification m) = detail_text m.detail.items
 hover_text _ = []
 
--- the beginning of a group
-unfoldable pub opening_text : List ℕ → List ℕ
-opening_text kind =
-    parts_text (fixed (codes "<g class=\"mark ") ∷ fixed kind ∷ fixed (codes "\">\n") ∷ [])
-
 -- a mark, as one group
 unfoldable pub mark_text : Layout → Mark → List ℕ
-mark_text l m = opening_text (mark_kind m) ++ hover_text m ++ shapes_text l m ++ parts_text (fixed (codes "</g>\n") ∷ [])
+mark_text l m = filled OPENING.now (mark_kind m ∷ []) ++ hover_text m ++ shapes_text l m ++ CLOSING.now
 
 -- marks, in order
 abbrev pub marks_text : Layout → List Mark → List ℕ

@@ -1,7 +1,8 @@
 -- The ways of messages between two lifelines.
-use Rattle.std.specs.Prelude.{ℕ, ◌+◌, ◌-◌, ◌*◌, ◌/◌, ◌==◌, nat_le, nat_lt, if◌then◌else◌, List, ◌++◌, codes, min, max}
+use Rattle.std.specs.Prelude.{ℕ, ◌+◌, ◌-◌, ◌*◌, ◌/◌, ◌==◌, nat_le, nat_lt, if◌then◌else◌, List, ◌++◌, min, max}
 use Rattle.scmi_svg.specs.Layout.{agent_x, beside_agent, beside_platform, line_y, room}
 use Rattle.scmi_svg.specs.Shape.{line_text}
+use Rattle.scmi_svg.specs.declared.class.TheConstants as class
 use Rattle.scmi_svg.specs.declared.layout.TheConstants.{SLOT}
 use Rattle.scmi_svg.specs.declared.layout.Layout.{Layout}
 use Rattle.scmi_svg.specs.declared.shape.Point.{Point}
@@ -23,8 +24,8 @@ to_agent l agent slot taken =
 -- a way to the place where a message waits, down, and on
 unfoldable pub bent_text : Point → Point → ℕ → List ℕ
 bent_text from to bend =
-    line_text (codes "way") from (record { x = bend; y = from.y }) ++ line_text (codes "wait") (record { x = bend; y = from.y }) (record { x = bend; y = to.y })
-    ++ line_text (codes "head") (record { x = bend; y = to.y }) to
+    line_text class.WAY.now from (record { x = bend; y = from.y }) ++ line_text class.WAIT.now (record { x = bend; y = from.y }) (record { x = bend; y = to.y })
+    ++ line_text class.HEAD.now (record { x = bend; y = to.y }) to
 
 -- where a way begins
 abbrev pub start_of : Route → Point
@@ -36,7 +37,7 @@ end_of r = record { x = r.to; y = line_y r.taken }
 
 -- the way of a message: straight if it is taken in its slot or the next one
 unfoldable pub route_text : Route → List ℕ
-route_text r = if nat_le r.taken (r.slot + 1) then line_text (codes "head") (start_of r) (end_of r) else bent_text (start_of r) (end_of r) r.bend
+route_text r = if nat_le r.taken (r.slot + 1) then line_text class.HEAD.now (start_of r) (end_of r) else bent_text (start_of r) (end_of r) r.bend
 
 -- how far one place is from another
 abbrev pub distance : ℕ → ℕ → ℕ

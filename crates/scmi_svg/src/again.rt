@@ -1,17 +1,22 @@
 //! The names of lifelines and columns, again for a reader who has scrolled.
-ghost use Rattle.std.specs.Prelude.{◌≡◌, ◌<◌, ◌^◌, OnOk};
+ghost use Rattle.std.specs.Prelude.{OnOk};
 ghost use Rattle.std.specs.Io.KnownBytes.{Appends};
 ghost use Rattle.scmi_svg.specs.Again.{again_text, again_at, names_text, agents_text, agent_text, platform_text, headings_text, heading_text};
 
 use crate::chart::{Chart, Column, Lifeline, Step};
+use crate::class;
 use crate::layout::{Layout, slot_y};
-use crate::piece::{Piece, write_pieces};
+use crate::platform::PLATFORM;
 use crate::shape::{Point, write_words};
+use crate::value::Value;
+use scmi_template::write_filled;
 use std::io;
 use std::io::Write;
 
 /// After how many steps the names are written again.
 pub(crate) const STRETCH: u16 = 20;
+/// The name of an agent: its number, point and name.
+const AGENT: &str = "<text class=\"a% again\" x=\"%\" y=\"%\">%</text>\n";
 
 /// Writes the names again over each step that begins a stretch.
 pub(crate) fn write_again<W: Write>(
@@ -82,18 +87,14 @@ fn write_agent<W: Write>(
     ensures { OnOk result (Appends (W.contents writer.old) (W.contents writer.new)
         (agent_text layout.now y lifeline.now)) }
 {
-    write_pieces(
+    write_filled(
         writer,
+        AGENT,
         &[
-            Piece::Fixed("<text class=\"a"),
-            Piece::Number(u32::from(lifeline.agent)),
-            Piece::Fixed(" again\" x=\""),
-            Piece::Number(layout.agent_x(lifeline.agent)),
-            Piece::Fixed("\" y=\""),
-            Piece::Number(y),
-            Piece::Fixed("\">"),
-            Piece::Outside(&lifeline.name),
-            Piece::Fixed("</text>\n"),
+            Value::Number(u32::from(lifeline.agent)),
+            Value::Number(layout.agent_x(lifeline.agent)),
+            Value::Number(y),
+            Value::Outside(&lifeline.name),
         ],
     )
 }
@@ -104,7 +105,7 @@ fn write_platform<W: Write>(writer: &mut W, x: u32, y: u32) -> io::Result<()>
     ensures { OnOk result (Appends (W.contents writer.old) (W.contents writer.new)
         (platform_text x y)) }
 {
-    write_words(writer, "again", Point { x, y }, 0, 0, b"platform")
+    write_words(writer, class::AGAIN, Point { x, y }, 0, 0, PLATFORM)
 }
 
 /// Writes the names of columns.
@@ -134,5 +135,12 @@ fn write_heading<W: Write>(
         (heading_text layout.now y column.now)) }
 {
     let x = layout.column_x(column.place).saturating_sub(6);
-    write_words(writer, "again left", Point { x, y }, 0, 0, &column.name)
+    write_words(
+        writer,
+        class::AGAIN_LEFT,
+        Point { x, y },
+        0,
+        0,
+        &column.name,
+    )
 }

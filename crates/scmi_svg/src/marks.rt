@@ -1,17 +1,27 @@
 //! Marks, as they are drawn.
 ghost use Rattle.std.specs.Prelude.{◌≡◌, OnOk};
 ghost use Rattle.std.specs.Io.KnownBytes.{Appends};
-ghost use Rattle.scmi_svg.specs.Mark.{marks_text, mark_text, shapes_text, opening_text, hover_text, detail_text, mark_kind, reply_kind};
+ghost use Rattle.scmi_svg.specs.Mark.{marks_text, mark_text, shapes_text, hover_text, detail_text, mark_kind, reply_kind};
 
-use crate::event::{write_advance, write_closed, write_execution, write_fault, write_remark};
+use crate::class;
+use crate::event::{write_advance, write_execution};
 use crate::layout::Layout;
 use crate::mark::{Mark, Outcome};
 use crate::message::{
     write_answer, write_command, write_post, write_posted, write_refused, write_withdrawn,
 };
-use crate::piece::{Piece, write_pieces};
+use crate::remark::{write_closed, write_fault, write_remark};
+use crate::value::Value;
+use scmi_template::write_filled;
 use std::io;
 use std::io::Write;
+
+/// The beginning of a mark's group: its classes.
+const OPENING: &str = "<g class=\"mark %\">\n";
+/// What is shown when a reader points at the mark.
+const DETAIL: &str = "<title>%</title>\n";
+/// The end of the group.
+const CLOSING: &str = "</g>\n";
 
 /// Writes marks, in order.
 pub(crate) fn write_marks<W: Write>(
@@ -34,25 +44,10 @@ fn write_mark<W: Write>(writer: &mut W, layout: &Layout, mark: &Mark) -> io::Res
     ensures { OnOk result (Appends (W.contents writer.old) (W.contents writer.new)
         (mark_text layout.now mark.now)) }
 {
-    write_opening(writer, mark_kind(mark))?;
+    write_filled(writer, OPENING, &[Value::Own(mark_kind(mark).as_bytes())])?;
     write_hover(writer, mark)?;
     write_shapes(writer, layout, mark)?;
-    write_pieces(writer, &[Piece::Fixed("</g>\n")])
-}
-
-#[tactic(auto, unfolding(crate::specs::Mark::opening_text))]
-fn write_opening<W: Write>(writer: &mut W, kind: &str) -> io::Result<()>
-    ensures { OnOk result (Appends (W.contents writer.old) (W.contents writer.new)
-        (opening_text kind.now)) }
-{
-    write_pieces(
-        writer,
-        &[
-            Piece::Fixed("<g class=\"mark "),
-            Piece::Fixed(kind),
-            Piece::Fixed("\">\n"),
-        ],
-    )
+    writer.write_all(CLOSING.as_bytes())
 }
 
 /// Writes what is shown when a reader points at a mark: the header and words of its message.
@@ -78,14 +73,7 @@ fn write_detail<W: Write>(writer: &mut W, detail: &[u8]) -> io::Result<()>
 {
     match detail {
         [] => Ok(()),
-        _ => write_pieces(
-            writer,
-            &[
-                Piece::Fixed("<title>"),
-                Piece::Outside(detail),
-                Piece::Fixed("</title>\n"),
-            ],
-        ),
+        _ => write_filled(writer, DETAIL, &[Value::Outside(detail)]),
     }
 }
 
@@ -94,23 +82,23 @@ fn mark_kind(mark: &Mark) -> &'static str
     ensures { result.now ≡ mark_kind mark.now }
 {
     match mark {
-        Mark::Command { .. } => "command",
-        Mark::Withdrawn { .. } => "withdrawn",
-        Mark::Refused { .. } => "refused",
-        Mark::Execution { .. } => "execution",
+        Mark::Command { .. } => class::COMMAND,
+        Mark::Withdrawn { .. } => class::WITHDRAWN,
+        Mark::Refused { .. } => class::REFUSED,
+        Mark::Execution { .. } => class::EXECUTION,
         Mark::Reply { outcome, .. } => reply_kind(*outcome),
-        Mark::Delayed { .. } => "delayed",
-        Mark::Notification { .. } => "notification",
-        Mark::Posted { .. } => "posted",
+        Mark::Delayed { .. } => class::DELAYED,
+        Mark::Notification { .. } => class::NOTIFICATION,
+        Mark::Posted { .. } => class::POSTED,
         Mark::Advance {
             is_effective: true,
             ..
-        } => "advance",
-        Mark::Advance { .. } => "advance idle",
-        Mark::Closed { .. } => "closed",
-        Mark::Remark { .. } => "remark",
-        Mark::Failed { .. } => "advance refusal",
-        Mark::Fault { .. } => "fault",
+        } => class::ADVANCE,
+        Mark::Advance { .. } => class::IDLE,
+        Mark::Closed { .. } => class::CLOSED,
+        Mark::Remark { .. } => class::REMARK,
+        Mark::Failed { .. } => class::FAILED,
+        Mark::Fault { .. } => class::FAULT,
     }
 }
 
@@ -118,9 +106,9 @@ fn reply_kind(outcome: Outcome) -> &'static str
     ensures { result.now ≡ reply_kind outcome }
 {
     match outcome {
-        Outcome::Success => "reply",
-        Outcome::Pending => "reply pending",
-        Outcome::Refusal => "reply refusal",
+        Outcome::Success => class::REPLY,
+        Outcome::Pending => class::PENDING,
+        Outcome::Refusal => class::REFUSAL,
     }
 }
 

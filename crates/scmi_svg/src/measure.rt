@@ -2,6 +2,8 @@
 ghost use Rattle.std.specs.Prelude.{◌≡◌, ◌≤◌, ◌*◌};
 ghost use Rattle.scmi_svg.specs.Measure.{letter_width, width_of, width_in};
 
+use crate::escape::UNSHOWN;
+
 /// How wide the letters are from the space to `~`, in hundredths of the font's size: those of DejaVu
 /// Sans Bold, the widest of the fonts that a picture names.
 pub(crate) const WIDTHS: [u8; 95] = [
@@ -19,7 +21,11 @@ pub(crate) const MEASURED: usize = 120;
 fn letter_width(byte: u8) -> u8
     ensures { result ≡ letter_width byte }
 {
-    let shown = if byte >= 32 && byte <= 126 { byte } else { 63 };
+    let shown = if byte >= 32 && byte <= 126 {
+        byte
+    } else {
+        UNSHOWN
+    };
     match WIDTHS.get(usize::from(shown) - 32) {
         Some(width) => *width,
         None => 0,

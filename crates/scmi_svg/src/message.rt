@@ -1,14 +1,15 @@
 //! Messages, as they are drawn.
-ghost use Rattle.std.specs.Prelude.{◌≡◌, OnOk};
+ghost use Rattle.std.specs.Prelude.{OnOk};
 ghost use Rattle.std.specs.Io.KnownBytes.{Appends};
-ghost use Rattle.scmi_svg.specs.Message.{command_text, withdrawn_text, refused_text, way_text, cut_text, cut_way, answer_text, posted_text, post_text, token_text, ring_size, given_token_text, token_ring, token_number};
+ghost use Rattle.scmi_svg.specs.Message.{command_text, withdrawn_text, refused_text, way_text, cut_text, cut_way, answer_text, posted_text, post_text};
 
+use crate::class;
 use crate::label::write_label;
 use crate::layout::{Layout, line_y};
 use crate::mark::Message;
-use crate::piece::{Piece, write_pieces};
 use crate::route::{Route, spot_of, to_agent, to_platform, write_route};
 use crate::shape::{Point, write_cross, write_line, write_ring};
+use crate::token::write_token;
 use std::io;
 use std::io::Write;
 
@@ -100,8 +101,8 @@ fn write_cut_way<W: Write>(
         x: layout.beside_agent(agent, way),
         y: line_y(slot) + 4,
     };
-    write_line(writer, "way", from, end)?;
-    write_cross(writer, "lost", end)
+    write_line(writer, class::WAY, from, end)?;
+    write_cross(writer, class::LOST, end)
 }
 
 /// Writes a message from the platform.
@@ -143,86 +144,5 @@ pub(crate) fn write_post<W: Write>(writer: &mut W, layout: &Layout, slot: u16) -
         x: layout.platform_x(),
         y: line_y(slot),
     };
-    write_ring(writer, "post", center, 4)
-}
-
-/// Writes a token in a ring on the lifeline of an agent, if there is one.
-fn write_token<W: Write>(
-    writer: &mut W,
-    layout: &Layout,
-    agent: u8,
-    slot: u16,
-    token: Option<u16>,
-) -> io::Result<()>
-    ensures { OnOk result (Appends (W.contents writer.old) (W.contents writer.new)
-        (token_text layout.now agent slot token)) }
-{
-    match token {
-        None => Ok(()),
-        Some(token) => {
-            let at = Point {
-                x: layout.agent_x(agent),
-                y: line_y(slot),
-            };
-            write_given_token(writer, at, agent, token)
-        }
-    }
-}
-
-/// The radius of the ring around a token.
-fn ring_size(token: u16) -> u32
-    ensures { result ≡ ring_size token }
-{
-    if token < 100 { 9 } else { 13 }
-}
-
-#[tactic(auto, unfolding(crate::specs::Message::given_token_text))]
-fn write_given_token<W: Write>(writer: &mut W, at: Point, agent: u8, token: u16) -> io::Result<()>
-    ensures { OnOk result (Appends (W.contents writer.old) (W.contents writer.new)
-        (given_token_text at agent token)) }
-{
-    write_token_ring(writer, at, u32::from(agent), ring_size(token))?;
-    write_token_number(writer, at, agent, token)
-}
-
-#[tactic(auto, unfolding(crate::specs::Message::token_ring))]
-fn write_token_ring<W: Write>(writer: &mut W, at: Point, agent: u32, radius: u32) -> io::Result<()>
-    ensures { OnOk result (Appends (W.contents writer.old) (W.contents writer.new)
-        (token_ring at agent radius)) }
-{
-    write_pieces(
-        writer,
-        &[
-            Piece::Fixed("<circle class=\"a"),
-            Piece::Number(agent),
-            Piece::Fixed(" token\" cx=\""),
-            Piece::Number(at.x),
-            Piece::Fixed("\" cy=\""),
-            Piece::Number(at.y),
-            Piece::Fixed("\" r=\""),
-            Piece::Number(radius),
-            Piece::Fixed("\"/>\n"),
-        ],
-    )
-}
-
-#[tactic(auto, unfolding(crate::specs::Message::token_number))]
-fn write_token_number<W: Write>(writer: &mut W, at: Point, agent: u8, token: u16) -> io::Result<()>
-    ensures { OnOk result (Appends (W.contents writer.old) (W.contents writer.new)
-        (token_number at agent token)) }
-{
-    write_pieces(
-        writer,
-        &[
-            Piece::Fixed("<text class=\"a"),
-            Piece::Number(u32::from(agent)),
-            Piece::Fixed(" in\" dy=\"3\" x=\""),
-            Piece::Number(at.x),
-            Piece::Fixed("\" y=\""),
-            Piece::Number(at.y),
-            Piece::Fixed("\">"),
-            Piece::Number(u32::from(token)),
-            Piece::Fixed("</text>\n"),
-        ],
-    )
+    write_ring(writer, class::POST, center, 4)
 }

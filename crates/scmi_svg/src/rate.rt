@@ -3,9 +3,19 @@ ghost use Rattle.std.specs.Prelude.{OnOk};
 ghost use Rattle.std.specs.Io.KnownBytes.{Appends};
 ghost use Rattle.scmi_svg.specs.Rate.{rate_text, scaled_text, fraction_text};
 
-use crate::piece::{Piece, write_pieces};
 use std::io;
 use std::io::Write;
+
+/// The unit of rates from 10^9 Hz.
+const GIGAHERTZ: &str = " GHz";
+/// The unit of rates from 10^6 Hz.
+const MEGAHERTZ: &str = " MHz";
+/// The unit of rates from 1,000 Hz.
+const KILOHERTZ: &str = " kHz";
+/// The unit of other rates.
+const HERTZ: &str = " Hz";
+/// What is between a number and its thousandths.
+const POINT: &str = ".";
 
 /// Writes a rate in Hz, in the largest unit of which it has one or more and at most three digits
 /// after the point: 19.2 MHz, 32.768 kHz. The error is the writer's; a part may then be written.
@@ -14,13 +24,13 @@ pub fn write_rate<W: Write>(writer: &mut W, hertz: u64) -> io::Result<()>
         (rate_text hertz)) }
 {
     if hertz >= 1_000_000_000 && hertz % 1_000_000 == 0 {
-        write_scaled(writer, hertz / 1_000_000, " GHz")
+        write_scaled(writer, hertz / 1_000_000, GIGAHERTZ)
     } else if hertz >= 1_000_000 && hertz % 1_000 == 0 {
-        write_scaled(writer, hertz / 1_000, " MHz")
+        write_scaled(writer, hertz / 1_000, MEGAHERTZ)
     } else if hertz >= 1_000 && hertz < 1_000_000 {
-        write_scaled(writer, hertz, " kHz")
+        write_scaled(writer, hertz, KILOHERTZ)
     } else {
-        write_pieces(writer, &[Piece::Long(hertz), Piece::Fixed(" Hz")])
+        write!(writer, "{hertz}{HERTZ}")
     }
 }
 
@@ -43,28 +53,14 @@ fn write_fraction<W: Write>(writer: &mut W, thousandths: u32) -> io::Result<()>
 {
     let tenths = thousandths / 100;
     let hundredths = thousandths / 10 % 10;
+    let last = thousandths % 10;
     if thousandths == 0 {
         Ok(())
     } else if thousandths % 100 == 0 {
-        write_pieces(writer, &[Piece::Fixed("."), Piece::Number(tenths)])
-    } else if thousandths % 10 == 0 {
-        write_pieces(
-            writer,
-            &[
-                Piece::Fixed("."),
-                Piece::Number(tenths),
-                Piece::Number(hundredths),
-            ],
-        )
+        write!(writer, "{POINT}{tenths}")
+    } else if last == 0 {
+        write!(writer, "{POINT}{tenths}{hundredths}")
     } else {
-        write_pieces(
-            writer,
-            &[
-                Piece::Fixed("."),
-                Piece::Number(tenths),
-                Piece::Number(hundredths),
-                Piece::Number(thousandths % 10),
-            ],
-        )
+        write!(writer, "{POINT}{tenths}{hundredths}{last}")
     }
 }

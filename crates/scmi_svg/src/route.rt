@@ -3,6 +3,7 @@ ghost use Rattle.std.specs.Prelude.{◌≡◌, ◌<◌, OnOk};
 ghost use Rattle.std.specs.Io.KnownBytes.{Appends};
 ghost use Rattle.scmi_svg.specs.Route.{to_platform, to_agent, route_text, bent_text, spot_of, turn_of, distance, slanted_spot};
 
+use crate::class;
 use crate::layout::{Layout, SLOT, line_y};
 use crate::shape::{Point, write_line};
 use std::io;
@@ -70,7 +71,7 @@ pub(crate) fn write_route<W: Write>(writer: &mut W, route: &Route) -> io::Result
         y: line_y(route.taken),
     };
     if u32::from(route.taken) <= u32::from(route.slot) + 1 {
-        write_line(writer, "head", from, to)
+        write_line(writer, class::HEAD, from, to)
     } else {
         write_bent(writer, from, to, route.bend)
     }
@@ -83,9 +84,9 @@ fn write_bent<W: Write>(writer: &mut W, from: Point, to: Point, bend: u32) -> io
 {
     let above = Point { x: bend, y: from.y };
     let below = Point { x: bend, y: to.y };
-    write_line(writer, "way", from, above)?;
-    write_line(writer, "wait", above, below)?;
-    write_line(writer, "head", below, to)
+    write_line(writer, class::WAY, from, above)?;
+    write_line(writer, class::WAIT, above, below)?;
+    write_line(writer, class::HEAD, below, to)
 }
 
 /// How words are turned.

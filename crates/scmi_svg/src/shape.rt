@@ -1,11 +1,23 @@
 //! Lines, boxes, rings, crosses and words.
-ghost use Rattle.std.specs.Prelude.{◌≡◌, OnOk};
+ghost use Rattle.std.specs.Prelude.{OnOk};
 ghost use Rattle.std.specs.Io.KnownBytes.{Appends};
 ghost use Rattle.scmi_svg.specs.Shape.{line_text, box_text, ring_text, cross_text, words_text};
 
-use crate::piece::{Piece, write_pieces};
+use crate::value::Value;
+use scmi_template::write_filled;
 use std::io;
 use std::io::Write;
+
+/// Class, and two ends.
+const LINE: &str = "<line class=\"%\" x1=\"%\" y1=\"%\" x2=\"%\" y2=\"%\"/>\n";
+/// Class, corner, width and height.
+const BOX: &str = "<rect class=\"%\" x=\"%\" y=\"%\" width=\"%\" height=\"%\"/>\n";
+/// Class, center and radius.
+const RING: &str = "<circle class=\"%\" cx=\"%\" cy=\"%\" r=\"%\"/>\n";
+/// Class and center.
+const CROSS: &str = "<path class=\"%\" d=\"M% %m-5 -5l10 10m0 -10l-10 10\"/>\n";
+/// Class, point, how far to the right of it and below it, and the text.
+const WORDS: &str = "<text class=\"%\" x=\"%\" y=\"%\" dx=\"%\" dy=\"%\">%</text>\n";
 
 /// A place, in pixels from the left upper corner.
 #[derive(Clone, Copy)]
@@ -25,20 +37,15 @@ pub(crate) fn write_line<W: Write>(
     ensures { OnOk result (Appends (W.contents writer.old) (W.contents writer.new)
         (line_text class.now from to)) }
 {
-    write_pieces(
+    write_filled(
         writer,
+        LINE,
         &[
-            Piece::Fixed("<line class=\""),
-            Piece::Fixed(class),
-            Piece::Fixed("\" x1=\""),
-            Piece::Number(from.x),
-            Piece::Fixed("\" y1=\""),
-            Piece::Number(from.y),
-            Piece::Fixed("\" x2=\""),
-            Piece::Number(to.x),
-            Piece::Fixed("\" y2=\""),
-            Piece::Number(to.y),
-            Piece::Fixed("\"/>\n"),
+            Value::Own(class.as_bytes()),
+            Value::Number(from.x),
+            Value::Number(from.y),
+            Value::Number(to.x),
+            Value::Number(to.y),
         ],
     )
 }
@@ -55,20 +62,15 @@ pub(crate) fn write_box<W: Write>(
     ensures { OnOk result (Appends (W.contents writer.old) (W.contents writer.new)
         (box_text class.now corner width height)) }
 {
-    write_pieces(
+    write_filled(
         writer,
+        BOX,
         &[
-            Piece::Fixed("<rect class=\""),
-            Piece::Fixed(class),
-            Piece::Fixed("\" x=\""),
-            Piece::Number(corner.x),
-            Piece::Fixed("\" y=\""),
-            Piece::Number(corner.y),
-            Piece::Fixed("\" width=\""),
-            Piece::Number(width),
-            Piece::Fixed("\" height=\""),
-            Piece::Number(height),
-            Piece::Fixed("\"/>\n"),
+            Value::Own(class.as_bytes()),
+            Value::Number(corner.x),
+            Value::Number(corner.y),
+            Value::Number(width),
+            Value::Number(height),
         ],
     )
 }
@@ -84,18 +86,14 @@ pub(crate) fn write_ring<W: Write>(
     ensures { OnOk result (Appends (W.contents writer.old) (W.contents writer.new)
         (ring_text class.now center radius)) }
 {
-    write_pieces(
+    write_filled(
         writer,
+        RING,
         &[
-            Piece::Fixed("<circle class=\""),
-            Piece::Fixed(class),
-            Piece::Fixed("\" cx=\""),
-            Piece::Number(center.x),
-            Piece::Fixed("\" cy=\""),
-            Piece::Number(center.y),
-            Piece::Fixed("\" r=\""),
-            Piece::Number(radius),
-            Piece::Fixed("\"/>\n"),
+            Value::Own(class.as_bytes()),
+            Value::Number(center.x),
+            Value::Number(center.y),
+            Value::Number(radius),
         ],
     )
 }
@@ -106,16 +104,13 @@ pub(crate) fn write_cross<W: Write>(writer: &mut W, class: &str, center: Point) 
     ensures { OnOk result (Appends (W.contents writer.old) (W.contents writer.new)
         (cross_text class.now center)) }
 {
-    write_pieces(
+    write_filled(
         writer,
+        CROSS,
         &[
-            Piece::Fixed("<path class=\""),
-            Piece::Fixed(class),
-            Piece::Fixed("\" d=\"M"),
-            Piece::Number(center.x),
-            Piece::Fixed(" "),
-            Piece::Number(center.y),
-            Piece::Fixed("m-5 -5l10 10m0 -10l-10 10\"/>\n"),
+            Value::Own(class.as_bytes()),
+            Value::Number(center.x),
+            Value::Number(center.y),
         ],
     )
 }
@@ -133,22 +128,16 @@ pub(crate) fn write_words<'a, W: Write>(
     ensures { OnOk result (Appends (W.contents writer.old) (W.contents writer.new)
         (words_text class.now at right below text.now)) }
 {
-    write_pieces(
+    write_filled(
         writer,
+        WORDS,
         &[
-            Piece::Fixed("<text class=\""),
-            Piece::Fixed(class),
-            Piece::Fixed("\" x=\""),
-            Piece::Number(at.x),
-            Piece::Fixed("\" y=\""),
-            Piece::Number(at.y),
-            Piece::Fixed("\" dx=\""),
-            Piece::Number(u32::from(right)),
-            Piece::Fixed("\" dy=\""),
-            Piece::Number(u32::from(below)),
-            Piece::Fixed("\">"),
-            Piece::Outside(text),
-            Piece::Fixed("</text>\n"),
+            Value::Own(class.as_bytes()),
+            Value::Number(at.x),
+            Value::Number(at.y),
+            Value::Number(u32::from(right)),
+            Value::Number(u32::from(below)),
+            Value::Outside(text),
         ],
     )
 }

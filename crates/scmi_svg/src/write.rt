@@ -6,10 +6,12 @@ ghost use Rattle.scmi_svg.specs.Chart.{svg_text, back_text, lines_text, picture_
 use crate::again::write_again;
 use crate::chart::Chart;
 use crate::column::write_columns;
-use crate::frame::{write_border, write_head, write_legend, write_steps, write_title};
+use crate::frame::{write_border, write_head, write_legend, write_title};
 use crate::layout::{Layout, layout_of};
-use crate::lifeline::{write_lifelines, write_platform};
+use crate::lifeline::write_lifelines;
 use crate::marks::write_marks;
+use crate::platform::write_platform;
+use crate::script::write_steps;
 use std::io;
 use std::io::Write;
 

@@ -1,7 +1,7 @@
 use Rattle.std.proofs.Common.{take}
 use Rattle.std.specs.Io.KnownBytes.{Appends}
-use Rattle.scmi_svg.specs.Piece.{escaped_text}
-use Rattle.scmi_svg.proofs.piece.write_escaped.Given as goal
+use Rattle.scmi_svg.specs.Escape.{escaped_text}
+use Rattle.scmi_svg.proofs.escape.write_escaped.Given as goal
 
 abbrev pub invariant-bytes : goal.invariant-bytes
 invariant-bytes g l =

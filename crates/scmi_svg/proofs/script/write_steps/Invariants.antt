@@ -1,7 +1,7 @@
 use Rattle.std.proofs.Common.{take}
 use Rattle.std.specs.Io.KnownBytes.{Appends}
-use Rattle.scmi_svg.specs.Frame.{steps_text}
-use Rattle.scmi_svg.proofs.frame.write_steps.Given as goal
+use Rattle.scmi_svg.specs.Script.{steps_text}
+use Rattle.scmi_svg.proofs.script.write_steps.Given as goal
 
 abbrev pub invariant-steps : goal.invariant-steps
 invariant-steps g l =

@@ -1,7 +1,7 @@
 use Rattle.std.proofs.Common.{take}
 use Rattle.std.specs.Io.KnownBytes.{Appends}
-use Rattle.scmi_svg.specs.Column.{drops_text}
-use Rattle.scmi_svg.proofs.column.write_drops.Given as goal
+use Rattle.scmi_svg.specs.Dropped.{drops_text}
+use Rattle.scmi_svg.proofs.dropped.write_drops.Given as goal
 
 abbrev pub invariant-drops : goal.invariant-drops
 invariant-drops g l =
