@@ -1,5 +1,5 @@
 -- What the labels of commands show.
-use Rattle.std.specs.Prelude.{ℕ, ◌==◌, ◌&&◌, Bool, false, if◌then◌else◌, List, [], ◌∷◌, codes, Option, Some, None, Result, Ok, Err}
+use Rattle.std.specs.Prelude.{ℕ, ◌==◌, ◌&&◌, Bool, false, if◌then◌else◌, List, [], ◌∷◌, Option, Some, None, Result, Ok, Err}
 use Rattle.scmi_codec.specs.Command.{command_of}
 use Rattle.scmi_codec.specs.declared.command.Command.{Command}
 use Rattle.scmi_codec.specs.declared.message.Message.{Message}
@@ -12,6 +12,7 @@ use Rattle.scmi_text.specs.declared.step.AgentStep.TheVariants as agent_step
 use Rattle.scmi_chart.specs.Words.{numbered_text, payload_text}
 use Rattle.scmi_chart.specs.LabelWords.{LabelWords, message_text, name_alone}
 use Rattle.scmi_chart.specs.Fields.{with_fields}
+use Rattle.scmi_chart.specs.declared.label_texts.TheConstants.{ITSELF, LENGTH, MALFORMED, TYPE}
 use Rattle.scmi_chart.specs.Posted.{message_of}
 
 -- the fields of a command, or the words of a payload that has none
@@ -30,11 +31,11 @@ asks_for_itself m = (m.header.protocol == 0x10) && (m.header.id == 7) && is_call
 
 -- an agent that asks for itself
 abbrev pub with_itself : Bool → LabelWords → LabelWords
-with_itself asks w = if asks then record w { object = codes "itself" } else w
+with_itself asks w = if asks then record w { object = ITSELF.now } else w
 
 -- a message that is no command has its type as a comment
 abbrev pub with_kind : ℕ → LabelWords → LabelWords
-with_kind kind w = if kind == 0 then w else record w { tag = numbered_text (codes "type") kind }
+with_kind kind w = if kind == 0 then w else record w { tag = numbered_text TYPE.now kind }
 
 -- what a message asks for: its name, and the fields of the command that it carries, or its words
 unfoldable pub command_words : Board → Message → LabelWords
@@ -44,7 +45,7 @@ command_words board m =
 
 -- what a malformed frame has: its length
 abbrev pub malformed_words : ℕ → LabelWords
-malformed_words length = record (name_alone (codes "malformed")) { object = numbered_text (codes "length") length }
+malformed_words length = record (name_alone MALFORMED.now) { object = numbered_text LENGTH.now length }
 
 -- what the message of a step asks for, if there is one
 abbrev pub message_words : Board → Option Message → LabelWords

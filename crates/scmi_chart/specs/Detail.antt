@@ -1,23 +1,25 @@
 -- Messages in hexadecimal, which a reader sees who points at a mark.
-use Rattle.std.specs.Prelude.{ℕ, List, [], ◌∷◌, ◌++◌, codes, decimal, Option, Some, None}
+use Rattle.std.specs.Prelude.{ℕ, List, [], ◌∷◌, ◌++◌, decimal, Option, Some, None}
 use Rattle.scmi_codec.specs.Header.{header_word}
 use Rattle.scmi_codec.specs.declared.frame.Answer.{Answer}
 use Rattle.scmi_codec.specs.declared.frame.Answer.TheVariants.{Reply}
 use Rattle.scmi_codec.specs.declared.message.Message.{Message}
+use Rattle.scmi_template.specs.Filled.{filled}
 use Rattle.scmi_text.specs.declared.step.Step.{Step}
 use Rattle.scmi_text.specs.declared.step.Step.TheVariants as step
 use Rattle.scmi_text.specs.declared.step.AgentStep.TheVariants as agent_step
 use Rattle.scmi_chart.specs.Words.{hex_text, words_text}
+use Rattle.scmi_chart.specs.declared.detail_texts.TheConstants.{HEADER, LENGTH, WORDS}
 use Rattle.scmi_chart.specs.Posted.{message_of, with_token}
 
 -- a header word
 abbrev pub header_detail : ℕ → List ℕ
-header_detail header = codes "header " ++ hex_text header
+header_detail header = filled HEADER.now (hex_text header ∷ [])
 
 -- payload words, if there are any
 abbrev pub words_detail : List ℕ → List ℕ
 words_detail [] = []
-words_detail (word ∷ words) = codes ", words " ++ words_text (word ∷ words)
+words_detail (word ∷ words) = filled WORDS.now (words_text (word ∷ words) ∷ [])
 
 -- the header word and the payload words of a message
 abbrev pub message_detail : Message → List ℕ
@@ -30,7 +32,7 @@ answer_detail _ = []
 
 -- the header and the length of a malformed frame
 unfoldable pub malformed_detail : ℕ → ℕ → List ℕ
-malformed_detail length header = header_detail header ++ codes ", length " ++ decimal length
+malformed_detail length header = header_detail header ++ filled LENGTH.now (decimal length ∷ [])
 
 -- those of a message that is posted with this token, if there is a message
 abbrev pub posted_detail : Option ℕ → Option Message → List ℕ

@@ -1,11 +1,13 @@
 -- What the fields of a message add to its label.
-use Rattle.std.specs.Prelude.{ℕ, ◌/◌, ◌%◌, ◌^◌, ◌==◌, nat_lt, if◌then◌else◌, List, [], ◌∷◌, ◌++◌, codes, decimal}
+use Rattle.std.specs.Prelude.{ℕ, ◌/◌, ◌%◌, ◌^◌, ◌==◌, nat_lt, if◌then◌else◌, List, [], ◌∷◌, decimal}
 use Rattle.scmi_plan.specs.Board.{Board}
 use Rattle.scmi_describe.specs.Names.{protocol_text}
 use Rattle.scmi_describe.specs.declared.field.Field.{Field}
 use Rattle.scmi_describe.specs.declared.field.Field.TheVariants as field
 use Rattle.scmi_svg.specs.Rate.{rate_text}
 use Rattle.scmi_chart.specs.Words.{agent_text, clock_text, counted_text, domain_text, hex_text, letters_text, numbered_text, state_text, switch_text}
+use Rattle.scmi_template.specs.Filled.{filled}
+use Rattle.scmi_chart.specs.declared.label_texts.TheConstants.{AGENTS, ALLOW, ASYNC, BY, DENY, DEVICE, FLAGS, FROM, NEAREST, NO_RESPONSE, PERMISSIONS, PROTOCOLS, SKIP, UP, VERSION}
 use Rattle.scmi_chart.specs.LabelWords.{LabelWords, behind, protocol_or_number, with_remark, with_remark_if}
 
 -- a value for the object of a label; if there is no object, what the label is about
@@ -19,7 +21,7 @@ with_value text w = value_for w.object text w
 
 -- all bits of a word as a comment, if a bit is set other than the low ones that have a meaning
 abbrev pub with_bits : ℕ → ℕ → LabelWords → LabelWords
-with_bits known bits w = with_remark_if (nat_lt known bits) (codes "flags " ++ hex_text bits) w
+with_bits known bits w = with_remark_if (nat_lt known bits) (filled FLAGS.now (hex_text bits ∷ [])) w
 
 -- a word whose bit 0 switches something on or off
 abbrev pub with_switch : ℕ → LabelWords → LabelWords
@@ -27,11 +29,11 @@ with_switch bits w = with_bits 1 bits (record w { value = switch_text bits })
 
 -- when a rate set takes effect, and whether it is announced
 unfoldable pub with_timing : ℕ → LabelWords → LabelWords
-with_timing bits w = with_remark_if (bits / 2 % 2 == 1) (codes "no response") (with_remark_if (bits % 2 == 1) (codes "async") w)
+with_timing bits w = with_remark_if (bits / 2 % 2 == 1) NO_RESPONSE.now (with_remark_if (bits % 2 == 1) ASYNC.now w)
 
 -- how a rate is rounded
 unfoldable pub with_rounding : ℕ → LabelWords → LabelWords
-with_rounding bits w = if bits / 2 ^ 3 % 2 == 1 then with_remark (codes "nearest") w else with_remark_if (bits / 2 ^ 2 % 2 == 1) (codes "up") w
+with_rounding bits w = if bits / 2 ^ 3 % 2 == 1 then with_remark NEAREST.now w else with_remark_if (bits / 2 ^ 2 % 2 == 1) UP.now w
 
 -- the flags of a rate set: when it takes effect, whether it is announced, and how the rate is rounded
 abbrev pub with_rate_flags : ℕ → LabelWords → LabelWords
@@ -40,23 +42,27 @@ with_rate_flags bits w =
 
 -- the flags of a power state set
 abbrev pub with_power_flags : ℕ → LabelWords → LabelWords
-with_power_flags bits w = with_bits 1 bits (with_remark_if (bits % 2 == 1) (codes "async") w)
+with_power_flags bits w = with_bits 1 bits (with_remark_if (bits % 2 == 1) ASYNC.now w)
 
 -- the flags of a permission
 abbrev pub with_permit_flags : ℕ → LabelWords → LabelWords
-with_permit_flags bits w = with_bits 1 bits (with_remark (if bits % 2 == 1 then codes "allow" else codes "deny") w)
+with_permit_flags bits w = with_bits 1 bits (with_remark (if bits % 2 == 1 then ALLOW.now else DENY.now) w)
 
 -- the flags of a reset
 abbrev pub with_reset_flags : ℕ → LabelWords → LabelWords
-with_reset_flags bits w = with_bits 1 bits (with_remark_if (bits % 2 == 1) (codes "and permissions") w)
+with_reset_flags bits w = with_bits 1 bits (with_remark_if (bits % 2 == 1) PERMISSIONS.now w)
 
 -- the version of a protocol
 unfoldable pub version_text : ℕ → List ℕ
-version_text word = codes "version " ++ decimal (word / 2 ^ 16) ++ codes "." ++ decimal (word % 2 ^ 16)
+version_text word = filled VERSION.now (decimal (word / 2 ^ 16) ∷ decimal (word % 2 ^ 16) ∷ [])
 
 -- how many agents and protocols there are
 abbrev pub counts_text : ℕ → List ℕ
-counts_text word = behind (counted_text (word / 2 ^ 8 % 2 ^ 8) (codes "agents")) (counted_text (word % 2 ^ 8) (codes "protocols"))
+counts_text word = behind (counted_text AGENTS.now (word / 2 ^ 8 % 2 ^ 8)) (counted_text PROTOCOLS.now (word % 2 ^ 8))
+
+-- who caused a change
+abbrev pub cause_text : Board → ℕ → List ℕ
+cause_text board agent = filled BY.now (agent_text board agent ∷ [])
 
 -- what a field adds to a label: names if the board has one
 abbrev pub with_field : Board → Field → LabelWords → LabelWords
@@ -72,11 +78,11 @@ with_field board (field.State state) w = with_value (state_text state) w
 with_field board (field.Rate hertz) w = with_value (rate_text hertz) w
 with_field board (field.Enable bits) w = with_switch bits w
 with_field board (field.ClockAttributes bits) w = with_switch bits w
-with_field board (field.Device device) w = record w { value = numbered_text (codes "device") device }
+with_field board (field.Device device) w = record w { value = numbered_text DEVICE.now device }
 with_field board (field.Protocol protocol) w = record w { value = behind w.value (protocol_or_number protocol (protocol_text protocol)) }
-with_field board (field.By agent) w = with_remark (codes "by " ++ agent_text board agent) w
-with_field board (field.Index index) w = with_remark (numbered_text (codes "from") index) w
-with_field board (field.Skip count) w = with_remark (numbered_text (codes "skip") count) w
+with_field board (field.By agent) w = with_remark (cause_text board agent) w
+with_field board (field.Index index) w = with_remark (numbered_text FROM.now index) w
+with_field board (field.Skip count) w = with_remark (numbered_text SKIP.now count) w
 with_field board (field.PowerFlags bits) w = with_power_flags bits w
 with_field board (field.PermitFlags bits) w = with_permit_flags bits w
 with_field board (field.ResetFlags bits) w = with_reset_flags bits w

@@ -1,9 +1,11 @@
 -- What messages are about, in words.
-use Rattle.std.specs.Prelude.{ℕ, Bool, if◌then◌else◌, List, [], ◌∷◌, ◌++◌, codes, Option, Some, None}
+use Rattle.std.specs.Prelude.{ℕ, Bool, if◌then◌else◌, List, [], ◌∷◌, ◌++◌, Option, Some, None}
 use Rattle.scmi_codec.specs.Listing.{message_name}
 use Rattle.scmi_describe.specs.Names.{protocol_text}
 use Rattle.scmi_svg.specs.declared.mark.Label.{Label}
+use Rattle.scmi_template.specs.Filled.{filled}
 use Rattle.scmi_chart.specs.Words.{hex_text}
+use Rattle.scmi_chart.specs.declared.label_texts.TheConstants.{COMMA, PROTOCOL, UNNAMED}
 
 -- the words of a label: the name of a message, what it is about, the value that this gets, and a comment
 pub record LabelWords : Type 0 where
@@ -23,7 +25,7 @@ name_alone name = record { name = name; object = []; value = []; tag = [] }
 -- a text after others of its kind, with a comma between
 abbrev pub behind : List ℕ → List ℕ → List ℕ
 behind [] text = text
-behind (byte ∷ bytes) text = (byte ∷ bytes) ++ codes ", " ++ text
+behind (byte ∷ bytes) text = (byte ∷ bytes) ++ COMMA.now ++ text
 
 -- one comment more
 abbrev pub with_remark : List ℕ → LabelWords → LabelWords
@@ -36,12 +38,12 @@ with_remark_if holds text w = if holds then with_remark text w else w
 -- the short name of a protocol, or its number
 abbrev pub protocol_or_number : ℕ → Option (List ℕ) → List ℕ
 protocol_or_number protocol (Some name) = name
-protocol_or_number protocol None = codes "protocol " ++ hex_text protocol
+protocol_or_number protocol None = filled PROTOCOL.now (hex_text protocol ∷ [])
 
 -- the name of a message, or else its protocol and id
 abbrev pub name_or_ids : ℕ → ℕ → Option (List ℕ) → List ℕ
 name_or_ids protocol id (Some name) = name
-name_or_ids protocol id None = protocol_or_number protocol (protocol_text protocol) ++ codes " " ++ hex_text id
+name_or_ids protocol id None = filled UNNAMED.now (protocol_or_number protocol (protocol_text protocol) ∷ hex_text id ∷ [])
 
 -- the name of a message of this protocol and id (DEN0056B); if the profile has none, the two
 abbrev pub message_text : ℕ → ℕ → List ℕ

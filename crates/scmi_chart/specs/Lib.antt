@@ -8,5 +8,6 @@ pub mod Service
 pub mod Shown
 pub mod Signs
 pub mod Standing
+pub mod Value
 pub mod Wording
 pub mod Words

@@ -1,5 +1,5 @@
 -- What the mark of a message shows.
-use Rattle.std.specs.Prelude.{ℕ, List, codes, Option, None}
+use Rattle.std.specs.Prelude.{ℕ, List, Option, None}
 use Rattle.scmi_codec.specs.declared.frame.Answer.{Answer}
 use Rattle.scmi_codec.specs.declared.message.Message.{Message}
 use Rattle.scmi_link.specs.declared.post_error.PostError.{PostError}
@@ -11,6 +11,7 @@ use Rattle.scmi_text.specs.declared.step.Step.{Step}
 use Rattle.scmi_chart.specs.LabelWords.{LabelWords, words_of}
 use Rattle.scmi_chart.specs.Asked.{asked_words}
 use Rattle.scmi_chart.specs.Answered.{answer_words, posted_words}
+use Rattle.scmi_chart.specs.declared.label_texts.TheConstants.{CLOSED, FULL, OUTSTANDING, WELL_FORMED}
 use Rattle.scmi_chart.specs.Detail.{answer_detail, message_detail, step_detail}
 
 -- the words of a label, and the header and words of the message in hexadecimal
@@ -28,10 +29,10 @@ asked_wording board s token = record { label = asked_words board s; detail = ste
 
 -- why a post was refused, in words
 abbrev pub refusal_text : PostError → List ℕ
-refusal_text post_error.Outstanding = codes "not posted: outstanding"
-refusal_text post_error.Closed = codes "not posted: closed"
-refusal_text post_error.Full = codes "not posted: full"
-refusal_text post_error.WellFormed = codes "not posted: well formed"
+refusal_text post_error.Outstanding = OUTSTANDING.now
+refusal_text post_error.Closed = CLOSED.now
+refusal_text post_error.Full = FULL.now
+refusal_text post_error.WellFormed = WELL_FORMED.now
 
 -- the same with a refusal as its comment
 abbrev pub with_refusal : PostError → LabelWords → LabelWords

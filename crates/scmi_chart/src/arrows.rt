@@ -5,6 +5,7 @@ ghost use Rattle.scmi_chart.specs.Wording.{answer_wording, asked_wording, posted
 
 use crate::asked::asked_label;
 use crate::detail::{answer_detail, message_detail, step_detail};
+use crate::label_texts::{CLOSED, FULL, OUTSTANDING, WELL_FORMED};
 use crate::posted_label::posted_label;
 use crate::reply_label::answer_label;
 use scmi_codec::{Answer, Message};
@@ -73,10 +74,10 @@ fn refusal_words(refusal: PostError) -> &'static str
     ensures { result.now ≡ refusal_text refusal }
 {
     match refusal {
-        PostError::Outstanding => "not posted: outstanding",
-        PostError::Closed => "not posted: closed",
-        PostError::Full => "not posted: full",
-        PostError::WellFormed => "not posted: well formed",
+        PostError::Outstanding => OUTSTANDING,
+        PostError::Closed => CLOSED,
+        PostError::Full => FULL,
+        PostError::WellFormed => WELL_FORMED,
     }
 }
 

@@ -7,8 +7,9 @@ ghost use Rattle.scmi_chart.specs.Asked.{asked_words, asks_for_itself, command_w
 
 use crate::fields::add_fields;
 use crate::label::{name_label, name_of, plain_label};
+use crate::label_texts::{ITSELF, LENGTH, MALFORMED, TYPE};
 use crate::posts::message_of;
-use crate::words::{numbered_word, payload_words};
+use crate::words::{numbered_words, payload_words};
 use scmi_codec::{BASE_PROTOCOL, Command, Message};
 use scmi_describe::command_fields;
 use scmi_plan::RawPlan;
@@ -36,8 +37,8 @@ pub(crate) fn asked_label(alloc: Global, board: &RawPlan, step: &Step) -> Result
 fn malformed_label(alloc: Global, length: u32) -> Result<Label, AllocError>
     ensures { IfOk result (λ label. words_of label ≡ malformed_words length) }
 {
-    let mut label = plain_label(alloc, "malformed")?;
-    label.object = numbered_word(alloc, "length", length)?;
+    let mut label = plain_label(alloc, MALFORMED)?;
+    label.object = numbered_words(alloc, LENGTH, length)?;
     Ok(label)
 }
 
@@ -83,7 +84,7 @@ fn add_itself(alloc: Global, label: &mut Label, message: &Message) -> Result<(),
         ≡ with_itself (asks_for_itself message.now) (words_of label.old)) }
 {
     if asks_for_itself(message) {
-        label.object = Vec::from_slice(alloc, b"itself")?;
+        label.object = Vec::from_slice(alloc, ITSELF.as_bytes())?;
     }
     Ok(())
 }
@@ -106,7 +107,7 @@ fn add_kind(alloc: Global, label: &mut Label, kind: u8) -> Result<(), AllocError
     ensures { OnOk result (words_of label.new ≡ with_kind kind (words_of label.old)) }
 {
     if kind != 0 {
-        label.tag = numbered_word(alloc, "type", u32::from(kind))?;
+        label.tag = numbered_words(alloc, TYPE, u32::from(kind))?;
     }
     Ok(())
 }

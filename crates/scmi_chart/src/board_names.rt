@@ -3,7 +3,8 @@ ghost use Rattle.std.specs.Prelude.{◌≡◌, IfOk};
 ghost use Rattle.scmi_plan.specs.RawPlan.{asked_board};
 ghost use Rattle.scmi_chart.specs.Words.{agent_text, clock_text, domain_text};
 
-use crate::words::numbered_word;
+use crate::label_texts::{AGENT, CLOCK, DOMAIN, PLATFORM};
+use crate::words::numbered_words;
 use scmi_plan::RawPlan;
 use std::alloc::{AllocError, Global};
 
@@ -12,11 +13,11 @@ pub(crate) fn agent_name(alloc: Global, board: &RawPlan, agent: u32) -> Result<V
     ensures { IfOk result (λ name. name.items ≡ agent_text (asked_board board.now) agent) }
 {
     if agent == 0 {
-        return Vec::from_slice(alloc, b"platform");
+        return Vec::from_slice(alloc, PLATFORM.as_bytes());
     }
     match board.agents.get(agent as usize - 1) {
         Some(name) => Vec::from_slice(alloc, name.as_bytes()),
-        None => numbered_word(alloc, "agent", agent),
+        None => numbered_words(alloc, AGENT, agent),
     }
 }
 
@@ -31,7 +32,7 @@ pub(crate) fn domain_name(
 {
     match board.domains.get(domain as usize) {
         Some(domain) => Vec::from_slice(alloc, domain.name.as_bytes()),
-        None => numbered_word(alloc, "domain", domain),
+        None => numbered_words(alloc, DOMAIN, domain),
     }
 }
 
@@ -42,6 +43,6 @@ pub(crate) fn clock_name(alloc: Global, board: &RawPlan, clock: u32) -> Result<V
 {
     match board.clocks.get(clock as usize) {
         Some(clock) => Vec::from_slice(alloc, clock.name.as_bytes()),
-        None => numbered_word(alloc, "clock", clock),
+        None => numbered_words(alloc, CLOCK, clock),
     }
 }

@@ -3,8 +3,10 @@ ghost use Rattle.std.specs.Prelude.{◌≡◌, ◌++◌, IfOk, OnOk};
 ghost use Rattle.scmi_chart.specs.Detail.{answer_detail, header_detail, malformed_detail, message_detail, step_detail, words_detail};
 ghost use Rattle.scmi_chart.specs.Posted.{with_token};
 
+use crate::detail_texts::{HEADER, LENGTH, WORDS};
 use crate::posts::message_of;
-use crate::words::{all_words, hex_words};
+use crate::value::{Value, filled_words};
+use crate::words::all_words;
 use scmi_codec::{Answer, Header, Message, TOKENS};
 use scmi_text::{AgentStep, Step};
 use std::alloc::{AllocError, Global};
@@ -23,8 +25,8 @@ fn add_words(alloc: Global, text: &mut Vec<u8>, words: &[u32]) -> Result<(), All
     ensures { OnOk result (text.new.items ≡ text.old.items ++ words_detail words.now) }
 {
     if !words.is_empty() {
-        text.extend_from_slice(b", words ")?;
-        text.extend_from_slice(&all_words(alloc, words)?)?;
+        let words = all_words(alloc, words)?;
+        text.extend_from_slice(&filled_words(alloc, WORDS, &[Value::Words(&words)])?)?;
     }
     Ok(())
 }
@@ -75,8 +77,7 @@ fn malformed_detail(alloc: Global, length: u32, header: u32) -> Result<Vec<u8>, 
     ensures { IfOk result (λ text. text.items ≡ malformed_detail length header) }
 {
     let mut text = header_detail(alloc, header)?;
-    let words = format!(in alloc; ", length {length}")?;
-    text.extend_from_slice(words.as_bytes())?;
+    text.extend_from_slice(&filled_words(alloc, LENGTH, &[Value::Number(length)])?)?;
     Ok(text)
 }
 
@@ -93,7 +94,5 @@ pub(crate) fn answer_detail(alloc: Global, answer: &Answer) -> Result<Vec<u8>, A
 fn header_detail(alloc: Global, header: u32) -> Result<Vec<u8>, AllocError>
     ensures { IfOk result (λ text. text.items ≡ header_detail header) }
 {
-    let mut text = Vec::from_slice(alloc, b"header ")?;
-    text.extend_from_slice(&hex_words(alloc, header)?)?;
-    Ok(text)
+    filled_words(alloc, HEADER, &[Value::Hex(header)])
 }

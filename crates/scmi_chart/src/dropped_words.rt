@@ -4,6 +4,8 @@ ghost use Rattle.scmi_plan.specs.RawPlan.{asked_board};
 ghost use Rattle.scmi_chart.specs.Words.{dropped_text};
 
 use crate::board_names::{agent_name, domain_name};
+use crate::detail_texts::DROPPED;
+use crate::value::{Value, filled_words};
 use scmi_plan::RawPlan;
 use std::alloc::{AllocError, Global};
 
@@ -18,10 +20,8 @@ pub(crate) fn dropped_words(
 ) -> Result<Vec<u8>, AllocError>
     ensures { IfOk result (λ text. text.items ≡ dropped_text (asked_board board.now) agent domain) }
 {
-    let mut text = Vec::from_slice(alloc, b"the notification of ")?;
-    text.extend_from_slice(&domain_name(alloc, board, domain)?)?;
-    text.extend_from_slice(b" for ")?;
-    text.extend_from_slice(&agent_name(alloc, board, agent)?)?;
-    text.extend_from_slice(b" was dropped: its outbox has no room")?;
-    Ok(text)
+    let domain = domain_name(alloc, board, domain)?;
+    let agent = agent_name(alloc, board, agent)?;
+    let names = [Value::Words(&domain), Value::Words(&agent)];
+    filled_words(alloc, DROPPED, &names)
 }

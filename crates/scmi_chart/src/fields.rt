@@ -1,16 +1,17 @@
 //! What the fields of a message add to its label.
-ghost use Rattle.std.specs.Prelude.{◌≡◌, ◌++◌, OnOk, IfOk, codes};
+ghost use Rattle.std.specs.Prelude.{◌≡◌, OnOk, IfOk};
 ghost use Rattle.scmi_plan.specs.RawPlan.{asked_board};
-ghost use Rattle.scmi_chart.specs.Words.{agent_text};
 ghost use Rattle.scmi_chart.specs.LabelWords.{with_remark, words_of};
-ghost use Rattle.scmi_chart.specs.Fields.{counts_text, version_text, with_field, with_fields, with_value};
+ghost use Rattle.scmi_chart.specs.Fields.{cause_text, counts_text, version_text, with_field, with_fields, with_value};
 
 use crate::board_names::{agent_name, clock_name, domain_name};
 use crate::flags::{
     add_permit_flags, add_power_flags, add_rate_flags, add_reset_flags, add_switch,
 };
 use crate::label::{add_behind, add_remark, protocol_words};
-use crate::words::{counted_words, hex_words, name_words, numbered_word, rate_words, state_words};
+use crate::label_texts::{AGENTS, BY, DEVICE, FROM, PROTOCOLS, SKIP, VERSION};
+use crate::value::{Value, filled_words};
+use crate::words::{counted_words, hex_words, name_words, numbered_words, rate_words, state_words};
 use scmi_describe::Field;
 use scmi_plan::RawPlan;
 use scmi_svg::Label;
@@ -55,13 +56,13 @@ fn add_field(
         Field::State(state) => set_value(label, state_words(alloc, *state)?),
         Field::Rate(hertz) => set_value(label, rate_words(alloc, *hertz)?),
         Field::Enable(bits) | Field::ClockAttributes(bits) => add_switch(alloc, label, *bits)?,
-        Field::Device(device) => label.value = numbered_word(alloc, "device", *device)?,
+        Field::Device(device) => label.value = numbered_words(alloc, DEVICE, *device)?,
         Field::Protocol(protocol) => {
             add_behind(&mut label.value, &protocol_words(alloc, *protocol)?)?;
         }
         Field::By(agent) => add_cause(alloc, board, label, *agent)?,
-        Field::Index(index) => add_remark(label, &numbered_word(alloc, "from", *index)?)?,
-        Field::Skip(count) => add_remark(label, &numbered_word(alloc, "skip", *count)?)?,
+        Field::Index(index) => add_remark(label, &numbered_words(alloc, FROM, *index)?)?,
+        Field::Skip(count) => add_remark(label, &numbered_words(alloc, SKIP, *count)?)?,
         Field::PowerFlags(bits) => add_power_flags(alloc, label, *bits)?,
         Field::PermitFlags(bits) => add_permit_flags(alloc, label, *bits)?,
         Field::ResetFlags(bits) => add_reset_flags(alloc, label, *bits)?,
@@ -87,16 +88,16 @@ fn set_value(label: &mut Label, words: Vec<u8>)
 fn version_words(alloc: Global, word: u32) -> Result<Vec<u8>, AllocError>
     ensures { IfOk result (λ words. words.items ≡ version_text word) }
 {
-    let words = format!(in alloc; "version {}.{}", word >> 16, word % 65536)?;
-    Ok(words.into_bytes())
+    let numbers = [Value::Number(word >> 16), Value::Number(word % 65536)];
+    filled_words(alloc, VERSION, &numbers)
 }
 
 /// How many agents and protocols there are.
 fn counts_words(alloc: Global, word: u32) -> Result<Vec<u8>, AllocError>
     ensures { IfOk result (λ words. words.items ≡ counts_text word) }
 {
-    let mut words = counted_words(alloc, word / 256 % 256, "agents")?;
-    add_behind(&mut words, &counted_words(alloc, word % 256, "protocols")?)?;
+    let mut words = counted_words(alloc, AGENTS, word / 256 % 256)?;
+    add_behind(&mut words, &counted_words(alloc, PROTOCOLS, word % 256)?)?;
     Ok(words)
 }
 
@@ -108,10 +109,8 @@ fn add_cause(
     agent: u32,
 ) -> Result<(), AllocError>
     ensures { OnOk result (words_of label.new
-        ≡ with_remark (codes "by " ++ agent_text (asked_board board.now) agent)
-        (words_of label.old)) }
+        ≡ with_remark (cause_text (asked_board board.now) agent) (words_of label.old)) }
 {
-    let mut words = Vec::from_slice(alloc, b"by ")?;
-    words.extend_from_slice(&agent_name(alloc, board, agent)?)?;
-    add_remark(label, &words)
+    let name = agent_name(alloc, board, agent)?;
+    add_remark(label, &filled_words(alloc, BY, &[Value::Words(&name)])?)
 }

@@ -4,7 +4,9 @@ ghost use Rattle.scmi_chart.specs.LabelWords.{words_of};
 ghost use Rattle.scmi_chart.specs.Fields.{with_bits, with_permit_flags, with_power_flags, with_rate_flags, with_reset_flags, with_rounding, with_switch, with_timing};
 
 use crate::label::{add_remark, add_remark_if};
-use crate::words::{hex_words, switch_word};
+use crate::label_texts::{ALLOW, ASYNC, DENY, FLAGS, NEAREST, NO_RESPONSE, PERMISSIONS, UP};
+use crate::value::{Value, filled_words};
+use crate::words::switch_word;
 use scmi_svg::Label;
 use std::alloc::{AllocError, Global};
 
@@ -19,7 +21,7 @@ pub(crate) fn add_switch(alloc: Global, label: &mut Label, bits: u32) -> Result<
 pub(crate) fn add_power_flags(alloc: Global, label: &mut Label, bits: u32) -> Result<(), AllocError>
     ensures { OnOk result (words_of label.new ≡ with_power_flags bits (words_of label.old)) }
 {
-    add_remark_if(label, bits % 2 == 1, "async")?;
+    add_remark_if(label, bits % 2 == 1, ASYNC)?;
     add_bits(alloc, label, 1, bits)
 }
 
@@ -30,7 +32,7 @@ pub(crate) fn add_permit_flags(
 ) -> Result<(), AllocError>
     ensures { OnOk result (words_of label.new ≡ with_permit_flags bits (words_of label.old)) }
 {
-    let words = if bits % 2 == 1 { "allow" } else { "deny" };
+    let words = if bits % 2 == 1 { ALLOW } else { DENY };
     add_remark(label, words.as_bytes())?;
     add_bits(alloc, label, 1, bits)
 }
@@ -38,7 +40,7 @@ pub(crate) fn add_permit_flags(
 pub(crate) fn add_reset_flags(alloc: Global, label: &mut Label, bits: u32) -> Result<(), AllocError>
     ensures { OnOk result (words_of label.new ≡ with_reset_flags bits (words_of label.old)) }
 {
-    add_remark_if(label, bits % 2 == 1, "and permissions")?;
+    add_remark_if(label, bits % 2 == 1, PERMISSIONS)?;
     add_bits(alloc, label, 1, bits)
 }
 
@@ -56,8 +58,8 @@ pub(crate) fn add_rate_flags(alloc: Global, label: &mut Label, bits: u32) -> Res
 fn add_timing(label: &mut Label, bits: u32) -> Result<(), AllocError>
     ensures { OnOk result (words_of label.new ≡ with_timing bits (words_of label.old)) }
 {
-    add_remark_if(label, bits % 2 == 1, "async")?;
-    add_remark_if(label, bits / 2 % 2 == 1, "no response")
+    add_remark_if(label, bits % 2 == 1, ASYNC)?;
+    add_remark_if(label, bits / 2 % 2 == 1, NO_RESPONSE)
 }
 
 /// Adds how a rate is rounded.
@@ -66,9 +68,9 @@ fn add_rounding(label: &mut Label, bits: u32) -> Result<(), AllocError>
     ensures { OnOk result (words_of label.new ≡ with_rounding bits (words_of label.old)) }
 {
     if bits / 8 % 2 == 1 {
-        return add_remark(label, b"nearest");
+        return add_remark(label, NEAREST.as_bytes());
     }
-    add_remark_if(label, bits / 4 % 2 == 1, "up")
+    add_remark_if(label, bits / 4 % 2 == 1, UP)
 }
 
 /// Adds all bits of a word to the comment, if a bit is set other than the low ones that have a
@@ -79,7 +81,5 @@ fn add_bits(alloc: Global, label: &mut Label, known: u32, bits: u32) -> Result<(
     if bits <= known {
         return Ok(());
     }
-    let mut words = Vec::from_slice(alloc, b"flags ")?;
-    words.extend_from_slice(&hex_words(alloc, bits)?)?;
-    add_remark(label, &words)
+    add_remark(label, &filled_words(alloc, FLAGS, &[Value::Hex(bits)])?)
 }

@@ -3,7 +3,8 @@ ghost use Rattle.std.specs.Prelude.{◌≡◌, IfOk, OnOk};
 ghost use Rattle.scmi_describe.specs.Names.{protocol_text};
 ghost use Rattle.scmi_chart.specs.LabelWords.{behind, message_text, name_alone, protocol_or_number, with_remark, with_remark_if, words_of};
 
-use crate::words::hex_words;
+use crate::label_texts::{COMMA, PROTOCOL, UNNAMED};
+use crate::value::{Value, filled_words};
 use scmi_codec::message_name;
 use scmi_describe::protocol_name;
 use scmi_svg::Label;
@@ -35,10 +36,9 @@ pub(crate) fn name_of(alloc: Global, protocol: u8, id: u8) -> Result<Vec<u8>, Al
     if let Some(name) = message_name(protocol, id) {
         return Vec::from_slice(alloc, name.as_bytes());
     }
-    let mut name = protocol_words(alloc, u32::from(protocol))?;
-    name.push(b' ')?;
-    name.extend_from_slice(&hex_words(alloc, u32::from(id))?)?;
-    Ok(name)
+    let protocol = protocol_words(alloc, u32::from(protocol))?;
+    let ids = [Value::Words(&protocol), Value::Hex(u32::from(id))];
+    filled_words(alloc, UNNAMED, &ids)
 }
 
 /// The short name of a protocol, or its number.
@@ -51,9 +51,7 @@ pub(crate) fn protocol_words(alloc: Global, protocol: u32) -> Result<Vec<u8>, Al
     {
         return Vec::from_slice(alloc, name.as_bytes());
     }
-    let mut words = Vec::from_slice(alloc, b"protocol ")?;
-    words.extend_from_slice(&hex_words(alloc, protocol)?)?;
-    Ok(words)
+    filled_words(alloc, PROTOCOL, &[Value::Hex(protocol)])
 }
 
 /// Adds words after the present ones, with a comma between.
@@ -61,7 +59,7 @@ pub(crate) fn add_behind(words: &mut Vec<u8>, more: &[u8]) -> Result<(), AllocEr
     ensures { OnOk result (words.new.items ≡ behind words.old.items more.now) }
 {
     if !words.is_empty() {
-        words.extend_from_slice(b", ")?;
+        words.extend_from_slice(COMMA.as_bytes())?;
     }
     words.extend_from_slice(more)
 }

@@ -9,7 +9,9 @@ ghost use Rattle.scmi_describe.specs.Replies.{delayed_fields, notification_field
 
 use crate::fields::add_fields;
 use crate::label::{name_label, name_of, plain_label};
+use crate::label_texts::{COMPLETED, FAILED};
 use crate::reply_label::status_words;
+use crate::value::{Value, filled_words};
 use scmi_codec::{CLOCK_PROTOCOL, Message, POWER_PROTOCOL, rate_of};
 use scmi_describe::{Field, notification_name};
 use scmi_plan::RawPlan;
@@ -48,17 +50,17 @@ fn delayed_label(alloc: Global, message: &Message) -> Result<Label, AllocError>
     ensures { IfOk result (λ label. words_of label ≡ delayed_words message.now.header.protocol
         message.now.header.id message.now.payload.items) }
 {
-    let mut name = name_of(alloc, message.header.protocol, message.header.id)?;
+    let name = name_of(alloc, message.header.protocol, message.header.id)?;
     match message.payload.as_slice() {
         [status, ..] if *status != 0 => {
-            name.extend_from_slice(b" failed")?;
-            let mut label = name_label(alloc, name);
+            let failed = filled_words(alloc, FAILED, &[Value::Words(&name)])?;
+            let mut label = name_label(alloc, failed);
             label.object = status_words(alloc, *status)?;
             Ok(label)
         }
         _ => {
-            name.extend_from_slice(b" completed")?;
-            Ok(name_label(alloc, name))
+            let completed = filled_words(alloc, COMPLETED, &[Value::Words(&name)])?;
+            Ok(name_label(alloc, completed))
         }
     }
 }

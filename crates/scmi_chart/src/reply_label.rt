@@ -7,7 +7,9 @@ ghost use Rattle.scmi_chart.specs.Answered.{answer_words, list_text, reply_words
 
 use crate::fields::add_fields;
 use crate::label::{name_label, plain_label};
-use crate::words::{hex_words, payload_words};
+use crate::label_texts::{CHANNEL_ERROR, NO_STATUS, PENDING, PROTOCOLS, RATES, RELEASED, TRIPLET};
+use crate::value::{Value, filled_words};
+use crate::words::{counted_words, hex_words, payload_words};
 use scmi_codec::{Answer, CLOCK_PROTOCOL, Header, Message, Status};
 use scmi_describe::{reply_fields, status_name};
 use scmi_plan::RawPlan;
@@ -27,8 +29,8 @@ pub(crate) fn answer_label(
 {
     match answer {
         Answer::Reply(message) => reply_label(alloc, board, message, outcome),
-        Answer::Released => plain_label(alloc, "released, no reply"),
-        Answer::ChannelError => plain_label(alloc, "channel error"),
+        Answer::Released => plain_label(alloc, RELEASED),
+        Answer::ChannelError => plain_label(alloc, CHANNEL_ERROR),
     }
 }
 
@@ -44,7 +46,7 @@ fn reply_label(
         message.now.payload.items) }
 {
     let [word, words @ ..] = message.payload.as_slice() else {
-        return plain_label(alloc, "no status");
+        return plain_label(alloc, NO_STATUS);
     };
     let mut label = name_label(alloc, status_words(alloc, *word)?);
     add_reply(alloc, board, &mut label, &message.header, words)?;
@@ -80,7 +82,7 @@ fn add_outcome(alloc: Global, label: &mut Label, outcome: Outcome) -> Result<(),
 {
     match outcome {
         Outcome::Pending => {
-            label.tag = Vec::from_slice(alloc, b"accepted, takes effect at an advance")?;
+            label.tag = Vec::from_slice(alloc, PENDING.as_bytes())?;
         }
         Outcome::Success | Outcome::Refusal => {}
     }
@@ -113,12 +115,12 @@ fn add_list(alloc: Global, label: &mut Label, protocol: u8, words: &[u32]) -> Re
 fn list_words(alloc: Global, protocol: u8, word: u32) -> Result<Vec<u8>, AllocError>
     ensures { IfOk result (λ words. words.items ≡ list_text protocol word) }
 {
-    let words = if protocol != CLOCK_PROTOCOL {
-        format!(in alloc; "{word} protocols")?
-    } else if word / 4096 % 2 == 1 {
-        format!(in alloc; "lowest, highest, step")?
-    } else {
-        format!(in alloc; "{} rates, {} left", word % 4096, word >> 16)?
-    };
-    Ok(words.into_bytes())
+    if protocol != CLOCK_PROTOCOL {
+        return counted_words(alloc, PROTOCOLS, word);
+    }
+    if word / 4096 % 2 == 1 {
+        return Vec::from_slice(alloc, TRIPLET.as_bytes());
+    }
+    let counts = [Value::Number(word % 4096), Value::Number(word >> 16)];
+    filled_words(alloc, RATES, &counts)
 }

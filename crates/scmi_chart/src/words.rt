@@ -3,6 +3,8 @@ ghost use Rattle.std.specs.Prelude.{◌≡◌, ◌<◌, ◌++◌, IfOk, OnOk};
 ghost use Rattle.scmi_svg.specs.Rate.{rate_text};
 ghost use Rattle.scmi_chart.specs.Words.{counted_text, hex_text, letter, letters, letters_text, more_text, numbered_text, payload_text, spaced_text, state_text, switch_text, words_text};
 
+use crate::label_texts::{DISABLED, ENABLED, HEX, MORE, OFF, ON, SPACE};
+use crate::value::{Value, filled_words};
 use scmi_svg::write_rate;
 use std::alloc::{AllocError, Global};
 
@@ -11,8 +13,8 @@ pub(crate) fn state_words(alloc: Global, state: u32) -> Result<Vec<u8>, AllocErr
     ensures { IfOk result (λ text. text.items ≡ state_text state) }
 {
     match state {
-        0 => Vec::from_slice(alloc, b"ON"),
-        0x4000_0000 => Vec::from_slice(alloc, b"OFF"),
+        0 => Vec::from_slice(alloc, ON.as_bytes()),
+        0x4000_0000 => Vec::from_slice(alloc, OFF.as_bytes()),
         _ => hex_words(alloc, state),
     }
 }
@@ -22,28 +24,26 @@ pub(crate) fn state_words(alloc: Global, state: u32) -> Result<Vec<u8>, AllocErr
 pub(crate) fn hex_words(alloc: Global, word: u32) -> Result<Vec<u8>, AllocError>
     ensures { IfOk result (λ text. text.items ≡ hex_text word) }
 {
-    Ok(format!(in alloc; "0x{word:x}")?.into_bytes())
+    Ok(format!(in alloc; "{HEX}{word:x}")?.into_bytes())
 }
 
-/// A word and a number, which is hexadecimal from 65,536 on.
-#[tactic(auto, unfolding(crate::specs::Words::numbered_text, crate::specs::Words::hex_text))]
-pub(crate) fn numbered_word(alloc: Global, word: &str, number: u32) -> Result<Vec<u8>, AllocError>
-    ensures { IfOk result (λ text. text.items ≡ numbered_text word.now number) }
+/// A text with a number in its hole, which is hexadecimal from 65,536 on.
+#[tactic(auto, unfolding(crate::specs::Words::numbered_text))]
+pub(crate) fn numbered_words(alloc: Global, text: &str, number: u32) -> Result<Vec<u8>, AllocError>
+    ensures { IfOk result (λ words. words.items ≡ numbered_text text.now number) }
 {
-    let words = if number <= 0xffff {
-        format!(in alloc; "{word} {number}")?
-    } else {
-        format!(in alloc; "{word} 0x{number:x}")?
-    };
-    Ok(words.into_bytes())
+    if number <= 0xffff {
+        return filled_words(alloc, text, &[Value::Number(number)]);
+    }
+    filled_words(alloc, text, &[Value::Hex(number)])
 }
 
 /// This many of a kind.
 #[tactic(auto, unfolding(crate::specs::Words::counted_text))]
-pub(crate) fn counted_words(alloc: Global, count: u32, noun: &str) -> Result<Vec<u8>, AllocError>
-    ensures { IfOk result (λ text. text.items ≡ counted_text count noun.now) }
+pub(crate) fn counted_words(alloc: Global, text: &str, count: u32) -> Result<Vec<u8>, AllocError>
+    ensures { IfOk result (λ words. words.items ≡ counted_text text.now count) }
 {
-    Ok(format!(in alloc; "{count} {noun}")?.into_bytes())
+    filled_words(alloc, text, &[Value::Number(count)])
 }
 
 /// A rate, as columns have it.
@@ -68,8 +68,8 @@ pub(crate) fn payload_words(alloc: Global, words: &[u32]) -> Result<Vec<u8>, All
     let shown = &words[..words.len().min(SHOWN_WORDS)];
     let mut text = all_words(alloc, shown)?;
     if words.len() > SHOWN_WORDS {
-        let more = format!(in alloc; " and {} more", words.len() - SHOWN_WORDS)?;
-        text.extend_from_slice(more.as_bytes())?;
+        let hidden = Value::Count(words.len() - SHOWN_WORDS);
+        text.extend_from_slice(&filled_words(alloc, MORE, &[hidden])?)?;
     }
     Ok(text)
 }
@@ -91,7 +91,7 @@ fn add_words(alloc: Global, text: &mut Vec<u8>, words: &[u32]) -> Result<(), All
     ensures { OnOk result (text.new.items ≡ text.old.items ++ spaced_text words.now) }
 {
     'words: for word in words {
-        text.push(b' ')?;
+        text.push(SPACE)?;
         text.extend_from_slice(&hex_words(alloc, *word)?)?;
     }
     Ok(())
@@ -135,5 +135,5 @@ fn add_letter(text: &mut Vec<u8>, byte: u32) -> Result<(), AllocError>
 pub(crate) fn switch_word(bits: u32) -> &'static str
     ensures { result.now ≡ switch_text bits }
 {
-    if bits % 2 == 1 { "on" } else { "off" }
+    if bits % 2 == 1 { ENABLED } else { DISABLED }
 }
