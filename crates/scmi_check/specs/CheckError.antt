@@ -1,5 +1,5 @@
 -- Why a record is not checked: exit statuses, texts, and whence they come.
-use Rattle.std.specs.Prelude.{ℕ, List, ◌++◌, codes, decimal}
+use Rattle.std.specs.Prelude.{ℕ, List, [], ◌∷◌, ◌++◌, decimal}
 use Rattle.scmi_board.specs.declared.text_error.TextError.{TextError}
 use Rattle.scmi_board.specs.declared.text_error.TextError.TheVariants as text
 use Rattle.scmi_input.specs.declared.input_error.InputError.{InputError}
@@ -8,6 +8,8 @@ use Rattle.scmi_plan.specs.PlanError.{number}
 use Rattle.scmi_plan.specs.declared.plan_error.PlanError.{PlanError}
 use Rattle.scmi_plan.specs.declared.plan_error.PlanError.TheVariants as plan
 use Rattle.scmi_check.specs.declared.check_error.CheckError.{CheckError}
+use Rattle.scmi_check.specs.declared.check_error.TheConstants.{BOARD, FAULT_LINE, MEMORY, READ, RECORD, RULE, SIZE, WRITE}
+use Rattle.scmi_template.specs.Filled.{filled}
 use Rattle.scmi_check.specs.declared.check_error.CheckError.TheVariants.{Size, Read, Board, Plan, Record, Memory, Write}
 
 -- 1 for a failed output, 4 for out of memory, and 2 for a rejected input (own)
@@ -18,17 +20,17 @@ status_of _ = 2
 
 -- the text of a fault (own)
 abbrev pub fault_text : CheckError → List ℕ
-fault_text Size = codes "size"
-fault_text Read = codes "read"
-fault_text (Board line) = codes "board " ++ decimal line
-fault_text (Plan rule) = codes "plan " ++ decimal rule
-fault_text (Record line) = codes "record " ++ decimal line
-fault_text Memory = codes "memory"
-fault_text Write = codes "write"
+fault_text Size = SIZE.now
+fault_text Read = READ.now
+fault_text (Board line) = BOARD.now ++ decimal line
+fault_text (Plan rule) = RULE.now ++ decimal rule
+fault_text (Record line) = RECORD.now ++ decimal line
+fault_text Memory = MEMORY.now
+fault_text Write = WRITE.now
 
 -- the line of a fault, with its line feed
 abbrev pub fault_line : CheckError → List ℕ
-fault_line fault = codes "fault " ++ fault_text fault ++ codes "\n"
+fault_line fault = filled FAULT_LINE.now (fault_text fault ∷ [])
 
 -- an input that is not read
 abbrev pub error_of_input : InputError → CheckError

@@ -1,5 +1,5 @@
 -- The check of the profile that decides the answer which was due, as the line of a difference has it.
-use Rattle.std.specs.Prelude.{ℕ, ◌==◌, ◌&&◌, ◌++◌, Bool, not, if◌then◌else◌, List, [], codes, length, map, Option, Some, None}
+use Rattle.std.specs.Prelude.{ℕ, ◌==◌, ◌&&◌, ◌++◌, Bool, not, if◌then◌else◌, List, [], ◌∷◌, length, map, Option, Some, None}
 use Rattle.std.specs.Borrow.{Bor}
 use Rattle.std.specs.List.{find}
 use Rattle.std.specs.Option.{option_map}
@@ -20,6 +20,8 @@ use Rattle.scmi_check.specs.declared.check_row.TheConstants.{CHECKS, LENGTH}
 use Rattle.scmi_check.specs.declared.check_row.When.{When}
 use Rattle.scmi_check.specs.declared.check_row.When.TheVariants as when
 use Rattle.scmi_check.specs.declared.judged.Judged.{Judged}
+use Rattle.scmi_check.specs.declared.texts.TheConstants.{BY}
+use Rattle.scmi_template.specs.Filled.{filled}
 
 -- a command has this protocol and message id
 abbrev pub is_command : ℕ → ℕ → HeaderFields → Bool
@@ -64,7 +66,7 @@ deciding_word entry _ = None
 -- a check that decides, by its word
 abbrev pub by_text : Option (List ℕ) → List ℕ
 by_text None = []
-by_text (Some word) = codes " by " ++ word
+by_text (Some word) = filled BY.now (word ∷ [])
 
 -- the check that decides, if an entry differs and an error was due
 abbrev pub check_text : Judged → List ℕ

@@ -15,3 +15,4 @@ pub mod RecordText
 pub mod Report
 pub mod Shown
 pub mod Subject
+pub mod Value

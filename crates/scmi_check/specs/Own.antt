@@ -1,5 +1,5 @@
 -- Where another platform may answer otherwise by the profile: the rules that are its own, each as a test of a command, the payload that is due and the one that was seen.
-use Rattle.std.specs.Prelude.{ℕ, ◌==◌, ◌&&◌, nat_lt, not, Bool, true, false, codes, List, [], ◌∷◌, Option, Result, Ok}
+use Rattle.std.specs.Prelude.{ℕ, ◌==◌, ◌&&◌, nat_lt, not, Bool, true, false, List, [], ◌∷◌, Option, Result, Ok}
 use Rattle.std.specs.List.{find}
 use Rattle.scmi_codec.specs.Status.{status_word}
 use Rattle.scmi_codec.specs.declared.base_command.BaseCommand.TheVariants as base
@@ -11,7 +11,7 @@ use Rattle.scmi_codec.specs.declared.status.Status.{Status}
 use Rattle.scmi_codec.specs.declared.status.Status.TheVariants.{Success, InvalidParameters, NotFound, OutOfRange}
 use Rattle.scmi_check.specs.declared.own_rule.OwnRule.{OwnRule}
 use Rattle.scmi_check.specs.declared.own_rule.OwnRule.TheVariants.{UnknownId, ReservedFlags, Skip, Index, ErrorForm, Version, BoardName}
-use Rattle.scmi_check.specs.declared.own_rule.TheConstants.{OWN_RULES}
+use Rattle.scmi_check.specs.declared.own_rule.TheConstants.{BOARD_NAME, ERROR_FORM, INDEX, OWN_RULES, RESERVED_FLAGS, SKIP, UNKNOWN_ID, VERSION}
 
 -- a payload begins with a status
 abbrev pub begins_with : List ℕ → Status → Bool
@@ -78,10 +78,10 @@ own_rule command due seen = find (λ rule. is_by rule command due seen) OWN_RULE
 
 -- the name of a rule
 abbrev pub rule_name : OwnRule → List ℕ
-rule_name UnknownId = codes "unknown-id"
-rule_name ReservedFlags = codes "reserved-flags"
-rule_name Skip = codes "skip"
-rule_name Index = codes "index"
-rule_name ErrorForm = codes "error-form"
-rule_name Version = codes "version"
-rule_name BoardName = codes "board-name"
+rule_name UnknownId = UNKNOWN_ID.now
+rule_name ReservedFlags = RESERVED_FLAGS.now
+rule_name Skip = SKIP.now
+rule_name Index = INDEX.now
+rule_name ErrorForm = ERROR_FORM.now
+rule_name Version = VERSION.now
+rule_name BoardName = BOARD_NAME.now

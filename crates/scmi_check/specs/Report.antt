@@ -12,27 +12,29 @@ use Rattle.scmi_check.specs.declared.judged.Judged.{Judged}
 use Rattle.scmi_check.specs.declared.style.Style.{Style}
 use Rattle.scmi_check.specs.declared.style.Style.TheVariants.{Plain, Tap}
 use Rattle.scmi_check.specs.declared.origin.Origin.{Origin}
+use Rattle.scmi_check.specs.declared.texts.TheConstants.{AFTER, COUNTS, DIFFERS, FAILED, MARK, OWN, PASSED, PLAN, REMARK, SAME, SET}
+use Rattle.scmi_template.specs.Filled.{filled}
 
 -- what was found, with the rule if it is one of the profile's own
 abbrev pub finding_text : Finding → List ℕ
-finding_text Same = codes " same"
-finding_text (Own rule) = codes " own " ++ rule_name rule
-finding_text Differs = codes " differs"
+finding_text Same = SAME.now
+finding_text (Own rule) = filled OWN.now (rule_name rule ∷ [])
+finding_text Differs = DIFFERS.now
 
 -- what is written before the number of the line: for a test system whether the test is passed
 abbrev pub mark_text : Style → Finding → List ℕ
 mark_text Plain finding = []
-mark_text Tap Differs = codes "not ok - line "
-mark_text Tap finding = codes "ok - line "
+mark_text Tap Differs = FAILED.now
+mark_text Tap finding = PASSED.now
 
 -- a word and the number of a line, if there is one
 abbrev pub line_named : List ℕ → Option ℕ → List ℕ
 line_named word None = []
-line_named word (Some line) = codes " " ++ word ++ codes " " ++ decimal line
+line_named word (Some line) = filled MARK.now (word ∷ decimal line ∷ [])
 
 -- what a difference may follow from: the line of a set, and that of an earlier difference
 abbrev pub origin_text : Origin → List ℕ
-origin_text origin = line_named (codes "set") origin.set ++ line_named (codes "after") origin.after
+origin_text origin = line_named SET.now origin.set ++ line_named AFTER.now origin.after
 
 -- the number of an entry's line, and what was found
 abbrev pub found_text : Style → Judged → List ℕ
@@ -58,16 +60,16 @@ lines_text style judged = lines_from style [] judged
 -- how many tests there are, for a test system
 abbrev pub heading_text : Style → List Judged → List ℕ
 heading_text Plain judged = []
-heading_text Tap judged = codes "1.." ++ decimal (length judged) ++ codes "\n"
+heading_text Tap judged = filled PLAN.now (decimal (length judged) ∷ [])
 
 -- how many entries were found to be of each kind
 abbrev pub counts_text : Counts → List ℕ
-counts_text counts = decimal counts.same ++ codes " same, " ++ decimal counts.own ++ codes " own, " ++ decimal counts.differ ++ codes " differ\n"
+counts_text counts = filled COUNTS.now (decimal counts.same ∷ decimal counts.own ∷ decimal counts.differ ∷ [])
 
 -- the last line
 abbrev pub summary_text : Style → Counts → List ℕ
 summary_text Plain counts = counts_text counts
-summary_text Tap counts = codes "# " ++ counts_text counts
+summary_text Tap counts = REMARK.now ++ counts_text counts
 
 -- the report: a line for each entry, and how many are the same, differ by a rule of the profile's own, and differ
 abbrev pub report_text : Style → List Judged → List ℕ

@@ -10,6 +10,24 @@ use scmi_plan::PlanError;
 use std::error::Error;
 use std::fmt;
 
+/// The texts of errors. A number follows those that end in a space.
+const SIZE: &str = "size";
+
+const READ: &str = "read";
+
+const BOARD: &str = "board ";
+
+const RULE: &str = "plan ";
+
+const RECORD: &str = "record ";
+
+const MEMORY: &str = "memory";
+
+const WRITE: &str = "write";
+
+/// The line of an error.
+pub(crate) const FAULT_LINE: &str = "fault %\n";
+
 /// Why a record is not checked. Its text is what follows the word `fault`.
 #[derive(Clone, Copy, Debug, PartialEq, Eq)]
 pub enum CheckError {
@@ -52,13 +70,13 @@ impl fmt::Display for CheckError {
 
     fn fmt<W: fmt::Write>(&self, f: &mut fmt::Formatter<W>) -> fmt::Result {
         match self {
-            CheckError::Size => write!(f, "size"),
-            CheckError::Read => write!(f, "read"),
-            CheckError::Board(line) => write!(f, "board {line}"),
-            CheckError::Plan(rule) => write!(f, "plan {rule}"),
-            CheckError::Record(line) => write!(f, "record {line}"),
-            CheckError::Memory => write!(f, "memory"),
-            CheckError::Write => write!(f, "write"),
+            CheckError::Size => f.write_str(SIZE),
+            CheckError::Read => f.write_str(READ),
+            CheckError::Board(line) => write!(f, "{BOARD}{line}"),
+            CheckError::Plan(rule) => write!(f, "{RULE}{rule}"),
+            CheckError::Record(line) => write!(f, "{RECORD}{line}"),
+            CheckError::Memory => f.write_str(MEMORY),
+            CheckError::Write => f.write_str(WRITE),
         }
     }
 }

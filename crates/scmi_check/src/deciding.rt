@@ -9,8 +9,11 @@ use crate::check_row::{CHECKS, HeldCheck, LENGTH, When};
 use crate::judged::Judged;
 use crate::origins::differs;
 use crate::own_test::{begins_with, has_reserved_flags};
+use crate::texts::BY;
+use crate::value::Value;
 use scmi_codec::{Answer, Command, Frame, Header, Message, is_listed, wanted_words};
 use scmi_judge::{Entry, Verdict};
+use scmi_template::write_filled;
 use std::io;
 use std::io::Write;
 
@@ -23,7 +26,7 @@ pub(crate) fn write_check<W: Write>(writer: &mut W, one: &Judged) -> io::Result<
         return Ok(());
     }
     match deciding_word(&one.entry, &one.verdict) {
-        Some(word) => write!(writer, " by {word}"),
+        Some(word) => write_filled(writer, BY, &[Value::Word(word)]),
         None => Ok(()),
     }
 }

@@ -34,6 +34,8 @@ mod shown;
 mod so_far;
 mod style;
 mod subject;
+mod texts;
+mod value;
 mod waiting;
 
 pub use check_error::CheckError;

@@ -3,6 +3,9 @@ ghost use Rattle.std.specs.Prelude.{OnOk};
 ghost use Rattle.std.specs.Io.KnownBytes.{Appends};
 ghost use Rattle.scmi_check.specs.Report.{line_named, origin_text};
 
+use crate::texts::{AFTER, MARK, SET};
+use crate::value::Value;
+use scmi_template::write_filled;
 use std::io;
 use std::io::Write;
 
@@ -28,8 +31,8 @@ pub(crate) fn write_origin<W: Write>(writer: &mut W, origin: Origin) -> io::Resu
     ensures { OnOk result (Appends (W.contents writer.old) (W.contents writer.new)
         (origin_text origin)) }
 {
-    write_line_named(writer, "set", origin.set)?;
-    write_line_named(writer, "after", origin.after)
+    write_line_named(writer, SET, origin.set)?;
+    write_line_named(writer, AFTER, origin.after)
 }
 
 /// Writes a word and the number of a line, if there is one.
@@ -38,7 +41,7 @@ fn write_line_named<W: Write>(writer: &mut W, word: &str, line: Option<u32>) -> 
         (line_named word.now line)) }
 {
     match line {
-        Some(line) => write!(writer, " {word} {line}"),
+        Some(line) => write_filled(writer, MARK, &[Value::Word(word), Value::Line(line)]),
         None => Ok(()),
     }
 }

@@ -6,6 +6,21 @@ ghost use Rattle.scmi_check.specs.Own.{is_by, own_rule, rule_name};
 use crate::own_test::is_by;
 use scmi_codec::{Command, Status};
 
+/// The names of the rules.
+const UNKNOWN_ID: &str = "unknown-id";
+
+const RESERVED_FLAGS: &str = "reserved-flags";
+
+const SKIP: &str = "skip";
+
+const INDEX: &str = "index";
+
+const ERROR_FORM: &str = "error-form";
+
+const VERSION: &str = "version";
+
+const BOARD_NAME: &str = "board-name";
+
 /// A rule of the profile's own (own), by which another platform may answer otherwise.
 #[derive(Clone, Copy, PartialEq, Eq, Debug)]
 pub enum OwnRule {
@@ -42,13 +57,13 @@ impl OwnRule {
         ensures { result.now ≡ rule_name self.now }
     {
         match self {
-            OwnRule::UnknownId => "unknown-id",
-            OwnRule::ReservedFlags => "reserved-flags",
-            OwnRule::Skip => "skip",
-            OwnRule::Index => "index",
-            OwnRule::ErrorForm => "error-form",
-            OwnRule::Version => "version",
-            OwnRule::BoardName => "board-name",
+            OwnRule::UnknownId => UNKNOWN_ID,
+            OwnRule::ReservedFlags => RESERVED_FLAGS,
+            OwnRule::Skip => SKIP,
+            OwnRule::Index => INDEX,
+            OwnRule::ErrorForm => ERROR_FORM,
+            OwnRule::Version => VERSION,
+            OwnRule::BoardName => BOARD_NAME,
         }
     }
 }

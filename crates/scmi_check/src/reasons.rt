@@ -3,8 +3,11 @@ ghost use Rattle.std.specs.Prelude.{OnOk};
 ghost use Rattle.std.specs.Io.KnownBytes.{Appends};
 ghost use Rattle.scmi_check.specs.Reasons.{answer_text, lack_text, reasons_text, seen_text, status_text};
 
+use crate::texts::{AGENT, DUE, ERROR, MESSAGE, NOTHING_DUE, RELEASED, SEEN, STATUS};
+use crate::value::Value;
 use scmi_codec::{Answer, Status};
 use scmi_judge::{Entry, Verdict};
+use scmi_template::write_filled;
 use scmi_text::write_message_text;
 use std::io;
 use std::io::Write;
@@ -20,20 +23,20 @@ pub(crate) fn write_reasons<W: Write>(
 {
     match verdict {
         Verdict::Same => Ok(()),
-        Verdict::NoAgent => write_lack(writer, "agent", entry),
+        Verdict::NoAgent => write_lack(writer, AGENT, entry),
         Verdict::Answer(due) => {
-            write!(writer, " due")?;
+            write!(writer, "{DUE}")?;
             write_answer(writer, due)?;
-            write!(writer, ", seen")?;
+            write!(writer, "{SEEN}")?;
             write_seen(writer, entry)
         }
         Verdict::Message(due) => {
-            write!(writer, " due")?;
+            write!(writer, "{DUE}")?;
             write_message_text(writer, due)?;
-            write!(writer, ", seen")?;
+            write!(writer, "{SEEN}")?;
             write_seen(writer, entry)
         }
-        Verdict::NoMessage => write_lack(writer, "message", entry),
+        Verdict::NoMessage => write_lack(writer, MESSAGE, entry),
     }
 }
 
@@ -42,7 +45,8 @@ fn write_lack<W: Write>(writer: &mut W, kind: &str, entry: &Entry) -> io::Result
     ensures { OnOk result (Appends (W.contents writer.old) (W.contents writer.new)
         (lack_text kind.now entry.now)) }
 {
-    write!(writer, " due no {kind}, seen")?;
+    write_filled(writer, NOTHING_DUE, &[Value::Word(kind)])?;
+    write!(writer, "{SEEN}")?;
     write_seen(writer, entry)
 }
 
@@ -65,8 +69,8 @@ fn write_answer<W: Write>(writer: &mut W, answer: &Answer) -> io::Result<()>
             write_status(writer, message.payload.as_slice())?;
             write_message_text(writer, message)
         }
-        Answer::Released => write!(writer, " released"),
-        Answer::ChannelError => write!(writer, " error"),
+        Answer::Released => write!(writer, "{RELEASED}"),
+        Answer::ChannelError => write!(writer, "{ERROR}"),
     }
 }
 
@@ -77,7 +81,7 @@ fn write_status<W: Write>(writer: &mut W, payload: &[u32]) -> io::Result<()>
 {
     match payload {
         [word, ..] => match Status::of_word(*word) {
-            Some(status) => write!(writer, " {}", status.name()),
+            Some(status) => write_filled(writer, STATUS, &[Value::Word(status.name())]),
             None => Ok(()),
         },
         [] => Ok(()),

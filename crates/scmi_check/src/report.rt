@@ -1,7 +1,7 @@
 //! A report, as it is written.
 ghost use Rattle.std.specs.Prelude.{◌≡◌, OnOk};
 ghost use Rattle.std.specs.Io.KnownBytes.{Appends};
-ghost use Rattle.scmi_check.specs.Report.{finding_text, found_text, heading_text, line_with, lines_text, mark_text, report_text, summary_text};
+ghost use Rattle.scmi_check.specs.Report.{counts_text, finding_text, found_text, heading_text, line_with, lines_text, mark_text, report_text, summary_text};
 
 use crate::counts::Counts;
 use crate::deciding::write_check;
@@ -11,6 +11,9 @@ use crate::origin::{Origin, write_origin};
 use crate::origins::Origins;
 use crate::reasons::write_reasons;
 use crate::style::Style;
+use crate::texts::{COUNTS, DIFFERS, FAILED, OWN, PASSED, PLAN, REMARK, SAME};
+use crate::value::Value;
+use scmi_template::write_filled;
 use std::io;
 use std::io::Write;
 
@@ -34,10 +37,7 @@ fn write_heading<W: Write>(writer: &mut W, style: Style, judged: &[Judged]) -> i
 {
     match style {
         Style::Plain => Ok(()),
-        Style::Tap => {
-            let count = judged.len();
-            writeln!(writer, "1..{count}")
-        }
+        Style::Tap => { write_filled(writer, PLAN, &[Value::Count(judged.len())]) }
     }
 }
 
@@ -85,9 +85,9 @@ fn write_finding<W: Write>(writer: &mut W, finding: Finding) -> io::Result<()>
         (finding_text finding)) }
 {
     match finding {
-        Finding::Same => write!(writer, " same"),
-        Finding::Own(rule) => write!(writer, " own {}", rule.name()),
-        Finding::Differs => write!(writer, " differs"),
+        Finding::Same => write!(writer, "{SAME}"),
+        Finding::Own(rule) => write_filled(writer, OWN, &[Value::Word(rule.name())]),
+        Finding::Differs => write!(writer, "{DIFFERS}"),
     }
 }
 
@@ -97,8 +97,8 @@ fn mark(style: Style, finding: Finding) -> &'static str
 {
     match (style, finding) {
         (Style::Plain, _) => "",
-        (Style::Tap, Finding::Differs) => "not ok - line ",
-        (Style::Tap, _) => "ok - line ",
+        (Style::Tap, Finding::Differs) => FAILED,
+        (Style::Tap, _) => PASSED,
     }
 }
 
@@ -106,9 +106,21 @@ fn write_summary<W: Write>(writer: &mut W, style: Style, counts: Counts) -> io::
     ensures { OnOk result (Appends (W.contents writer.old) (W.contents writer.new)
         (summary_text style counts)) }
 {
-    let Counts { same, own, differ } = counts;
     match style {
-        Style::Plain => writeln!(writer, "{same} same, {own} own, {differ} differ"),
-        Style::Tap => writeln!(writer, "# {same} same, {own} own, {differ} differ"),
+        Style::Plain => write_counts(writer, counts),
+        Style::Tap => {
+            write!(writer, "{REMARK}")?;
+            write_counts(writer, counts)
+        }
     }
+}
+
+/// Writes how many entries were found to be of each kind.
+fn write_counts<W: Write>(writer: &mut W, counts: Counts) -> io::Result<()>
+    ensures { OnOk result (Appends (W.contents writer.old) (W.contents writer.new)
+        (counts_text counts)) }
+{
+    let Counts { same, own, differ } = counts;
+    let values = [Value::Count(same), Value::Count(own), Value::Count(differ)];
+    write_filled(writer, COUNTS, &values)
 }

@@ -6,8 +6,10 @@ ghost use Rattle.scmi_check.specs.CheckError.{fault_line, status_of};
 ghost use Rattle.scmi_check.specs.declared.run.TheConstants.{DIFFERS};
 
 use crate::check::check;
-use crate::check_error::CheckError;
+use crate::check_error::{CheckError, FAULT_LINE};
 use crate::style::Style;
+use crate::value::Value;
+use scmi_template::write_filled;
 use std::alloc::Global;
 use std::io::{Read, Write};
 
@@ -47,7 +49,7 @@ fn write_fault<W: Write>(writer: &mut W, fault: CheckError) -> u8
     ensures fault { result ≢ 1 → (result ≡ status_of fault) × Appends (W.contents writer.old)
         (W.contents writer.new) (fault_line fault) }
 {
-    match writeln!(writer, "fault {fault}") {
+    match write_filled(writer, FAULT_LINE, &[Value::Fault(fault)]) {
         Ok(()) => fault.status(),
         Err(_) => CheckError::Write.status(),
     }

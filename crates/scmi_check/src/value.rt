@@ -1,0 +1,29 @@
+//! What fills the holes of texts.
+ghost use Rattle.scmi_check.specs.Value.{value_text};
+
+use crate::check_error::CheckError;
+use scmi_template::Piece;
+use std::io;
+use std::io::Write;
+
+/// What fills a hole.
+#[derive(Clone, Copy)]
+pub(crate) enum Value<'a> {
+    Count(usize),
+    Line(u32),
+    Word(&'a str),
+    Fault(CheckError),
+}
+
+impl Piece for Value<'_> {
+    ghost text = { value_text };
+
+    fn write<W: Write>(&self, writer: &mut W) -> io::Result<()> {
+        match *self {
+            Value::Count(count) => write!(writer, "{count}"),
+            Value::Line(line) => write!(writer, "{line}"),
+            Value::Word(word) => write!(writer, "{word}"),
+            Value::Fault(fault) => write!(writer, "{fault}"),
+        }
+    }
+}
