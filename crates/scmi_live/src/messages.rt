@@ -1,13 +1,12 @@
 //! Messages and protocols by their names.
 ghost use Rattle.std.specs.Prelude.{◌≡◌, map};
-ghost use Rattle.std.specs.Option.{option_map};
-ghost use Rattle.scmi_codec.specs.Listing.{listed_row, row_in, rows_of, said};
+ghost use Rattle.scmi_codec.specs.Listing.{said};
 ghost use Rattle.scmi_live.specs.Messages.{id_in, id_of, message_named, protocol_named, protocol_of};
 
 use scmi_board::byte;
 use scmi_codec::{
     BASE_MESSAGES, BASE_PROTOCOL, CLOCK_MESSAGES, CLOCK_PROTOCOL, HeldRow, POWER_MESSAGES,
-    POWER_PROTOCOL,
+    POWER_PROTOCOL, rows_of,
 };
 
 /// The names of the protocols.
@@ -69,19 +68,6 @@ pub(crate) fn message_named(item: &[u8]) -> Option<(u8, u8)>
     }
 }
 
-/// The messages of a protocol.
-#[tactic(auto, unfolding(scmi_codec::specs::Listing::rows_of))]
-pub(crate) fn rows_of(protocol: u8) -> &'static [HeldRow]
-    ensures { map said result.now ≡ rows_of protocol }
-{
-    match protocol {
-        BASE_PROTOCOL => &BASE_MESSAGES,
-        POWER_PROTOCOL => &POWER_MESSAGES,
-        CLOCK_PROTOCOL => &CLOCK_MESSAGES,
-        _ => &[],
-    }
-}
-
 /// The id of the first of these messages that has this name.
 pub(crate) fn id_in(mut rows: &[HeldRow], name: &[u8]) -> Option<u8>
     ensures { result ≡ id_in name.now (map said rows.entry.now) }
@@ -89,25 +75,6 @@ pub(crate) fn id_in(mut rows: &[HeldRow], name: &[u8]) -> Option<u8>
     while let [row, rest @ ..] = rows {
         if row.name.as_bytes() == name {
             return Some(row.id);
-        }
-        rows = rest;
-    }
-    None
-}
-
-/// The row of a message.
-pub(crate) fn listed_row(protocol: u8, id: u8) -> Option<HeldRow>
-    ensures { option_map said result ≡ listed_row protocol id }
-{
-    row_in(rows_of(protocol), id)
-}
-
-fn row_in(mut rows: &[HeldRow], id: u8) -> Option<HeldRow>
-    ensures { option_map said result ≡ row_in id (map said rows.entry.now) }
-{
-    while let [row, rest @ ..] = rows {
-        if row.id == id {
-            return Some(*row);
         }
         rows = rest;
     }

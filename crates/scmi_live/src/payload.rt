@@ -5,11 +5,10 @@ ghost use Rattle.scmi_plan.specs.RawPlan.{asked_board};
 ghost use Rattle.scmi_live.specs.Payload.{first_words, numbers, payload_meant, words_behind};
 
 use crate::left_items::LeftItems;
-use crate::messages::listed_row;
 use crate::word::{PartWords, is_flags, one_word, words_of_item};
 use arrayvec::ArrayVec;
 use scmi_board::word;
-use scmi_codec::{Part, Payload};
+use scmi_codec::{Part, Payload, listed_row};
 use scmi_plan::RawPlan;
 
 /// The payload words that items encode in a message: part by part if the message is known, and else
@@ -23,7 +22,7 @@ pub(crate) fn payload_meant(
     ensures { option_map (λ payload. payload.items) result ≡ payload_meant (asked_board board.now)
         protocol id (map (λ item. item.now) items.now) }
 {
-    match listed_row(protocol, id) {
+    match listed_row(protocol, u32::from(id)) {
         Some(row) => words_of_parts(board, protocol, row.asks, items),
         None => numbers(items),
     }

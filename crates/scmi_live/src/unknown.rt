@@ -2,11 +2,11 @@
 
 use crate::form::{FORMS, Form, form_in};
 use crate::items::items_of;
-use crate::messages::{id_in, id_of, listed_row, message_named, protocol_of};
+use crate::messages::{id_in, id_of, message_named, protocol_of};
 use crate::named_step::agent_of;
 use crate::word::{is_flags, words_of_item};
 use scmi_board::word;
-use scmi_codec::{BASE_MESSAGES, CLOCK_MESSAGES, HeldRow, POWER_MESSAGES, Part};
+use scmi_codec::{BASE_MESSAGES, CLOCK_MESSAGES, HeldRow, POWER_MESSAGES, Part, listed_row};
 use scmi_plan::RawPlan;
 use std::alloc::Global;
 
@@ -96,7 +96,7 @@ fn unknown_payload<'a>(
     mut number: usize,
     mut items: &[&'a [u8]],
 ) -> Option<Unknown<'a>> {
-    let row = listed_row(protocol, id)?;
+    let row = listed_row(protocol, u32::from(id))?;
     let mut parts = row.asks;
     let flags = parts.iter().filter(|part| is_flags(**part)).count();
     if items.len() > parts.len() || items.len() + flags < parts.len() {

@@ -4,11 +4,11 @@ ghost use Rattle.std.specs.Option.{option_map};
 ghost use Rattle.scmi_plan.specs.RawPlan.{asked_board};
 ghost use Rattle.scmi_live.specs.Payload.{is_flags, switched, word_meant, word_named, words_of_item};
 
-use crate::messages::{id_in, protocol_named, rows_of};
+use crate::messages::{id_in, protocol_named};
 use crate::named::number_from;
 use arrayvec::ArrayVec;
 use scmi_board::{number, word};
-use scmi_codec::{Part, rate_words};
+use scmi_codec::{Part, rate_words, rows_of};
 use scmi_plan::RawPlan;
 
 /// The words of a state.
