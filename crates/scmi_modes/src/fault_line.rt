@@ -1,23 +1,14 @@
 //! The line of a fault.
 ghost use Rattle.std.specs.Prelude.{◌≡◌, ◌≢◌};
 ghost use Rattle.std.specs.Io.KnownBytes.{Appends};
-ghost use Rattle.scmi_modes.specs.RunError.{fault_line, fault_text, status_of};
+ghost use Rattle.scmi_modes.specs.RunError.{fault_line, status_of};
 
 use crate::run_error::RunError;
-use scmi_template::{Piece, write_filled};
-use std::io;
+use scmi_template::write_filled;
 use std::io::Write;
 
 /// The line of a fault: its text in the hole.
 pub(crate) const FAULT_LINE: &str = "fault %\n";
-
-impl Piece for RunError {
-    ghost text = { fault_text };
-
-    fn write<W: Write>(&self, writer: &mut W) -> io::Result<()> {
-        write!(writer, "{self}")
-    }
-}
 
 /// Writes the line of a fault, and gives its exit status, or that of a failed output.
 pub fn write_fault<W: Write>(writer: &mut W, fault: RunError) -> u8

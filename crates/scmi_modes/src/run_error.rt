@@ -6,9 +6,11 @@ use crate::fault_words::{AREA, BOARD, LIMIT, MEMORY, MODE, PLAN, READ, SCRIPT, S
 use scmi_board::TextError;
 use scmi_input::InputError;
 use scmi_plan::PlanError;
+use scmi_template::Piece;
 use std::alloc::AllocError;
 use std::error::Error;
-use std::fmt;
+use std::io::Write;
+use std::{fmt, io};
 
 /// Why a run is rejected or stops. Its text is what follows the word `fault`.
 #[derive(Clone, Copy, PartialEq, Eq)]
@@ -78,6 +80,16 @@ impl fmt::Display for RunError {
 impl fmt::Debug for RunError {
     fn fmt<W: fmt::Write>(&self, f: &mut fmt::Formatter<W>) -> fmt::Result {
         fmt::Display::fmt(self, f)
+    }
+}
+
+impl Piece for RunError {
+    ghost use Rattle.scmi_modes.specs.RunError.{fault_text};
+
+    ghost text = { fault_text };
+
+    fn write<W: Write>(&self, writer: &mut W) -> io::Result<()> {
+        write!(writer, "{self}")
     }
 }
 
