@@ -1,6 +1,6 @@
 use Rattle.std.proofs.Common.{◌++◌}
 use Rattle.std.proofs.KnownBytes.{Appends-trans}
-use Rattle.scmi_describe.proofs.Chains.{OnOk-append}
+use Rattle.scmi_check.proofs.LinesWritten.{OnOk-append}
 use Rattle.scmi.specs.Form.{forms}
 use Rattle.scmi.specs.Texts.{rows_text}
 use Rattle.scmi.specs.declared.texts.TheConstants.{TEXTS}
