@@ -7,13 +7,17 @@ use Rattle.scmi_template.specs.Filled.{filled}
 use Rattle.scmi_table.specs.Value.{hex_text, in_string}
 use Rattle.scmi_table.specs.declared.texts.TheConstants.{INCLUDE, AGENTS_START, DOMAINS_START, CLOCKS_START, RATES_START, DEVICES_START, TABLE_END, BOARD_START, HEADING, AGENTS_FIELD, DOMAINS_FIELD, CLOCKS_FIELD, RATES_FIELD, DEVICES_FIELD, BOARD_END}
 
--- a part of a table that has this many rows: its first line, its last, or its line of the board, which counts them; where it has none nothing is written
-unfoldable pub part_text : ℕ → List ℕ → List ℕ
-part_text count template = if count == 0 then [] else filled template (decimal count ∷ [])
+-- the first or the last line of a table that has this many rows, if it has one
+unfoldable pub edge_text : ℕ → List ℕ → List ℕ
+edge_text count text = if count == 0 then [] else text
 
 -- rows between the first and the last line of their table
 abbrev pub table_with : ℕ → List ℕ → List ℕ → List ℕ
-table_with count start rows = part_text count start ++ rows ++ part_text count TABLE_END.now
+table_with count start rows = edge_text count start ++ rows ++ edge_text count TABLE_END.now
+
+-- the line of the board for a table that has this many rows, if it has one
+unfoldable pub field_text : ℕ → List ℕ → List ℕ
+field_text count text = if count == 0 then [] else filled text (decimal count ∷ [])
 
 -- the table of agents
 unfoldable pub agents_table : Described → List ℕ
@@ -47,9 +51,9 @@ heading_text board =
 -- the lines of the tables that have rows
 unfoldable pub fields_text : Board → List ℕ
 fields_text board =
-    part_text (length board.agents) AGENTS_FIELD.now ++ part_text (length board.domains) DOMAINS_FIELD.now
-    ++ part_text (length board.clocks) CLOCKS_FIELD.now ++ part_text (rate_count board) RATES_FIELD.now
-    ++ part_text (length board.devices) DEVICES_FIELD.now
+    field_text (length board.agents) AGENTS_FIELD.now ++ field_text (length board.domains) DOMAINS_FIELD.now
+    ++ field_text (length board.clocks) CLOCKS_FIELD.now ++ field_text (rate_count board) RATES_FIELD.now
+    ++ field_text (length board.devices) DEVICES_FIELD.now
 
 -- the board that cites the tables
 unfoldable pub board_text : Board → List ℕ

@@ -2,7 +2,7 @@
 ghost use Rattle.std.specs.Prelude.{◌≡◌, OnOk};
 ghost use Rattle.std.specs.Io.KnownBytes.{Appends};
 ghost use Rattle.scmi_plan.specs.RawPlan.{asked_board};
-ghost use Rattle.scmi_table.specs.Table.{board_text, fields_text, heading_text, part_text, rate_count};
+ghost use Rattle.scmi_table.specs.Table.{board_text, field_text, fields_text, heading_text, rate_count};
 
 use crate::clocks::place_behind_all;
 use crate::texts::{
@@ -49,24 +49,23 @@ fn write_fields<W: Write>(writer: &mut W, board: &RawPlan) -> io::Result<()>
     ensures { OnOk result (Appends (W.contents writer.old) (W.contents writer.new)
         (fields_text (asked_board board.now))) }
 {
-    write_part(writer, board.agents.len(), AGENTS_FIELD)?;
-    write_part(writer, board.domains.len(), DOMAINS_FIELD)?;
-    write_part(writer, board.clocks.len(), CLOCKS_FIELD)?;
-    write_part(writer, rate_count(board), RATES_FIELD)?;
-    write_part(writer, board.devices.len(), DEVICES_FIELD)
+    write_field(writer, board.agents.len(), AGENTS_FIELD)?;
+    write_field(writer, board.domains.len(), DOMAINS_FIELD)?;
+    write_field(writer, board.clocks.len(), CLOCKS_FIELD)?;
+    write_field(writer, rate_count(board), RATES_FIELD)?;
+    write_field(writer, board.devices.len(), DEVICES_FIELD)
 }
 
-/// Writes a part of a table that has this many rows, if it has one: its first line, its last, or
-/// its line of the board, which counts them.
-#[tactic(auto, unfolding(crate::specs::Table::part_text))]
-pub(crate) fn write_part<W: Write>(writer: &mut W, count: usize, template: &str) -> io::Result<()>
+/// Writes the line of a table that has this many rows, if it has one.
+#[tactic(auto, unfolding(crate::specs::Table::field_text))]
+fn write_field<W: Write>(writer: &mut W, count: usize, text: &str) -> io::Result<()>
     ensures { OnOk result (Appends (W.contents writer.old) (W.contents writer.new)
-        (part_text count template.now)) }
+        (field_text count text.now)) }
 {
     if count == 0 {
         return Ok(());
     }
-    write_filled(writer, template, &[Number(count as u64)])
+    write_filled(writer, text, &[Number(count as u64)])
 }
 
 /// How many rates the table has.

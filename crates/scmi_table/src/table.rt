@@ -3,10 +3,10 @@ ghost use Rattle.std.specs.Prelude.{◌≡◌, OnOk};
 ghost use Rattle.std.specs.Io.KnownBytes.{Appends};
 ghost use Rattle.scmi_plan.specs.RawPlan.{asked_board};
 ghost use Rattle.scmi_board.specs.Channels.{described};
-ghost use Rattle.scmi_table.specs.Table.{agents_table, clocks_table, devices_table, domains_table, rates_table, table_text, tables_text};
+ghost use Rattle.scmi_table.specs.Table.{agents_table, clocks_table, devices_table, domains_table, edge_text, rates_table, table_text, tables_text};
 
 use crate::agents::write_agents;
-use crate::board::{rate_count, write_board, write_part};
+use crate::board::{rate_count, write_board};
 use crate::clocks::write_clocks;
 use crate::rows::{write_devices, write_domains, write_rates};
 use crate::texts::{
@@ -47,9 +47,9 @@ fn write_agents_table<W: Write>(writer: &mut W, said: &BoardWithChannels) -> io:
         (agents_table (described said.now))) }
 {
     let count = said.board.agents.len();
-    write_part(writer, count, AGENTS_START)?;
+    write_edge(writer, count, AGENTS_START)?;
     write_agents(writer, &said.channels, 0, &said.board.agents)?;
-    write_part(writer, count, TABLE_END)
+    write_edge(writer, count, TABLE_END)
 }
 
 #[tactic(auto, unfolding(crate::specs::Table::domains_table))]
@@ -58,9 +58,9 @@ fn write_domains_table<W: Write>(writer: &mut W, board: &RawPlan) -> io::Result<
         (domains_table (asked_board board.now))) }
 {
     let count = board.domains.len();
-    write_part(writer, count, DOMAINS_START)?;
+    write_edge(writer, count, DOMAINS_START)?;
     write_domains(writer, &board.domains)?;
-    write_part(writer, count, TABLE_END)
+    write_edge(writer, count, TABLE_END)
 }
 
 #[tactic(auto, unfolding(crate::specs::Table::clocks_table))]
@@ -69,9 +69,9 @@ fn write_clocks_table<W: Write>(writer: &mut W, board: &RawPlan) -> io::Result<(
         (clocks_table (asked_board board.now))) }
 {
     let count = board.clocks.len();
-    write_part(writer, count, CLOCKS_START)?;
+    write_edge(writer, count, CLOCKS_START)?;
     write_clocks(writer, 0, &board.clocks)?;
-    write_part(writer, count, TABLE_END)
+    write_edge(writer, count, TABLE_END)
 }
 
 #[tactic(auto, unfolding(crate::specs::Table::rates_table))]
@@ -80,9 +80,9 @@ fn write_rates_table<W: Write>(writer: &mut W, board: &RawPlan) -> io::Result<()
         (rates_table (asked_board board.now))) }
 {
     let count = rate_count(board);
-    write_part(writer, count, RATES_START)?;
+    write_edge(writer, count, RATES_START)?;
     write_rates(writer, &board.clocks)?;
-    write_part(writer, count, TABLE_END)
+    write_edge(writer, count, TABLE_END)
 }
 
 #[tactic(auto, unfolding(crate::specs::Table::devices_table))]
@@ -91,7 +91,19 @@ fn write_devices_table<W: Write>(writer: &mut W, board: &RawPlan) -> io::Result<
         (devices_table (asked_board board.now))) }
 {
     let count = board.devices.len();
-    write_part(writer, count, DEVICES_START)?;
+    write_edge(writer, count, DEVICES_START)?;
     write_devices(writer, &board.devices)?;
-    write_part(writer, count, TABLE_END)
+    write_edge(writer, count, TABLE_END)
+}
+
+/// Writes the first or the last line of a table that has this many rows, if it has one.
+#[tactic(auto, unfolding(crate::specs::Table::edge_text))]
+fn write_edge<W: Write>(writer: &mut W, count: usize, text: &str) -> io::Result<()>
+    ensures { OnOk result (Appends (W.contents writer.old) (W.contents writer.new)
+        (edge_text count text.now)) }
+{
+    if count == 0 {
+        return Ok(());
+    }
+    write!(writer, "{text}")
 }
