@@ -1,106 +1,13 @@
 //! The base protocol on the reference board.
 
-use crate::bench::{
-    Bench, DENIED, FREE, INVALID_PARAMETERS, Left, NOT_FOUND, OFF, ON, Row, SUCCESS, play,
-    run_rows, start_with,
-};
+use crate::bench::{Bench, DENIED, FREE, Left, OFF, ON, Row, SUCCESS, play, run_rows, start_with};
 use scmi_plan::Resource;
 use std::process::Abort;
 use std::test::Fail;
 
-const DISCOVERY: [Row<'static>; 15] = [
-    (1, FREE, 0x10, 0x0, &[], &[SUCCESS, 0x20000], Left::Nothing),
-    (1, FREE, 0x10, 0x1, &[], &[SUCCESS, 0x202], Left::Nothing),
-    (1, FREE, 0x10, 0x2, &[0x8], &[NOT_FOUND], Left::Nothing),
-    (1, FREE, 0x10, 0x2, &[0x9], &[SUCCESS, 0], Left::Nothing),
-    (
-        1,
-        FREE,
-        0x10,
-        0x3,
-        &[],
-        &[SUCCESS, 0x656d_6341, 0, 0, 0],
-        Left::Nothing,
-    ),
-    (
-        1,
-        FREE,
-        0x10,
-        0x4,
-        &[],
-        &[SUCCESS, 0x0062_614c, 0, 0, 0],
-        Left::Nothing,
-    ),
-    (1, FREE, 0x10, 0x5, &[], &[SUCCESS, 0x10000], Left::Nothing),
-    (
-        1,
-        FREE,
-        0x10,
-        0x6,
-        &[0],
-        &[SUCCESS, 2, 0x1411],
-        Left::Nothing,
-    ),
-    (1, FREE, 0x10, 0x6, &[2], &[SUCCESS, 0], Left::Nothing),
-    (
-        1,
-        FREE,
-        0x10,
-        0x6,
-        &[3],
-        &[INVALID_PARAMETERS],
-        Left::Nothing,
-    ),
-    (1, FREE, 0x10, 0x6, &[1], &[SUCCESS, 1, 0x14], Left::Nothing),
-    (
-        1,
-        FREE,
-        0x10,
-        0x7,
-        &[0xffff_ffff],
-        &[SUCCESS, 1, 0x7061, 0, 0, 0],
-        Left::Nothing,
-    ),
-    (
-        1,
-        FREE,
-        0x10,
-        0x7,
-        &[0],
-        &[SUCCESS, 0, 0x7461_6c70, 0x6d72_6f66, 0, 0],
-        Left::Nothing,
-    ),
-    (
-        1,
-        FREE,
-        0x10,
-        0x7,
-        &[2],
-        &[SUCCESS, 2, 0x6564_6f6d, 0x6d, 0, 0],
-        Left::Nothing,
-    ),
-    (1, FREE, 0x10, 0x7, &[3], &[NOT_FOUND], Left::Nothing),
-];
-
-#[test]
-fn discovery_replies(rt: HostRuntime) -> Result<(), Fail> {
-    play(&rt, rt.alloc(), &DISCOVERY)?;
-    Ok(())
-}
-
-/// Permissions and resets, and sets of domains that show who may change what.
-const PERMISSIONS: [Row<'static>; 18] = [
+/// Agent 2 is denied device 1, and reset without its permissions and with them.
+const PERMISSIONS: [Row<'static>; 6] = [
     (1, FREE, 0x10, 0x9, &[2, 1, 0], &[SUCCESS], Left::Nothing),
-    (2, FREE, 0x11, 0x4, &[0, 1, OFF], &[DENIED], Left::Nothing),
-    (
-        2,
-        FREE,
-        0x11,
-        0x4,
-        &[0, 0, ON],
-        &[SUCCESS],
-        Left::State(0, ON),
-    ),
     (
         2,
         FREE,
@@ -110,10 +17,6 @@ const PERMISSIONS: [Row<'static>; 18] = [
         &[SUCCESS],
         Left::StateLater(2, ON),
     ),
-    (2, FREE, 0x10, 0x9, &[2, 1, 1], &[DENIED], Left::Nothing),
-    (2, FREE, 0x11, 0x4, &[0, 1, OFF], &[DENIED], Left::Nothing),
-    (1, FREE, 0x10, 0x9, &[1, 1, 0], &[SUCCESS], Left::Nothing),
-    (1, FREE, 0x11, 0x4, &[0, 1, OFF], &[DENIED], Left::Nothing),
     (1, FREE, 0x10, 0xb, &[2, 0], &[SUCCESS], Left::Reset(2)),
     (2, FREE, 0x11, 0x4, &[0, 1, OFF], &[DENIED], Left::Nothing),
     (1, FREE, 0x10, 0xb, &[2, 1], &[SUCCESS], Left::Reset(2)),
@@ -125,28 +28,6 @@ const PERMISSIONS: [Row<'static>; 18] = [
         &[0, 1, OFF],
         &[SUCCESS],
         Left::State(1, OFF),
-    ),
-    (1, FREE, 0x10, 0xb, &[0, 2], &[NOT_FOUND], Left::Nothing),
-    (1, FREE, 0x11, 0x4, &[0, 1, OFF], &[DENIED], Left::Nothing),
-    (1, FREE, 0x10, 0x9, &[3, 0, 2], &[NOT_FOUND], Left::Nothing),
-    (1, FREE, 0x10, 0x9, &[2, 2, 0], &[NOT_FOUND], Left::Nothing),
-    (
-        2,
-        FREE,
-        0x10,
-        0x9,
-        &[2, 0, 2],
-        &[INVALID_PARAMETERS],
-        Left::Nothing,
-    ),
-    (
-        2,
-        FREE,
-        0x11,
-        0x4,
-        &[0, 0, OFF],
-        &[SUCCESS],
-        Left::State(0, OFF),
     ),
 ];
 

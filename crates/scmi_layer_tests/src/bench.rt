@@ -22,8 +22,6 @@ pub const DENIED: u32 = 0xffff_fffd;
 
 pub const NOT_FOUND: u32 = 0xffff_fffc;
 
-pub const OUT_OF_RANGE: u32 = 0xffff_fffb;
-
 pub const BUSY: u32 = 0xffff_fffa;
 
 /// Power states.

@@ -1,60 +1,12 @@
 //! The clock protocol on the reference board.
 
 use crate::bench::{
-    BUSY, DENIED, FREE, FULL, INVALID_PARAMETERS, Left, NOT_FOUND, OUT_OF_RANGE, PENDING, Row,
-    SUCCESS, play,
+    BUSY, DENIED, FREE, FULL, INVALID_PARAMETERS, Left, NOT_FOUND, PENDING, Row, SUCCESS, play,
 };
 use scmi_clock::ClockState;
 use std::test::Fail;
 
-const ROUNDED: [Row<'static>; 11] = [
-    (
-        1,
-        FREE,
-        0x14,
-        0x5,
-        &[0, 0, 250, 0],
-        &[SUCCESS],
-        Left::Nothing,
-    ),
-    (1, FREE, 0x14, 0x6, &[0], &[SUCCESS, 0xc8, 0], Left::Nothing),
-    (
-        1,
-        FREE,
-        0x14,
-        0x5,
-        &[4, 0, 250, 0],
-        &[SUCCESS],
-        Left::Nothing,
-    ),
-    (
-        1,
-        FREE,
-        0x14,
-        0x6,
-        &[0],
-        &[SUCCESS, 0x12c, 0],
-        Left::Nothing,
-    ),
-    (
-        1,
-        FREE,
-        0x14,
-        0x5,
-        &[8, 0, 250, 0],
-        &[SUCCESS],
-        Left::Nothing,
-    ),
-    (1, FREE, 0x14, 0x6, &[0], &[SUCCESS, 0xc8, 0], Left::Nothing),
-    (
-        1,
-        FREE,
-        0x14,
-        0x5,
-        &[0, 0, 50, 0],
-        &[INVALID_PARAMETERS],
-        Left::Nothing,
-    ),
+const LATER: [Row<'static>; 3] = [
     (
         1,
         FREE,
@@ -64,7 +16,6 @@ const ROUNDED: [Row<'static>; 11] = [
         &[SUCCESS],
         Left::RateLater(0, 300, false),
     ),
-    (1, FREE, 0x14, 0x6, &[0], &[SUCCESS, 0xc8, 0], Left::Nothing),
     (
         1,
         FREE,
@@ -93,67 +44,15 @@ fn complete_first(clocks: &mut ClockState) -> [u64; 3] {
 }
 
 #[test]
-fn rates_are_rounded_as_asked(rt: HostRuntime) -> Result<(), Fail> {
-    let mut bench = play(&rt, rt.alloc(), &ROUNDED)?;
+fn rates_are_set_later_as_asked(rt: HostRuntime) -> Result<(), Fail> {
+    let mut bench = play(&rt, rt.alloc(), &LATER)?;
     let found = complete_first(&mut bench.clocks);
     assert!(rt; found == [300, 100, 1000]);
     Ok(())
 }
 
-const ALL_RATES: [u32; 42] = [
-    SUCCESS, 0x14, 1, 0, 2, 0, 3, 0, 4, 0, 5, 0, 6, 0, 7, 0, 8, 0, 9, 0, 10, 0, 11, 0, 12, 0, 13,
-    0, 14, 0, 15, 0, 16, 0, 17, 0, 18, 0, 19, 0, 20, 0,
-];
-
-const LAST_RATES: [u32; 12] = [SUCCESS, 0x5, 0x10, 0, 0x11, 0, 0x12, 0, 0x13, 0, 0x14, 0];
-
-const STEPS: [u32; 8] = [SUCCESS, 0x1003, 0x3e8, 0, 0xfa0, 0, 0x1f4, 0];
-
-const DISCOVERY: [Row<'static>; 13] = [
-    (
-        1,
-        FREE,
-        0x14,
-        0x0,
-        &[],
-        &[SUCCESS, 0x0001_0000],
-        Left::Nothing,
-    ),
-    (
-        1,
-        FREE,
-        0x14,
-        0x1,
-        &[],
-        &[SUCCESS, 0x0008_0003],
-        Left::Nothing,
-    ),
-    (1, FREE, 0x14, 0x2, &[0x7], &[SUCCESS, 0], Left::Nothing),
-    (1, FREE, 0x14, 0x2, &[0x8], &[NOT_FOUND], Left::Nothing),
-    (1, FREE, 0x14, 0x4, &[2, 0], &ALL_RATES, Left::Nothing),
-    (1, FREE, 0x14, 0x4, &[2, 15], &LAST_RATES, Left::Nothing),
-    (1, FREE, 0x14, 0x4, &[2, 20], &[OUT_OF_RANGE], Left::Nothing),
-    (1, FREE, 0x14, 0x4, &[1, 7], &STEPS, Left::Nothing),
-    (1, FREE, 0x14, 0x4, &[3, 0], &[NOT_FOUND], Left::Nothing),
-    (
-        1,
-        FREE,
-        0x14,
-        0x3,
-        &[1],
-        &[SUCCESS, 0, 0x0073_7562, 0, 0, 0],
-        Left::Nothing,
-    ),
+const SWITCHED: [Row<'static>; 2] = [
     (1, FREE, 0x14, 0x7, &[1, 1], &[SUCCESS], Left::Nothing),
-    (
-        1,
-        FREE,
-        0x14,
-        0x3,
-        &[1],
-        &[SUCCESS, 1, 0x0073_7562, 0, 0, 0],
-        Left::Nothing,
-    ),
     (1, FREE, 0x14, 0x7, &[0, 0], &[SUCCESS], Left::Nothing),
 ];
 
@@ -163,8 +62,8 @@ fn enabled(clocks: &ClockState) -> [bool; 3] {
 }
 
 #[test]
-fn discovery_replies(rt: HostRuntime) -> Result<(), Fail> {
-    let bench = play(&rt, rt.alloc(), &DISCOVERY)?;
+fn clocks_are_switched(rt: HostRuntime) -> Result<(), Fail> {
+    let bench = play(&rt, rt.alloc(), &SWITCHED)?;
     assert!(rt; enabled(&bench.clocks) == [false, true, true]);
     Ok(())
 }

@@ -1,22 +1,13 @@
 //! The power domain protocol on the reference board.
 
 use crate::bench::{
-    BUSY, DENIED, FREE, FULL, INVALID_PARAMETERS, Left, NOT_FOUND, NOT_SUPPORTED, OFF, ON, PENDING,
-    Row, SUCCESS, play, run_rows,
+    BUSY, FREE, FULL, INVALID_PARAMETERS, Left, NOT_FOUND, NOT_SUPPORTED, OFF, ON, Row, SUCCESS,
+    play, run_rows,
 };
 use scmi_power::PowerState;
 use std::test::Fail;
 
-const SYNCHRONOUS: [Row<'static>; 14] = [
-    (
-        1,
-        FREE,
-        0x11,
-        0x1,
-        &[],
-        &[SUCCESS, 3, 0, 0, 0],
-        Left::Nothing,
-    ),
+const SYNCHRONOUS: [Row<'static>; 2] = [
     (
         1,
         FREE,
@@ -26,124 +17,24 @@ const SYNCHRONOUS: [Row<'static>; 14] = [
         &[SUCCESS],
         Left::State(1, OFF),
     ),
-    (1, FREE, 0x11, 0x5, &[1], &[SUCCESS, OFF], Left::Nothing),
-    (
-        1,
-        FREE,
-        0x11,
-        0x4,
-        &[0, 2, 0],
-        &[NOT_SUPPORTED],
-        Left::Nothing,
-    ),
-    (
-        1,
-        FREE,
-        0x11,
-        0x4,
-        &[0, 0, 1],
-        &[INVALID_PARAMETERS],
-        Left::Nothing,
-    ),
-    (
-        1,
-        FREE,
-        0x11,
-        0x4,
-        &[1, 1, 0],
-        &[NOT_SUPPORTED],
-        Left::Nothing,
-    ),
-    (1, FREE, 0x11, 0x4, &[2, 3, 0], &[NOT_FOUND], Left::Nothing),
-    (
-        1,
-        FREE,
-        0x11,
-        0x4,
-        &[2, 2, 0],
-        &[INVALID_PARAMETERS],
-        Left::Nothing,
-    ),
-    (1, FREE, 0x10, 0x9, &[2, 1, 0], &[SUCCESS], Left::Nothing),
-    (2, FREE, 0x11, 0x4, &[0, 1, 0], &[DENIED], Left::Nothing),
     (
         2,
         FREE,
         0x11,
         0x4,
-        &[0, 0, 0],
+        &[0, 0, ON],
         &[SUCCESS],
         Left::State(0, ON),
     ),
-    (
-        2,
-        FREE,
-        0x11,
-        0x4,
-        &[0, 2, 0],
-        &[NOT_SUPPORTED],
-        Left::Nothing,
-    ),
-    (2, FREE, 0x11, 0x5, &[1], &[SUCCESS, OFF], Left::Nothing),
-    (2, FREE, 0x11, 0x6, &[2, 1], &[SUCCESS], Left::Nothing),
 ];
 
 #[test]
-fn synchronous_sets_and_a_denied_agent(rt: HostRuntime) -> Result<(), Fail> {
+fn synchronous_sets_leave_their_state(rt: HostRuntime) -> Result<(), Fail> {
     play(&rt, rt.alloc(), &SYNCHRONOUS)?;
     Ok(())
 }
 
-const DISCOVERY: [Row<'static>; 8] = [
-    (
-        2,
-        FREE,
-        0x11,
-        0x0,
-        &[],
-        &[SUCCESS, 0x0002_0000],
-        Left::Nothing,
-    ),
-    (2, FREE, 0x11, 0x2, &[0x6], &[SUCCESS, 0], Left::Nothing),
-    (2, FREE, 0x11, 0x2, &[0x7], &[NOT_FOUND], Left::Nothing),
-    (2, FREE, 0x11, 0x2, &[0x106], &[NOT_FOUND], Left::Nothing),
-    (
-        2,
-        FREE,
-        0x11,
-        0x3,
-        &[0],
-        &[SUCCESS, 0xe000_0000, 0x0075_7063, 0, 0, 0],
-        Left::Nothing,
-    ),
-    (
-        2,
-        FREE,
-        0x11,
-        0x3,
-        &[1],
-        &[SUCCESS, 0x2000_0000, 0x0075_7067, 0, 0, 0],
-        Left::Nothing,
-    ),
-    (
-        2,
-        FREE,
-        0x11,
-        0x3,
-        &[2],
-        &[SUCCESS, 0xc000_0000, 0x0062_7375, 0, 0, 0],
-        Left::Nothing,
-    ),
-    (2, FREE, 0x11, 0x3, &[3], &[NOT_FOUND], Left::Nothing),
-];
-
-#[test]
-fn discovery(rt: HostRuntime) -> Result<(), Fail> {
-    play(&rt, rt.alloc(), &DISCOVERY)?;
-    Ok(())
-}
-
-const ASYNCHRONOUS: [Row<'static>; 8] = [
+const ASYNCHRONOUS: [Row<'static>; 3] = [
     (
         1,
         FREE,
@@ -152,43 +43,6 @@ const ASYNCHRONOUS: [Row<'static>; 8] = [
         &[1, 0, ON],
         &[SUCCESS],
         Left::StateLater(0, ON),
-    ),
-    (2, PENDING, 0x11, 0x4, &[0, 0, ON], &[BUSY], Left::Nothing),
-    (
-        1,
-        PENDING,
-        0x11,
-        0x4,
-        &[2, 0, ON],
-        &[INVALID_PARAMETERS],
-        Left::Nothing,
-    ),
-    (
-        1,
-        PENDING,
-        0x11,
-        0x4,
-        &[2, 9, ON],
-        &[NOT_FOUND],
-        Left::Nothing,
-    ),
-    (
-        1,
-        PENDING,
-        0x11,
-        0x4,
-        &[1, 1, ON],
-        &[NOT_SUPPORTED],
-        Left::Nothing,
-    ),
-    (
-        1,
-        PENDING,
-        0x11,
-        0x4,
-        &[0, 2, ON],
-        &[NOT_SUPPORTED],
-        Left::Nothing,
     ),
     (1, FULL, 0x11, 0x4, &[1, 2, ON], &[BUSY], Left::Nothing),
     (
