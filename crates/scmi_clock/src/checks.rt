@@ -1,8 +1,9 @@
 //! The checks of commands, in the order of the profile (own).
-ghost use Rattle.std.specs.Prelude.{◌≡◌, ◌≤◌, ◌<◌, ◌≢◌, ◌∷◌, ◌&&◌, ◌||◌, not, true, false, [], if◌then◌else◌, length, is_none, Some, Ok, Err, IfOk, IfErr, OnOk};
+ghost use Rattle.std.specs.Prelude.{◌≡◌, ◌<◌, ◌≢◌, ◌∷◌, ◌&&◌, ◌||◌, not, true, false, [], if◌then◌else◌, length, is_none, Some, Ok, Err, IfOk, IfErr, OnOk};
 ghost use Rattle.scmi_codec.specs.Reply.{bit_0};
 ghost use Rattle.scmi_codec.specs.Status.{status_word};
 ghost use Rattle.scmi_codec.specs.declared.status.Status.TheVariants.{Success, NotFound, InvalidParameters, NotSupported, Denied, Busy, OutOfRange};
+ghost use Rattle.scmi_plan.specs.Agent.{IsAgent};
 ghost use Rattle.scmi_plan.specs.Board.{channel_of};
 ghost use Rattle.scmi_plan.specs.Rates.{HasValidRates};
 ghost use Rattle.scmi_plan.specs.declared.limits.TheConstants.{CLOCKS};
@@ -38,8 +39,7 @@ pub(crate) fn check_set(
     rate: u64,
     load: Load,
 ) -> Result<RateSet, Status>
-    requires first { 1 ≤ caller }
-    requires last { caller ≤ length plan.now.agents }
+    requires caller { IsAgent (length plan.now.agents) caller }
     ensures ok { OnOk result (set_words plan.now base.now caller load flags clock rate ≡ 0 ∷ []) }
     ensures rate { IfOk result (λ set. set.rate ≡ set_rate plan.now flags clock rate) }
     ensures asynchronous { IfOk result (λ set. set.asynchronous ≡ is_asynchronous flags) }
@@ -89,8 +89,7 @@ pub(crate) fn check_config(
     clock: u32,
     attributes: u32,
 ) -> Result<bool, Status>
-    requires first { 1 ≤ caller }
-    requires last { caller ≤ length plan.now.agents }
+    requires caller { IsAgent (length plan.now.agents) caller }
     ensures ok { OnOk result (config_words plan.now base.now caller clock attributes ≡ 0 ∷ []) }
     ensures enable { IfOk result (λ enable. enable ≡ bit_0 attributes) }
     ensures clock { IfOk result (λ enable. (clock < length plan.now.clocks) × (clock < CLOCKS)) }
@@ -128,8 +127,7 @@ pub(crate) fn check_index(rates: &Rates, index: u32) -> Result<(), Status>
 /// NOT_SUPPORTED if the platform could not notify the caller of the result of an asynchronous set
 /// (own).
 fn check_answerable(plan: &Plan, caller: u32, asynchronous: bool) -> Result<(), Status>
-    requires first { 1 ≤ caller }
-    requires last { caller ≤ length plan.now.agents }
+    requires caller { IsAgent (length plan.now.agents) caller }
     ensures { result ≡ (if (channel_of plan.now caller).one_way && asynchronous
         then Err NotSupported else Ok tt) }
 {
@@ -141,8 +139,7 @@ fn check_answerable(plan: &Plan, caller: u32, asynchronous: bool) -> Result<(), 
 
 /// DENIED if the caller may not change the clock.
 fn check_permitted(plan: &Plan, base: &BaseState, caller: u32, clock: u32) -> Result<(), Status>
-    requires first { 1 ≤ caller }
-    requires last { caller ≤ length plan.now.agents }
+    requires caller { IsAgent (length plan.now.agents) caller }
     requires clock { clock < length plan.now.clocks }
     ensures { result ≡ (if may_change plan.now base.now caller clock then Ok tt else Err Denied) }
 {

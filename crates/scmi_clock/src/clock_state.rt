@@ -1,6 +1,7 @@
 //! The rate of each clock, and whether it is enabled.
-ghost use Rattle.std.specs.Prelude.{◌≡◌, ◌≤◌, ◌<◌, ◌==◌, ◌∷◌, [], ℕ, length, true, if◌then◌else◌, IfSome};
+ghost use Rattle.std.specs.Prelude.{◌≡◌, ◌<◌, ◌==◌, ◌∷◌, [], ℕ, length, true, if◌then◌else◌, IfSome};
 ghost use Rattle.scmi_codec.specs.declared.clock_command.ClockCommand.TheVariants.{SetRate, Config};
+ghost use Rattle.scmi_plan.specs.Agent.{IsAgent};
 ghost use Rattle.scmi_plan.specs.Board.{clock_at};
 ghost use Rattle.scmi_plan.specs.declared.limits.TheConstants.{CLOCKS};
 ghost use Rattle.scmi_clock.specs.ClockReply.{clock_reply};
@@ -104,8 +105,7 @@ impl ClockState {
         load: Load,
         reply: &mut Payload,
     ) -> Option<(u32, u64, bool)>
-        requires first { 1 ≤ caller }
-        requires last { caller ≤ length plan.now.agents }
+        requires caller { IsAgent (length plan.now.agents) caller }
         ensures reply { reply.new.items
             ≡ clock_reply plan.now (view_of plan.now base.now self.old load caller) command }
         ensures later { result ≡ if_success reply.new.items (rate_later plan.now command) }
@@ -150,8 +150,7 @@ impl ClockState {
         command: ClockCommand,
         load: Load,
     ) -> Option<(u32, u64)>
-        requires first { 1 ≤ caller }
-        requires last { caller ≤ length plan.now.agents }
+        requires caller { IsAgent (length plan.now.agents) caller }
         ensures { result ≡ if_success
             (clock_reply plan.now (view_of plan.now base.now self.now load caller) command)
             (rate_now plan.now command) }
@@ -178,8 +177,7 @@ impl ClockState {
         command: ClockCommand,
         load: Load,
     ) -> Option<(u32, bool)>
-        requires first { 1 ≤ caller }
-        requires last { caller ≤ length plan.now.agents }
+        requires caller { IsAgent (length plan.now.agents) caller }
         ensures { result ≡ if_success
             (clock_reply plan.now (view_of plan.now base.now self.now load caller) command)
             (enabled_now command) }
@@ -208,8 +206,7 @@ impl ClockState {
         load: Load,
         reply: &mut Payload,
     ) -> Option<(u32, u64, bool)>
-        requires first { 1 ≤ caller }
-        requires last { caller ≤ length plan.now.agents }
+        requires caller { IsAgent (length plan.now.agents) caller }
         ensures reply { reply.new.items ≡ set_words plan.now base.now caller load flags clock rate }
         ensures later { result
             ≡ if_success reply.new.items (rate_later plan.now (SetRate flags clock rate)) }
@@ -261,8 +258,7 @@ impl ClockState {
         attributes: u32,
         reply: &mut Payload,
     )
-        requires first { 1 ≤ caller }
-        requires last { caller ≤ length plan.now.agents }
+        requires caller { IsAgent (length plan.now.agents) caller }
         ensures reply { reply.new.items ≡ config_words plan.now base.now caller clock attributes }
         ensures rates { self.new.rates ≡ self.old.rates }
         ensures enabled { HasConfigured

@@ -40,7 +40,7 @@ use Rattle.scmi_core.specs.Tables.{outbox_at, situation_in}
 use Rattle.scmi_core.specs.Value.{change_now, change_of}
 use Rattle.scmi_core.proofs.ClockSteps.{change-base, clock-stepped}
 use Rattle.scmi_core.proofs.EffectsMade.{power-effect, clock-effect}
-use Rattle.scmi_core.proofs.Steps.{no_request, of_success, power-stepped, set_of}
+use Rattle.scmi_core.proofs.Steps.{no_request, of_success, power-stepped}
 
 -- a reply by its checks that succeeded is the row, and its first check passed
 passed : (checks : List Check) → begins_with_success (reply_unless checks (0 ∷ [])) ≡ true → reply_unless checks (0 ∷ []) ≡ 0 ∷ []
@@ -296,26 +296,25 @@ effect-fits board a m s e = by (fits_channel board a m) refl where
   by true short has = (short, has)
   by false long has = absurd (cc)
 
-pub state-committed : (board : Board) (t new : Tables) (power' : PowerTables) (a : ℕ) (m : Message) (d state before : ℕ)
+pub state-committed : (board : Board) (t new : Tables) (power' : PowerTables) (a : ℕ) (m : Message) (d state : ℕ) (differs : Bool)
     → IsValid board → 1 ≤ a → a ≤ length board.agents
     → effect_in board a (Good m) (situation_in a t) ≡ Some (effect.State d state)
     → power_table.HasSet (Some (d, state)) t.power power' → power'.subscribers ≡ t.power.subscribers
-    → before ≡ state_at t.power d
+    → differs ≡ not (state == state_at t.power d)
     → SameButOutboxes (record { base = t.base; power = power'; clocks = t.clocks; pending = t.pending; outboxes = t.outboxes }) new
     → ((x : ℕ) → 1 ≤ x → x ≤ length board.agents
-    → outbox_at new x ≡ outbox_at t x ++ announced_at (record { base = t.base; power = power'; clocks = t.clocks; pending = t.pending; outboxes = t.outboxes }) x a (Some (d, state)) before)
+    → outbox_at new x ≡ outbox_at t x ++ announced_at (record { base = t.base; power = power'; clocks = t.clocks; pending = t.pending; outboxes = t.outboxes }) x a (Some (d, state)) differs)
     → HasAnswered board a (Good m) t new
-state-committed board t new power' a m d state before law lo hi has states subs was kept told =
+state-committed board t new power' a m d state differs law lo hi has states subs says kept told =
     let fit = effect-fits board a m (situation_in a t) (effect.State d state) has in
     let set = state-set board a m.header (situation_in a t) (command_of m) d state fit.1 in
     answered board a m t new (Ok (Power set.command)) fit.0 set.read set.reply
     (power-stepped board t (record { base = t.base; power = power'; clocks = t.clocks; pending = t.pending; outboxes = t.outboxes }) new power' a m.header set.command
-    (0 ∷ []) (Some (d, state)) None before law.few_domains law.few_agents lo hi (sym set.now) (sym set.later) states
+    (0 ∷ []) (Some (d, state)) None differs law.few_domains law.few_agents lo hi (sym set.now) (sym set.later) states
     (λ x e lo' hi' small.
     ap (λ l. bit_at (get_or l e 0) (x - 1) == 1) subs
     ∙ ap (λ o. unwrap_or o (is_subscribed t.power x e)) (sym (no_request set.command (d, state) x e a set.now)))
-    set.known tt
-    (subst (λ o. IfSome o (λ e. e < 32 → before ≡ state_at t.power e)) (sym (set_of set.command (d, state) set.now)) (λ small. was))
+    set.known tt says
     (record { base = refl; power = refl; clocks = refl; outboxes = refl })
     (sym (append-nil t.pending)) kept told)
 

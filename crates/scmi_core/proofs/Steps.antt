@@ -11,7 +11,6 @@ use Rattle.scmi_codec.specs.declared.command.Command.TheVariants.{Power}
 use Rattle.scmi_codec.specs.declared.power_command.PowerCommand.{PowerCommand}
 use Rattle.scmi_codec.specs.declared.power_command.PowerCommand.TheVariants as power
 use Rattle.scmi_plan.specs.Board.{Board}
-use Rattle.scmi_codec.specs.Reply.{bit_0}
 use Rattle.scmi_base.specs.Permission.{is_allowed}
 use Rattle.scmi_base.specs.declared.scope.Scope.{Scope}
 use Rattle.scmi_power.specs.PowerTable.{PowerTables, state_at, is_subscribed, set_to, set_now, set_later, notification}
@@ -28,7 +27,7 @@ use Rattle.scmi_core.specs.Pending.{acceptance, state_set, sets_by}
 use Rattle.scmi_core.specs.Value.{Change, change_now, Thing, State, Rate, Enabled, bit_value, value_in, change_of}
 use Rattle.scmi_core.specs.Outbox.{made_in, notice_in, state_changed, response_for}
 use Rattle.scmi_core.specs.Tables.{outbox_at, load_at, situation_in, value_at, IsThing, IsOfBoard}
-use Rattle.scmi_core.specs.Step.{HasStepped, SameButOutboxes, SameButPending, announced_at, set_domain}
+use Rattle.scmi_core.specs.Step.{HasStepped, SameButOutboxes, SameButPending, announced_at}
 use Rattle.scmi_core.proofs.Situations.{nothing_if, nothing-made}
 
 pick : {A : Type 0} (b : Bool) (x old : A) → unwrap_or (if b then Some x else None) old ≡ (if b then x else old)
@@ -39,8 +38,8 @@ abbrev pub state_change : ℕ → ℕ × ℕ → Change
 state_change a set = record { thing = State set.0; value = set.1; causer = a }
 
 -- a notification, said in two ways
-told-notice : (full subscribed same : Bool) (message : Message)
-    → (if same then [] else (if full && subscribed then message ∷ [] else [])) ≡ (if full then (if not same && subscribed then message ∷ [] else []) else [])
+told-notice : (full subscribed differs : Bool) (message : Message)
+    → (if differs then (if full && subscribed then message ∷ [] else []) else []) ≡ (if full then (if differs && subscribed then message ∷ [] else []) else [])
 told-notice true true true m = refl
 told-notice true true false m = refl
 told-notice true false true m = refl
@@ -113,19 +112,7 @@ later-known : (board : Board) (a : ℕ) (header : HeaderFields) (later : Option 
 later-known board a header None lo hi h = all_none (IsOfBoard board)
 later-known board a header (Some set) lo hi h = all_one (IsOfBoard board) (state_set a header set) (record { first = lo; last = hi; thing = h })
 
--- the domain that a set sets, and that it asks for no notification
-pub set_of : (c : PowerCommand) (set : ℕ × ℕ) → set_now c ≡ Some set → set_domain c ≡ Some set.0
-set_of power.Version set e = absurd (cc)
-set_of power.Attributes set e = absurd (cc)
-set_of (power.MessageAttributes message) set e = absurd (cc)
-set_of (power.DomainAttributes domain) set e = absurd (cc)
-set_of (power.Get domain) set e = absurd (cc)
-set_of (power.Notify domain enable) set e = absurd (cc)
-set_of (power.Set flags domain state) set e = by (bit_0 flags) e where
-  by : (b : Bool) → (if b then None else Some (domain, state)) ≡ Some set → Some domain ≡ Some set.0
-  by true e = absurd (cc)
-  by false e = ap (option_map (λ s. s.0)) e
-
+-- a set asks for no notification
 pub no_request : (c : PowerCommand) (set : ℕ × ℕ) (x d a : ℕ) → set_now c ≡ Some set → notification x d a c ≡ None
 no_request power.Version set x d a e = refl
 no_request power.Attributes set x d a e = refl
@@ -148,39 +135,39 @@ nothing_asked reply o old e = rw e (by (begins_with_success reply)) where
   by false = refl
 
 -- what is announced after a response
-announced-after : (t m : Tables) (left : List PendingSet) (responses : List Message) (x a d s before : ℕ)
-    → outbox_at m x ≡ outbox_at t x ++ responses → m.pending ≡ left → before ≡ state_at t.power d → is_subscribed m.power x d ≡ is_subscribed t.power x d
-    → announced_at m x a (Some (d, s)) before
+announced-after : (t m : Tables) (left : List PendingSet) (responses : List Message) (x a d s : ℕ) (differs : Bool)
+    → outbox_at m x ≡ outbox_at t x ++ responses → m.pending ≡ left → differs ≡ not (s == state_at t.power d) → is_subscribed m.power x d ≡ is_subscribed t.power x d
+    → announced_at m x a (Some (d, s)) differs
     ≡ (if nat_lt (length (outbox_at t x) + length responses + length (sets_by x left)) 16 then notice_in (situation_in x t) (state_change a (d, s)) else [])
-announced-after t m left responses x a d s before box pend was subs =
-    told-notice (nat_lt (load_at m x) 16) (is_subscribed m.power x d) (s == before) (state_changed a d s)
-    ∙ ap (λ b. if b then (if not (s == before) && is_subscribed m.power x d then state_changed a d s ∷ [] else []) else [])
+announced-after t m left responses x a d s differs box pend says subs =
+    told-notice (nat_lt (load_at m x) 16) (is_subscribed m.power x d) differs (state_changed a d s)
+    ∙ ap (λ b. if b then (if differs && is_subscribed m.power x d then state_changed a d s ∷ [] else []) else [])
     (ap (λ l. nat_lt (l + length (sets_by x m.pending)) 16) (ap length box ∙ length-append (outbox_at t x) responses) ∙ ap (λ p. nat_lt (length (outbox_at t x) + length responses + length (sets_by x p)) 16) pend)
-    ∙ ap (λ v. if nat_lt (length (outbox_at t x) + length responses + length (sets_by x left)) 16 then (if not (s == v) && is_subscribed m.power x d then state_changed a d s ∷ [] else []) else []) was
+    ∙ ap (λ v. if nat_lt (length (outbox_at t x) + length responses + length (sets_by x left)) 16 then (if v && is_subscribed m.power x d then state_changed a d s ∷ [] else []) else []) says
     ∙ ap (λ b. if nat_lt (length (outbox_at t x) + length responses + length (sets_by x left)) 16 then (if not (s == state_at t.power d) && b then state_changed a d s ∷ [] else []) else []) subs
 
 -- what is announced is what is made, if no response is
-pub announced-made : (t n : Tables) (left : List PendingSet) (x a : ℕ) (changed : Option (ℕ × ℕ)) (before : ℕ) → n.outboxes ≡ t.outboxes → n.pending ≡ left
-    → ((set : ℕ × ℕ) → changed ≡ Some set → (before ≡ state_at t.power set.0) × (is_subscribed n.power x set.0 ≡ is_subscribed t.power x set.0))
-    → announced_at n x a changed before ≡ made_in x (situation_in x t) left None (option_map (state_change a) changed)
-announced-made t n left x a None before boxes pend facts = sym (nothing-made x (situation_in x t) left)
-announced-made t n left x a (Some set) before boxes pend facts =
+pub announced-made : (t n : Tables) (left : List PendingSet) (x a : ℕ) (changed : Option (ℕ × ℕ)) (differs : Bool) → n.outboxes ≡ t.outboxes → n.pending ≡ left
+    → ((set : ℕ × ℕ) → changed ≡ Some set → (differs ≡ not (set.1 == state_at t.power set.0)) × (is_subscribed n.power x set.0 ≡ is_subscribed t.power x set.0))
+    → announced_at n x a changed differs ≡ made_in x (situation_in x t) left None (option_map (state_change a) changed)
+announced-made t n left x a None differs boxes pend facts = sym (nothing-made x (situation_in x t) left)
+announced-made t n left x a (Some set) differs boxes pend facts =
     let fact = facts set refl in
-    announced-after t n left [] x a set.0 set.1 before (same_box t n x boxes ∙ sym (append-nil (outbox_at t x))) pend fact.0 fact.1
+    announced-after t n left [] x a set.0 set.1 differs (same_box t n x boxes ∙ sym (append-nil (outbox_at t x))) pend fact.0 fact.1
 
-pub power-stepped : (board : Board) (t n new : Tables) (power' : PowerTables) (a : ℕ) (header : HeaderFields) (c : PowerCommand) (reply : List ℕ) (changed later : Option (ℕ × ℕ)) (before : ℕ)
+pub power-stepped : (board : Board) (t n new : Tables) (power' : PowerTables) (a : ℕ) (header : HeaderFields) (c : PowerCommand) (reply : List ℕ) (changed later : Option (ℕ × ℕ)) (differs : Bool)
     → length board.domains ≤ 32 → length board.agents ≤ 8 → 1 ≤ a → a ≤ length board.agents
     → changed ≡ if_success reply (set_now c) → later ≡ if_success reply (set_later c)
     → ((d : ℕ) → d < 32 → state_at power' d ≡ set_to changed d (state_at t.power d))
     → ((x d : ℕ) → 1 ≤ x → x ≤ 8 → d < 32 → is_subscribed power' x d ≡ unwrap_or (if_success reply (notification x d a c)) (is_subscribed t.power x d))
     → IfSome changed (λ set. set.0 < length board.domains) → IfSome later (λ set. set.0 < length board.domains)
-    → IfSome (set_domain c) (λ d. d < 32 → before ≡ state_at t.power d)
+    → IfSome changed (λ set. differs ≡ not (set.1 == state_at t.power set.0))
     → SameButPending (record { base = t.base; power = power'; clocks = t.clocks; pending = t.pending; outboxes = t.outboxes }) n
     → n.pending ≡ t.pending ++ option_to_list (option_map (state_set a header) later)
     → SameButOutboxes n new
-    → ((x : ℕ) → 1 ≤ x → x ≤ length board.agents → outbox_at new x ≡ outbox_at n x ++ announced_at n x a changed before)
+    → ((x : ℕ) → 1 ≤ x → x ≤ length board.agents → outbox_at new x ≡ outbox_at n x ++ announced_at n x a changed differs)
     → HasStepped board t (success_of a header (Ok (Power c)) reply) None new
-power-stepped board t n new power' a header c reply changed later before few few_agents lo hi is_changed is_later states subs known known_later was kept1 pend1 kept2 told2 =
+power-stepped board t n new power' a header c reply changed later differs few few_agents lo hi is_changed is_later states subs known known_later says kept1 pend1 kept2 told2 =
     let change : change_of board (success_of a header (Ok (Power c)) reply) None ≡ option_map (state_change a) changed = change-power board a header c reply ∙ ap (option_map (state_change a)) (sym is_changed) in
     let pend : new.pending ≡ t.pending ++ option_to_list (option_map (state_set a header) later) = kept2.pending ∙ pend1 in
     record {
@@ -192,9 +179,9 @@ power-stepped board t n new power' a header c reply changed later before few few
       known_sets = λ all. subst (All (IsOfBoard board)) (sym pend) (All-append (IsOfBoard board) t.pending (option_to_list (option_map (state_set a header) later)) all (later-known board a header later lo hi known_later));
       outboxes = λ x lo' hi'.
           told2 x lo' hi'
-          ∙ ap (λ b. b ++ announced_at n x a changed before) (same_box t n x kept1.outboxes)
+          ∙ ap (λ b. b ++ announced_at n x a changed differs) (same_box t n x kept1.outboxes)
           ∙ ap (λ b. outbox_at t x ++ b)
-          (announced-made t n new.pending x a changed before kept1.outboxes (sym (kept2.pending)) (facts x lo' hi')
+          (announced-made t n new.pending x a changed differs kept1.outboxes (sym (kept2.pending)) (facts x lo' hi')
           ∙ ap (λ o. made_in x (situation_in x t) new.pending None o) (sym change));
     } where
       values : (x : Thing) → IsThing board x → value_at new x ≡ unwrap_or (option_and_then (value_in x) (option_map (state_change a) changed)) (value_at t x)
@@ -202,30 +189,29 @@ power-stepped board t n new power' a header c reply changed later before few few
       values (Rate k) within = ap (λ p. rate_at p k) (kept2.clocks ∙ kept1.clocks) ∙ rate-value a k (rate_at t.clocks k) changed
       values (Enabled k) within = ap (λ p. bit_value (enabled_at p k)) (kept2.clocks ∙ kept1.clocks) ∙ enabled-value a k (bit_value (enabled_at t.clocks k)) changed
 
-      facts : (x : ℕ) → 1 ≤ x → x ≤ length board.agents → (set : ℕ × ℕ) → changed ≡ Some set → (before ≡ state_at t.power set.0) × (is_subscribed n.power x set.0 ≡ is_subscribed t.power x set.0)
+      facts : (x : ℕ) → 1 ≤ x → x ≤ length board.agents → (set : ℕ × ℕ) → changed ≡ Some set → (differs ≡ not (set.1 == state_at t.power set.0)) × (is_subscribed n.power x set.0 ≡ is_subscribed t.power x set.0)
       facts x lo' hi' set e =
           let now : set_now c ≡ Some set = of_success reply (set_now c) set (sym e ∙ is_changed) in
-          let domain : set_domain c ≡ Some set.0 = set_of c set now in
           let inside : set.0 < length board.domains = subst (λ o. IfSome o (λ s. s.0 < length board.domains)) e known in (
-            subst (λ o. IfSome o (λ d. d < 32 → before ≡ state_at t.power d)) domain was (omega (arith, few)),
+            subst (λ o. IfSome o (λ s. differs ≡ not (s.1 == state_at t.power s.0))) e says,
             ap (λ p. is_subscribed p x set.0) kept1.power ∙ subs x set.0 lo' (omega (arith, few_agents)) (omega (arith, few)) ∙ nothing_asked reply (notification x set.0 a c) (is_subscribed t.power x set.0) (no_request c set x set.0 a now),
           )
 
 -- COMPLETION
 
-pub state-completed : (board : Board) (t m new : Tables) (power' : PowerTables) (left : List PendingSet) (a : ℕ) (header : HeaderFields) (wanted : Bool) (d s before : ℕ)
+pub state-completed : (board : Board) (t m new : Tables) (power' : PowerTables) (left : List PendingSet) (a : ℕ) (header : HeaderFields) (wanted : Bool) (d s : ℕ) (differs : Bool)
     → length board.domains ≤ 32 → 1 ≤ a → a ≤ length board.agents → d < length board.domains
     → slice_get t.pending 0 ≡ Some (record { agent = a; setting = setting.State d s; header = header; wanted = wanted })
     → left ≡ drop 1 t.pending
     → ((e : ℕ) → e < 32 → state_at power' e ≡ (if d == e then s else state_at t.power e))
     → power'.subscribers ≡ t.power.subscribers
-    → before ≡ state_at t.power d
+    → differs ≡ not (s == state_at t.power d)
     → SameButOutboxes (record { base = t.base; power = power'; clocks = t.clocks; pending = left; outboxes = t.outboxes }) m
     → ((x : ℕ) → 1 ≤ x → outbox_at m x ≡ outbox_at t x ++ response_for x (record { agent = a; setting = setting.State d s; header = header; wanted = wanted }))
     → SameButOutboxes m new
-    → ((x : ℕ) → 1 ≤ x → x ≤ length board.agents → outbox_at new x ≡ outbox_at m x ++ announced_at m x a (Some (d, s)) before)
+    → ((x : ℕ) → 1 ≤ x → x ≤ length board.agents → outbox_at new x ≡ outbox_at m x ++ announced_at m x a (Some (d, s)) differs)
     → HasStepped board t None (slice_get t.pending 0) new
-state-completed board t m new power' left a header wanted d s before few lo hi within first rest states subs was kept1 resp kept2 told =
+state-completed board t m new power' left a header wanted d s differs few lo hi within first rest states subs says kept1 resp kept2 told =
     let done : PendingSet = record { agent = a; setting = setting.State d s; header = header; wanted = wanted } in
     let pend : new.pending ≡ drop 1 t.pending = (kept2.pending ∙ kept1.pending) ∙ rest in
     subst (λ o. HasStepped board t None o new) (sym first) (record {
@@ -237,10 +223,10 @@ state-completed board t m new power' left a header wanted d s before few lo hi w
       known_sets = λ all. subst (All (IsOfBoard board)) (sym pend) (All-drop (IsOfBoard board) 1 t.pending all);
       outboxes = λ x lo' hi'.
           told x lo' hi'
-          ∙ ap (λ b. b ++ announced_at m x a (Some (d, s)) before) (resp x lo')
-          ∙ append_assoc (outbox_at t x) (response_for x done) (announced_at m x a (Some (d, s)) before)
+          ∙ ap (λ b. b ++ announced_at m x a (Some (d, s)) differs) (resp x lo')
+          ∙ append_assoc (outbox_at t x) (response_for x done) (announced_at m x a (Some (d, s)) differs)
           ∙ ap (λ ys. outbox_at t x ++ (response_for x done ++ ys))
-          (announced-after t m new.pending (response_for x done) x a d s before (resp x lo') (sym (kept2.pending)) was (ap (λ p. is_subscribed p x d) kept1.power ∙ same_subs x d));
+          (announced-after t m new.pending (response_for x done) x a d s differs (resp x lo') (sym (kept2.pending)) says (ap (λ p. is_subscribed p x d) kept1.power ∙ same_subs x d));
     }) where
       same_subs : (x e : ℕ) → is_subscribed power' x e ≡ is_subscribed t.power x e
       same_subs x e = ap (λ l. bit_at (get_or l e 0) (x - 1) == 1) subs

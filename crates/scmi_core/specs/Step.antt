@@ -1,5 +1,5 @@
 -- What an event leaves of the tables.
-use Rattle.std.specs.Prelude.{◌≡◌, ℕ, ◌==◌, ◌&&◌, nat_lt, if◌then◌else◌, List, [], ◌∷◌, ◌++◌, length, drop, slice_get, Option, Some, None, unwrap_or, Result, ◌<◌, ◌≤◌, IfSome, ◌≢◌, map}
+use Rattle.std.specs.Prelude.{◌≡◌, ℕ, ◌==◌, ◌&&◌, nat_lt, Bool, if◌then◌else◌, List, [], ◌∷◌, ◌++◌, length, drop, slice_get, Option, Some, None, unwrap_or, Result, ◌<◌, ◌≤◌, IfSome, ◌≢◌, map}
 use Rattle.std.specs.Option.{option_map_or, option_and_then, option_to_list}
 use Rattle.std.specs.List.{All}
 use Rattle.scmi_codec.specs.Header.{HeaderFields}
@@ -106,5 +106,5 @@ abbrev pub told_at : Tables → ℕ → ℕ → ℕ → ℕ → List Message
 told_at t a causer d state = if nat_lt (load_at t a) OUTBOX_ROOM && is_subscribed t.power a d then state_changed causer d state ∷ [] else []
 
 -- the notification of a set to agent a, if the state is another than before
-abbrev pub announced_at : Tables → ℕ → ℕ → Option (ℕ × ℕ) → ℕ → List Message
-announced_at t a causer changed before = option_map_or (λ set. if set.1 == before then [] else told_at t a causer set.0 set.1) changed []
+abbrev pub announced_at : Tables → ℕ → ℕ → Option (ℕ × ℕ) → Bool → List Message
+announced_at t a causer changed differs = option_map_or (λ set. if differs then told_at t a causer set.0 set.1 else []) changed []

@@ -1,5 +1,6 @@
 //! What an agent's channel has room for.
-ghost use Rattle.std.specs.Prelude.{◌≡◌, ◌≤◌, length};
+ghost use Rattle.std.specs.Prelude.{◌≡◌, length};
+ghost use Rattle.scmi_plan.specs.Agent.{IsAgent};
 ghost use Rattle.scmi_core.specs.Reply.{fits_channel};
 
 use scmi_codec::Message;
@@ -7,8 +8,7 @@ use scmi_plan::Plan;
 
 /// Whether a message of an agent has no more payload words than its channel.
 pub(crate) fn fits_channel(plan: &Plan, agent: u32, message: &Message) -> bool
-    requires first { 1 ≤ agent }
-    requires last { agent ≤ length plan.now.agents }
+    requires agent { IsAgent (length plan.now.agents) agent }
     ensures { result ≡ fits_channel plan.now agent message.now }
 {
     message.payload.len() <= plan.channel(agent).words as usize

@@ -1,7 +1,8 @@
 //! What is left of an effect that the hardware made.
-ghost use Rattle.std.specs.Prelude.{◌≡◌, ◌≤◌, length, Some};
+ghost use Rattle.std.specs.Prelude.{◌≡◌, length, Some};
 ghost use Rattle.scmi_codec.specs.declared.frame.Answer.TheVariants.{Reply};
 ghost use Rattle.scmi_codec.specs.declared.frame.Frame.TheVariants.{Good};
+ghost use Rattle.scmi_plan.specs.Agent.{IsAgent};
 ghost use Rattle.scmi_plan.specs.Plan.{IsValid};
 ghost use Rattle.scmi_core.specs.Effect.{effect_in};
 ghost use Rattle.scmi_core.specs.History.{answer_with};
@@ -26,8 +27,7 @@ impl Tables {
         effect: Effect,
         reply: &mut Message,
     ) -> Answered
-        requires first { 1 ≤ agent }
-        requires last { agent ≤ length plan.now.agents }
+        requires agent { IsAgent (length plan.now.agents) agent }
         requires valid { IsValid plan.now }
         requires effect { effect_in plan.now agent frame.now (situation_in agent self.old)
             ≡ Some effect }
@@ -54,8 +54,7 @@ impl Tables {
         effect: Effect,
         reply: &mut Message,
     )
-        requires first { 1 ≤ agent }
-        requires last { agent ≤ length plan.now.agents }
+        requires agent { IsAgent (length plan.now.agents) agent }
         requires valid { IsValid plan.now }
         requires effect { effect_in plan.now agent (Good message.now) (situation_in agent self.old)
             ≡ Some effect }
@@ -68,9 +67,8 @@ impl Tables {
         match effect {
             Effect::State { domain, state } => {
                 let agents = plan.agents();
-                let before = self.power.state(domain);
-                self.power.complete(domain, state);
-                self.announce(agents, agent, Some((domain, state)), before);
+                let differs = self.power.complete(domain, state);
+                self.announce(agents, agent, Some((domain, state)), differs);
             }
             Effect::Rate { clock, rate } => self.clocks.complete(clock, rate),
             Effect::Enabled { clock, enabled } => self.clocks.set_enabled(clock, enabled),

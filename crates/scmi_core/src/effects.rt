@@ -1,8 +1,9 @@
 //! What a command or a completion is to change of the hardware.
-ghost use Rattle.std.specs.Prelude.{◌≡◌, ◌≤◌, ◌==◌, ◌&&◌, ◌||◌, length, None, Ok, option_map};
+ghost use Rattle.std.specs.Prelude.{◌≡◌, ◌==◌, ◌&&◌, ◌||◌, length, None, Ok, option_map};
 ghost use Rattle.scmi_codec.specs.Payload.{if_success};
 ghost use Rattle.scmi_codec.specs.declared.command.Command.TheVariants.{Power, Clock};
 ghost use Rattle.scmi_codec.specs.declared.frame.Frame.TheVariants.{Good};
+ghost use Rattle.scmi_plan.specs.Agent.{IsAgent};
 ghost use Rattle.scmi_plan.specs.Plan.{IsValid};
 ghost use Rattle.scmi_power.specs.PowerTable.{set_now};
 ghost use Rattle.scmi_clock.specs.ClockTable.{rate_now, enabled_now};
@@ -23,8 +24,7 @@ impl Tables {
     /// read.
     #[inline(always)]
     pub fn effect_of(&self, plan: &Plan, agent: u32, frame: &Frame) -> Option<Effect>
-        requires first { 1 ≤ agent }
-        requires last { agent ≤ length plan.now.agents }
+        requires agent { IsAgent (length plan.now.agents) agent }
         requires valid { IsValid plan.now }
         ensures { result ≡ effect_in plan.now agent frame.now (situation_in agent self.now) }
     {
@@ -39,8 +39,7 @@ impl Tables {
     /// As `effect_of`, for a message; one that is longer than the agent's channel has none.
     #[inline(never)]
     fn message_effect(&self, plan: &Plan, agent: u32, message: &Message) -> Option<Effect>
-        requires first { 1 ≤ agent }
-        requires last { agent ≤ length plan.now.agents }
+        requires agent { IsAgent (length plan.now.agents) agent }
         requires valid { IsValid plan.now }
         ensures { result
             ≡ effect_in plan.now agent (Good message.now) (situation_in agent self.now) }
@@ -54,8 +53,7 @@ impl Tables {
 
     /// The effect of a message of an agent that fits its channel, if it has one.
     fn read_effect(&self, plan: &Plan, agent: u32, message: &Message) -> Option<Effect>
-        requires first { 1 ≤ agent }
-        requires last { agent ≤ length plan.now.agents }
+        requires agent { IsAgent (length plan.now.agents) agent }
         requires valid { IsValid plan.now }
         ensures { result
             ≡ effect_read plan.now agent message.now (situation_in agent self.now) }
@@ -69,8 +67,7 @@ impl Tables {
 
     /// The effect of a command of the power domain protocol, if it has one.
     fn power_effect(&self, plan: &Plan, agent: u32, command: PowerCommand) -> Option<Effect>
-        requires first { 1 ≤ agent }
-        requires last { agent ≤ length plan.now.agents }
+        requires agent { IsAgent (length plan.now.agents) agent }
         requires valid { IsValid plan.now }
         ensures { result ≡ option_map state_effect
             (if_success
@@ -86,8 +83,7 @@ impl Tables {
 
     /// The effect of a command of the clock protocol, if it has one.
     fn clock_effect(&self, plan: &Plan, agent: u32, command: ClockCommand) -> Option<Effect>
-        requires first { 1 ≤ agent }
-        requires last { agent ≤ length plan.now.agents }
+        requires agent { IsAgent (length plan.now.agents) agent }
         requires valid { IsValid plan.now }
         ensures { result ≡ clock_effect
             (if_success

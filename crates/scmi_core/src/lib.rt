@@ -44,6 +44,7 @@ pub use event::Event;
 pub use events::Events;
 pub use hardware::{Fault, Hardware, NoHardware};
 pub use legal_history::every_legal_history;
+pub use p2a_message::failed_response;
 pub use pending_set::{PendingSet, Setting};
 pub use platform::Platform;
 pub use platform_core::Core;

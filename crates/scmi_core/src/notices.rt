@@ -1,5 +1,6 @@
 //! The notifications to subscribers of a domain's state.
 ghost use Rattle.std.specs.Prelude.{◌≡◌, ◌≢◌, ◌≤◌, ◌<◌, ℕ, IfSome};
+ghost use Rattle.scmi_plan.specs.Agent.{IsAgent};
 ghost use Rattle.scmi_plan.specs.declared.limits.TheConstants.{AGENTS, DOMAINS};
 ghost use Rattle.scmi_power.specs.PowerTable.{is_subscribed};
 ghost use Rattle.scmi_core.specs.Outboxes.{Gets, HasSameOutbox};
@@ -12,15 +13,21 @@ use crate::tables::Tables;
 impl Tables {
     /// Notifies subscribers of a domain's state that was set, if it differs from the one before.
     #[inline(always)]
-    pub fn announce(&mut self, agents: u32, causer: u32, changed: Option<(u32, u32)>, before: u32)
+    pub fn announce(
+        &mut self,
+        agents: u32,
+        causer: u32,
+        changed: Option<(u32, u32)>,
+        differs: bool,
+    )
         requires agents { agents ≤ AGENTS }
         requires domain { IfSome changed (λ set. set.0 < DOMAINS) }
         ensures rest { SameButOutboxes self.old self.new }
         ensures told { (a : ℕ) → 1 ≤ a → a ≤ agents → Gets self.old.outboxes self.new.outboxes a
-            (announced_at self.old a causer changed before) }
+            (announced_at self.old a causer changed differs) }
     {
         if let Some((domain, state)) = changed {
-            if state != before {
+            if differs {
                 self.notify(agents, causer, domain, state);
             }
         }
@@ -41,8 +48,7 @@ impl Tables {
 
     /// Notifies an agent of a domain's new state, if it asked for that and its outbox has room.
     fn tell(&mut self, agent: u32, causer: u32, domain: u32, state: u32)
-        requires first { 1 ≤ agent }
-        requires last { agent ≤ AGENTS }
+        requires agent { IsAgent AGENTS agent }
         requires domain { domain < DOMAINS }
         ensures told { Gets self.old.outboxes self.new.outboxes agent
             (told_at self.old agent causer domain state) }
@@ -58,8 +64,7 @@ impl Tables {
 
     /// Whether an agent is notified of a domain's changes.
     pub fn is_notified(&self, agent: u32, domain: u32) -> bool
-        requires first { 1 ≤ agent }
-        requires last { agent ≤ AGENTS }
+        requires agent { IsAgent AGENTS agent }
         requires domain { domain < DOMAINS }
         ensures { result ≡ is_subscribed self.now.power agent domain }
     {
@@ -68,8 +73,7 @@ impl Tables {
 
     /// The length of an agent's outbox and its pending sets.
     fn load(&self, agent: u32) -> usize
-        requires first { 1 ≤ agent }
-        requires last { agent ≤ AGENTS }
+        requires agent { IsAgent AGENTS agent }
         ensures { result ≡ load_at self.now agent }
     {
         self.pending.load(agent, self.outboxes.waiting(agent))

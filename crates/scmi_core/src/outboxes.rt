@@ -1,6 +1,7 @@
 //! The messages that the platform has for each agent.
 ghost use Rattle.std.specs.Prelude.{◌≡◌, ◌≢◌, ◌↔◌, ◌≤◌, ◌<◌, ◌∷◌, [], ℕ, length, true, false, drop, slice_get};
 ghost use Rattle.std.specs.Option.{option_copied};
+ghost use Rattle.scmi_plan.specs.Agent.{IsAgent};
 ghost use Rattle.scmi_plan.specs.declared.limits.TheConstants.{AGENTS};
 ghost use Rattle.scmi_core.specs.Outbox.{failed_response_for, message_with, response_for};
 ghost use Rattle.scmi_core.specs.Outboxes.{Gets, HasSameOutbox, outbox_in};
@@ -60,8 +61,7 @@ impl Outboxes {
 
     /// The first message of an agent's outbox.
     pub fn first(&self, agent: u32) -> Option<&Message>
-        requires first { 1 ≤ agent }
-        requires last { agent ≤ AGENTS }
+        requires agent { IsAgent AGENTS agent }
         ensures { option_copied result ≡ slice_get (outbox_in self.now agent) 0 }
     {
         self.each[agent as usize - 1].first()
@@ -69,8 +69,7 @@ impl Outboxes {
 
     /// Whether an agent's outbox is empty.
     pub fn is_empty(&self, agent: u32) -> bool
-        requires first { 1 ≤ agent }
-        requires last { agent ≤ AGENTS }
+        requires agent { IsAgent AGENTS agent }
         ensures empty { (result ≡ true) ↔ (outbox_in self.now agent ≡ []) }
         ensures some { result ≡ false → 0 < length (outbox_in self.now agent) }
     {
@@ -79,8 +78,7 @@ impl Outboxes {
 
     /// How many messages wait in an agent's outbox.
     pub fn waiting(&self, agent: u32) -> usize
-        requires first { 1 ≤ agent }
-        requires last { agent ≤ AGENTS }
+        requires agent { IsAgent AGENTS agent }
         ensures count { result ≡ length (outbox_in self.now agent) }
         ensures few { result ≤ OUTBOX_ROOM }
     {
@@ -89,8 +87,7 @@ impl Outboxes {
 
     /// Takes the first message off an agent's outbox.
     pub fn take(&mut self, agent: u32)
-        requires first { 1 ≤ agent }
-        requires last { agent ≤ AGENTS }
+        requires agent { IsAgent AGENTS agent }
         requires some { 0 < length (outbox_in self.old agent) }
         ensures taken { outbox_in self.new agent ≡ drop 1 (outbox_in self.old agent) }
         ensures others { (a : ℕ) → 1 ≤ a → a ≢ agent → HasSameOutbox self.old self.new a }
@@ -100,8 +97,7 @@ impl Outboxes {
 
     /// Takes all messages off an agent's outbox.
     pub fn clear(&mut self, agent: u32)
-        requires first { 1 ≤ agent }
-        requires last { agent ≤ AGENTS }
+        requires agent { IsAgent AGENTS agent }
         ensures emptied { outbox_in self.new agent ≡ [] }
         ensures others { (a : ℕ) → 1 ≤ a → a ≢ agent → HasSameOutbox self.old self.new a }
     {
@@ -110,8 +106,7 @@ impl Outboxes {
 
     /// Puts the delayed response to a set into its agent's outbox, if it is wanted.
     pub fn respond(&mut self, agent: u32, setting: Setting, header: Header, wanted: bool)
-        requires first { 1 ≤ agent }
-        requires last { agent ≤ AGENTS }
+        requires agent { IsAgent AGENTS agent }
         requires room { length (outbox_in self.old agent) < OUTBOX_ROOM }
         ensures { (a : ℕ) → 1 ≤ a → Gets self.old self.new a
             (response_for a (record {
@@ -128,8 +123,7 @@ impl Outboxes {
 
     /// Puts the delayed response to a set that failed into its agent's outbox, if it is wanted.
     pub fn respond_failed(&mut self, agent: u32, setting: Setting, header: Header, wanted: bool)
-        requires first { 1 ≤ agent }
-        requires last { agent ≤ AGENTS }
+        requires agent { IsAgent AGENTS agent }
         requires room { length (outbox_in self.old agent) < OUTBOX_ROOM }
         ensures { (a : ℕ) → 1 ≤ a → Gets self.old self.new a
             (failed_response_for a (record {
@@ -147,8 +141,7 @@ impl Outboxes {
 
     /// Puts a message of this header and these payload words into an agent's outbox.
     pub fn put(&mut self, agent: u32, header: Header, words: &[u32])
-        requires first { 1 ≤ agent }
-        requires last { agent ≤ AGENTS }
+        requires agent { IsAgent AGENTS agent }
         requires room { length (outbox_in self.old agent) < OUTBOX_ROOM }
         requires few { length words.now ≤ SLOT_WORDS }
         ensures put { Gets self.old self.new agent (message_with header words.now ∷ []) }

@@ -1,21 +1,22 @@
 //! The messages of the platform to agents.
 ghost use Rattle.std.specs.Prelude.{◌≡◌, ◌≢◌, ◌≤◌, ◌<◌, ◌∷◌, [], ℕ, length};
+ghost use Rattle.scmi_plan.specs.Agent.{IsAgent};
 ghost use Rattle.scmi_plan.specs.declared.limits.TheConstants.{AGENTS};
-ghost use Rattle.scmi_core.specs.Outbox.{failed_response_to, state_changed, response_to};
+ghost use Rattle.scmi_core.specs.Outbox.{failed_response_to, failed_words, state_changed, response_to};
 ghost use Rattle.scmi_core.specs.Outboxes.{Gets, HasSameOutbox, outbox_in};
 ghost use Rattle.scmi_core.specs.declared.outboxes.TheConstants.{OUTBOX_ROOM};
 
 use crate::outboxes::Outboxes;
 use crate::pending_set::Setting;
 use scmi_codec::{
-    DELAYED_RESPONSE, Header, NOTIFICATION, POWER_PROTOCOL, SUCCESS, Status, rate_words,
+    DELAYED_RESPONSE, Header, Message, NOTIFICATION, POWER_PROTOCOL, SUCCESS, Status, payload_of,
+    rate_words,
 };
 
 impl Outboxes {
     /// Puts the notification that an agent set a domain to a state into an agent's outbox.
     pub fn put_state_changed(&mut self, agent: u32, causer: u32, domain: u32, state: u32)
-        requires first { 1 ≤ agent }
-        requires last { agent ≤ AGENTS }
+        requires agent { IsAgent AGENTS agent }
         requires room { length (outbox_in self.old agent) < OUTBOX_ROOM }
         ensures put { Gets self.old self.new agent (state_changed causer domain state ∷ []) }
         ensures others { (a : ℕ) → 1 ≤ a → a ≢ agent → HasSameOutbox self.old self.new a }
@@ -32,8 +33,7 @@ impl Outboxes {
 
     /// Puts the response to a set that is complete into an agent's outbox.
     pub fn put_response(&mut self, agent: u32, header: Header, setting: Setting)
-        requires first { 1 ≤ agent }
-        requires last { agent ≤ AGENTS }
+        requires agent { IsAgent AGENTS agent }
         requires room { length (outbox_in self.old agent) < OUTBOX_ROOM }
         ensures put { Gets self.old self.new agent (response_to header setting ∷ []) }
         ensures others { (a : ℕ) → 1 ≤ a → a ≢ agent → HasSameOutbox self.old self.new a }
@@ -50,18 +50,30 @@ impl Outboxes {
 
     /// Puts the response to a set whose change the hardware refused into an agent's outbox.
     pub fn put_failed_response(&mut self, agent: u32, header: Header)
-        requires first { 1 ≤ agent }
-        requires last { agent ≤ AGENTS }
+        requires agent { IsAgent AGENTS agent }
         requires room { length (outbox_in self.old agent) < OUTBOX_ROOM }
         ensures put { Gets self.old self.new agent (failed_response_to header ∷ []) }
         ensures others { (a : ℕ) → 1 ≤ a → a ≢ agent → HasSameOutbox self.old self.new a }
     {
-        self.put(
-            agent,
-            delayed_header(header),
-            &[Status::HardwareError.word()],
-        );
+        self.put(agent, delayed_header(header), &failed_words());
     }
+}
+
+/// The response to a set of this header whose change the hardware refused.
+pub fn failed_response(header: Header) -> Message
+    ensures { result ≡ failed_response_to header }
+{
+    Message {
+        header: delayed_header(header),
+        payload: payload_of(&failed_words()),
+    }
+}
+
+/// The payload words of the response to a set whose change the hardware refused: its status alone.
+fn failed_words() -> [u32; 1]
+    ensures { result ≡ failed_words }
+{
+    [Status::HardwareError.word()]
 }
 
 /// The header of the delayed response to a command of this header.

@@ -144,8 +144,7 @@ impl Platform {
 
     /// Whether an agent's outbox is empty.
     pub(crate) fn is_empty(&self, agent: u32) -> bool
-        requires first { 1 ≤ agent }
-        requires last { agent ≤ length self.now.board.agents }
+        requires agent { IsAgent (length self.now.board.agents) agent }
         ensures empty { (result ≡ true) ↔ (outbox_at self.now.tables agent ≡ []) }
         ensures some { result ≡ false → 0 < length (outbox_at self.now.tables agent) }
     {
@@ -155,8 +154,7 @@ impl Platform {
 
     /// Takes the first message off an agent's outbox.
     pub(crate) fn take(&mut self, agent: u32)
-        requires first { 1 ≤ agent }
-        requires last { agent ≤ length self.now.board.agents }
+        requires agent { IsAgent (length self.now.board.agents) agent }
         requires some { 0 < length (outbox_at self.now.tables agent) }
         ensures valid { IsValid self.old.board }
         ensures event { MovesOn self.old (Sent agent) self.new }
@@ -168,8 +166,7 @@ impl Platform {
 
     /// Executes a frame of an agent of the board.
     pub(crate) fn execute(&mut self, agent: u32, frame: &Frame, reply: &mut Message) -> Answered
-        requires first { 1 ≤ agent }
-        requires last { agent ≤ length self.now.board.agents }
+        requires agent { IsAgent (length self.now.board.agents) agent }
         ensures valid { IsValid self.old.board }
         ensures answer { (h : List Event) → StandsAfter self.old h
             → answer_with result reply.new ≡ answer_to self.old.board agent frame.now h }

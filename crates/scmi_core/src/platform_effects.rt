@@ -1,5 +1,5 @@
 //! Changes of hardware: what they are to be, and what is left if the hardware refuses them.
-ghost use Rattle.std.specs.Prelude.{◌≡◌, ◌≢◌, ◌≤◌, ◌<◌, ◌↔◌, List, length, true, false, None, IfOk, IfSome, OnOk, OnErr, IfErr, Err};
+ghost use Rattle.std.specs.Prelude.{◌≡◌, ◌≢◌, ◌<◌, ◌↔◌, List, length, true, false, None, IfOk, IfSome, OnOk, OnErr, IfErr, Err};
 ghost use Rattle.scmi_codec.specs.declared.frame.Frame.TheVariants.{Good};
 ghost use Rattle.scmi_codec.specs.declared.frame.Answer.TheVariants.{Reply};
 ghost use Rattle.scmi_plan.specs.Plan.{IsValid};
@@ -92,8 +92,7 @@ impl Platform {
     /// What the command of an agent of the board is to change of the hardware.
     #[inline(always)]
     pub(crate) fn effect_in(&self, agent: u32, frame: &Frame) -> Option<Effect>
-        requires first { 1 ≤ agent }
-        requires last { agent ≤ length self.now.board.agents }
+        requires agent { IsAgent (length self.now.board.agents) agent }
         ensures valid { IsValid self.now.board }
         ensures history { HasHistory self.now }
         ensures effect { (h : List Event) → StandsAfter self.now h
@@ -105,8 +104,7 @@ impl Platform {
 
     /// The message of a frame of an agent of the board, if it is to change the hardware.
     pub(crate) fn changing<'a>(&self, agent: u32, frame: &'a Frame) -> Option<&'a Message>
-        requires first { 1 ≤ agent }
-        requires last { agent ≤ length self.now.board.agents }
+        requires agent { IsAgent (length self.now.board.agents) agent }
         ensures none { (h : List Event) → StandsAfter self.now h
             → (result ≡ None) ↔ (effect_after self.now.board h (Called agent frame.now) ≡ None) }
         ensures message { IfSome result (λ message. frame.now ≡ Good message.now) }

@@ -1,5 +1,5 @@
 //! A platform beside the hardware that it switches.
-ghost use Rattle.std.specs.Prelude.{◌≡◌, ◌≢◌, ◌<◌, ◌≤◌, ◌↔◌, List, length, true, false, None, Some, IfOk, OnErr, IfErr, Err};
+ghost use Rattle.std.specs.Prelude.{◌≡◌, ◌≢◌, ◌<◌, ◌↔◌, List, length, true, false, None, Some, IfOk, OnErr, IfErr, Err};
 ghost use Rattle.scmi_codec.specs.declared.frame.Answer.TheVariants.{Reply};
 ghost use Rattle.scmi_plan.specs.Agent.{IsAgent, IsNoAgent};
 ghost use Rattle.scmi_plan.specs.Plan.{IsValid};
@@ -78,8 +78,7 @@ impl Platform {
         frame: &Frame,
         reply: &mut Message,
     ) -> Answered
-        requires first { 1 ≤ agent }
-        requires last { agent ≤ length self.old.board.agents }
+        requires agent { IsAgent (length self.old.board.agents) agent }
         ensures executes { ExecutesThere agent frame.now (answer_with result reply.new)
             self.old (H.applied hardware.old) self.new (H.applied hardware.new) }
         ensures obeyed { H.REFUSES ≡ false
@@ -122,8 +121,7 @@ impl Platform {
         effect: Effect,
         reply: &mut Message,
     ) -> Answered
-        requires first { 1 ≤ agent }
-        requires last { agent ≤ length self.old.board.agents }
+        requires agent { IsAgent (length self.old.board.agents) agent }
         requires effect { (h : List Event) × StandsAfter self.old h
             × (effect_after self.old.board h (Called agent frame.now) ≡ Some effect) }
         ensures valid { IsValid self.old.board }
@@ -138,8 +136,7 @@ impl Platform {
 
     /// Answers a command of an agent of the board whose change the hardware refused.
     fn answer_failed(&self, agent: u32, frame: &Frame, reply: &mut Message)
-        requires first { 1 ≤ agent }
-        requires last { agent ≤ length self.now.board.agents }
+        requires agent { IsAgent (length self.now.board.agents) agent }
         requires effect { (h : List Event) → StandsAfter self.now h
             → effect_after self.now.board h (Called agent frame.now) ≢ None }
         ensures answer { Reply reply.new ≡ failed_answer frame.now }

@@ -1,6 +1,6 @@
 //! An agent that restarts, of a platform without its history.
-ghost use Rattle.std.specs.Prelude.{◌≡◌, ◌≤◌, ◌↔◌, length, OnOk, OnErr, IfErr, Err};
-ghost use Rattle.scmi_plan.specs.Agent.{IsNoAgent};
+ghost use Rattle.std.specs.Prelude.{◌≡◌, ◌↔◌, length, OnOk, OnErr, IfErr, Err};
+ghost use Rattle.scmi_plan.specs.Agent.{IsAgent, IsNoAgent};
 ghost use Rattle.scmi_plan.specs.Plan.{IsValid};
 ghost use Rattle.scmi_core.specs.Standing.{MovesOn};
 ghost use Rattle.scmi_core.specs.declared.event.Event.TheVariants.{Restarted};
@@ -28,8 +28,7 @@ impl Platform {
 
     /// As `restart`, for an agent of the board.
     pub(crate) fn forget(&mut self, agent: u32)
-        requires first { 1 ≤ agent }
-        requires last { agent ≤ length self.now.board.agents }
+        requires agent { IsAgent (length self.now.board.agents) agent }
         ensures valid { IsValid self.old.board }
         ensures event { MovesOn self.old (Restarted agent) self.new }
         ensures board { self.new.board ≡ self.old.board }

@@ -1,5 +1,5 @@
 //! What is left of an agent that restarted without the platform.
-ghost use Rattle.std.specs.Prelude.{◌≤◌};
+ghost use Rattle.scmi_plan.specs.Agent.{IsAgent};
 ghost use Rattle.scmi_plan.specs.declared.limits.TheConstants.{AGENTS};
 ghost use Rattle.scmi_core.specs.Step.{HasRestarted};
 
@@ -9,8 +9,7 @@ impl Tables {
     /// Ends the requests for notifications of an agent that restarted, drops its messages, and takes
     /// back its wish for delayed responses to its pending sets.
     pub fn restart(&mut self, agent: u32)
-        requires first { 1 ≤ agent }
-        requires last { agent ≤ AGENTS }
+        requires agent { IsAgent AGENTS agent }
         ensures { HasRestarted agent self.old self.new }
     {
         self.power.reset(agent);

@@ -7,7 +7,7 @@ ghost use Rattle.scmi_base.specs.declared.scope.Scope.{Scope};
 ghost use Rattle.scmi_codec.specs.Command.{command_of};
 ghost use Rattle.scmi_codec.specs.declared.frame.Frame.TheVariants.{Good};
 ghost use Rattle.scmi_codec.specs.declared.command.Command.TheVariants.{Base, Power, Clock};
-ghost use Rattle.scmi_power.specs.PowerTable.{state_at, is_subscribed};
+ghost use Rattle.scmi_power.specs.PowerTable.{is_subscribed};
 ghost use Rattle.scmi_plan.specs.Agent.{IsAgent};
 ghost use Rattle.scmi_plan.specs.Plan.{IsValid};
 ghost use Rattle.scmi_plan.specs.declared.resource.Resource.TheVariants as resource;
@@ -79,8 +79,7 @@ impl Tables {
         frame: &Frame,
         reply: &mut Message,
     ) -> Answered
-        requires first { 1 ≤ agent }
-        requires last { agent ≤ length plan.now.agents }
+        requires agent { IsAgent (length plan.now.agents) agent }
         requires valid { IsValid plan.now }
         ensures answer { answer_with result reply.new
             ≡ answer_in plan.now agent frame.now (situation_in agent self.old) }
@@ -100,8 +99,7 @@ impl Tables {
         message: &Message,
         reply: &mut Message,
     ) -> Answered
-        requires first { 1 ≤ agent }
-        requires last { agent ≤ length plan.now.agents }
+        requires agent { IsAgent (length plan.now.agents) agent }
         requires valid { IsValid plan.now }
         ensures answer { answer_with result reply.new
             ≡ answer_in plan.now agent (Good message.now) (situation_in agent self.old) }
@@ -119,8 +117,7 @@ impl Tables {
     /// Executes a message of an agent, and writes the payload of its reply.
     #[tactic(auto, unfolding(crate::specs::Reply::reply_words))]
     fn execute(&mut self, plan: &Plan, agent: u32, message: &Message, reply: &mut Payload)
-        requires first { 1 ≤ agent }
-        requires last { agent ≤ length plan.now.agents }
+        requires agent { IsAgent (length plan.now.agents) agent }
         requires valid { IsValid plan.now }
         ensures reply { reply.new.items
             ≡ reply_words plan.now agent (situation_in agent self.old) (command_of message.now) }
@@ -162,8 +159,7 @@ impl Tables {
         command: BaseCommand,
         reply: &mut Payload,
     )
-        requires first { 1 ≤ agent }
-        requires last { agent ≤ length plan.now.agents }
+        requires agent { IsAgent (length plan.now.agents) agent }
         requires valid { IsValid plan.now }
         ensures reply { reply.new.items
             ≡ reply_words plan.now agent (situation_in agent self.old) (Ok (Base command)) }
@@ -183,8 +179,7 @@ impl Tables {
         command: PowerCommand,
         reply: &mut Payload,
     )
-        requires first { 1 ≤ agent }
-        requires last { agent ≤ length plan.now.agents }
+        requires agent { IsAgent (length plan.now.agents) agent }
         requires valid { IsValid plan.now }
         ensures reply { reply.new.items
             ≡ reply_words plan.now agent (situation_in agent self.old) (Ok (Power command)) }
@@ -192,14 +187,12 @@ impl Tables {
             reply.new.items self.old self.new }
     {
         let agents = plan.agents();
-        // A set is reported also if the state stays equal, so the state is read before it.
-        let before = self.state_before(command);
         let load = self.power_load(agent, command);
         let done = self
             .power
             .execute(plan, &self.base, agent, command, load, reply);
         self.accept_state(agent, header, done.later);
-        self.announce(agents, agent, done.changed, before);
+        self.announce(agents, agent, done.changed, done.differs);
     }
 
     /// Executes a command of the clock protocol.
@@ -211,8 +204,7 @@ impl Tables {
         command: ClockCommand,
         reply: &mut Payload,
     )
-        requires first { 1 ≤ agent }
-        requires last { agent ≤ length plan.now.agents }
+        requires agent { IsAgent (length plan.now.agents) agent }
         requires valid { IsValid plan.now }
         ensures reply { reply.new.items
             ≡ reply_words plan.now agent (situation_in agent self.old) (Ok (Clock command)) }
@@ -229,8 +221,7 @@ impl Tables {
     /// The load that a power command of an agent meets. Only a set meets one; for the others none is
     /// reckoned.
     pub(crate) fn power_load(&self, agent: u32, command: PowerCommand) -> Load
-        requires first { 1 ≤ agent }
-        requires last { agent ≤ AGENTS }
+        requires agent { IsAgent AGENTS agent }
         ensures busy { IfSome (set_domain command) (λ set. (d : ℕ) → d < DOMAINS
             → (bit_at result.busy d == 1) ≡ has_set_of (resource.Domain d) self.now.pending) }
         ensures room { IfSome (set_domain command) (λ set.
@@ -249,8 +240,7 @@ impl Tables {
     /// The load that a clock command of an agent meets. Only a set of a rate meets one; for the others
     /// none is reckoned.
     pub(crate) fn clock_load(&self, agent: u32, command: ClockCommand) -> Load
-        requires first { 1 ≤ agent }
-        requires last { agent ≤ AGENTS }
+        requires agent { IsAgent AGENTS agent }
         ensures busy { IfSome (set_clock command) (λ set. (c : ℕ) → c < CLOCKS
             → (bit_at result.busy c == 1) ≡ has_set_of (resource.Clock c) self.now.pending) }
         ensures room { IfSome (set_clock command) (λ set.
@@ -286,10 +276,9 @@ impl Tables {
         } = done;
         match setting {
             Setting::State(domain, state) => {
-                let before = self.power.state(domain);
-                self.power.complete(domain, state);
+                let differs = self.power.complete(domain, state);
                 self.outboxes.respond(agent, setting, header, wanted);
-                self.announce(agents, agent, Some((domain, state)), before);
+                self.announce(agents, agent, Some((domain, state)), differs);
             }
             Setting::Rate(clock, rate) => {
                 self.clocks.complete(clock, rate);
@@ -364,19 +353,6 @@ impl Tables {
                 header,
                 wanted,
             });
-        }
-    }
-
-    /// The state of the domain that a command sets, 0 if it sets none.
-    fn state_before(&self, command: PowerCommand) -> u32
-        ensures { IfSome (set_domain command) (λ domain.
-            domain < DOMAINS → result ≡ state_at self.now.power domain) }
-    {
-        match command {
-            PowerCommand::Set { domain, .. } if (domain as usize) < DOMAINS => {
-                self.power.state(domain)
-            }
-            _ => 0,
         }
     }
 }

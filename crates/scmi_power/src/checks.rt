@@ -3,6 +3,7 @@ ghost use Rattle.std.specs.Prelude.{◌≡◌, ◌≢◌, ◌≤◌, ◌<◌, �
 ghost use Rattle.scmi_codec.specs.Reply.{bit_0};
 ghost use Rattle.scmi_codec.specs.Status.{status_word};
 ghost use Rattle.scmi_codec.specs.declared.status.Status.TheVariants.{Success, NotFound, NotSupported, Denied, Busy};
+ghost use Rattle.scmi_plan.specs.Agent.{IsAgent};
 ghost use Rattle.scmi_plan.specs.Plan.{IsValid};
 ghost use Rattle.scmi_plan.specs.declared.limits.TheConstants.{AGENTS, DOMAINS};
 ghost use Rattle.scmi_power.specs.PowerReply.{has_notifications, no_domain, supports};
@@ -25,8 +26,7 @@ pub(crate) fn check_set(
     state: u32,
     load: Load,
 ) -> Result<bool, Status>
-    requires first { 1 ≤ caller }
-    requires last { caller ≤ length plan.now.agents }
+    requires caller { IsAgent (length plan.now.agents) caller }
     ensures ok { OnOk result (set_words plan.now base.now caller load flags domain state ≡ 0 ∷ []) }
     ensures asynchronous { IfOk result (λ asynchronous. asynchronous ≡ bit_0 flags) }
     ensures known { IfOk result (λ asynchronous. domain < length plan.now.domains) }
@@ -54,8 +54,7 @@ pub(crate) fn check_notify(
     domain: u32,
     enable: u32,
 ) -> Result<bool, Status>
-    requires first { 1 ≤ caller }
-    requires last { caller ≤ length plan.now.agents }
+    requires caller { IsAgent (length plan.now.agents) caller }
     ensures ok { OnOk result (notify_words plan.now base.now caller domain enable ≡ 0 ∷ []) }
     ensures enabled { IfOk result (λ enabled. enabled ≡ bit_0 enable) }
     ensures domain { IfOk result (λ enabled. domain < DOMAINS) }
@@ -112,8 +111,7 @@ fn check_notifications(channel: AgentChannel, row: &Domain) -> Result<(), Status
 
 /// DENIED if the caller may not change a domain.
 fn check_permission(plan: &Plan, base: &BaseState, caller: u32, domain: u32) -> Result<(), Status>
-    requires first { 1 ≤ caller }
-    requires last { caller ≤ length plan.now.agents }
+    requires caller { IsAgent (length plan.now.agents) caller }
     requires domain { domain < length plan.now.domains }
     ensures { result ≡ (if may_change plan.now base.now caller domain then Ok tt else Err Denied) }
 {

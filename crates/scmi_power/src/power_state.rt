@@ -3,6 +3,7 @@ ghost use Rattle.std.specs.Prelude.{◌≡◌, ◌≤◌, ◌<◌, ◌-◌, ◌=
 ghost use Rattle.std.specs.Int.{bit_at};
 ghost use Rattle.scmi_codec.specs.Payload.{begins_with_success};
 ghost use Rattle.scmi_codec.specs.declared.power_command.PowerCommand.TheVariants.{Set, Notify};
+ghost use Rattle.scmi_plan.specs.Agent.{IsAgent};
 ghost use Rattle.scmi_plan.specs.declared.limits.TheConstants.{AGENTS, DOMAINS};
 ghost use Rattle.scmi_power.specs.PowerReply.{power_reply, get_reply};
 ghost use Rattle.scmi_power.specs.PowerTable.{view_of, state_at, state_at_start, set_now, set_later, is_subscribed, only_reads, set_words, notify_words, HasSet, HasNotified};
@@ -73,11 +74,12 @@ impl PowerState {
         load: Load,
         reply: &mut Payload,
     ) -> PowerDone
-        requires first { 1 ≤ caller }
-        requires last { caller ≤ length plan.now.agents }
+        requires caller { IsAgent (length plan.now.agents) caller }
         ensures reply { reply.new.items
             ≡ power_reply plan.now (view_of plan.now base.now self.old load caller) command }
         ensures changed { result.changed ≡ if_success reply.new.items (set_now command) }
+        ensures differs { IfSome result.changed (λ set.
+            result.differs ≡ not (set.1 == state_at self.old set.0)) }
         ensures later { result.later ≡ if_success reply.new.items (set_later command) }
         ensures states { HasSet result.changed self.old self.new }
         ensures subscribed { HasNotified reply.new.items caller command self.old self.new }
@@ -111,14 +113,14 @@ impl PowerState {
     /// before.
     pub fn complete(&mut self, domain: u32, state: u32) -> bool
         requires { domain < DOMAINS }
-        ensures changed { result ≡ not (state == state_at self.old domain) }
+        ensures differs { result ≡ not (state == state_at self.old domain) }
         ensures states { HasSet (Some (domain, state)) self.old self.new }
         ensures subscribed { self.new.subscribers ≡ self.old.subscribers }
     {
         let place = domain as usize;
-        let changed = self.states[place] != state;
+        let differs = self.states[place] != state;
         self.states[place] = state;
-        changed
+        differs
     }
 
     /// Who is notified of a domain's changes: bit a - 1 is for agent a.
@@ -131,8 +133,7 @@ impl PowerState {
 
     /// Ends an agent's requests for notifications, of every domain.
     pub fn reset(&mut self, agent: u32)
-        requires first { 1 ≤ agent }
-        requires last { agent ≤ AGENTS }
+        requires agent { IsAgent AGENTS agent }
         ensures subscribed { (a d : ℕ) → 1 ≤ a → a ≤ AGENTS → d < DOMAINS
             → is_subscribed self.new a d
             ≡ (if agent == a then false else is_subscribed self.old a d) }
@@ -164,8 +165,7 @@ impl PowerState {
         command: PowerCommand,
         load: Load,
     ) -> Option<(u32, u32)>
-        requires first { 1 ≤ caller }
-        requires last { caller ≤ length plan.now.agents }
+        requires caller { IsAgent (length plan.now.agents) caller }
         ensures { result ≡ if_success
             (power_reply plan.now (view_of plan.now base.now self.now load caller) command)
             (set_now command) }
@@ -195,12 +195,13 @@ impl PowerState {
         load: Load,
         reply: &mut Payload,
     ) -> PowerDone
-        requires first { 1 ≤ caller }
-        requires last { caller ≤ length plan.now.agents }
+        requires caller { IsAgent (length plan.now.agents) caller }
         ensures reply { reply.new.items
             ≡ set_words plan.now base.now caller load flags domain state }
         ensures changed { result.changed
             ≡ if_success reply.new.items (set_now (Set flags domain state)) }
+        ensures differs { IfSome result.changed (λ set.
+            result.differs ≡ not (set.1 == state_at self.old set.0)) }
         ensures later { result.later
             ≡ if_success reply.new.items (set_later (Set flags domain state)) }
         ensures states { HasSet result.changed self.old self.new }
@@ -215,14 +216,16 @@ impl PowerState {
                 set_payload(reply, &[SUCCESS]);
                 PowerDone {
                     changed: None,
+                    differs: false,
                     later: Some((domain, state)),
                 }
             }
             Ok(false) => {
-                self.complete(domain, state);
+                let differs = self.complete(domain, state);
                 set_payload(reply, &[SUCCESS]);
                 PowerDone {
                     changed: Some((domain, state)),
+                    differs,
                     later: None,
                 }
             }
@@ -253,8 +256,7 @@ impl PowerState {
         enable: u32,
         reply: &mut Payload,
     )
-        requires first { 1 ≤ caller }
-        requires last { caller ≤ length plan.now.agents }
+        requires caller { IsAgent (length plan.now.agents) caller }
         ensures reply { reply.new.items ≡ notify_words plan.now base.now caller domain enable }
         ensures states { self.new.states ≡ self.old.states }
         ensures subscribed { HasNotified reply.new.items caller (Notify domain enable)

@@ -10,7 +10,7 @@ invariant_of-self c =
     let a = c.args.agent in
     let new = c.push.new.self in
     let message : Message = record { header = c.args.header; payload = record { items = c.args.words.now } } in
-    let inside : a - 1 < length outboxes = omega (arith, c.requires.first, c.requires.last, c.self.invariant.each) in
+    let inside : a - 1 < length outboxes = omega (arith, c.requires.agent.0, c.requires.agent.1, c.self.invariant.each) in
     let room : length (outbox_in outboxes a) < 16 = subst (λ o. length (outbox_in o a) < 16) (sym c.self.view_is) c.requires.room in
     record {
       each = length-set outboxes (a - 1) new ∙ c.self.invariant.each;

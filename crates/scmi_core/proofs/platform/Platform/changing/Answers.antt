@@ -15,4 +15,4 @@ returns-in-Good-clause-event c = λ some h stands.
     let same : c.effect_in-effect.result ≡ None = c.effect_in-effect.ensures.effect h stands ∙ ap (λ frame. effect_after board h (Called c.args.agent frame)) c.in-Good.is ∙ none in
     absurd (let no = sym has ∙ ap is_some same in cc) in
     subst (λ frame. Agrees board c.args.self.now.tables (h ++ CommandFailed c.args.agent frame ∷ [])) (sym c.in-Good.is)
-    (Agrees-command_failed board c.args.self.now.tables h c.args.agent c.in-Good.message stands c.effect_in-effect.ensures.valid c.requires.first c.requires.last effect)
+    (Agrees-command_failed board c.args.self.now.tables h c.args.agent c.in-Good.message stands c.effect_in-effect.ensures.valid c.requires.agent.0 c.requires.agent.1 effect)

@@ -7,17 +7,8 @@ use Rattle.scmi_core.specs.Tables.{situation_in}
 use Rattle.scmi_core.proofs.Commits.{answer-fits, effect-fits, state-set, rate-set, config-set, state-committed, rate-committed, enabled-committed}
 use Rattle.scmi_core.proofs.tables.Tables.commit_message.Goals as goal
 
-pub state-before-requires : goal.state-before-requires
-state-before-requires c =
-    let m = c.args.message.now in
-    let set = state-set c.args.plan.now c.args.agent m.header (situation_in c.args.agent c.args.self.now) (command_of m) c.in-State.domain c.in-State.state
-    (effect-fits c.args.plan.now c.args.agent m (situation_in c.args.agent c.args.self.now) (effect.State c.in-State.domain c.in-State.state) (c.requires.effect ∙ ap Some c.in-State.is)).1 in
-    let known : c.in-State.domain < length c.args.plan.now.domains = set.known in
-    let few = c.requires.valid.few_domains in
-    omega (arith, known, few)
-
-pub complete-requires : goal.complete-requires
-complete-requires c =
+pub complete-differs-requires : goal.complete-differs-requires
+complete-differs-requires c =
     let m = c.args.message.now in
     let set = state-set c.args.plan.now c.args.agent m.header (situation_in c.args.agent c.args.self.now) (command_of m) c.in-State.domain c.in-State.state
     (effect-fits c.args.plan.now c.args.agent m (situation_in c.args.agent c.args.self.now) (effect.State c.in-State.domain c.in-State.state) (c.requires.effect ∙ ap Some c.in-State.is)).1 in
@@ -63,10 +54,10 @@ returns-in-State-clause-answer c =
 pub returns-in-State-clause-stepped : goal.returns-in-State-clause-stepped
 returns-in-State-clause-stepped c =
     let count = c.agents-agents.ensures.count in
-    state-committed c.args.plan.now c.args.self.now c.announce.new.self c.complete.new.self c.args.agent c.args.message.now
-    c.in-State.domain c.in-State.state c.state-before.result c.requires.valid c.requires.first c.requires.last
+    state-committed c.args.plan.now c.args.self.now c.announce.new.self c.complete-differs.new.self c.args.agent c.args.message.now
+    c.in-State.domain c.in-State.state c.complete-differs.result c.requires.valid c.requires.agent.0 c.requires.agent.1
     (c.requires.effect ∙ ap Some c.in-State.is)
-    c.complete.ensures.states c.complete.ensures.subscribed c.state-before.ensures c.announce.ensures.rest
+    c.complete-differs.ensures.states c.complete-differs.ensures.subscribed c.complete-differs.ensures.differs c.announce.ensures.rest
     (λ x lo hi. c.announce.ensures.told x lo (omega (arith, count)))
 
 pub returns-in-Rate-clause-answer : goal.returns-in-Rate-clause-answer
@@ -80,7 +71,7 @@ returns-in-Rate-clause-answer c =
 pub returns-in-Rate-clause-stepped : goal.returns-in-Rate-clause-stepped
 returns-in-Rate-clause-stepped c =
     rate-committed c.args.plan.now c.args.self.now _ c.complete-in-Rate.new.self c.args.agent c.args.message.now
-    c.in-Rate.clock c.in-Rate.rate c.requires.valid c.requires.first c.requires.last
+    c.in-Rate.clock c.in-Rate.rate c.requires.valid c.requires.agent.0 c.requires.agent.1
     (c.requires.effect ∙ ap Some c.in-Rate.is)
     c.complete-in-Rate.ensures.rates c.complete-in-Rate.ensures.enabled refl
 
@@ -95,6 +86,6 @@ returns-in-Enabled-clause-answer c =
 pub returns-in-Enabled-clause-stepped : goal.returns-in-Enabled-clause-stepped
 returns-in-Enabled-clause-stepped c =
     enabled-committed c.args.plan.now c.args.self.now _ c.set_enabled.new.self c.args.agent c.args.message.now
-    c.in-Enabled.clock c.in-Enabled.enabled c.requires.valid c.requires.first c.requires.last
+    c.in-Enabled.clock c.in-Enabled.enabled c.requires.valid c.requires.agent.0 c.requires.agent.1
     (c.requires.effect ∙ ap Some c.in-Enabled.is)
     c.set_enabled.ensures.rates c.set_enabled.ensures.enabled refl

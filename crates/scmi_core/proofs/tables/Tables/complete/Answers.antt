@@ -18,12 +18,12 @@ returns-in-State c =
       valid = c.agents-agents.ensures.valid;
       stepped =
           state-completed board t
-          (record { base = t.base; power = c.complete.new.self; clocks = t.clocks; pending = left; outboxes = c.respond.new.self })
-          c.announce.new.self c.complete.new.self left p.agent p.header p.wanted c.in-State.domain c.in-State.state c.state-before.result
+          (record { base = t.base; power = c.complete-differs.new.self; clocks = t.clocks; pending = left; outboxes = c.respond.new.self })
+          c.announce.new.self c.complete-differs.new.self left p.agent p.header p.wanted c.in-State.domain c.in-State.state c.complete-differs.result
           c.agents-agents.ensures.valid.few_domains known.first known.last inside
           (c.pop_first-done.ensures.first ∙ ap (λ s. Some (record { agent = p.agent; setting = s; header = p.header; wanted = p.wanted })) c.in-State.is)
           c.pop_first-done.ensures.rest
-          c.complete.ensures.states c.complete.ensures.subscribed c.state-before.ensures
+          c.complete-differs.ensures.states c.complete-differs.ensures.subscribed c.complete-differs.ensures.differs
           (record { base = refl; power = refl; clocks = refl; pending = refl })
           c.respond.ensures
           c.announce.ensures.rest

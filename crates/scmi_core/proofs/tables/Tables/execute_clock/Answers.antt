@@ -14,7 +14,7 @@ returns-clause-stepped c =
     let law = c.requires.valid in
     clock-stepped c.args.plan.now c.args.self.now c.accept_rate.new.self c.execute-later.new.self c.args.agent c.args.header c.args.command
     c.execute-later.new.reply.items c.execute-later.result
-    law.few_clocks c.requires.first c.requires.last
+    law.few_clocks c.requires.agent.0 c.requires.agent.1
     c.execute-later.ensures.later c.execute-later.ensures.rates c.execute-later.ensures.enabled
     c.execute-later.ensures.known_later (c.execute-later.ensures.known_now, c.execute-later.ensures.known_enabled)
     c.accept_rate.ensures.rest c.accept_rate.ensures.pending

@@ -14,10 +14,10 @@ returns-clause-stepped c =
     let law = c.agents-agents.ensures.valid in
     let count = c.agents-agents.ensures.count in
     power-stepped c.args.plan.now c.args.self.now c.accept_state.new.self c.announce.new.self c.execute-done.new.self c.args.agent c.args.header c.args.command
-    c.execute-done.new.reply.items c.execute-done.result.changed c.execute-done.result.later c.state_before-before.result
-    law.few_domains law.few_agents c.requires.first c.requires.last
+    c.execute-done.new.reply.items c.execute-done.result.changed c.execute-done.result.later c.execute-done.result.differs
+    law.few_domains law.few_agents c.requires.agent.0 c.requires.agent.1
     c.execute-done.ensures.changed c.execute-done.ensures.later c.execute-done.ensures.states c.execute-done.ensures.subscribed
     c.execute-done.ensures.known_now c.execute-done.ensures.known_later
-    c.state_before-before.ensures
+    c.execute-done.ensures.differs
     c.accept_state.ensures.rest c.accept_state.ensures.pending c.announce.ensures.rest
     (λ x lo hi. c.announce.ensures.told x lo (omega (arith, count)))
