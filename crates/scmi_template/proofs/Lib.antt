@@ -1,1 +1,2 @@
 pub mod FilledExamples
+pub mod Holes

@@ -1,16 +1,15 @@
 //! Texts with holes, as they are written.
-ghost use Rattle.std.specs.Prelude.{◌≡◌, ◌==◌, OnOk, map};
+ghost use Rattle.std.specs.Prelude.{◌≡◌, OnOk, map};
 ghost use Rattle.std.specs.Io.KnownBytes.{Appends};
 ghost use Rattle.std.specs.List.{after_first, before_first};
-ghost use Rattle.scmi_template.specs.Filled.{filled};
-ghost use Rattle.scmi_template.specs.declared.filled.TheConstants.{HOLE};
+ghost use Rattle.scmi_template.specs.Filled.{filled, is_hole};
 
 use crate::piece::Piece;
 use std::io;
 use std::io::Write;
 
 /// A hole of a text.
-pub const HOLE: char = '%';
+pub const HOLE: u8 = b'%';
 
 /// Writes a text whose holes these pieces fill in turn. A piece without a hole follows the text, and
 /// a hole without a piece is written as it is. The error is the writer's; some bytes may then be
@@ -20,23 +19,24 @@ pub fn write_filled<W: Write, P: Piece>(writer: &mut W, text: &str, pieces: &[P]
     ensures { OnOk result (Appends (W.contents writer.old) (W.contents writer.new)
         (filled text.now (map P.text pieces.now))) }
 {
-    let mut rest = text;
+    let mut rest = text.as_bytes();
     'pieces: for piece in pieces {
         let (start, after) = split_at_hole(rest);
-        write!(writer, "{start}")?;
+        writer.write_all(start)?;
         piece.write(writer)?;
         rest = after;
     }
-    write!(writer, "{rest}")
+    writer.write_all(rest)
 }
 
 /// What is before the first hole of a text, and what is after it: all and nothing if it has none.
-fn split_at_hole(text: &str) -> (&str, &str)
-    ensures start { result.0.now ≡ before_first (λ b. b == HOLE) text.now }
-    ensures rest { result.1.now ≡ after_first (λ b. b == HOLE) text.now }
+#[inline]
+fn split_at_hole(text: &[u8]) -> (&[u8], &[u8])
+    ensures start { result.0.now ≡ before_first is_hole text.now }
+    ensures rest { result.1.now ≡ after_first is_hole text.now }
 {
-    match text.split_once(HOLE) {
-        Some(parts) => parts,
-        None => (text, ""),
+    match text.iter().position(|byte| *byte == HOLE) {
+        Some(hole) => (&text[..hole], &text[hole + 1..]),
+        None => (text, &[]),
     }
 }

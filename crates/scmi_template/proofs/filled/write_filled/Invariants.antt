@@ -1,17 +1,12 @@
-use Rattle.std.proofs.Common.{ℕ, List, Option, drop, map}
+use Rattle.std.proofs.Common.{List, ℕ, Option, drop, map}
 use Rattle.std.specs.Io.KnownBytes.{Appends}
-use denote.Shadow.{shadow}
-use denote.Text.{Utf8}
 use Rattle.scmi_template.specs.Filled.{filled}
 use Rattle.scmi_template.proofs.filled.write_filled.Given as goal
 
--- the rest is text, and once it is filled with the pieces that are left, all is
+-- once the rest is filled with the pieces that are left, all is
 abbrev pub invariant-pieces : goal.invariant-pieces
 invariant-pieces g l =
     let contents = g.W.Write.contents in
     let text = g.P.Piece.text in
-    record {
-      utf8 : shadow (Utf8 l.rest);
-      whole : (after : Option (List ℕ)) → Appends (contents l.writer) after (filled l.rest (map text (drop l.piece-index l.pieces)))
-          → Appends (contents l.fn.writer) after (filled l.text (map text l.pieces));
-    }
+    (after : Option (List ℕ)) → Appends (contents l.writer) after (filled l.rest (map text (drop l.piece-index l.pieces)))
+        → Appends (contents l.fn.writer) after (filled l.text (map text l.pieces))
