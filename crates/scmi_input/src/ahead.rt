@@ -1,10 +1,14 @@
 //! Bytes that are read ahead.
-ghost use Rattle.std.specs.Prelude.{◌≡◌, ◌==◌, ◌+◌, ◌<◌, ◌≤◌, [], ◌∷◌, ◌++◌, length, take, IfNone, IfSome, OnOk, OnErr};
+ghost use Rattle.std.specs.Prelude.{◌≡◌, ◌==◌, ◌+◌, ◌<◌, ◌≤◌, [], ◌∷◌, ◌++◌, length, take, IfNone, IfOk, IfSome, OnOk, OnErr};
 ghost use Rattle.std.specs.Io.KnownBytes.{Consumes, IsAtEnd, Keeps};
+ghost use Rattle.std.specs.List.{position_or_len};
+ghost use Rattle.scmi_input.specs.Lines.{first_line, after_line, has_line_feed, is_line_feed};
 ghost use Rattle.scmi_input.specs.Reads.{failures};
 
 use crate::counted_read::CountedRead;
 use crate::read_error::ReadError;
+use memchr::memchr;
+use std::alloc::AllocError;
 use std::marker::Model;
 
 /// The most bytes that are read ahead.
@@ -48,6 +52,13 @@ impl Ahead {
         self.start == self.end
     }
 
+    /// The bytes, in order.
+    fn left(&self) -> &[u8]
+        ensures { result.now ≡ self.now }
+    {
+        &self.bytes[self.start..self.end]
+    }
+
     /// Takes the first byte, if there is one.
     pub fn take_byte(&mut self) -> Option<u8>
         ensures none { IfNone result ((self.old ≡ []) × (self.new ≡ [])) }
@@ -59,6 +70,29 @@ impl Ahead {
         let byte = self.bytes[self.start];
         self.start += 1;
         Some(byte)
+    }
+
+    /// Moves the bytes before the first line feed behind those of `line`, and drops the line feed: whether
+    /// there was one. When out of memory nothing changed.
+    pub fn take_line(&mut self, line: &mut Vec<u8>) -> Result<bool, AllocError>
+        ensures line { OnOk result (line.new.items ≡ line.old.items ++ first_line self.old) }
+        ensures rest { OnOk result (self.new ≡ after_line self.old) }
+        ensures ended { IfOk result (λ ended. ended ≡ has_line_feed self.old) }
+        ensures err { OnErr result (self.new ≡ self.old) }
+    {
+        let bytes = self.left();
+        match line_end(bytes) {
+            Some(place) => {
+                line.extend_from_slice(&bytes[..place])?;
+                self.start += place + 1;
+                Ok(true)
+            }
+            None => {
+                line.extend_from_slice(bytes)?;
+                self.start = self.end;
+                Ok(false)
+            }
+        }
     }
 
     /// Moves as many bytes as both have from the front into `buffer`.
@@ -90,4 +124,13 @@ impl Ahead {
         self.end = reader.read(&mut self.bytes)?;
         Ok(())
     }
+}
+
+/// The place of the first line feed, if there is one.
+fn line_end(bytes: &[u8]) -> Option<usize>
+    ensures none { IfNone result (position_or_len is_line_feed bytes.now ≡ length bytes.now) }
+    ensures some { IfSome result (λ place. place ≡ position_or_len is_line_feed bytes.now) }
+    ensures inside { IfSome result (λ place. place < length bytes.now) }
+{
+    memchr(b'\n', bytes)
 }

@@ -1,8 +1,9 @@
 //! The input, whose first line is read before the rest.
-ghost use Rattle.std.specs.Prelude.{◌≡◌, ◌<◌, ◌≤◌, ◌+◌, ◌⊎◌, length, take, Some, IfOk, IfErr, IsErrOf, OnOk, IfSome, MatchOption, ◌∷◌, ◌++◌, []};
+ghost use Rattle.std.specs.Prelude.{◌≡◌, ◌≢◌, ◌<◌, ◌≤◌, ◌+◌, ◌⊎◌, length, take, Err, Some, IfOk, IfErr, IfNone, IsErrOf, OnOk, IfSome, MatchOption, ◌∷◌, ◌++◌, []};
 ghost use Rattle.std.specs.Io.{ReadsAtMost};
 ghost use Rattle.std.specs.Io.KnownBytes.{Consumes, IsAtEnd, Keeps, ReadConsumes, prepend_known};
-ghost use Rattle.scmi_input.specs.Lines.{first_line, after_line};
+ghost use Rattle.std.specs.Option.{IsSomeAnd};
+ghost use Rattle.scmi_input.specs.Lines.{first_line, after_line, has_line_feed, IsFurther};
 ghost use Rattle.scmi_input.specs.Reads.{StopsAtFailure, failures};
 
 use crate::ahead::Ahead;
@@ -61,10 +62,40 @@ impl<R: CountedRead + Drop> Input<R> {
             (λ byte. Consumes self.old.left self.new.left (byte ∷ []))) }
         ensures errors { IfErr result (λ e. e ≡ InputError.Read) }
     {
-        if self.ahead.is_empty() {
-            refill(&mut self.ahead, &mut self.reader, tries)?;
-        }
+        refill(&mut self.ahead, &mut self.reader, tries)?;
         Ok(self.ahead.take_byte())
+    }
+
+    /// Moves the next bytes of the first line behind those of `line`. Once it is whole, whether a line
+    /// feed ended it; `None` while more of it may follow. At most `tries` reads may be tried for it.
+    pub(crate) fn next_piece(
+        &mut self,
+        line: &mut Vec<u8>,
+        tries: &mut usize,
+    ) -> Result<Option<bool>, InputError>
+        ensures reads { self.new.reads + tries.new ≤ self.old.reads + tries.old }
+        ensures stops { StopsAtFailure result self.old.since_failure self.new.since_failure }
+        ensures line { IfOk result (λ whole. IfSome whole (λ ended.
+            IfSome self.old.left (λ input. line.new.items ≡ line.old.items ++ first_line input))) }
+        ensures rest { IfOk result (λ whole. IfSome whole (λ ended.
+            IfSome self.old.left (λ input. self.new.left ≡ Some (after_line input)))) }
+        ensures ended { IfOk result (λ whole. IfSome whole (λ ended.
+            IfSome self.old.left (λ input. ended ≡ has_line_feed input))) }
+        ensures more { IfOk result (λ whole. IfNone whole
+            (length line.old.items < length line.new.items)) }
+        ensures further { IfOk result (λ whole. IfNone whole
+            (IfSome self.old.left (λ input. IsSomeAnd self.new.left (λ rest.
+            IsFurther input line.old.items rest line.new.items)))) }
+        ensures errors { result ≢ Err InputError.Size }
+    {
+        refill(&mut self.ahead, &mut self.reader, tries)?;
+        if self.ahead.is_empty() {
+            return Ok(Some(false));
+        }
+        if take_line(&mut self.ahead, line)? {
+            return Ok(Some(true));
+        }
+        Ok(None)
     }
 
     /// The first bytes of the first line, at most `KEPT_BYTES` of them, by at most
@@ -119,15 +150,17 @@ fn refill<R: CountedRead>(
     reader: &mut R,
     tries: &mut usize,
 ) -> Result<(), InputError>
-    requires { ahead.old ≡ [] }
     ensures reads { R.reads reader.new + tries.new ≤ R.reads reader.old + tries.old }
     ensures stops { StopsAtFailure result (R.since_failure reader.old)
         (R.since_failure reader.new) }
-    ensures bytes { OnOk result
-        (Keeps (R.remaining reader.old) (prepend_known ahead.new (R.remaining reader.new))) }
+    ensures bytes { OnOk result (Keeps (prepend_known ahead.old (R.remaining reader.old))
+        (prepend_known ahead.new (R.remaining reader.new))) }
     ensures end { OnOk result (ahead.new ≡ [] → IsAtEnd (R.remaining reader.new)) }
     ensures errors { IfErr result (λ e. e ≡ InputError.Read) }
 {
+    if !ahead.is_empty() {
+        return Ok(());
+    }
     'tries: while *tries > 0 {
         *tries -= 1;
         match ahead.fill(reader) {
@@ -145,5 +178,18 @@ fn keep(kept: &mut ArrayVec<u8, KEPT_BYTES>, byte: u8)
 {
     if !kept.is_full() {
         kept.push(byte);
+    }
+}
+
+/// As `Ahead::take_line`; `Memory` when out of memory.
+fn take_line(ahead: &mut Ahead, line: &mut Vec<u8>) -> Result<bool, InputError>
+    ensures line { OnOk result (line.new.items ≡ line.old.items ++ first_line ahead.old) }
+    ensures rest { OnOk result (ahead.new ≡ after_line ahead.old) }
+    ensures ended { IfOk result (λ ended. ended ≡ has_line_feed ahead.old) }
+    ensures errors { IfErr result (λ e. e ≡ InputError.Memory) }
+{
+    match ahead.take_line(line) {
+        Ok(ended) => Ok(ended),
+        Err(_) => Err(InputError::Memory),
     }
 }

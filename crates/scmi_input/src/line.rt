@@ -1,7 +1,8 @@
 //! An input that is read a line at a time.
-ghost use Rattle.std.specs.Prelude.{◌≡◌, ◌<◌, ◌≤◌, ◌+◌, ◌∷◌, ◌++◌, [], length, Some, IfErr, IfOk, IsErrOf, OnOk, IfSome};
+ghost use Rattle.std.specs.Prelude.{◌≡◌, ◌<◌, ◌≤◌, ◌+◌, length, Some, IfOk, IsErrOf, OnOk, IfSome, vec_len};
 ghost use Rattle.scmi_input.specs.Lines.{first_line, after_line, has_line_feed};
 ghost use Rattle.scmi_input.specs.Reads.{StopsAtFailure};
+ghost use Rattle.scmi_input.specs.declared.input.TheConstants.{INPUT_BYTES};
 
 use crate::counted_read::CountedRead;
 use crate::input::{INPUT_BYTES, Input};
@@ -21,31 +22,21 @@ impl<R: CountedRead + Drop> Input<R> {
             (IfSome self.old.left (λ input. self.new.left ≡ Some (after_line input))) }
         ensures ended { IfOk result (λ ended.
             IfSome self.old.left (λ input. ended ≡ has_line_feed input)) }
+        ensures small { OnOk result (vec_len line.new ≤ INPUT_BYTES) }
         ensures size { IsErrOf result InputError.Size →
             IfSome self.old.left (λ input. INPUT_BYTES < length (first_line input)) }
     {
         line.clear();
         let mut tries = INPUT_BYTES + 1;
-        'bytes: for _ in 0..INPUT_BYTES + 1 {
-            let Some(byte) = self.next_byte(&mut tries)? else {
-                return Ok(false);
-            };
-            if byte == b'\n' {
-                return Ok(true);
+        'pieces: for _ in 0..INPUT_BYTES + 1 {
+            let whole = self.next_piece(line, &mut tries)?;
+            if line.len() > INPUT_BYTES {
+                return Err(InputError::Size);
             }
-            push_byte(line, byte)?;
+            if let Some(ended) = whole {
+                return Ok(ended);
+            }
         }
         Err(InputError::Size)
-    }
-}
-
-/// Adds a byte to a line.
-fn push_byte(line: &mut Vec<u8>, byte: u8) -> Result<(), InputError>
-    ensures bytes { OnOk result (line.new.items ≡ line.old.items ++ byte ∷ []) }
-    ensures errors { IfErr result (λ e. e ≡ InputError.Memory) }
-{
-    match line.push(byte) {
-        Ok(()) => Ok(()),
-        Err(_) => Err(InputError::Memory),
     }
 }

@@ -1,11 +1,13 @@
-use Rattle.std.proofs.Common.{◌≡◌, ◌+◌, ◌≤◌, IfSome}
-use Rattle.scmi_input.proofs.NextLine.{IsKept}
+use Rattle.std.proofs.Common.{◌≡◌, ◌+◌, ◌≤◌, length}
+use Rattle.scmi_input.proofs.NextLine.{Underway}
 use Rattle.scmi_input.specs.declared.input.TheConstants.{INPUT_BYTES}
 use Rattle.scmi_input.proofs.input.Input.read_line.Given as goal
 
-abbrev pub invariant-bytes : goal.invariant-bytes
-invariant-bytes g l = record {
-  seen : IfSome l.fn.self.left (λ input. IsKept input l.counter l.self.left l.line.items);
+abbrev pub invariant-pieces : goal.invariant-pieces
+invariant-pieces g l = record {
+  seen : Underway l.fn.self.left l.self.left l.line.items;
+  more : l.counter ≤ length l.line.items;
+  few : length l.line.items ≤ INPUT_BYTES;
   count : l.self.reads + l.tries ≤ l.fn.self.reads + (INPUT_BYTES + 1);
   stops : l.fn.self.since_failure ≡ 0 → l.self.since_failure ≡ 0;
 }
