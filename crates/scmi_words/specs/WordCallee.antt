@@ -1,7 +1,6 @@
 -- What a contract sees of the callee's end of a word channel.
 use Rattle.std.specs.Prelude.{◌≡◌, ◌≢◌, ◌⊎◌, ◌||◌, ℕ, ◌+◌, Bool, cond, true, List, Option, Some, None}
 use Rattle.scmi_codec.specs.declared.frame.Frame.{Frame}
-use Rattle.scmi_codec.specs.declared.frame.Answer.{Answer}
 use Rattle.scmi_link.specs.View.{CalleeView, Owes, callee_knows_close}
 use Rattle.scmi_link.specs.Steps.{CalleeCall, call_take, call_answer, call_close_callee}
 use Rattle.scmi_words.specs.declared.status_word.TheConstants.{POSTED}
@@ -28,10 +27,6 @@ word_callee_view callee = record {
 -- the identity of the channel that made it
 abbrev pub word_callee_identity : WordCallee → List ℕ
 word_callee_identity callee = table_identity callee.seat.table_id
-
--- the same seat at the same table
-abbrev pub IsSameCallee : WordCallee → WordCallee → Type 0
-IsSameCallee old new = (new.seat.table_id ≡ old.seat.table_id) × (new.seat.id ≡ old.seat.id)
 
 -- how many accesses a take makes: none where the callee owed an answer or knew of a close
 abbrev pub take_steps : Bool → Option Frame → ℕ

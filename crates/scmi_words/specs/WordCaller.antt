@@ -40,10 +40,6 @@ word_caller_view caller = record {
 abbrev pub word_caller_identity : WordCaller → List ℕ
 word_caller_identity caller = table_identity caller.seat.table_id
 
--- the same seat at the same table
-abbrev pub IsSameCaller : WordCaller → WordCaller → Type 0
-IsSameCaller old new = (new.seat.table_id ≡ old.seat.table_id) × (new.seat.id ≡ old.seat.id)
-
 -- no word is stored that was not posted
 abbrev pub HasNoDraft : WordCaller → Type 0
 HasNoDraft caller = (caller_half caller).state.draft ≡ []

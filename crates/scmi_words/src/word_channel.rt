@@ -1,14 +1,19 @@
 //! The channel whose endpoints share words.
 
-use crate::layout::TABLE_WORDS;
+use crate::callee_steps::{hand_back, set_callee_closed, take_over};
+use crate::caller_steps::{hand_over, look, set_caller_closed, store_frame_word, withdraw};
+use crate::frames::{read_answer, read_frame, write_command, write_response};
+use crate::layout::{HEADER, LENGTH, TABLE_WORDS};
 use crate::phase::Phase;
 use crate::shared_table::SharedTable;
 use crate::shared_table::channel_steps::{close_table, join_callee, make_table, split_callee};
-use crate::status_word::FREE;
+use crate::status_word::{
+    CHANNEL_ERROR, CLOSED, FREE, POSTED, RELEASED, TAKEN, is_free, told_after, without_closed,
+};
 use crate::word_callee::WordCallee;
 use crate::word_caller::WordCaller;
 use crate::word_image::{WordImage, words_of};
-use scmi_codec::{Answer, Frame, Header, Message, Payload};
+use scmi_codec::{Answer, Frame, Header, Message, Payload, is_well_formed};
 use scmi_link::{Channel, CloseError, Closing, LinkError, Looked, PostError};
 use std::alloc::Global;
 
@@ -65,19 +70,18 @@ impl Channel for WordChannel {
 
     type Rest = WordImage;
 
-    ghost use Rattle.std.specs.Prelude.{◌≡◌, ◌≢◌, ◌+◌, ◌≤◌, ◌↔◌, ◌||◌, ◌∷◌, [], ◌++◌, true, false, length, IfOk};
+    ghost use Rattle.std.specs.Prelude.{◌≡◌, ◌≢◌, ◌↔◌, true, false, IfOk};
     ghost use Rattle.scmi_codec.specs.Area.{is_well_formed};
     ghost use Rattle.scmi_codec.specs.declared.frame.Frame.TheVariants.{Good, Malformed};
-    ghost use Rattle.scmi_codec.specs.declared.frame.Answer.TheVariants.{Reply};
     ghost use Rattle.scmi_codec.specs.declared.message.Message.{Message};
-    ghost use Rattle.scmi_link.specs.View.{IsOutstanding, Owes, knows_close, callee_knows_close, new_caller, new_callee};
-    ghost use Rattle.scmi_link.specs.Calls.{Posts, Collects, Takes, ClosesCaller, ClosesCallee, frame_if, collected_by};
+    ghost use Rattle.scmi_link.specs.View.{IsOutstanding, knows_close, new_caller, new_callee};
+    ghost use Rattle.scmi_link.specs.Calls.{Posts, Collects, Takes, ClosesCaller, frame_if, collected_by};
+    ghost use Rattle.scmi_link.specs.Steps.{call_post, call_collect, call_close, call_take};
     ghost use Rattle.scmi_link.specs.Gathered.{Agree, Closed};
-    ghost use Rattle.scmi_words.specs.Area.{answer_steps};
     ghost use Rattle.scmi_words.specs.Mailbox.{Rule};
     ghost use Rattle.scmi_words.specs.View.{first_caller, first_callee};
-    ghost use Rattle.scmi_words.specs.WordCaller.{word_caller_view, word_caller_identity, caller_half, word_caller_steps, post_steps, collect_steps, close_steps, WhyNothing, CloseShows, HasNoDraft, IsWithdrawn};
-    ghost use Rattle.scmi_words.specs.WordCallee.{word_callee_view, word_callee_identity, callee_half, word_callee_steps, take_steps, close_callee_steps, WhyNone};
+    ghost use Rattle.scmi_words.specs.WordCaller.{word_caller_view, word_caller_identity, caller_half, word_caller_steps, WhyNothing, CloseShows, HasNoDraft, IsWithdrawn};
+    ghost use Rattle.scmi_words.specs.WordCallee.{word_callee_view, word_callee_identity, callee_half, word_callee_steps, WhyNone};
     ghost use Rattle.scmi_words.specs.WordChannel.{word_channel_identity};
     ghost use Rattle.scmi_words.specs.WordImage.{StandsAtEnd, image_words, image_area};
 
@@ -151,10 +155,18 @@ impl Channel for WordChannel {
             (result ≡ Err PostError.Closed → knows_close (word_caller_view caller.old) ≡ true) →
             HasNoDraft caller.new }
         ensures steps { let message : Message = record { header = header; payload = payload.now } in
-            (caller_half caller.new).steps ≡ (caller_half caller.old).steps +
-            post_steps (knows_close (word_caller_view caller.old)) (Good message) result }
+            word_caller_steps caller.old (call_post (Good message) result) caller.new }
     {
-        caller.post_parts(&self.table, header, payload)
+        caller.posts = caller.posts.wrapping_add(1);
+        caller.may_post()?;
+        write_command(&self.table, &mut caller.seat, header, payload);
+        if hand_over(&self.table, &mut caller.seat, caller.free) {
+            caller.phase = Phase::Waiting;
+            Ok(())
+        } else {
+            caller.told = true;
+            Err(PostError::Closed)
+        }
     }
 
     fn post_malformed(
@@ -176,14 +188,27 @@ impl Channel for WordChannel {
         ensures draft { HasNoDraft caller.old →
             (result ≡ Err PostError.Closed → knows_close (word_caller_view caller.old) ≡ true) →
             HasNoDraft caller.new }
-        ensures steps { (caller_half caller.new).steps ≡ (caller_half caller.old).steps +
-            post_steps (knows_close (word_caller_view caller.old)) (Malformed length header) result }
+        ensures steps { word_caller_steps caller.old (call_post (Malformed length header) result)
+            caller.new }
     {
-        caller.post_malformed(&self.table, length, header)
+        if is_well_formed(length) {
+            return Err(PostError::WellFormed);
+        }
+        caller.posts = caller.posts.wrapping_add(1);
+        caller.may_post()?;
+        store_frame_word(&self.table, &mut caller.seat, LENGTH, length);
+        store_frame_word(&self.table, &mut caller.seat, HEADER, header);
+        if hand_over(&self.table, &mut caller.seat, caller.free) {
+            caller.phase = Phase::Waiting;
+            Ok(())
+        } else {
+            caller.told = true;
+            Err(PostError::Closed)
+        }
     }
 
     fn outstanding(caller: &WordCaller) -> bool {
-        caller.outstanding()
+        matches!(caller.phase, Phase::Waiting)
     }
 
     fn collect_into(&self, caller: &mut WordCaller, answer: &mut Answer) -> Looked
@@ -197,11 +222,35 @@ impl Channel for WordChannel {
         ensures nothing { WhyNothing caller.old (collected_by result answer.new) caller.new }
         ensures withdrawn_stays { IsWithdrawn caller.old → IsWithdrawn caller.new }
         ensures draft { HasNoDraft caller.old → HasNoDraft caller.new }
-        ensures steps { (caller_half caller.new).steps ≡ (caller_half caller.old).steps +
-            collect_steps (knows_close (word_caller_view caller.old))
-            (collected_by result answer.new) }
+        ensures steps { word_caller_steps caller.old
+            (call_collect (collected_by result answer.new)) caller.new }
     {
-        caller.collect_into(&self.table, answer)
+        caller.collects = caller.collects.wrapping_add(1);
+        let Phase::Waiting = caller.phase else {
+            if caller.closed || caller.told {
+                return Looked::Closed;
+            }
+            let seen = look(&self.table, &mut caller.seat);
+            caller.told = told_after(caller.closed, caller.told, seen);
+            return if caller.told {
+                Looked::Closed
+            } else {
+                Looked::Nothing
+            };
+        };
+        let status = look(&self.table, &mut caller.seat);
+        if is_free(status) {
+            caller.phase = Phase::Idle;
+            caller.free = without_closed(status);
+            read_answer(&self.table, &mut caller.seat, caller.free, answer);
+            Looked::Got
+        } else if status == CLOSED + POSTED {
+            caller.told = told_after(caller.closed, caller.told, status);
+            caller.phase = Phase::GivenUp;
+            Looked::Closed
+        } else {
+            Looked::Nothing
+        }
     }
 
     fn take_into(&self, callee: &mut WordCallee, frame: &mut Frame) -> bool
@@ -211,41 +260,41 @@ impl Channel for WordChannel {
             (word_callee_view callee.new) }
         ensures stays { result ≡ false → frame.new ≡ frame.old }
         ensures none { WhyNone callee.old (frame_if result frame.new) callee.new }
-        ensures steps { (callee_half callee.new).steps ≡ (callee_half callee.old).steps +
-            take_steps (callee.old.owes || callee_knows_close (word_callee_view callee.old))
-            (frame_if result frame.new) }
+        ensures steps { word_callee_steps callee.old (call_take (frame_if result frame.new))
+            callee.new }
     {
-        callee.take_into(&self.table, frame)
+        callee.takes = callee.takes.wrapping_add(1);
+        if callee.owes || callee.closed || callee.told {
+            return false;
+        }
+        let found = take_over(&self.table, &mut callee.seat);
+        if found != POSTED {
+            callee.told = told_after(callee.closed, callee.told, found);
+            return false;
+        }
+        callee.owes = true;
+        read_frame(&self.table, &mut callee.seat, frame);
+        true
     }
 
     fn owes(callee: &WordCallee) -> bool {
-        callee.owes()
+        callee.owes
     }
 
-    fn answer(&self, callee: &mut WordCallee, answer: &Answer)
-        requires identity { word_callee_identity callee.old ≡ word_channel_identity self.now }
-        requires owes { Owes (word_callee_view callee.old) }
-        ensures identity { word_callee_identity callee.new ≡ word_callee_identity callee.old }
-        ensures answered { word_callee_view callee.new ≡
-            record (word_callee_view callee.old)
-            { answered = (word_callee_view callee.old).answered ++ answer.now ∷ [] } }
-        ensures steps { (callee_half callee.new).steps ≡ (callee_half callee.old).steps +
-            answer_steps answer.now }
-    {
-        callee.answer(&self.table, answer);
+    fn answer(&self, callee: &mut WordCallee, answer: &Answer) {
+        let status = match answer {
+            Answer::Reply(message) => return self.reply(callee, message),
+            Answer::Released => RELEASED,
+            Answer::ChannelError => CHANNEL_ERROR,
+        };
+        hand_back(&self.table, &mut callee.seat, status);
+        callee.owes = false;
     }
 
-    fn reply(&self, callee: &mut WordCallee, message: &Message)
-        requires identity { word_callee_identity callee.old ≡ word_channel_identity self.now }
-        requires owes { Owes (word_callee_view callee.old) }
-        ensures identity { word_callee_identity callee.new ≡ word_callee_identity callee.old }
-        ensures answered { word_callee_view callee.new ≡
-            record (word_callee_view callee.old)
-            { answered = (word_callee_view callee.old).answered ++ Reply message.now ∷ [] } }
-        ensures steps { (callee_half callee.new).steps ≡ (callee_half callee.old).steps +
-            (length message.now.payload.items + 3) }
-    {
-        callee.reply(&self.table, message);
+    fn reply(&self, callee: &mut WordCallee, message: &Message) {
+        write_response(&self.table, &mut callee.seat, message);
+        hand_back(&self.table, &mut callee.seat, FREE);
+        callee.owes = false;
     }
 
     fn close_caller(&self, caller: &mut WordCaller) -> Result<Closing, CloseError>
@@ -256,21 +305,39 @@ impl Channel for WordChannel {
         ensures shows { CloseShows caller.new result }
         ensures withdrawn_stays { IsWithdrawn caller.old → IsWithdrawn caller.new }
         ensures draft { HasNoDraft caller.old → HasNoDraft caller.new }
-        ensures steps { (caller_half caller.new).steps ≤ (caller_half caller.old).steps +
-            close_steps caller.old.closed result }
+        ensures steps { word_caller_steps caller.old (call_close result) caller.new }
     {
-        caller.close(&self.table)
+        let Phase::Waiting = caller.phase else {
+            if !caller.closed {
+                set_caller_closed(&self.table, &mut caller.seat, CLOSED);
+                caller.closed = true;
+            }
+            return Ok(Closing::Idle);
+        };
+        let found = withdraw(&self.table, &mut caller.seat);
+        if found == TAKEN {
+            return Err(CloseError::InService);
+        }
+        if is_free(found) {
+            return Err(CloseError::ReplyWaiting);
+        }
+        if found != POSTED {
+            set_caller_closed(&self.table, &mut caller.seat, CLOSED + FREE);
+        }
+        caller.phase = Phase::Withdrawn;
+        caller.closed = true;
+        Ok(Closing::Withdrawn)
     }
 
-    fn close_callee(&self, callee: &mut WordCallee) -> Result<(), CloseError>
-        requires identity { word_callee_identity callee.old ≡ word_channel_identity self.now }
-        ensures identity { word_callee_identity callee.new ≡ word_callee_identity callee.old }
-        ensures closes { ClosesCallee (word_callee_view callee.old) result
-            (word_callee_view callee.new) }
-        ensures steps { (callee_half callee.new).steps ≡ (callee_half callee.old).steps +
-            close_callee_steps callee.old.owes callee.old.closed }
-    {
-        callee.close(&self.table)
+    fn close_callee(&self, callee: &mut WordCallee) -> Result<(), CloseError> {
+        if callee.owes {
+            return Err(CloseError::InService);
+        }
+        if !callee.closed {
+            set_callee_closed(&self.table, &mut callee.seat);
+            callee.closed = true;
+        }
+        Ok(())
     }
 
     fn gather(self, caller: WordCaller, callee: WordCallee) -> WordImage
