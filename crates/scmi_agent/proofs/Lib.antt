@@ -1,2 +1,1 @@
-pub mod StandingFrame
 pub mod Replies

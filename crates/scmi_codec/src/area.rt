@@ -63,6 +63,16 @@ pub fn read_area_into(area: &[u8], frame: &mut Frame) -> Result<bool, AreaError>
     Ok(true)
 }
 
+/// The frame that is in an area, whatever its status word: also the one that an answer left in a
+/// free channel (own).
+pub fn frame_of(area: &[u8; AREA_BYTES]) -> Frame
+    ensures { result ≡ frame_of area.now }
+{
+    let mut frame = Frame::Good(Message::default());
+    read_frame(area, PAYLOAD_WORDS, &mut frame);
+    frame
+}
+
 /// Whether a channel is free, as `read_area` reports it.
 pub fn is_free(area: &[u8]) -> Result<bool, AreaError>
     ensures ok { length area.now ≡ AREA_BYTES → result ≡ Ok (is_none (frame_waiting area.now)) }

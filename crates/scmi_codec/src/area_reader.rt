@@ -24,12 +24,20 @@ pub(crate) fn is_well_formed_within(length: u32, words: usize) -> bool
     length >= 4 && length <= 4 + 4 * words as u32 && length % 4 == 0
 }
 
+/// The channel status word of an area.
+pub fn status_at(area: &[u8]) -> u32
+    requires room { 8 ≤ length area.now }
+    ensures { result ≡ status_at area.now }
+{
+    read_word(area, STATUS_AT)
+}
+
 /// Whether the status word marks the channel free: bit 0 alone decides (own).
 pub(crate) fn is_marked_free(area: &[u8]) -> bool
     requires room { 8 ≤ length area.now }
     ensures { result ≡ (status_at area.now % 2 == 1) }
 {
-    let status = ChannelStatus::from_bits_retain(read_word(area, STATUS_AT));
+    let status = ChannelStatus::from_bits_retain(status_at(area));
     status.contains(ChannelStatus::FREE)
 }
 

@@ -90,6 +90,16 @@ pub fn read_channel_area_into(area: &[u8], frame: &mut Frame) -> Result<bool, Ch
     Ok(true)
 }
 
+/// The frame that is in an area of its channel's size, whatever its status word (own).
+pub fn channel_frame(area: &[u8]) -> Frame
+    requires size { is_channel_size (length area.now) ≡ true }
+    ensures { result ≡ channel_frame area.now }
+{
+    let mut frame = Frame::Good(Message::default());
+    read_frame(area, channel_words(area.len()), &mut frame);
+    frame
+}
+
 /// Whether a channel is free, as `read_channel_area` reports it.
 pub fn is_channel_free(area: &[u8]) -> Result<bool, ChannelAreaError>
     ensures ok { is_channel_size (length area.now) ≡ true

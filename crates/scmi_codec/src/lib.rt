@@ -31,13 +31,14 @@ mod status;
 mod word;
 
 pub use area::{
-    AREA_BYTES, AreaError, is_free, is_well_formed, read_area, read_area_into, write_answer,
-    write_message, write_reply, write_response,
+    AREA_BYTES, AreaError, frame_of, is_free, is_well_formed, read_area, read_area_into,
+    write_answer, write_message, write_reply, write_response,
 };
+pub use area_reader::status_at;
 pub use base_command::{BASE_PROTOCOL, BaseCommand};
 pub use channel_area::{
-    ChannelAreaError, LEAST_AREA_BYTES, LEAST_PAYLOAD_WORDS, channel_bytes, channel_words,
-    is_channel_free, is_channel_size, read_channel_area, read_channel_area_into,
+    ChannelAreaError, LEAST_AREA_BYTES, LEAST_PAYLOAD_WORDS, channel_bytes, channel_frame,
+    channel_words, is_channel_free, is_channel_size, read_channel_area, read_channel_area_into,
     write_channel_answer, write_channel_message, write_channel_response,
 };
 pub use channel_status::ChannelStatus;

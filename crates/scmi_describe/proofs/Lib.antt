@@ -2,7 +2,6 @@ pub mod Backward
 pub mod Figures
 pub mod Readable
 pub mod SameText
-pub mod StandingFrame
 pub mod TextExamples
 pub mod TextMarks
 pub mod DescriptionAt

@@ -4,9 +4,7 @@ ghost use Rattle.scmi_describe.specs.Alike.{state_of, StandAlike};
 ghost use Rattle.scmi_describe.specs.Description.{described_area};
 ghost use Rattle.scmi_describe.specs.Text.{description_text};
 
-use crate::describing::{STATUS_AT, standing_frame};
-use byteorder::{ByteOrder, LittleEndian};
-use scmi_codec::{AREA_BYTES, Frame};
+use scmi_codec::{AREA_BYTES, Frame, frame_of, status_at};
 
 /// Whether two areas are described alike, with the same text. This holds if and only if they have
 /// the same frame (header and payload words, or the length and header word of a malformed one) and
@@ -20,7 +18,7 @@ pub fn are_described_alike(first: &[u8; AREA_BYTES], second: &[u8; AREA_BYTES]) 
         (description_text (described_area first.now) ≡ description_text (described_area second.now)) }
 {
     let is_same_state = state_of(first) == state_of(second);
-    is_same_state && are_same(&standing_frame(first), &standing_frame(second))
+    is_same_state && are_same(&frame_of(first), &frame_of(second))
 }
 
 /// The state of a channel by the status word of its area: 0 busy, 1 free, 3 free with the error
@@ -28,7 +26,7 @@ pub fn are_described_alike(first: &[u8; AREA_BYTES], second: &[u8; AREA_BYTES]) 
 fn state_of(area: &[u8; AREA_BYTES]) -> u32
     ensures { result ≡ state_of area.now }
 {
-    let status = LittleEndian::read_u32(&area[STATUS_AT..]);
+    let status = status_at(area);
     if status % 2 == 1 { status % 4 } else { 0 }
 }
 

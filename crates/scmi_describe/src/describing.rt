@@ -1,17 +1,13 @@
 //! What an area is, from its bytes.
 ghost use Rattle.std.specs.Prelude.{◌≡◌, ◌≢◌, ◌/◌, ◌%◌, ◌==◌, ◌≤◌, length};
-ghost use Rattle.scmi_codec.specs.Area.{frame_of, status_at, StandsForAnswer};
+ghost use Rattle.scmi_codec.specs.Area.{status_at, StandsForAnswer};
 ghost use Rattle.scmi_codec.specs.declared.frame.Frame.{Frame as FrameOf};
 ghost use Rattle.scmi_codec.specs.declared.frame.Answer.{Answer as AnswerOf};
 ghost use Rattle.scmi_describe.specs.Description.{described_area, described_posted, described_left, described_response, described_p2a, described_answer};
 
 use crate::description::Description;
 use crate::reply::response_status;
-use byteorder::{ByteOrder, LittleEndian};
-use scmi_codec::{AREA_BYTES, Command, Frame, Message, Status, read_area, write_word};
-
-// The place of the status word, in bytes (DEN0056B, shared memory transport).
-pub(crate) const STATUS_AT: usize = 4;
+use scmi_codec::{AREA_BYTES, Command, Frame, Message, Status, frame_of, read_area, status_at};
 
 /// What an area is. The status word decides first: the area of a busy channel holds its caller's
 /// message. In a free one a message of type 0 is a reply if it has the form of one, and else a
@@ -23,7 +19,7 @@ pub fn describe(area: &[u8; AREA_BYTES]) -> Description
 {
     match read_area(area) {
         Ok(Some(frame)) => describe_posted(frame),
-        _ => describe_left(has_error(area), standing_frame(area)),
+        _ => describe_left(has_error(area), frame_of(area)),
     }
 }
 
@@ -32,23 +28,7 @@ pub(crate) fn has_error(area: &[u8]) -> bool
     requires room { 8 ≤ length area.now }
     ensures { result ≡ (status_at area.now / 2 % 2 == 1) }
 {
-    LittleEndian::read_u32(&area[STATUS_AT..]) / 2 % 2 == 1
-}
-
-/// The frame that is in an area, whatever its status word.
-pub(crate) fn standing_frame(area: &[u8; AREA_BYTES]) -> Frame
-    ensures { result ≡ frame_of area.now }
-{
-    // The codec reads the frame of a busy channel alone.
-    let mut busy = *area;
-    write_word(&mut busy, STATUS_AT, 0);
-    match read_area(&busy) {
-        Ok(Some(frame)) => frame,
-        _ => Frame::Malformed {
-            length: 0,
-            header: 0,
-        },
-    }
+    status_at(area) / 2 % 2 == 1
 }
 
 /// What a frame is in a busy channel.
