@@ -1,5 +1,5 @@
 -- The board that a platform controller serves, and what a device holds.
-use Rattle.std.specs.Prelude.{ℕ, ◌<◌, ◌≤◌, ◌-◌, ◌==◌, Bool, false, List, [], length, get_or, set}
+use Rattle.std.specs.Prelude.{ℕ, ◌≡◌, ◌<◌, ◌≤◌, ◌-◌, ◌==◌, ◌&&◌, nat_lt, Bool, false, List, [], length, get_or, set}
 use Rattle.std.specs.Int.{bit_at}
 use Rattle.scmi_codec.specs.declared.payload.TheConstants.{PAYLOAD_WORDS}
 use Rattle.scmi_plan.specs.declared.agent_channel.AgentChannel.{AgentChannel}
@@ -7,6 +7,7 @@ use Rattle.scmi_plan.specs.declared.agent_channel.TheConstants.{LEAST_CHANNEL_WO
 use Rattle.scmi_plan.specs.declared.domain.Domain.{Domain}
 use Rattle.scmi_plan.specs.declared.clock.Clock.{Clock}
 use Rattle.scmi_plan.specs.declared.device.Device.{Device}
+use Rattle.scmi_plan.specs.declared.limits.TheConstants.{DOMAINS, CLOCKS, DEVICES}
 use Rattle.scmi_plan.specs.declared.rates.Rates.TheVariants as rates
 use Rattle.scmi_plan.specs.declared.resource.Resource.{Resource}
 use Rattle.scmi_plan.specs.declared.resource.Resource.TheVariants as resource
@@ -53,11 +54,24 @@ domain_at board d = get_or board.domains d (record { name = []; on = false; sync
 abbrev pub clock_at : Board → ℕ → Clock
 clock_at board c = get_or board.clocks c (record { name = []; enabled = false; rate = 0; rates = rates.List [] })
 
+-- a device of a list, by its number
+abbrev pub device_in : List Device → ℕ → Device
+device_in devices d = get_or devices d (record { domains = 0; clocks = 0 })
+
 -- a device by its number
 abbrev pub device_at : Board → ℕ → Device
-device_at board d = get_or board.devices d (record { domains = 0; clocks = 0 })
+device_at board d = device_in board.devices d
 
 -- a domain or clock of the board
 abbrev pub IsOnBoard : Board → Resource → Type 0
 IsOnBoard board (resource.Domain d) = d < length board.domains
 IsOnBoard board (resource.Clock c) = c < length board.clocks
+
+-- a domain or clock that some board has
+abbrev pub IsPossible : Resource → Type 0
+IsPossible (resource.Domain d) = d < DOMAINS
+IsPossible (resource.Clock c) = c < CLOCKS
+
+-- a mask has the devices that hold a resource, and no others: bit d is for device d
+abbrev pub AreHolders : List Device → Resource → ℕ → Type 0
+AreHolders devices r mask = (d : ℕ) → d < DEVICES → (bit_at mask d == 1) ≡ (nat_lt d (length devices) && holds (device_in devices d) r)

@@ -1,11 +1,14 @@
 -- A valid board, and what a plan holds of one.
-use Rattle.std.specs.Prelude.{ℕ, ◌<◌, ◌≤◌, ◌^◌, ◌≡◌, length}
+use Rattle.std.specs.Prelude.{ℕ, ◌<◌, ◌≤◌, ◌^◌, ◌≡◌, List, length, get_or}
 use Rattle.std.specs.List.{All}
 use Rattle.scmi_codec.specs.Name.{IsName}
-use Rattle.scmi_plan.specs.Board.{Board, IsChannel, domain_at, clock_at, device_at}
+use Rattle.scmi_plan.specs.Board.{Board, IsChannel, AreHolders, domain_at, clock_at, device_at}
 use Rattle.scmi_plan.specs.Rates.{HasValidRates, IsSupported}
 use Rattle.scmi_plan.specs.declared.limits.TheConstants.{AGENTS, DOMAINS, CLOCKS, DEVICES}
+use Rattle.scmi_plan.specs.declared.device.Device.{Device}
 use Rattle.scmi_plan.specs.declared.plan.Plan.TheInside.{Inside}
+use Rattle.scmi_plan.specs.declared.resource.Resource.{Resource}
+use Rattle.scmi_plan.specs.declared.resource.Resource.TheVariants as resource
 
 -- the board that a plan's fields hold
 abbrev pub board_of : Inside → Board
@@ -42,3 +45,14 @@ pub record IsValid (board : Board) : Type 0 where
   pub trusted_agent : board.trusted ≤ length board.agents
   pub channels : length board.channels ≡ AGENTS
   pub valid_channels : All IsChannel board.channels
+
+-- a mask for each of so many domains or clocks, which has the devices that hold it
+pub record AreMasks (devices : List Device) (named : ℕ → Resource) (count : ℕ) (masks : List ℕ) : Type 0 where
+  pub rows : length masks ≡ count
+  pub holders : (r : ℕ) → r < count → AreHolders devices (named r) (get_or masks r 0)
+
+-- what a plan keeps: its board is valid, and its masks are those of the board's devices
+pub record IsPlan (p : Inside) : Type 0 where
+  pub valid : IsValid (board_of p)
+  pub domain_masks : AreMasks p.devices.items resource.Domain DOMAINS p.domain_holders
+  pub clock_masks : AreMasks p.devices.items resource.Clock CLOCKS p.clock_holders

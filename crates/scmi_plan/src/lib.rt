@@ -12,6 +12,7 @@ mod clock;
 mod device;
 mod domain;
 mod fault;
+mod holders;
 mod limits;
 mod load;
 mod plan;

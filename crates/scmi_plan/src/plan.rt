@@ -1,9 +1,9 @@
 //! A valid board.
-ghost use Rattle.std.specs.Prelude.{◌≡◌, ◌≢◌, ◌↔◌, ◌<◌, ◌≤◌, ◌-◌, ◌⊎◌, length, get_or, [], None, Some, Err, IfOk, IfErr, OnOk, OnErr, IsOkUnless, IsErrOf};
+ghost use Rattle.std.specs.Prelude.{◌≡◌, ◌≢◌, ◌↔◌, ◌<◌, ◌-◌, ◌⊎◌, length, get_or, [], None, Some, Err, IfOk, IfErr, OnOk, OnErr, IsOkUnless, IsErrOf};
 ghost use Rattle.scmi_codec.specs.declared.payload.TheConstants.{PAYLOAD_WORDS};
 ghost use Rattle.scmi_plan.specs.Agent.{IsAgent, IsNoAgent};
 ghost use Rattle.scmi_plan.specs.declared.agent_channel.TheConstants.{LEAST_CHANNEL_WORDS};
-ghost use Rattle.scmi_plan.specs.Board.{IsChannel, channel_of, with_channel, holds, IsOnBoard, domain_at, clock_at, device_at};
+ghost use Rattle.scmi_plan.specs.Board.{AreHolders, IsChannel, channel_of, with_channel, holds, IsOnBoard, domain_at, clock_at, device_at};
 ghost use Rattle.scmi_plan.specs.Plan.{IsValid};
 ghost use Rattle.scmi_plan.specs.PlanError.{first_fault};
 ghost use Rattle.scmi_plan.specs.RawPlan.{asked_board};
@@ -17,7 +17,8 @@ use crate::clock::Clock;
 use crate::device::Device;
 use crate::domain::Domain;
 use crate::fault::first_fault;
-use crate::limits::AGENTS;
+use crate::holders::{clock_holders, domain_holders};
+use crate::limits::{AGENTS, CLOCKS, DOMAINS};
 use crate::plan_error::PlanError;
 use crate::raw_plan::RawPlan;
 use crate::resource::Resource;
@@ -25,7 +26,7 @@ use scmi_codec::{Name, PAYLOAD_WORDS};
 use std::alloc::{AllocError, Global};
 use std::marker::Model;
 
-/// A board that keeps the limits and rules of the profile.
+/// A board that keeps the limits and rules of the profile. Bit d of a mask of holders is for device d.
 #[derive(Debug, Drop)]
 pub struct Plan {
     vendor: Name,
@@ -37,6 +38,8 @@ pub struct Plan {
     clocks: Vec<Clock>,
     devices: Vec<Device>,
     channels: [AgentChannel; AGENTS],
+    domain_holders: [u32; DOMAINS],
+    clock_holders: [u32; CLOCKS],
 }
 
 impl Model for Plan {
@@ -44,11 +47,11 @@ impl Model for Plan {
 
     ghost Value = { Board };
 
-    ghost use Rattle.scmi_plan.specs.Plan.{board_of, IsValid};
+    ghost use Rattle.scmi_plan.specs.Plan.{board_of, IsPlan};
 
     ghost view = { board_of };
 
-    ghost invariant = { λ p. IsValid (board_of p) };
+    ghost invariant = { IsPlan };
 }
 
 impl Plan {
@@ -86,6 +89,8 @@ impl Plan {
             clocks: build_clocks(alloc, &raw.clocks)?,
             devices: build_devices(alloc, &raw.devices)?,
             channels: [WHOLE_CHANNEL; AGENTS],
+            domain_holders: domain_holders(&raw.devices),
+            clock_holders: clock_holders(&raw.devices),
         })
     }
 
@@ -127,8 +132,7 @@ impl Plan {
 
     /// The name of an agent.
     pub fn agent(&self, agent: u32) -> &Name
-        requires first { 1 ≤ agent }
-        requires last { agent ≤ length self.now.agents }
+        requires agent { IsAgent (length self.now.agents) agent }
         ensures { result.now ≡ get_or self.now.agents (agent - 1) [] }
     {
         &self.agents[agent as usize - 1]
@@ -137,8 +141,7 @@ impl Plan {
     /// What an agent's channels are. `Plan::check` gives each agent whole ones: 64 words of payload,
     /// both ways.
     pub fn channel(&self, agent: u32) -> AgentChannel
-        requires first { 1 ≤ agent }
-        requires last { agent ≤ length self.now.agents }
+        requires agent { IsAgent (length self.now.agents) agent }
         ensures row { result ≡ channel_of self.now agent }
         ensures valid { IsChannel result }
     {
@@ -223,10 +226,17 @@ impl Plan {
         requires resource { IsOnBoard self.now resource }
         ensures { result ≡ holds (device_at self.now device) resource }
     {
-        let device = self.devices[device as usize];
+        self.devices[device as usize].holds(resource)
+    }
+
+    /// The devices that hold a domain or clock of the board: bit d of the mask is for device d.
+    pub fn holders(&self, resource: Resource) -> u32
+        requires { IsOnBoard self.now resource }
+        ensures { AreHolders self.now.devices resource result }
+    {
         match resource {
-            Resource::Domain(domain) => (device.domains >> domain) & 1 == 1,
-            Resource::Clock(clock) => (device.clocks >> clock) & 1 == 1,
+            Resource::Domain(domain) => self.domain_holders[domain as usize],
+            Resource::Clock(clock) => self.clock_holders[clock as usize],
         }
     }
 }
