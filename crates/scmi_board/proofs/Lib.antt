@@ -9,3 +9,4 @@ pub mod NumberTests
 pub mod PlaceLemmas
 pub mod Steps
 pub mod Utf8
+pub mod ValidBoards

@@ -6,3 +6,4 @@ pub mod Number
 pub mod Rows
 pub mod TextError
 pub mod Channels
+pub mod ValidBoard

@@ -12,6 +12,10 @@ pub record LinesView : Type 0 where
   pub rest : List ℕ
   pub number : ℕ
 
+-- all lines of a text, numbered from 1
+abbrev pub whole : List ℕ → LinesView
+whole text = record { rest = text; number = 0 }
+
 -- the lines of a text, each without the line feed that ends it; the last may lack one
 unfoldable pub lines_of : List ℕ → List (List ℕ)
 lines_of [] = []

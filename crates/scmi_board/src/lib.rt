@@ -3,10 +3,12 @@
 //! The main types are `Lines`, what is left of an input, and `Items`, what is left of a line. The
 //! main theorem is the contract of `read_board`: it gives the board that the lines encode, row by
 //! row, or else the number of the first invalid line, unless memory is refused.
-//! `read_board_with_channels` is the same of a text that contains what channels the agents have.
+//! `read_board_with_channels` is the same of a text that contains what channels the agents have, and
+//! `read_valid_board` of one whose board keeps every rule.
 #![tactic(auto)]
 
 mod board;
+mod board_error;
 mod board_with_channels;
 mod channel_line;
 mod channel_lines;
@@ -21,9 +23,11 @@ mod numbers;
 mod places;
 mod row;
 mod text_error;
+mod valid_board;
 mod words;
 
 pub use board::read_board;
+pub use board_error::BoardError;
 pub use board_with_channels::{BoardWithChannels, read_board_with_channels};
 pub use channel_line::ChannelLine;
 pub use channel_lines::set_channels;
@@ -32,3 +36,4 @@ pub use line_error::LineError;
 pub use lines::{Lines, TextLine, is_significant};
 pub use numbers::{byte, number, word};
 pub use text_error::TextError;
+pub use valid_board::{ValidBoard, read_valid_board};

@@ -1,6 +1,6 @@
 //! The lines of an input, with their numbers.
 ghost use Rattle.std.specs.Prelude.{◌≡◌, ◌<◌, ◌∷◌, length, OnSome, IfSome, MatchOption, ⊤, true, []};
-ghost use Rattle.scmi_board.specs.Lines.{is_significant, last_number, line_of, lines_left, lines_of, number_behind};
+ghost use Rattle.scmi_board.specs.Lines.{is_significant, last_number, line_of, lines_left, lines_of, number_behind, whole};
 
 use crate::places::{behind_first, first_place};
 use std::marker::Model;
@@ -45,8 +45,7 @@ impl<'a> Lines<'a> {
 
     /// The lines of a text that has no mode. They are numbered from 1.
     pub fn of_text(text: &'a [u8]) -> Lines<'a>
-        ensures rest { result.rest ≡ text.now }
-        ensures number { result.number ≡ 0 }
+        ensures { result ≡ whole text.now }
     {
         Lines {
             rest: text,

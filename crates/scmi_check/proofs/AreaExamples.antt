@@ -2,7 +2,7 @@
 use Rattle.std.proofs.Common.{◌≡◌, [], ◌∷◌, map, Ok, Err, refl}
 use Rattle.std.specs.Prelude.{codes}
 use Rattle.scmi_board.specs.Items.{behind_spaces, first_number, item_at, items_up_to}
-use Rattle.scmi_board.specs.Lines.{lines_behind, lines_of}
+use Rattle.scmi_board.specs.Lines.{lines_behind, lines_of, whole}
 use Rattle.scmi_board.specs.Number.{number_of}
 use Rattle.scmi_codec.specs.Listing.{rows_of}
 use Rattle.scmi_codec.specs.Word.{words_at}
@@ -14,7 +14,6 @@ use Rattle.scmi_text.specs.PackedStep.{raw_with}
 use Rattle.scmi_text.specs.StepText.{agent_head, command_head, first_head, head_of, payload_of, step_of_line}
 use Rattle.scmi_text.specs.TextLines.{after_each_line}
 use Rattle.scmi_check.specs.AreaShown.{area_behind, area_described, with_area_word}
-use Rattle.scmi_check.specs.Check.{whole}
 use Rattle.scmi_check.specs.RecordText.{command_taken, record_left, with_answer, with_line, with_posted, with_shown}
 use Rattle.scmi_check.specs.Shown.{seen_at, seen_behind, session_shown, shown_at}
 use Rattle.scmi_check.proofs.RecordExamples.{at, command}

@@ -2,14 +2,13 @@
 use Rattle.std.proofs.Common.{◌≡◌, [], ◌∷◌, map, Ok, Err, refl}
 use Rattle.std.specs.Prelude.{codes}
 use Rattle.hex.specs.Hex.{decode_pairs}
-use Rattle.scmi_board.specs.Lines.{lines_behind, lines_of}
+use Rattle.scmi_board.specs.Lines.{lines_behind, lines_of, whole}
 use Rattle.scmi_codec.specs.declared.frame.Answer.TheVariants.{Reply}
 use Rattle.scmi_decode.specs.Event.{event_header, event_payload, signed_word}
 use Rattle.scmi_decode.specs.Traced.{event_traced}
 use Rattle.scmi_judge.specs.declared.entry.Entry.TheVariants.{Answered, Delivered}
 use Rattle.scmi_text.specs.PackedStep.{raw_with}
 use Rattle.scmi_text.specs.TextLines.{after_each_line}
-use Rattle.scmi_check.specs.Check.{whole}
 use Rattle.scmi_check.specs.RecordText.{record_left, response_taken, with_line, with_response, with_shown}
 use Rattle.scmi_check.specs.Shown.{shown_at}
 use Rattle.scmi_check.proofs.RecordExamples.{at, command}

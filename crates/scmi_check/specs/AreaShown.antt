@@ -21,7 +21,7 @@ with_area_word bytes item = do
   word ← number_of 32 item
   if nat_le (length bytes + 4) AREA_BYTES then Some (bytes ++ to_le_bytes w32 word) else None
 
--- these bytes of an area, and those of the words of all items that are left; none where the spaces have a fault
+-- these bytes of an area, and those of the words of all items that are left; none if the spaces have a fault
 unfoldable pub area_behind : List ℕ → ItemsView → Option (List ℕ)
 area_behind bytes view = if view.whole then after_each with_area_word bytes view.items else None
 

@@ -1,12 +1,16 @@
 -- A check of a record, from the bytes that are read to the status.
-use Rattle.std.specs.Prelude.{◌≡◌, ◌↔◌, ◌⊎◌, ℕ, ◌<◌, ⊤, List, length, Option, None, IfSome, Ok, Err}
+use Rattle.std.specs.Prelude.{◌≡◌, ◌↔◌, ◌⊎◌, ℕ, ◌<◌, ⊤, List, length, Option, IfSome, Ok, Err}
 use Rattle.std.specs.Io.KnownBytes.{Appends}
-use Rattle.scmi_board.specs.Channels.{Described, described_left, with_channels}
-use Rattle.scmi_board.specs.Lines.{Line, LinesView}
+use Rattle.scmi_board.specs.Channels.{Described}
+use Rattle.scmi_board.specs.Lines.{whole}
+use Rattle.scmi_board.specs.ValidBoard.{IsBoardFault, IsBoardText, with_its_channels}
+use Rattle.scmi_board.specs.declared.board_error.BoardError.TheVariants as board
+use Rattle.scmi_fault.specs.FaultLine.{fault_line}
 use Rattle.scmi_input.specs.declared.input.TheConstants.{INPUT_BYTES}
 use Rattle.scmi_plan.specs.Board.{Board}
-use Rattle.scmi_plan.specs.PlanError.{first_fault, number}
-use Rattle.scmi_check.specs.CheckError.{fault_line, status_of}
+use Rattle.scmi_plan.specs.PlanError.{number}
+use Rattle.scmi_plan.specs.declared.plan_error.PlanError.{PlanError}
+use Rattle.scmi_check.specs.CheckError.{fault_text, status_of}
 use Rattle.scmi_check.specs.Counts.{counts_of}
 use Rattle.scmi_judge.specs.Law.{HasHistory}
 use Rattle.scmi_check.specs.Judged.{entries_of, judged_of}
@@ -17,27 +21,21 @@ use Rattle.scmi_check.specs.declared.check_error.CheckError.TheVariants.{Size, R
 use Rattle.scmi_check.specs.declared.placed.Placed.{Placed}
 use Rattle.scmi_check.specs.declared.style.Style.{Style}
 
--- the lines of a text, numbered from 1
-abbrev pub whole : List ℕ → LinesView
-whole text = record { rest = text; number = 0 }
-
 -- a text begins with a board that keeps every rule, and lines `channel` that give its agents these channels
-pub record IsBoardText (text : List ℕ) (board : Board) : Type 0 where
+pub record IsPlanText (text : List ℕ) (board : Board) : Type 0 where
   pub said : Described
-  pub behind : List Line
-  pub said_is : described_left (whole text) ≡ Ok (said, behind)
-  pub valid : first_fault said.0 ≡ None
-  pub board_is : board ≡ with_channels said.0 said.1
+  pub of_text : IsBoardText text said
+  pub board_is : board ≡ with_its_channels said
 
 -- a text encodes a record of a platform of a board
 abbrev pub IsRecordText : Board → List ℕ → List Placed → Type 0
 IsRecordText board text placed = record_left (length board.agents) (whole text) ≡ Ok placed
 
--- what is written is the report of a record of a platform of a board, of which this many entries differ; if the texts are known, they encode that board and that record. As many are the same as there are if and only if the record has a legal history
+-- what is written is the report of a record of a platform of a board, of which this many entries differ; if the texts are known, they encode that board and that record. All entries are the same if and only if the record has a legal history
 pub record WritesReport (style : Style) (board_known record_known : Option (List ℕ)) (differ : ℕ) (old new : Option (List ℕ)) : Type 0 where
   pub board : Board
   pub placed : List Placed
-  pub of_board : IfSome board_known (λ text. IsBoardText text board)
+  pub of_board : IfSome board_known (λ text. IsPlanText text board)
   pub of_record : IfSome record_known (λ text. IsRecordText board text placed)
   pub text : Appends old new (report_text style (judged_of board placed))
   pub differ_is : differ ≡ (counts_of (judged_of board placed)).differ
@@ -52,8 +50,8 @@ pub record IsChecked (style : Style) (board_known record_known : Option (List �
 -- a fault of a board's text: its length, its first line that is not one of a board, or the first rule that the board breaks. A failed read, or out of memory, shows nothing of it
 abbrev pub IsFaultOfBoard : List ℕ → CheckError → Type 0
 IsFaultOfBoard text Size = INPUT_BYTES < length text
-IsFaultOfBoard text (BoardLine line) = described_left (whole text) ≡ Err line
-IsFaultOfBoard text (PlanRule rule) = (said : Described) × (behind : List Line) × (described_left (whole text) ≡ Ok (said, behind)) × IfSome (first_fault said.0) (λ broken. rule ≡ number broken)
+IsFaultOfBoard text (BoardLine line) = IsBoardFault text (board.Line line)
+IsFaultOfBoard text (PlanRule rule) = (broken : PlanError) × IsBoardFault text (board.Rule broken) × (rule ≡ number broken)
 IsFaultOfBoard text Read = ⊤
 IsFaultOfBoard text Memory = ⊤
 IsFaultOfBoard text _ = ⊥
@@ -71,7 +69,7 @@ IsFaultOfRecord board text _ = ⊥
 abbrev pub IsFaultOf : Option (List ℕ) → Option (List ℕ) → CheckError → Type 0
 IsFaultOf board_known record_known fault =
     IfSome board_known (λ text. IsFaultOfBoard text fault)
-    ⊎ ((board : Board) × IfSome board_known (λ text. IsBoardText text board) × IfSome record_known (λ text. IsFaultOfRecord board text fault))
+    ⊎ ((board : Board) × IfSome board_known (λ text. IsPlanText text board) × IfSome record_known (λ text. IsFaultOfRecord board text fault))
 
 -- a check ends with this status and the line of a fault, which has that status and is one of the texts, if they are known. If a text is rejected nothing else is written
 pub record EndsWithFault (board_known record_known : Option (List ℕ)) (status : ℕ) (old new : Option (List ℕ)) : Type 0 where
@@ -80,4 +78,4 @@ pub record EndsWithFault (board_known record_known : Option (List ℕ)) (status 
   pub of_texts : IsFaultOf board_known record_known fault
   pub before : Option (List ℕ)
   pub refused : status_of fault ≡ 2 → before ≡ old
-  pub text : Appends before new (fault_line fault)
+  pub text : Appends before new (fault_line (fault_text fault))

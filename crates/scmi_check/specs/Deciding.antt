@@ -36,7 +36,7 @@ is_when when.OtherSize command = not (length command.payload.items == wanted_wor
 is_when (when.Command protocol id) command = is_command protocol id command.header
 is_when (when.ReservedFlags protocol id) command = is_command protocol id command.header && has_reserved_flags (command_of command)
 
--- what a row says
+-- a row, with its word as bytes
 abbrev pub said : CheckRow (Bor (List ℕ)) → CheckRow (List ℕ)
 said row = record { when = row.when; status = row.status; word = row.word.now }
 

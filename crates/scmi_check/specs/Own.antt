@@ -62,7 +62,7 @@ asks_board (Ok (Base base.SubVendor)) = true
 asks_board (Ok (Base base.Implementation)) = true
 asks_board _ = false
 
--- a reply to a command, which was read so, differs by a rule from the one that is due
+-- a reply to a command, which was read as this one, differs by a rule from the one that is due
 abbrev pub is_by : OwnRule → Result Command Status → List ℕ → List ℕ → Bool
 is_by UnknownId command due seen = begins_with due NotFound && begins_with seen InvalidParameters
 is_by ReservedFlags command due seen = has_reserved_flags command && begins_with due InvalidParameters

@@ -39,7 +39,7 @@ clock_named (clock.GetRate clock) = Some (Clock clock)
 clock_named (clock.Config clock attributes) = Some (Clock clock)
 clock_named _ = None
 
--- what a command names that was read so
+-- what a command names that was read as this one
 abbrev pub command_subject : Result Command Status → Option Resource
 command_subject (Ok (Power command)) = domain_named command
 command_subject (Ok (ClockKind command)) = clock_named command

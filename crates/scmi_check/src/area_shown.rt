@@ -43,7 +43,7 @@ fn read_area_bytes(items: &mut Items<'_>) -> Result<ArrayVec<u8, AREA_BYTES>, Li
     Ok(area)
 }
 
-/// What the area of an agent's A2P channel shows. `Form` if it is no command, response or channel
+/// What the area of an agent's A2P channel shows. `Form` if it is not a command, response or channel
 /// error.
 pub(crate) fn a2p_shown(agent: u32, area: Description) -> Result<Shown, LineError>
     ensures { Gives (λ shown. shown) result (a2p_shown agent area) }
@@ -89,7 +89,7 @@ fn message_in(agent: u32, is_free: bool, message: Message) -> Shown
     }
 }
 
-/// What the area of an agent's P2A channel shows. `Form` if it is no message for the agent.
+/// What the area of an agent's P2A channel shows. `Form` if it is not a message for the agent.
 pub(crate) fn p2a_shown(agent: u32, area: Description) -> Result<Shown, LineError>
     ensures { Gives (λ shown. shown) result (p2a_shown agent area) }
 {

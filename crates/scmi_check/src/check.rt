@@ -1,6 +1,6 @@
 //! The texts of a board and of a record, and the report of it.
 ghost use Rattle.std.specs.Prelude.{◌≡◌, IfOk, IfErr, IfSome};
-ghost use Rattle.scmi_check.specs.Check.{IsBoardText, IsFaultOf, IsFaultOfBoard, IsFaultOfRecord, IsRecordText, WritesReport};
+ghost use Rattle.scmi_check.specs.Check.{IsFaultOf, IsFaultOfBoard, IsFaultOfRecord, IsPlanText, IsRecordText, WritesReport};
 ghost use Rattle.scmi_check.specs.CheckError.{status_of};
 
 use crate::check_error::CheckError;
@@ -10,7 +10,7 @@ use crate::placed::Placed;
 use crate::record::read_record;
 use crate::report::write_report;
 use crate::style::Style;
-use scmi_board::{Lines, read_board_with_channels, set_channels};
+use scmi_board::{Lines, read_valid_board};
 use scmi_input::{CountedReader, read_rest};
 use scmi_plan::Plan;
 use std::alloc::Global;
@@ -41,7 +41,7 @@ pub(crate) fn check<B: Read, R: Read, W: Write>(
 /// The plan of a board's text.
 fn read_plan<B: Read>(alloc: Global, board: &mut B) -> Result<Plan, CheckError>
     ensures board { IfOk result (λ plan. IfSome (B.remaining board.old)
-        (λ text. IsBoardText text plan)) }
+        (λ text. IsPlanText text plan)) }
     ensures faults { IfErr result (λ e. IfSome (B.remaining board.old)
         (λ text. IsFaultOfBoard text e)) }
 {
@@ -50,13 +50,11 @@ fn read_plan<B: Read>(alloc: Global, board: &mut B) -> Result<Plan, CheckError>
 }
 
 fn plan_of(alloc: Global, text: &[u8]) -> Result<Plan, CheckError>
-    ensures board { IfOk result (IsBoardText text.now) }
+    ensures board { IfOk result (IsPlanText text.now) }
     ensures faults { IfErr result (IsFaultOfBoard text.now) }
 {
-    let said = read_board_with_channels(alloc, &mut Lines::of_text(text))?;
-    let mut plan = Plan::check(alloc, &said.board)?;
-    set_channels(&mut plan, &said.channels);
-    Ok(plan)
+    let valid = read_valid_board(alloc, text)?;
+    Ok(valid.plan)
 }
 
 /// The entries of a record's text, of a platform of this board.

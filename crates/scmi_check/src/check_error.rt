@@ -1,32 +1,15 @@
 //! Why a record is not checked.
-ghost use Rattle.std.specs.Prelude.{◌≡◌};
-ghost use Rattle.scmi_check.specs.CheckError.{error_of_input, error_of_plan, error_of_text, status_of};
+ghost use Rattle.std.specs.Prelude.{◌≡◌, ◌≢◌};
+ghost use Rattle.scmi_check.specs.CheckError.{error_of_board, error_of_input, error_of_text, status_of};
 ghost use Rattle.scmi_check.specs.declared.check_error.CheckError.TheVariants.{Memory};
+ghost use Rattle.scmi_check.specs.declared.run.TheConstants.{DIFFERS};
 
-use scmi_board::TextError;
+use scmi_board::{BoardError, TextError};
 use scmi_core::CoreError;
+use scmi_fault::{BOARD, MEMORY, PLAN, READ, RECORD, SIZE, WRITE};
 use scmi_input::InputError;
-use scmi_plan::PlanError;
 use std::error::Error;
 use std::fmt;
-
-/// The texts of errors. A number follows those that end in a space.
-const SIZE: &str = "size";
-
-const READ: &str = "read";
-
-const BOARD: &str = "board ";
-
-const RULE: &str = "plan ";
-
-const RECORD: &str = "record ";
-
-const MEMORY: &str = "memory";
-
-const WRITE: &str = "write";
-
-/// The line of an error.
-pub(crate) const FAULT_LINE: &str = "fault %\n";
 
 /// Why a record is not checked. Its text is what follows the word `fault`.
 #[derive(Clone, Copy, Debug, PartialEq, Eq)]
@@ -35,11 +18,11 @@ pub enum CheckError {
     Size,
     /// A read failed, or reads were interrupted too often.
     Read,
-    /// This line of the board's text is no line of a board.
+    /// This line of the board's text is not a line of a board.
     Board(u32),
     /// The board breaks this rule.
     Plan(u8),
-    /// This line is not a valid line of a record there, or is a command that has no answer.
+    /// This line is not a valid line of a record, or is a command that has no answer.
     Record(u32),
     /// Out of memory.
     Memory,
@@ -51,6 +34,7 @@ impl CheckError {
     /// The exit status: 1 for a failed output, 2 for a rejected input, 4 for out of memory.
     pub fn status(&self) -> u8
         ensures { result ≡ status_of self.now }
+        ensures not_checked { (result ≢ 0) × (result ≢ DIFFERS) }
     {
         match self {
             CheckError::Write => 1,
@@ -73,7 +57,7 @@ impl fmt::Display for CheckError {
             CheckError::Size => f.write_str(SIZE),
             CheckError::Read => f.write_str(READ),
             CheckError::Board(line) => write!(f, "{BOARD}{line}"),
-            CheckError::Plan(rule) => write!(f, "{RULE}{rule}"),
+            CheckError::Plan(rule) => write!(f, "{PLAN}{rule}"),
             CheckError::Record(line) => write!(f, "{RECORD}{line}"),
             CheckError::Memory => f.write_str(MEMORY),
             CheckError::Write => f.write_str(WRITE),
@@ -105,13 +89,14 @@ impl From<TextError> for CheckError {
     }
 }
 
-impl From<PlanError> for CheckError {
-    ghost from_gives = { λ error fault. fault ≡ error_of_plan error };
+impl From<BoardError> for CheckError {
+    ghost from_gives = { λ error fault. fault ≡ error_of_board error };
 
-    fn from(error: PlanError) -> CheckError {
+    fn from(error: BoardError) -> CheckError {
         match error {
-            PlanError::Memory => CheckError::Memory,
-            rule => CheckError::Plan(rule.number()),
+            BoardError::Line(line) => CheckError::Board(line),
+            BoardError::Rule(rule) => CheckError::Plan(rule.number()),
+            BoardError::Memory => CheckError::Memory,
         }
     }
 }

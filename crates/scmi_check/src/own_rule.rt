@@ -69,7 +69,7 @@ impl OwnRule {
 }
 
 /// The first rule of the profile's own by which the payload of a reply differs from the one that is
-/// due, if the command was read so.
+/// due, if the command was read as this one.
 #[tactic(auto, unfolding(crate::specs::Own::own_rule))]
 pub(crate) fn own_rule(
     command: &Result<Command, Status>,

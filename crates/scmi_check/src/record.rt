@@ -18,7 +18,7 @@ use std::alloc::Global;
 /// line of Linux's ftrace with its event `scmi_msg_dump`; lines with other events of SCMI are
 /// skipped. The agents are those of the board, which has this many.
 ///
-/// `Script` gives the number of the first line that is no line of a record there: of another form,
+/// `Script` gives the number of the first line that is not a line of a record: of another form,
 /// of an agent that the board lacks, a command, but of ftrace, before its agent's waiting one has
 /// its answer, an answer to no command of its agent; else that of the first command that has no
 /// answer. `Memory` if out of memory.

@@ -1,15 +1,12 @@
 //! A check from its inputs to its exit status.
 ghost use Rattle.std.specs.Prelude.{◌≡◌, ◌≢◌, ◌⊎◌};
-ghost use Rattle.std.specs.Io.KnownBytes.{Appends};
 ghost use Rattle.scmi_check.specs.Check.{EndsWithFault, IsChecked};
-ghost use Rattle.scmi_check.specs.CheckError.{fault_line, status_of};
 ghost use Rattle.scmi_check.specs.declared.run.TheConstants.{DIFFERS};
 
 use crate::check::check;
-use crate::check_error::{CheckError, FAULT_LINE};
+use crate::check_error::CheckError;
 use crate::style::Style;
-use crate::value::Value;
-use scmi_template::write_filled;
+use scmi_fault::write_fault;
 use std::alloc::Global;
 use std::io::{Read, Write};
 
@@ -39,18 +36,6 @@ pub fn run_check<B: Read, R: Read, W: Write>(
         Ok(0) => 0,
         Ok(_) => DIFFERS,
         Err(CheckError::Write) => CheckError::Write.status(),
-        Err(fault) => write_fault(writer, fault),
-    }
-}
-
-/// Writes the line of a fault, and gives its exit status, or that of a failed output.
-fn write_fault<W: Write>(writer: &mut W, fault: CheckError) -> u8
-    ensures not_checked { (result ≢ 0) × (result ≢ DIFFERS) }
-    ensures fault { result ≢ 1 → (result ≡ status_of fault) × Appends (W.contents writer.old)
-        (W.contents writer.new) (fault_line fault) }
-{
-    match write_filled(writer, FAULT_LINE, &[Value::Fault(fault)]) {
-        Ok(()) => fault.status(),
-        Err(_) => CheckError::Write.status(),
+        Err(fault) => write_fault(writer, &fault, fault.status()),
     }
 }

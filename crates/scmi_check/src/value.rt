@@ -1,7 +1,6 @@
 //! What fills the holes of texts.
 ghost use Rattle.scmi_check.specs.Value.{value_text};
 
-use crate::check_error::CheckError;
 use scmi_template::Piece;
 use std::io;
 use std::io::Write;
@@ -12,7 +11,6 @@ pub(crate) enum Value<'a> {
     Count(usize),
     Line(u32),
     Word(&'a str),
-    Fault(CheckError),
 }
 
 impl Piece for Value<'_> {
@@ -23,7 +21,6 @@ impl Piece for Value<'_> {
             Value::Count(count) => write!(writer, "{count}"),
             Value::Line(line) => write!(writer, "{line}"),
             Value::Word(word) => write!(writer, "{word}"),
-            Value::Fault(fault) => write!(writer, "{fault}"),
         }
     }
 }

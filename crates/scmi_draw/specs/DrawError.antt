@@ -1,4 +1,4 @@
--- Why a run is not drawn: exit statuses, texts, and whence they come.
+-- Why a run is not drawn: exit statuses, texts, and the errors that they come from.
 use Rattle.std.specs.Prelude.{ℕ, List}
 use Rattle.scmi_draw.specs.declared.draw_error.DrawError.{DrawError}
 use Rattle.scmi_draw.specs.declared.draw_error.DrawError.TheVariants.{Mode, Size, Read, Board, Script, Plan, Memory, Write}

@@ -8,8 +8,8 @@ use crate::any_mode::AnyMode;
 use crate::draw_error::DrawError;
 use crate::run::chart_of;
 use crate::threads::chart_of_threads;
+use scmi_fault::write_fault;
 use scmi_input::{CountedRead, CountedReader, Input, read_rest};
-use scmi_modes::{RunError, write_fault};
 use scmi_svg::{Chart, write_chart};
 use scmi_threads::Gate;
 use std::alloc::Global;
@@ -50,7 +50,7 @@ pub fn draw_input<T: Threads + Wait + Sync, G: Gate, R: CountedRead + Drop, W: W
     match draw(rt, alloc, gate, input, writer) {
         Ok(()) => 0,
         Err(DrawError::Write) => DrawError::Write.status(),
-        Err(fault) => write_fault(writer, RunError::from(fault)),
+        Err(fault) => write_fault(writer, &fault, fault.status()),
     }
 }
 

@@ -1,5 +1,5 @@
 //! Why a run is not drawn.
-ghost use Rattle.std.specs.Prelude.{◌≡◌};
+ghost use Rattle.std.specs.Prelude.{◌≡◌, ◌≢◌};
 ghost use Rattle.scmi_draw.specs.DrawError.{status_of, fault_of_input, fault_of_text, fault_of_plan, run_error_of};
 
 use scmi_board::TextError;
@@ -20,9 +20,9 @@ pub enum DrawError {
     Size,
     /// A read failed.
     Read,
-    /// This line is no line of a board.
+    /// This line is not a line of a board.
     Board(u32),
-    /// This line is no line of a script.
+    /// This line is not a line of a script.
     Script(u32),
     /// The board breaks this rule.
     Plan(u8),
@@ -33,10 +33,11 @@ pub enum DrawError {
 }
 
 impl DrawError {
-    /// The exit status of a run that ends so: 1 for a failed output, 2 for a rejected input, 4 for
-    /// out of memory.
+    /// The exit status of a run that ends in this way: 1 for a failed output, 2 for a rejected
+    /// input, 4 for out of memory.
     pub fn status(&self) -> u8
         ensures { result ≡ status_of self.now }
+        ensures not_done { result ≢ 0 }
     {
         match self {
             DrawError::Write => 1,

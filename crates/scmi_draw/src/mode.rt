@@ -11,7 +11,7 @@ use scmi_modes::{HARDWARE_RINGS, HARDWARE_WORDS, STEPS_RINGS, STEPS_WORDS};
 pub enum Mode {
     /// Those without hardware.
     Steps(Kind),
-    /// Those beside hardware that refuses too.
+    /// Those beside hardware that refuses, too.
     Hardware(Kind),
 }
 

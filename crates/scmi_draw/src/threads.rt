@@ -86,7 +86,7 @@ fn draw_agents<C: Channel, T: Threads + Wait + Sync, G: Gate>(
     draw_steps::<C>(alloc, Plan::check(alloc, board)?, board, &steps, subtitle)
 }
 
-/// Whether memory was refused during a run, which then is only a part.
+/// Whether a run was out of memory, and is only a part.
 fn lacked_memory(outcome: &Outcome) -> bool {
     outcome.memory || lacked_room(&outcome.logs)
 }

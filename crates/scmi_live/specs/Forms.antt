@@ -6,7 +6,7 @@ use Rattle.scmi_live.specs.declared.form.Form.{Form}
 use Rattle.scmi_live.specs.declared.form.FormRow.{FormRow}
 use Rattle.scmi_live.specs.declared.form.TheConstants.{FORMS}
 
--- what a row says
+-- a row, with its word as bytes
 abbrev pub said : FormRow (Bor (List ℕ)) → FormRow (List ℕ)
 said row = record { word = row.word.now; form = row.form }
 

@@ -19,7 +19,7 @@ use Rattle.scmi_live.specs.Remark.{remark_text}
 use Rattle.scmi_live.specs.declared.meant.Meant.{Meant}
 use Rattle.scmi_live.specs.declared.meant.Meant.TheVariants.{Nothing, Describe, Does, Unknown}
 
--- a session: its board, how many agents that has, its ends, and whether replies are described
+-- a session: its board, how many agents that has, its endpoints, and whether replies are described
 pub record LiveView : Type 0 where
   pub board : Board
   pub agents : ℕ
@@ -30,11 +30,11 @@ pub record LiveView : Type 0 where
 abbrev pub Asked : Type 0
 Asked = Step × Bool
 
--- the answer to a line: what came of its step, and the reply in words where they are described
+-- the answer to a line: what came of its step, and the reply in words if they are described
 abbrev pub answer_text : Bool → StepLine → List ℕ
 answer_text described line = step_text line ++ (if described then remark_text line else [])
 
--- whether replies are described behind a line
+-- whether replies are described after a line
 abbrev pub described_behind : Bool → Meant → Bool
 described_behind described (Describe on) = on
 described_behind described other = described
@@ -69,7 +69,7 @@ module _ (full : Bool) (Shows : CallerView → Result Closing CloseError → Typ
     pub same : after ≡ record before { session = after.session }
     pub text : Appends old new (answer_text before.described line)
 
-  -- what a line does to a session, and what is written: a line that is no step leaves all as it is
+  -- what a line does to a session, and what is written: a line that is not a step leaves all as it is
   abbrev pub AnswersAs : Meant → LiveView → LiveView → Option (List ℕ) → Option (List ℕ) → Type 0
   AnswersAs Nothing before after old new = (after ≡ before) × (new ≡ old)
   AnswersAs Unknown before after old new = (after ≡ before) × (new ≡ old)

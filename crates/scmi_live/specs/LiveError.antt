@@ -5,7 +5,7 @@ use Rattle.scmi_input.specs.declared.input_error.InputError.TheVariants as input
 use Rattle.scmi_live.specs.declared.live_error.LiveError.{LiveError}
 use Rattle.scmi_live.specs.declared.live_error.LiveError.TheVariants.{Size, Read, Memory, Write}
 
--- 1 for a failed output, 4 for out of memory, and 2 for a refused input (own)
+-- 1 for a failed output, 4 for out of memory, and 2 for a rejected input (own)
 abbrev pub status_of : LiveError → ℕ
 status_of Write = 1
 status_of Memory = 4

@@ -40,7 +40,7 @@ or_step None named = named
 abbrev pub step_meant : Board → ℕ → List ℕ → Option Step
 step_meant board agents text = or_step (step_by_numbers agents text) (step_by_names board agents text)
 
--- whether replies are described behind a line that says so
+-- whether replies are described after a line that says so
 abbrev pub described_by : List ℕ → Option Bool
 described_by text = if bytes_eq text WORDS_ON.now then Some true else if bytes_eq text WORDS_OFF.now then Some false else None
 

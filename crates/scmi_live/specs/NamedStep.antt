@@ -26,16 +26,16 @@ agent_of board agents item =
 abbrev pub call_of_message : Board → ℕ → ℕ → List (List ℕ) → Option Call
 call_of_message board protocol id items = option_map (call_with protocol id) (payload_meant board protocol id items)
 
--- the command of a protocol, behind whose message the items stand
+-- the command of a protocol, whose message is before the items
 abbrev pub call_of_protocol : Board → ℕ → List (List ℕ) → Option Call
 call_of_protocol board protocol [] = None
 call_of_protocol board protocol (message ∷ items) = id_of protocol message >>= λ id. call_of_message board protocol id items
 
--- the command whose message stands first
+-- the command whose message is the first item
 abbrev pub call_of_name : Board → List ℕ → List (List ℕ) → Option Call
 call_of_name board name items = message_named name >>= λ ids. call_of_message board ids.0 ids.1 items
 
--- by the protocol, where the first item encodes one
+-- by the protocol, if the first item encodes one
 abbrev pub call_by : Board → Option ℕ → List ℕ → List (List ℕ) → Option Call
 call_by board (Some protocol) first items = call_of_protocol board protocol items
 call_by board None first items = call_of_name board first items
@@ -60,7 +60,7 @@ abbrev pub alone : {A : Type 0} → A → List (List ℕ) → Option A
 alone value [] = Some value
 alone value (item ∷ items) = None
 
--- what an agent does, by its form and the items behind the agent
+-- what an agent does, by its form and the items after the agent
 abbrev pub step_behind : Board → Form → ℕ → List (List ℕ) → Option Step
 step_behind board form.Do a items = option_map (λ call. step.Do a call) (call_of board items)
 step_behind board form.Call a items = option_map (λ call. step.Agent a (agent.Call call)) (call_of board items)

@@ -19,7 +19,7 @@ use Rattle.scmi_live.specs.declared.word.TheConstants.{ON, OFF, OFF_STATE}
 abbrev pub switched : ℕ → ℕ → List ℕ → Option ℕ
 switched on off item = if bytes_eq item ON.now then Some on else if bytes_eq item OFF.now then Some off else None
 
--- the word that a name means where a message of a protocol has this part
+-- the word that a name means if a message of a protocol has this part
 abbrev pub word_named : Board → ℕ → Part → List ℕ → Option ℕ
 word_named board protocol part.Agent item = number_from 1 item board.agents
 word_named board protocol part.Domain item = number_from 0 item (map (λ domain. domain.name) board.domains)
@@ -53,13 +53,13 @@ abbrev pub first_left : List (List ℕ) → Option (List ℕ × List (List ℕ))
 first_left [] = None
 first_left (item ∷ items) = Some (item, items)
 
--- the words of a part behind which this number of parts stand, and the items that are left: flags that have no item are 0
+-- the words of a part before this number of parts, and the items that are left: flags that have no item are 0
 abbrev pub first_words : Board → ℕ → Part → ℕ → List (List ℕ) → Option (List ℕ × List (List ℕ))
 first_words board protocol part behind items =
     if is_flags part && (length items == behind) then Some (0 ∷ [], items)
     else first_left items >>= λ found. option_map (λ words. (words, found.1)) (words_of_item board protocol part found.0)
 
--- words after others, where a payload has room for them
+-- words after others, if a payload has room for them
 abbrev pub joined : List ℕ → List ℕ → Option (List ℕ)
 joined words more = if nat_le (length words + length more) PAYLOAD_WORDS then Some (words ++ more) else None
 
@@ -70,7 +70,7 @@ words_behind board protocol words [] (item ∷ items) = None
 words_behind board protocol words (part ∷ parts) items =
     first_words board protocol part (length parts) items >>= λ found. joined words found.0 >>= λ more. words_behind board protocol more parts found.1
 
--- a number after others, where a payload has room for it
+-- a number after others, if a payload has room for it
 abbrev pub with_number : List ℕ → List ℕ → Option (List ℕ)
 with_number words item = number_of 32 item >>= λ word. joined words (word ∷ [])
 
@@ -78,7 +78,7 @@ with_number words item = number_of 32 item >>= λ word. joined words (word ∷ [
 abbrev pub numbers : List (List ℕ) → Option (List ℕ)
 numbers items = after_each with_number [] items
 
--- the payload that items encode: part by part where the message is known, else numbers
+-- the payload that items encode: part by part if the message is known, else numbers
 abbrev pub payload_by : Board → ℕ → Option Said → List (List ℕ) → Option (List ℕ)
 payload_by board protocol None items = numbers items
 payload_by board protocol (Some row) items = words_behind board protocol [] row.asks items

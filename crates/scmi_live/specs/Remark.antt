@@ -28,12 +28,12 @@ described_line (line.Collected agent collected) = described_collected collected
 described_line (line.P2a agent frame) = described_taken frame
 described_line line = None
 
--- a byte, behind a mark where a line begins with it
+-- a byte, after a mark if a line begins with it
 abbrev pub marked_byte : Bool → ℕ → List ℕ
 marked_byte true byte = 35 ∷ 32 ∷ byte ∷ []
 marked_byte false byte = byte ∷ []
 
--- lines, each behind a mark: whether one begins here
+-- lines, each after a mark: whether one begins here
 abbrev pub marked : Bool → List ℕ → List ℕ
 marked begins [] = []
 marked begins (byte ∷ bytes) = marked_byte begins byte ++ marked (byte == 10) bytes

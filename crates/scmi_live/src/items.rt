@@ -6,7 +6,7 @@ ghost use Rattle.scmi_board.specs.LineError.{GivesUnless};
 use scmi_board::{Items, LineError};
 use std::alloc::Global;
 
-/// The items of a line. `Form` if its spaces have a fault, and `Memory` if memory is refused.
+/// The items of a line. `Form` if its spaces have a fault, and `Memory` when out of memory.
 pub(crate) fn items_of<'a>(alloc: Global, text: &'a [u8]) -> Result<Vec<&'a [u8]>, LineError>
     ensures { GivesUnless (λ all. map (λ item. item.now) all.items) result (items_of text.now) }
 {

@@ -16,7 +16,7 @@ pub enum LiveError {
     /// A read failed, or reads were interrupted too often.
     #[error("read")]
     Read,
-    /// Memory was refused.
+    /// Out of memory.
     #[error("memory")]
     Memory,
     /// The output failed.
@@ -26,7 +26,7 @@ pub enum LiveError {
 
 impl LiveError {
     /// The exit status of a session that ends in this way: 1 for a failed output, 2 for a rejected
-    /// input, 4 if memory was refused.
+    /// input, 4 when out of memory.
     pub fn status(&self) -> u8
         ensures { result ≡ status_of self.now }
     {

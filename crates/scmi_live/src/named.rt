@@ -37,8 +37,8 @@ impl Named for RawClock {
     }
 }
 
-/// The number of the first of these whose name is written so, if the first has this number; `None`
-/// if there is none.
+/// The number of the first of these that has this name, if the first of all has this number; `None`
+/// if none has it.
 pub(crate) fn number_from<N: Named>(mut first: u32, mut all: &[N], text: &[u8]) -> Option<u32>
     ensures { result ≡ number_from first text.now (map N.name all.entry.now) }
 {

@@ -18,8 +18,8 @@ use std::io::Write;
 /// written, and flushed, before the next line is read. At the end the length of the history is
 /// written, and the listener is given how many notifications were dropped.
 ///
-/// `Size` at a line longer than `INPUT_BYTES`, `Read` at a read that fails, `Memory` if memory is
-/// refused and `Write` if the output fails: the lines before are then answered.
+/// `Size` at a line longer than `INPUT_BYTES`, `Read` at a read that fails, `Memory` when out of
+/// memory and `Write` if the output fails: the lines before are then answered.
 pub fn run_live<C: Channel, R: CountedRead + Drop, W: Write, L: Listener>(
     alloc: Global,
     board: &RawPlan,

@@ -13,9 +13,9 @@ use std::alloc::Global;
 /// Why a line encodes no step, when its names are looked up.
 #[derive(Clone, Copy)]
 pub enum Unknown<'a> {
-    /// This item is no agent of the board.
+    /// This item is not an agent of the board.
     Agent(&'a [u8]),
-    /// This item is no message, no protocol and no number.
+    /// This item is not a message, a protocol or a number.
     Message(&'a [u8]),
     /// More protocols than one have this message.
     Shared(&'a [u8]),

@@ -1,15 +1,14 @@
 -- The fault that a run of a known input ends with.
 use Rattle.std.proofs.Common.{◌≡◌, ◌≢◌, ℕ, ◌<◌, ◌≤◌, ◌⊎◌, inl, inr, List, take, length, Option, None, Some, IfSome, IfErr, IsErrOf, Result, Ok, Err, refl, sym, ap, ◌∙◌, subst, arith}
 use Rattle.std.proofs.lemmas.List.{length-take, take_all}
-use Rattle.std.specs.Io.KnownBytes.{Appends}
 use Rattle.scmi_input.specs.Lines.{after_line, first_line}
 use Rattle.scmi_input.specs.declared.input.TheConstants.{INPUT_BYTES, KEPT_BYTES}
 use Rattle.scmi_input.specs.declared.input_error.InputError.{InputError}
 use Rattle.scmi_input.specs.declared.input_error.InputError.TheVariants as input
 use Rattle.scmi_modes.specs.AnyMode.{Takes, any_text_of}
-use Rattle.scmi_modes.specs.Fault.{EndsWithFault, IsFaultBehind, IsFaultIn, IsFaultOfOnce, IsFaultOfRun}
+use Rattle.scmi_modes.specs.Fault.{IsFaultBehind, IsFaultIn, IsFaultOfOnce, IsFaultOfRun}
 use Rattle.scmi_modes.specs.Once.{area_of}
-use Rattle.scmi_modes.specs.RunError.{fault_line, fault_of_input, status_of}
+use Rattle.scmi_modes.specs.RunError.{fault_of_input}
 use Rattle.scmi_modes.specs.declared.any_mode.AnyMode.{AnyMode}
 use Rattle.scmi_modes.specs.declared.any_mode.AnyMode.TheVariants as any
 use Rattle.scmi_modes.specs.declared.any_mode.Modes.{Modes}
@@ -92,7 +91,3 @@ module _ (modes : Modes) where
   not_read (Some bytes) input.Size size = inl (size refl)
   not_read (Some bytes) input.Read size = tt
   not_read (Some bytes) input.Memory size = tt
-
-  -- a run that ends with a fault, whose line is written
-  pub ends : (known old before new : Option (List ℕ)) (status : ℕ) (fault : RunError) → IfSome known (λ bytes. IsFaultOfRun modes bytes fault) → (status_of fault ≡ 2 → before ≡ old) → (status ≡ status_of fault) × Appends before new (fault_line fault) → EndsWithFault modes known status old new
-  ends known old before new status fault of_input refused said = record { fault = fault; status_is = said.0; of_input = of_input; before = before; refused = refused; text = said.1 }

@@ -1,12 +1,13 @@
 -- The fault that a run of a known input ends with.
 use Rattle.std.specs.Prelude.{◌≡◌, ◌≢◌, ℕ, ◌<◌, ◌⊎◌, ⊤, List, length, Option, None, IfSome}
 use Rattle.std.specs.Io.KnownBytes.{Appends}
+use Rattle.scmi_fault.specs.FaultLine.{fault_line}
 use Rattle.scmi_input.specs.Lines.{first_line, after_line}
 use Rattle.scmi_input.specs.declared.input.TheConstants.{INPUT_BYTES}
 use Rattle.scmi_modes.specs.AnyMode.{Takes, any_text_of}
 use Rattle.scmi_modes.specs.Input.{IsFaultOf, IsFaultOrLimit, scripts_of_input, steps_of_input}
 use Rattle.scmi_modes.specs.Once.{area_of}
-use Rattle.scmi_modes.specs.RunError.{fault_line, status_of}
+use Rattle.scmi_modes.specs.RunError.{fault_text, status_of}
 use Rattle.scmi_modes.specs.declared.any_mode.AnyMode.{AnyMode}
 use Rattle.scmi_modes.specs.declared.any_mode.AnyMode.TheVariants as any
 use Rattle.scmi_modes.specs.declared.any_mode.Modes.{Modes}
@@ -38,7 +39,7 @@ pub record IsFaultBehind (modes : Modes) (input : List ℕ) (fault : RunError) :
   pub named : first_line input ≡ any_text_of mode
   pub fault_in : IsFaultIn mode (after_line input) fault
 
--- a fault of an input: it names no mode among these, or is too long, or has another fault after its first line. That a read failed or that memory was refused says nothing about the input
+-- a fault of an input: it names no mode among these, or is too long, or has another fault after its first line. A failed read, or out of memory, shows nothing of it
 abbrev pub IsFaultOfRun : Modes → List ℕ → RunError → Type 0
 IsFaultOfRun modes input Mode = (mode : AnyMode) → Takes modes mode → first_line input ≢ any_text_of mode
 IsFaultOfRun modes input Size = (INPUT_BYTES < length (first_line input)) ⊎ IsFaultBehind modes input Size
@@ -46,11 +47,11 @@ IsFaultOfRun modes input Read = ⊤
 IsFaultOfRun modes input Memory = ⊤
 IsFaultOfRun modes input fault = IsFaultBehind modes input fault
 
--- a run ends with this status and the line of a fault, which has that status and, where the input is known, is the input's. Where the input is refused nothing else is written
+-- a run ends with this status and the line of a fault, which has that status and is the input's, if that is known. If the input is rejected nothing else is written
 pub record EndsWithFault (modes : Modes) (known : Option (List ℕ)) (status : ℕ) (old new : Option (List ℕ)) : Type 0 where
   pub fault : RunError
   pub status_is : status ≡ status_of fault
   pub of_input : IfSome known (λ input. IsFaultOfRun modes input fault)
   pub before : Option (List ℕ)
   pub refused : status_of fault ≡ 2 → before ≡ old
-  pub text : Appends before new (fault_line fault)
+  pub text : Appends before new (fault_line (fault_text fault))

@@ -14,7 +14,7 @@ use Rattle.scmi_modes.specs.declared.run_error.RunError.TheVariants.{Size, Read,
 use Rattle.scmi_modes.specs.declared.script_kind.ScriptKind.{ScriptKind}
 use Rattle.scmi_modes.specs.declared.script_kind.ScriptKind.TheVariants.{Plain, Hardware}
 
--- the lines behind the first line
+-- the lines after the first line
 abbrev pub behind_mode : List ℕ → LinesView
 behind_mode input = record { rest = input; number = 1 }
 
@@ -38,7 +38,7 @@ module _ {A : Type 0} where
     | Ok found ↦ with_scripts scripts found.0 found.1
   ]
 
-  -- a text that encodes a board and scripts, or for neither, is refused so, unless memory is refused
+  -- a text that encodes a board and scripts, or neither, is rejected by this fault, which may also be out of memory
   abbrev pub FailsInput : RunError → Result A RunError → Type 0
   FailsInput (BoardFault line) there = there ≡ Err (BoardFault line)
   FailsInput (ScriptFault line) there = there ≡ Err (ScriptFault line)
@@ -46,7 +46,7 @@ module _ {A : Type 0} where
   FailsInput Memory there = ⊤
   FailsInput _ there = ⊥
 
-  -- a fault of a run of an input that encodes this: its length, or its first fault; a failed output comes only of an input without a fault. That a read failed or that memory was refused says nothing about the input
+  -- a fault of a run of an input that encodes this: its length, or its first fault; a failed output comes only of an input without a fault. A failed read, or out of memory, shows nothing of it
   abbrev pub IsFaultOf : List ℕ → Result A RunError → RunError → Type 0
   IsFaultOf input there Size = INPUT_BYTES < length input
   IsFaultOf input there Read = ⊤

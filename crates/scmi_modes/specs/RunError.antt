@@ -1,19 +1,17 @@
--- The faults of a run: exit statuses, texts, and whence they come.
-use Rattle.std.specs.Prelude.{ℕ, List, [], ◌∷◌, ◌++◌, decimal}
-use Rattle.scmi_modes.specs.declared.fault_line.TheConstants.{FAULT_LINE}
-use Rattle.scmi_modes.specs.declared.fault_words.TheConstants.{MODE, SIZE, READ, AREA, BOARD, SCRIPT, PLAN, LIMIT, MEMORY, WRITE}
+-- The faults of a run: exit statuses, texts, and the errors that they come from.
+use Rattle.std.specs.Prelude.{ℕ, List, ◌++◌, decimal}
 use Rattle.scmi_modes.specs.declared.run_error.RunError.{RunError}
 use Rattle.scmi_modes.specs.declared.run_error.RunError.TheVariants.{Mode, Size, Read, Area, Board, Script, Plan, Limit, Memory, Write}
 use Rattle.scmi_board.specs.declared.text_error.TextError.{TextError}
 use Rattle.scmi_board.specs.declared.text_error.TextError.TheVariants as text
+use Rattle.scmi_fault.specs.declared.fault_words.TheConstants.{AREA, BOARD, LIMIT, MEMORY, MODE, PLAN, READ, SCRIPT, SIZE, WRITE}
 use Rattle.scmi_input.specs.declared.input_error.InputError.{InputError}
 use Rattle.scmi_input.specs.declared.input_error.InputError.TheVariants as input
 use Rattle.scmi_plan.specs.PlanError.{number}
 use Rattle.scmi_plan.specs.declared.plan_error.PlanError.{PlanError}
 use Rattle.scmi_plan.specs.declared.plan_error.PlanError.TheVariants as plan
-use Rattle.scmi_template.specs.Filled.{filled}
 
--- 1 for a failed output, 3 for a limit, 4 for out of memory, and 2 for a refused input (own)
+-- 1 for a failed output, 3 for a limit, 4 for out of memory, and 2 for a rejected input (own)
 abbrev pub status_of : RunError → ℕ
 status_of Write = 1
 status_of Limit = 3
@@ -33,17 +31,13 @@ fault_text Limit = LIMIT.now
 fault_text Memory = MEMORY.now
 fault_text Write = WRITE.now
 
--- the line of a fault, with its line feed
-abbrev pub fault_line : RunError → List ℕ
-fault_line fault = filled FAULT_LINE.now (fault_text fault ∷ [])
-
 -- an input that is not read
 abbrev pub fault_of_input : InputError → RunError
 fault_of_input input.Size = Size
 fault_of_input input.Read = Read
 fault_of_input input.Memory = Memory
 
--- a text that is refused, by its line
+-- a text that is rejected, by its line
 abbrev pub fault_of_text : TextError → RunError
 fault_of_text (text.Board line) = Board line
 fault_of_text (text.Script line) = Script line

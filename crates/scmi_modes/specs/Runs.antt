@@ -48,7 +48,7 @@ module _ (full : Bool) (board : Board) (scripts : List Script) where
     pub outcome : Outcome
     pub told : IsTextOfOutcome outcome old new
 
--- an input, where it is known, encodes this board and these scripts
+-- an input, if it is known, encodes this board and these scripts
 abbrev pub AreScriptsOfInput : Option (List ℕ) → Board → List Script → Type 0
 AreScriptsOfInput known board scripts = IfSome known (λ input. scripts_of_input input ≡ Ok (board, scripts_of scripts))
 

@@ -52,7 +52,7 @@ abbrev pub MayHave : ScriptKind → Step → Type 0
 MayHave Plain step = IsWithoutHardware step
 MayHave Hardware step = Unit {0}
 
--- an input, where it is known, encodes this board and these steps of a script of this kind
+-- an input, if it is known, encodes this board and these steps of a script of this kind
 abbrev pub AreStepsOf : ScriptKind → Option (List ℕ) → Board → List Step → Type 0
 AreStepsOf script known board steps = IfSome known (λ input. steps_of_input script input ≡ Ok (board, steps))
 
@@ -65,7 +65,7 @@ WritesScript script known kind old new =
 abbrev pub WritesSteps : Option (List ℕ) → Kind → Option (List ℕ) → Option (List ℕ) → Type 0
 WritesSteps known kind old new = WritesScript Plain known kind old new
 
--- what is written is the text of all steps that the input encodes, beside hardware that refuses where a step says so
+-- what is written is the text of all steps that the input encodes, beside hardware that refuses if a step says so
 abbrev pub WritesHardware : Option (List ℕ) → Kind → Option (List ℕ) → Option (List ℕ) → Type 0
 WritesHardware known kind old new = WritesScript Hardware known kind old new
 

@@ -8,8 +8,6 @@
 
 mod answer;
 mod any_mode;
-mod fault_line;
-mod fault_words;
 mod kind;
 mod lines;
 mod mode;
@@ -24,7 +22,6 @@ mod threads;
 
 pub use answer::answer_area;
 pub use any_mode::{AnyMode, Modes};
-pub use fault_line::write_fault;
 pub use kind::Kind;
 pub use mode::Mode;
 pub use mode_lines::{

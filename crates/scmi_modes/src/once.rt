@@ -17,7 +17,7 @@ use std::io::Write;
 /// Reads an area in hexadecimal digits, and writes it with the answer to agent 1's first command on
 /// a new platform, in lower-case digits and with a line feed. `Size` if the input is longer than
 /// `INPUT_BYTES`, `Read` at a read that fails, `Area` if the input is not one line of an area's
-/// digits, `Memory` if memory is refused: after each of these nothing is written. `Write` if the
+/// digits, `Memory` when out of memory: after each of these nothing is written. `Write` if the
 /// output fails.
 pub fn run_once<R: CountedRead, W: Write>(
     alloc: Global,

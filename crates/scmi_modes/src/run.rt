@@ -11,12 +11,12 @@ ghost use Rattle.scmi_modes.specs.Steps.{WritesHardware, WritesSteps};
 ghost use Rattle.scmi_modes.specs.declared.kind.Kind.{Kind as KindOf};
 
 use crate::any_mode::{AnyMode, Modes};
-use crate::fault_line::write_fault;
 use crate::mode::Mode;
 use crate::once::run_once;
 use crate::run_error::RunError;
 use crate::steps::{run_hardware, run_steps};
 use crate::threads::run_threads;
+use scmi_fault::write_fault;
 use scmi_input::{CountedRead, CountedReader, Input};
 use scmi_threads::Gate;
 use std::alloc::Global;
@@ -77,7 +77,7 @@ pub fn run_input<T: Threads + Wait + Sync, G: Gate, R: CountedRead + Drop, W: Wr
     match run_mode(rt, alloc, gate, modes, input, writer) {
         Ok(()) => 0,
         Err(RunError::Write) => RunError::Write.status(),
-        Err(fault) => write_fault(writer, fault),
+        Err(fault) => write_fault(writer, &fault, fault.status()),
     }
 }
 

@@ -1,16 +1,14 @@
 //! Why a run is rejected or stops.
-ghost use Rattle.std.specs.Prelude.{◌≡◌};
+ghost use Rattle.std.specs.Prelude.{◌≡◌, ◌≢◌};
 ghost use Rattle.scmi_modes.specs.RunError.{status_of, fault_of_input, fault_of_text, fault_of_plan};
 
-use crate::fault_words::{AREA, BOARD, LIMIT, MEMORY, MODE, PLAN, READ, SCRIPT, SIZE, WRITE};
 use scmi_board::TextError;
+use scmi_fault::{AREA, BOARD, LIMIT, MEMORY, MODE, PLAN, READ, SCRIPT, SIZE, WRITE};
 use scmi_input::InputError;
 use scmi_plan::PlanError;
-use scmi_template::Piece;
 use std::alloc::AllocError;
 use std::error::Error;
-use std::io::Write;
-use std::{fmt, io};
+use std::fmt;
 
 /// Why a run is rejected or stops. Its text is what follows the word `fault`.
 #[derive(Clone, Copy, PartialEq, Eq)]
@@ -23,15 +21,15 @@ pub enum RunError {
     Read,
     /// The input of the mode `once` is not one line of an area's digits.
     Area,
-    /// This line is no line of a board.
+    /// This line is not a line of a board.
     Board(u32),
-    /// This line is no line of a script.
+    /// This line is not a line of a script.
     Script(u32),
     /// The board breaks this rule.
     Plan(u8),
     /// A limit of the run was met.
     Limit,
-    /// Memory was refused.
+    /// Out of memory.
     Memory,
     /// The output failed.
     Write,
@@ -42,6 +40,7 @@ impl RunError {
     /// input, 3 for a limit, 4 for out of memory.
     pub fn status(&self) -> u8
         ensures { result ≡ status_of self.now }
+        ensures not_done { result ≢ 0 }
     {
         match self {
             RunError::Write => 1,
@@ -80,16 +79,6 @@ impl fmt::Display for RunError {
 impl fmt::Debug for RunError {
     fn fmt<W: fmt::Write>(&self, f: &mut fmt::Formatter<W>) -> fmt::Result {
         fmt::Display::fmt(self, f)
-    }
-}
-
-impl Piece for RunError {
-    ghost use Rattle.scmi_modes.specs.RunError.{fault_text};
-
-    ghost text = { fault_text };
-
-    fn write<W: Write>(&self, writer: &mut W) -> io::Result<()> {
-        write!(writer, "{self}")
     }
 }
 

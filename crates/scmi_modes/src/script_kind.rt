@@ -5,6 +5,6 @@
 pub(crate) enum ScriptKind {
     /// Those without hardware.
     Plain,
-    /// Those beside hardware that refuses too.
+    /// Those beside hardware that refuses, too.
     Hardware,
 }

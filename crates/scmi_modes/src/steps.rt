@@ -29,7 +29,7 @@ use std::io::Write;
 
 /// Reads a board and a script, makes its steps one by one, and writes the line of each, and then
 /// the length of the history. `Size`, `Read`, `Board`, `Script` and `Plan` if the input is
-/// rejected; after each of these nothing is written. `Memory` if memory is refused, and `Write` if
+/// rejected; after each of these nothing is written. `Memory` when out of memory, and `Write` if
 /// the output fails: after these the lines of the steps before are written, one for each of them.
 pub fn run_steps<R: CountedRead, W: Write>(
     alloc: Global,

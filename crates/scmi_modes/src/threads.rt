@@ -28,7 +28,7 @@ use std::thread::Threads;
 /// Reads a board and the scripts of its agents, runs them all at once, and writes the lines of each
 /// agent, by rising number. `Size`, `Read`, `Board`, `Script` and `Plan` if the input is rejected;
 /// after each of these nothing is written. `Limit` if a script met a limit, and `Memory`, which
-/// goes before it, if memory was refused: after these the lines so far are written. `Write` if the
+/// goes before it, when out of memory: after these the lines so far are written. `Write` if the
 /// output fails.
 pub fn run_threads<T: Threads + Wait + Sync, G: Gate, R: CountedRead, W: Write>(
     rt: &T,
@@ -140,7 +140,7 @@ fn write_logs<W: Write>(writer: &mut W, agents: u32, logs: &[AgentLog]) -> Resul
     Ok(())
 }
 
-/// What is to be reported at the end: that memory was refused, or else that a limit was met.
+/// What is to be reported at the end: out of memory, or else that a limit was met.
 fn verdict(outcome: &Outcome) -> Result<(), RunError>
     ensures ok { OnOk result (All (λ log. log.stopped ≡ None) outcome.now.logs.items) }
     ensures errors { IfErr result (λ e. ¬ (status_of e ≡ 2)) }
@@ -154,7 +154,7 @@ fn verdict(outcome: &Outcome) -> Result<(), RunError>
     Ok(())
 }
 
-/// Whether a script ended so before its last line.
+/// Whether a script ended in this way before its last line.
 fn any_stopped(logs: &[AgentLog], stop: Stop) -> bool
     ensures { ¬ (IsTrue result) → All (λ log. ¬ (log.stopped ≡ Some stop)) logs.now }
 {

@@ -11,7 +11,7 @@ use Rattle.scmi_svg.specs.Mark.{marks_text}
 use Rattle.scmi_svg.specs.declared.layout.Layout.{Layout}
 use Rattle.scmi_svg.specs.declared.chart.Chart.{Chart}
 
--- what is drawn behind the lifelines
+-- what is drawn below the lifelines
 unfoldable pub back_text : Layout → Chart → List ℕ
 back_text l c = head_text l c ++ title_text c ++ steps_text l c.steps.items
 

@@ -10,7 +10,7 @@ use Rattle.scmi_svg.specs.declared.route.Spot.{Spot}
 use Rattle.scmi_svg.specs.declared.route.Turn.{Turn}
 use Rattle.scmi_svg.specs.declared.route.Turn.TheVariants as turn
 
--- the size of words that are so wide, in hundredths of it: 12 pixels, or as many as there is room for, but no less than 5
+-- the size of words of this width, which is in hundredths of the size: 12 pixels, or as many as there is room for, but no less than 5
 abbrev pub font_size : ℕ → ℕ → ℕ
 font_size room width = max (min (100 * min room WIDE_GAP / max width 1) 12) 5
 

@@ -43,11 +43,11 @@ is_left l agent = nat_le agent (left_agents l)
 unfoldable pub agent_x : Layout → ℕ → ℕ
 agent_x l agent = l.left + l.gap * (if is_left l agent then agent - 1 else agent)
 
--- so far beside the platform's lifeline, towards the agent's
+-- at this distance from the platform's lifeline, towards the agent's
 unfoldable pub beside_platform : Layout → ℕ → ℕ → ℕ
 beside_platform l agent distance = if is_left l agent then platform_x l - distance else platform_x l + distance
 
--- so far beside the agent's lifeline, towards the platform's
+-- at this distance from the agent's lifeline, towards the platform's
 unfoldable pub beside_agent : Layout → ℕ → ℕ → ℕ
 beside_agent l agent distance = if is_left l agent then agent_x l agent + distance else agent_x l agent - distance
 

@@ -6,7 +6,7 @@ use Rattle.scmi_svg.specs.declared.class.TheConstants as class
 use Rattle.scmi_svg.specs.declared.outbox.TheConstants.{BAR, COUNT}
 use Rattle.scmi_svg.specs.declared.shape.Point.{Point}
 
--- so far to the left of a point
+-- the point at this distance to the left of a point
 abbrev pub left_of : Point → ℕ → Point
 left_of at distance = record { x = at.x - distance; y = at.y }
 

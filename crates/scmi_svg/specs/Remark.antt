@@ -7,7 +7,7 @@ use Rattle.scmi_svg.specs.declared.layout.Layout.{Layout}
 use Rattle.scmi_svg.specs.declared.mark.Side.{Side}
 use Rattle.scmi_svg.specs.declared.mark.Side.TheVariants as side
 
--- the lifeline of an end
+-- the lifeline of an endpoint
 abbrev pub closed_x : Layout → ℕ → Side → ℕ
 closed_x l agent side.Agent = agent_x l agent
 closed_x l agent side.Platform = platform_x l
@@ -27,11 +27,11 @@ unfoldable pub remark_text : Layout → ℕ → ℕ → Side → List ℕ → Li
 remark_text l agent slot beside text =
     words_text (remark_class l agent beside) (record { x = remark_x l agent beside; y = line_y slot }) 0 0 text
 
--- a close, on the lifeline of the end that closes
+-- a close, on the lifeline of the endpoint that closes
 unfoldable pub closed_text : Layout → ℕ → ℕ → Side → List ℕ → List ℕ
 closed_text l agent slot by text = cross_text class.SHUT.now (record { x = closed_x l agent by; y = line_y slot - 4 }) ++ remark_text l agent slot by text
 
--- so far beside the platform's lifeline, away from an agent's
+-- at this distance from the platform's lifeline, away from an agent's
 abbrev pub fault_x : Layout → ℕ → ℕ → ℕ
 fault_x l agent distance = if is_left l agent then platform_x l + distance else platform_x l - distance
 

@@ -23,7 +23,7 @@ role=\"img\" aria-labelledby=\"title below\">\n";
 const NAMED: &str = "\
 <title id=\"title\">%</title>\n\
 <desc id=\"below\">SCMI sequence chart: %</desc>\n";
-/// What is behind everything.
+/// The paper, below everything.
 const PAPER: &str = "<rect class=\"paper\" width=\"100%\" height=\"100%\"/>\n";
 /// The line between the lifelines and the columns: two ends.
 const BORDER: &str = "<line class=\"border\" y1=\"84\" x1=\"%\" x2=\"%\" y2=\"%\"/>\n";

@@ -62,8 +62,8 @@ fn write_back<W: Write>(writer: &mut W, label: &Label) -> io::Result<()>
     write_part(writer, TAG, &label.tag)
 }
 
-/// The size of words that are so wide, in hundredths of it: 12 pixels, or as many as there is room for,
-/// but no less than 5.
+/// The size of words of this width, which is in hundredths of the size: 12 pixels, or as many as
+/// there is room for, but no less than 5.
 fn font_size(room: u32, width: u32) -> u32
     ensures { result ≡ font_size room width }
 {

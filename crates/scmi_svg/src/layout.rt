@@ -124,7 +124,7 @@ impl Layout {
         u32::from(self.left) + u32::from(self.gap) * u32::from(place)
     }
 
-    /// So far beside the platform's lifeline, towards the agent's.
+    /// At this distance from the platform's lifeline, towards the agent's.
     #[tactic(auto, unfolding(crate::specs::Layout::beside_platform))]
     pub fn beside_platform(&self, agent: u8, distance: u16) -> u32
         ensures { result ≡ beside_platform self.now agent distance }
@@ -136,7 +136,7 @@ impl Layout {
         }
     }
 
-    /// So far beside the agent's lifeline, towards the platform's.
+    /// At this distance from the agent's lifeline, towards the platform's.
     #[tactic(auto, unfolding(crate::specs::Layout::beside_agent))]
     pub fn beside_agent(&self, agent: u8, distance: u16) -> u32
         ensures { result ≡ beside_agent self.now agent distance }

@@ -10,7 +10,7 @@ use crate::measure::{width_in, width_of};
 pub(crate) const GAP: u32 = 318;
 
 pub(crate) const WIDE_GAP: u32 = 640;
-/// What of the distance between two lifelines is no room for words.
+/// The part of the distance between two lifelines that has no words.
 pub(crate) const MARGIN: u32 = 40;
 /// The size of a message's words for which a distance has room, and their greatest.
 pub(crate) const SMALL: u32 = 9;

@@ -114,7 +114,7 @@ pub(crate) fn write_fault<W: Write>(
     )
 }
 
-/// So far beside the platform's lifeline, away from an agent's.
+/// At this distance from the platform's lifeline, away from an agent's.
 fn fault_x(layout: &Layout, agent: u8, distance: u8) -> u32
     ensures { result ≡ fault_x layout.now agent distance }
 {

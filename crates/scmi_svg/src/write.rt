@@ -34,7 +34,7 @@ fn write_picture<W: Write>(writer: &mut W, layout: &Layout, chart: &Chart) -> io
     write_legend(writer, layout, chart)
 }
 
-/// Writes what is drawn behind the lifelines.
+/// Writes what is drawn below the lifelines.
 #[tactic(auto, unfolding(crate::specs::Chart::back_text))]
 fn write_back<W: Write>(writer: &mut W, layout: &Layout, chart: &Chart) -> io::Result<()>
     ensures { OnOk result (Appends (W.contents writer.old) (W.contents writer.new)

@@ -14,7 +14,7 @@ use Rattle.scmi_template.specs.Filled.{filled}
 use Rattle.scmi_table.specs.Value.{bit_text, hex_text, in_string}
 use Rattle.scmi_table.specs.declared.texts.TheConstants.{AGENT_ROW, DOMAIN_ROW, CLOCK_START, LIST_END, STEPS_END, RATE_ROW, DEVICE_ROW}
 
--- the channels of an agent, by the lines that say them; whole where none does
+-- the channels of an agent, by the lines that contain them; whole if none does
 abbrev pub channel_said : List ChannelLine → ℕ → AgentChannel
 channel_said [] agent = whole_channel
 channel_said (line ∷ lines) agent = if line.agent == agent then line.channel else channel_said lines agent
@@ -23,7 +23,7 @@ channel_said (line ∷ lines) agent = if line.agent == agent then line.channel e
 unfoldable pub agent_text : List ℕ → AgentChannel → List ℕ
 agent_text name channel = filled AGENT_ROW.now (in_string name ∷ decimal (channel_bytes channel.words) ∷ bit_text channel.one_way ∷ [])
 
--- agents, the first of which has the number behind this one
+-- agents, the first of which has the number after this one
 abbrev pub agents_text : List ChannelLine → ℕ → List (List ℕ) → List ℕ
 agents_text lines before [] = []
 agents_text lines before (name ∷ names) =
@@ -45,7 +45,7 @@ unfoldable pub clock_text : ℕ → Clock → List ℕ
 clock_text first clock =
     filled CLOCK_START.now (in_string clock.name ∷ bit_text clock.enabled ∷ decimal clock.rate ∷ []) ++ kind_text first clock.rates
 
--- the place behind a clock's rates; the places stay at 2^64 - 1 once they are there
+-- the place after a clock's rates; the places stay at 2^64 - 1 once they are there
 abbrev pub place_behind : ℕ → Rates → ℕ
 place_behind first (rates.List list) = min (first + length list) (2 ^ 64 - 1)
 place_behind first (rates.Steps low high step) = first
@@ -55,7 +55,7 @@ abbrev pub clocks_text : ℕ → List Clock → List ℕ
 clocks_text first [] = []
 clocks_text first (clock ∷ clocks) = clock_text first clock ++ clocks_text (place_behind first clock.rates) clocks
 
--- the place behind their rates
+-- the place after the rates of clocks
 abbrev pub place_behind_all : ℕ → List Clock → ℕ
 place_behind_all first [] = first
 place_behind_all first (clock ∷ clocks) = place_behind_all (place_behind first clock.rates) clocks

@@ -1,9 +1,8 @@
 -- What fills the holes of texts.
 use Rattle.std.specs.Prelude.{ℕ, ◌==◌, ◌||◌, Bool, false, if◌then◌else◌, List, [], ◌∷◌, flat_map, decimal}
 use Rattle.std.specs.Fmt.{digits}
-use Rattle.scmi_table.specs.TableError.{fault_text}
 use Rattle.scmi_table.specs.declared.value.Value.{Value}
-use Rattle.scmi_table.specs.declared.value.Value.TheVariants.{Number, Bit, Hex, Name, Fault}
+use Rattle.scmi_table.specs.declared.value.Value.TheVariants.{Number, Bit, Hex, Name}
 
 -- whether a byte needs a backslash in a string: a quotation mark, a backslash, or a question mark, two of which could begin a trigraph
 abbrev pub is_marked : ℕ → Bool
@@ -31,4 +30,3 @@ value_text (Number number) = decimal number
 value_text (Bit bit) = bit_text bit
 value_text (Hex number) = hex_text number
 value_text (Name name) = in_string name.now
-value_text (Fault fault) = fault_text fault

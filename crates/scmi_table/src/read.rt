@@ -1,12 +1,12 @@
 //! The board that is to be written.
 ghost use Rattle.std.specs.Prelude.{IfOk, IfErr, IfSome};
 ghost use Rattle.scmi_board.specs.Channels.{described};
-ghost use Rattle.scmi_table.specs.Run.{IsBoardText, IsFaultOf};
+ghost use Rattle.scmi_board.specs.ValidBoard.{IsBoardText};
+ghost use Rattle.scmi_table.specs.Run.{IsFaultOf};
 
 use crate::table_error::TableError;
-use scmi_board::{BoardWithChannels, Lines, read_board_with_channels};
+use scmi_board::{BoardWithChannels, read_valid_board};
 use scmi_input::{CountedReader, read_rest};
-use scmi_plan::Plan;
 use std::alloc::Global;
 use std::io::Read;
 
@@ -28,7 +28,6 @@ fn board_of(alloc: Global, text: &[u8]) -> Result<BoardWithChannels, TableError>
     ensures board { IfOk result (λ said. IsBoardText text.now (described said)) }
     ensures faults { IfErr result (IsFaultOf text.now) }
 {
-    let said = read_board_with_channels(alloc, &mut Lines::of_text(text))?;
-    let _plan = Plan::check(alloc, &said.board)?;
-    Ok(said)
+    let valid = read_valid_board(alloc, text)?;
+    Ok(valid.described)
 }

@@ -1,14 +1,11 @@
 //! The tables of a board, from its text to the exit status.
 ghost use Rattle.std.specs.Prelude.{◌≡◌, ◌≢◌};
-ghost use Rattle.std.specs.Io.KnownBytes.{Appends};
 ghost use Rattle.scmi_table.specs.Run.{EndsWithFault, WritesTable};
-ghost use Rattle.scmi_table.specs.TableError.{fault_line, status_of};
 
 use crate::read::read_board;
 use crate::table::write_table;
-use crate::table_error::{FAULT_LINE, TableError};
-use crate::value::Value::Fault;
-use scmi_template::write_filled;
+use crate::table_error::TableError;
+use scmi_fault::write_fault;
 use std::alloc::Global;
 use std::io::{Read, Write};
 
@@ -26,22 +23,10 @@ pub fn run_table<R: Read, W: Write>(alloc: Global, reader: &mut R, writer: &mut 
 {
     let said = match read_board(alloc, reader) {
         Ok(said) => said,
-        Err(fault) => return write_fault(writer, fault),
+        Err(fault) => return write_fault(writer, &fault, fault.status()),
     };
     if write_table(writer, &said).is_err() {
         return TableError::Write.status();
     }
     0
-}
-
-/// Writes the line of a fault, and gives its exit status, or that of a failed output.
-fn write_fault<W: Write>(writer: &mut W, fault: TableError) -> u8
-    ensures not_done { result ≢ 0 }
-    ensures fault { result ≢ 1 → (result ≡ status_of fault) × Appends (W.contents writer.old)
-        (W.contents writer.new) (fault_line fault) }
-{
-    match write_filled(writer, FAULT_LINE, &[Fault(fault)]) {
-        Ok(()) => fault.status(),
-        Err(_) => TableError::Write.status(),
-    }
 }

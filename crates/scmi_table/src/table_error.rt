@@ -1,28 +1,12 @@
 //! Why a board has no tables.
-ghost use Rattle.std.specs.Prelude.{◌≡◌};
-ghost use Rattle.scmi_table.specs.TableError.{error_of_input, error_of_plan, error_of_text, status_of};
+ghost use Rattle.std.specs.Prelude.{◌≡◌, ◌≢◌};
+ghost use Rattle.scmi_table.specs.TableError.{error_of_board, error_of_input, status_of};
 
-use scmi_board::TextError;
+use scmi_board::BoardError;
+use scmi_fault::{BOARD, MEMORY, PLAN, READ, SIZE, WRITE};
 use scmi_input::InputError;
-use scmi_plan::PlanError;
 use std::error::Error;
 use std::fmt;
-
-/// The texts of errors. A number follows those that end in a space.
-pub(crate) const SIZE: &str = "size";
-
-pub(crate) const READ: &str = "read";
-
-pub(crate) const BOARD: &str = "board ";
-
-pub(crate) const PLAN: &str = "plan ";
-
-pub(crate) const MEMORY: &str = "memory";
-
-pub(crate) const WRITE: &str = "write";
-
-/// The line of an error.
-pub(crate) const FAULT_LINE: &str = "fault %\n";
 
 /// Why a board has no tables. Its text is what follows the word `fault`.
 #[derive(Clone, Copy, Debug, PartialEq, Eq)]
@@ -31,20 +15,21 @@ pub enum TableError {
     Size,
     /// A read failed, or reads were interrupted too often.
     Read,
-    /// This line of the input is no line of a board there.
+    /// This line of the input is not a line of a board.
     Board(u32),
     /// The board breaks this rule.
     Plan(u8),
-    /// Memory was refused.
+    /// Out of memory.
     Memory,
     /// The output failed.
     Write,
 }
 
 impl TableError {
-    /// The exit status: 1 for a failed output, 2 for a rejected input, 4 if memory was refused.
+    /// The exit status: 1 for a failed output, 2 for a rejected input, 4 when out of memory.
     pub fn status(&self) -> u8
         ensures { result ≡ status_of self.now }
+        ensures not_done { result ≢ 0 }
     {
         match self {
             TableError::Write => 1,
@@ -86,25 +71,14 @@ impl From<InputError> for TableError {
     }
 }
 
-impl From<TextError> for TableError {
-    ghost from_gives = { λ error fault. fault ≡ error_of_text error };
+impl From<BoardError> for TableError {
+    ghost from_gives = { λ error fault. fault ≡ error_of_board error };
 
-    fn from(error: TextError) -> TableError {
+    fn from(error: BoardError) -> TableError {
         match error {
-            // A board's text has no line of a script.
-            TextError::Board(line) | TextError::Script(line) => TableError::Board(line),
-            TextError::Memory => TableError::Memory,
-        }
-    }
-}
-
-impl From<PlanError> for TableError {
-    ghost from_gives = { λ error fault. fault ≡ error_of_plan error };
-
-    fn from(error: PlanError) -> TableError {
-        match error {
-            PlanError::Memory => TableError::Memory,
-            rule => TableError::Plan(rule.number()),
+            BoardError::Line(line) => TableError::Board(line),
+            BoardError::Rule(rule) => TableError::Plan(rule.number()),
+            BoardError::Memory => TableError::Memory,
         }
     }
 }

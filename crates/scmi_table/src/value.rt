@@ -3,7 +3,6 @@ ghost use Rattle.std.specs.Prelude.{◌≡◌, OnOk};
 ghost use Rattle.std.specs.Io.KnownBytes.{Appends};
 ghost use Rattle.scmi_table.specs.Value.{byte_text, in_string, is_marked, value_text};
 
-use crate::table_error::TableError;
 use scmi_template::Piece;
 use std::io;
 use std::io::Write;
@@ -18,7 +17,6 @@ pub(crate) enum Value<'a> {
     Hex(u32),
     /// A name, as it is in a string.
     Name(&'a str),
-    Fault(TableError),
 }
 
 impl Piece for Value<'_> {
@@ -30,7 +28,6 @@ impl Piece for Value<'_> {
             Value::Bit(bit) => write!(writer, "{}", u8::from(bit)),
             Value::Hex(number) => write!(writer, "{number:x}"),
             Value::Name(name) => write_in_string(writer, name.as_bytes()),
-            Value::Fault(fault) => write!(writer, "{fault}"),
         }
     }
 }

@@ -1,37 +1,8 @@
-use Rattle.std.proofs.Common.{◌≡◌, Ok, sym, ap, ◌∙◌, subst}
 use Rattle.std.proofs.lemmas.Result.{err_from_is_err_and}
-use Rattle.std.specs.List.{All}
-use Rattle.scmi_board.proofs.ChannelLines.{lines-said}
-use Rattle.scmi_board.specs.Channels.{IsLineOf, described, described_left, with_channels}
-use Rattle.scmi_board.specs.Lines.{lines_left}
-use Rattle.scmi_plan.specs.Board.{Board}
-use Rattle.scmi_check.specs.Check.{whole}
-use Rattle.scmi_check.proofs.Faults.{rule_fails, whole-same}
+use Rattle.scmi_check.proofs.Faults.{board_fails}
 use Rattle.scmi_check.proofs.check.plan_of.Goals as goal
 
-pub returns-in_err-plan-clause-faults : goal.returns-in_err-plan-clause-faults
-returns-in_err-plan-clause-faults c =
-    let text = c.args.text.now in
-    let same = whole-same c.of_text.result text c.of_text.ensures.rest c.of_text.ensures.number in
-    let found : described_left (whole text) ≡ Ok (described c.in_ok-said.said, lines_left c.read_board_with_channels.new.lines) = ap described_left (sym same) ∙ c.in_ok-said.ensures.board in
-    let p = err_from_is_err_and c.from_residual-in_err-plan.result c.from_residual-in_err-plan.ensures.1 in
-    rw (p.1, p.2) (rule_fails text (described c.in_ok-said.said) (lines_left c.read_board_with_channels.new.lines) c.in_err-plan.field-0.0 found c.in_err-plan.ensures.fault)
-
-pub set_channels-requires : goal.set_channels-requires
-set_channels-requires c = record {
-  lines = subst (λ (board : Board). All (IsLineOf board) c.deref.result.now) (sym c.in_ok-plan.ensures.ok)
-      (subst (All (IsLineOf (described c.in_ok-said.said).0)) (sym c.deref.ensures.value) (lines-said c.of_text.result (described c.in_ok-said.said) (lines_left c.read_board_with_channels.new.lines) c.in_ok-said.ensures.board));
-}
-
-pub returns-clause-board : goal.returns-clause-board
-returns-clause-board c =
-    let text = c.args.text.now in
-    let same = whole-same c.of_text.result text c.of_text.ensures.rest c.of_text.ensures.number in
-    record {
-      said = described c.in_ok-said.said;
-      behind = lines_left c.read_board_with_channels.new.lines;
-      said_is = ap described_left (sym same) ∙ c.in_ok-said.ensures.board;
-      valid = c.in_ok-plan.ensures.no_fault;
-      board_is = c.set_channels.ensures.channels ∙ ap (with_channels c.in_ok-plan.plan) c.deref.ensures.value
-          ∙ ap (λ (b : Board). with_channels b (described c.in_ok-said.said).1) c.in_ok-plan.ensures.ok;
-    }
+pub returns-in_err-valid-clause-faults : goal.returns-in_err-valid-clause-faults
+returns-in_err-valid-clause-faults c =
+    let p = err_from_is_err_and c.from_residual.result c.from_residual.ensures.1 in
+    rw (p.1, p.2) (board_fails c.args.text.now c.in_err-valid.field-0.0 c.in_err-valid.ensures.fault)
