@@ -1,4 +1,5 @@
 pub mod EightDigits
+pub mod Glyphs
 mod LineExamples
 pub mod Packing
 pub mod Payloads

@@ -11,7 +11,7 @@ digits_text word = replicate (8 - length (digits 16 false word)) 48 ++ digits 16
 
 -- a word behind its mark
 abbrev pub word_text : ℕ → List ℕ
-word_text word = WORD_MARK.now ++ digits_text word
+word_text word = WORD_MARK ++ digits_text word
 
 -- words, one behind the other
 abbrev pub words_text : List ℕ → List ℕ

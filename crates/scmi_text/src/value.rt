@@ -28,13 +28,25 @@ impl Piece for Value<'_> {
 
     fn write<W: Write>(&self, writer: &mut W) -> io::Result<()> {
         match *self {
-            Value::Number(number) => write!(writer, "{number}"),
+            Value::Number(number) => write_number(writer, number),
             Value::Count(count) => write!(writer, "{count}"),
-            Value::Name(name) => write!(writer, "{name}"),
+            Value::Name(name) => writer.write_all(name.as_bytes()),
             Value::Words(words) => write_words(writer, words),
             Value::Message(message) => write_message_text(writer, message),
         }
     }
+}
+
+/// Writes a number in decimal digits. A single digit, as that of an agent, needs no formatter.
+#[tactic(auto, using(std::proofs::lemmas::Fmt::decimal_digit))]
+fn write_number<W: Write>(writer: &mut W, number: u32) -> io::Result<()>
+    ensures { OnOk result (Appends (W.contents writer.old) (W.contents writer.new)
+        (decimal number)) }
+{
+    if number < 10 {
+        return writer.write_all(&[b'0' + number as u8]);
+    }
+    write!(writer, "{number}")
 }
 
 /// Writes a line of an agent, in which a value follows the agent's number.

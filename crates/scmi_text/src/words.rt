@@ -2,14 +2,17 @@
 ghost use Rattle.std.specs.Prelude.{◌≡◌, ◌%◌, OnOk, false};
 ghost use Rattle.std.specs.Fmt.{digit_glyph};
 ghost use Rattle.std.specs.Io.KnownBytes.{Appends};
-ghost use Rattle.scmi_text.specs.Words.{digits_text, word_text, words_text, message_text};
+ghost use Rattle.scmi_text.specs.Words.{word_text, words_text, message_text};
 
 use scmi_codec::Message;
 use std::io;
 use std::io::Write;
 
 /// What is before the digits of a word.
-const WORD_MARK: &str = " 0x";
+const WORD_MARK: [u8; 3] = *b" 0x";
+
+/// Each hexadecimal digit: a look-up is faster than a choice of digit or letter.
+const DIGITS: [u8; 16] = *b"0123456789abcdef";
 
 /// Writes the header word and the payload words, each after a space (own). The error is the
 /// writer's; some words may then be written.
@@ -37,16 +40,11 @@ fn write_word<W: Write>(writer: &mut W, word: u32) -> io::Result<()>
     ensures { OnOk result (Appends (W.contents writer.old) (W.contents writer.new)
         (word_text word)) }
 {
-    write!(writer, "{WORD_MARK}")?;
-    write_digits(writer, word)
-}
-
-/// Writes a word in eight hexadecimal digits.
-fn write_digits<W: Write>(writer: &mut W, word: u32) -> io::Result<()>
-    ensures { OnOk result (Appends (W.contents writer.old) (W.contents writer.new)
-        (digits_text word)) }
-{
+    let [space, zero, letter] = WORD_MARK;
     let text = [
+        space,
+        zero,
+        letter,
         last_digit(word >> 28),
         last_digit(word >> 24),
         last_digit(word >> 20),
@@ -63,10 +61,5 @@ fn write_digits<W: Write>(writer: &mut W, word: u32) -> io::Result<()>
 fn last_digit(word: u32) -> u8
     ensures { result ≡ digit_glyph false (word % 16) }
 {
-    let digit = (word % 16) as u8;
-    if digit < 10 {
-        b'0' + digit
-    } else {
-        b'a' - 10 + digit
-    }
+    DIGITS[(word % 16) as usize]
 }
