@@ -1,5 +1,5 @@
 -- The values of the status word.
-use Rattle.std.proofs.Common.{◌≡◌, ℕ, ◌+◌, ◌%◌, ◌<◌, ◌≤◌, ◌||◌, nat_le, Bool, true, false, sym, refl, ap, ◌∙◌, subst, arith, bit_or, Option, Some, None}
+use Rattle.std.proofs.Common.{◌≡◌, ℕ, ◌%◌, ◌||◌, nat_le, Bool, true, false, sym, refl, ap, ◌∙◌, subst, arith, bit_or, Option, Some, None}
 use Rattle.scmi_codec.specs.declared.frame.Answer.{Answer}
 use Rattle.scmi_codec.specs.declared.frame.Answer.TheVariants.{Reply, Released, ChannelError}
 use Rattle.scmi_words.specs.declared.status_word.TheConstants.{CLOSED}
@@ -49,13 +49,13 @@ answer_odd Released true = refl
 answer_odd ChannelError false = refl
 answer_odd ChannelError true = refl
 
-pub cleared : (x : Answer) (b : Bool) (n r : ℕ) → n ≡ status_word (answer_mark x) b → (CLOSED ≤ n → r + CLOSED ≡ n) → (n < CLOSED → r ≡ n) → r ≡ status_word (answer_mark x) false
-cleared (Reply m) false n r is big small = small (omega arith) ∙ is
-cleared (Reply m) true n r is big small = let e = big (omega arith) in omega arith
-cleared Released false n r is big small = small (omega arith) ∙ is
-cleared Released true n r is big small = let e = big (omega arith) in omega arith
-cleared ChannelError false n r is big small = small (omega arith) ∙ is
-cleared ChannelError true n r is big small = let e = big (omega arith) in omega arith
+pub cleared : (x : Answer) (b : Bool) → status_word (answer_mark x) b % CLOSED ≡ status_word (answer_mark x) false
+cleared (Reply m) false = refl
+cleared (Reply m) true = refl
+cleared Released false = refl
+cleared Released true = refl
+cleared ChannelError false = refl
+cleared ChannelError true = refl
 
 pub posted_zero : (b : Bool) → status_word Mark.posted b ≡ 0 → b ≡ false
 posted_zero false e = refl

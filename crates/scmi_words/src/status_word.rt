@@ -36,11 +36,7 @@ pub fn without_closed(status: u64) -> u64
     ensures { (answer : Answer) (closed : Bool) → status ≡ status_word (answer_mark answer) closed →
         result ≡ status_word (answer_mark answer) false }
 {
-    if status >= CLOSED {
-        status - CLOSED
-    } else {
-        status
-    }
+    status % CLOSED
 }
 
 /// Whether an endpoint knows of the other's close after it found this status: from before, or since

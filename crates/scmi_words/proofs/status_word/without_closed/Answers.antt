@@ -1,9 +1,7 @@
-use Rattle.std.proofs.Common.{arith, refl}
+use Rattle.std.proofs.Common.{ap, ◌∙◌, ◌%◌, ℕ}
+use Rattle.scmi_words.specs.declared.status_word.TheConstants.{CLOSED}
 use Rattle.scmi_words.proofs.Status.{cleared}
 use Rattle.scmi_words.proofs.status_word.without_closed.Goals as goal
 
-pub returns-then-status-ge-CLOSED : goal.returns-then-status-ge-CLOSED
-returns-then-status-ge-CLOSED c = λ x b is. cleared x b _ _ is (λ ge. omega arith) (λ lt. absurd (omega arith))
-
-pub returns-else-status-ge-CLOSED : goal.returns-else-status-ge-CLOSED
-returns-else-status-ge-CLOSED c = λ x b is. cleared x b _ _ is (λ ge. absurd (omega arith)) (λ lt. refl)
+pub returns : goal.returns
+returns c = λ x b is. ap (λ (n : ℕ). n % CLOSED) is ∙ cleared x b
