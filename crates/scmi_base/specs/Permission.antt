@@ -51,14 +51,14 @@ permission a d s (base.PermitProtocol agent device protocol flags) =
 permission a d s (base.ResetAgent agent flags) = if agent == a && bit_0 flags then Some true else None
 permission a d s _ = None
 
--- a table for devices as a whole, and one for each protocol
+-- a table for devices as a whole, and one for each protocol; each has a mask for each agent, bit d for device d, which is 1 if the device is denied to the agent
 pub record Permissions : Type 0 where
-  pub devices : List (List Bool)
-  pub power : List (List Bool)
-  pub clocks : List (List Bool)
+  pub devices : List ℕ
+  pub power : List ℕ
+  pub clocks : List ℕ
 
 -- the table of a scope
-abbrev pub table_of : Permissions → Scope → List (List Bool)
+abbrev pub table_of : Permissions → Scope → List ℕ
 table_of tables scope.Device = tables.devices
 table_of tables scope.Power = tables.power
 table_of tables scope.Clock = tables.clocks

@@ -1,5 +1,6 @@
 //! Which agent is allowed on which device, and for which protocol.
 ghost use Rattle.std.specs.Prelude.{◌≡◌, ◌≤◌, ◌<◌, ◌==◌, ◌&&◌, ℕ, true, if◌then◌else◌, length, IfSome};
+ghost use Rattle.std.specs.Int.{bit_at};
 ghost use Rattle.scmi_plan.specs.Agent.{IsAgent};
 ghost use Rattle.scmi_plan.specs.Board.{IsOnBoard};
 ghost use Rattle.scmi_base.specs.BaseReply.{base_reply};
@@ -97,27 +98,18 @@ impl BaseState {
     /// Whether an agent may change a resource: no device holds it, or on a device that holds it neither
     /// the device nor the resource's protocol is denied to the agent (own).
     pub fn may_change(&self, plan: &Plan, agent: u32, resource: Resource) -> bool
-        requires first { 1 ≤ agent }
-        requires last { agent ≤ length plan.now.agents }
+        requires agent { IsAgent (length plan.now.agents) agent }
         requires resource { IsOnBoard plan.now resource }
         ensures { result ≡ may plan.now (λ device. is_allowed self.now agent device) resource }
     {
-        let mut held = false;
-        for device in 0..plan.devices() {
-            if plan.holds(device, resource) {
-                if self.allows(agent, device, resource) {
-                    return true;
-                }
-                held = true;
-            }
-        }
-        !held
+        let _agents = plan.agents();
+        let holders = plan.holders(resource);
+        holders == 0 || holders & self.allowed(agent, resource) != 0
     }
 
     /// Allows an agent on every device again, for every protocol.
     pub fn reset(&mut self, agent: u32)
-        requires first { 1 ≤ agent }
-        requires last { agent ≤ AGENTS }
+        requires agent { IsAgent AGENTS agent }
         ensures { (a d : ℕ) (s : Scope) → 1 ≤ a → d < DEVICES → is_allowed self.new a d s
             ≡ (if agent == a then true else is_allowed self.old a d s) }
     {
@@ -206,23 +198,22 @@ impl BaseState {
         }
     }
 
-    // Whether neither the device nor the resource's protocol on it is denied to an agent.
-    fn allows(&self, agent: u32, device: u32, resource: Resource) -> bool
-        requires first { 1 ≤ agent }
-        requires last { agent ≤ AGENTS }
-        requires device { device < DEVICES }
-        ensures { result ≡ allows (is_allowed self.now agent device) (protocol_of resource) }
+    // The devices where neither the device nor the resource's protocol is denied to an agent, bit d
+    // for device d.
+    fn allowed(&self, agent: u32, resource: Resource) -> u32
+        requires agent { IsAgent AGENTS agent }
+        ensures { (d : ℕ) → d < DEVICES → (bit_at result d == 1)
+            ≡ allows (is_allowed self.now agent d) (protocol_of resource) }
     {
-        self.devices.says(agent, device)
-            && match resource {
-                Resource::Domain(_) => self.power.says(agent, device),
-                Resource::Clock(_) => self.clocks.says(agent, device),
-            }
+        let protocol = match resource {
+            Resource::Domain(_) => self.power.devices(agent),
+            Resource::Clock(_) => self.clocks.devices(agent),
+        };
+        self.devices.devices(agent) & protocol
     }
 
     fn set(&mut self, agent: u32, device: u32, scope: Scope, allow: bool)
-        requires first { 1 ≤ agent }
-        requires last { agent ≤ AGENTS }
+        requires agent { IsAgent AGENTS agent }
         requires device { device < DEVICES }
         ensures { (a d : ℕ) (s : Scope) → 1 ≤ a → d < DEVICES → is_allowed self.new a d s
             ≡ (if agent == a && device == d && is_scope scope s then allow

@@ -1,26 +1,28 @@
 //! One yes or no for each agent and device.
 ghost use Rattle.std.specs.Prelude.{◌≡◌, ◌≤◌, ◌<◌, ◌==◌, ◌&&◌, ℕ, true, if◌then◌else◌};
+ghost use Rattle.std.specs.Int.{bit_at};
 ghost use Rattle.scmi_base.specs.PermissionTable.{entry};
+ghost use Rattle.scmi_plan.specs.Agent.{IsAgent};
 ghost use Rattle.scmi_plan.specs.declared.limits.TheConstants.{AGENTS, DEVICES};
 
-use scmi_plan::{AGENTS, DEVICES};
+use scmi_plan::AGENTS;
 use std::marker::Model;
 
-/// A row for each agent from 1 on, in it a yes or no for each device from 0 on.
+/// A mask for each agent from 1 on, of the devices with no: bit d is for device d.
 #[derive(Drop, Debug)]
 pub(crate) struct PermissionTable {
-    rows: [[bool; DEVICES]; AGENTS],
+    denied: [u32; AGENTS],
 }
 
 impl Model for PermissionTable {
-    ghost use Rattle.std.specs.Prelude.{Bool, List};
-    ghost use Rattle.scmi_base.specs.PermissionTable.{IsTable};
+    ghost use Rattle.std.specs.Prelude.{ℕ, List, length, ◌≡◌};
+    ghost use Rattle.scmi_plan.specs.declared.limits.TheConstants.{AGENTS};
 
-    ghost Value = { List (List Bool) };
+    ghost Value = { List ℕ };
 
-    ghost view = { λ t. t.rows };
+    ghost view = { λ t. t.denied };
 
-    ghost invariant = { λ t. IsTable t.rows };
+    ghost invariant = { λ t. length t.denied ≡ AGENTS };
 }
 
 impl PermissionTable {
@@ -29,36 +31,52 @@ impl PermissionTable {
         ensures { (a d : ℕ) → entry result a d ≡ true }
     {
         PermissionTable {
-            rows: [[true; DEVICES]; AGENTS],
+            denied: [0; AGENTS],
         }
     }
 
-    pub(crate) fn says(&self, agent: u32, device: u32) -> bool
-        requires first { 1 ≤ agent }
-        requires last { agent ≤ AGENTS }
-        requires device { device < DEVICES }
-        ensures { result ≡ entry self.now agent device }
+    /// The devices with yes for an agent, bit d for device d.
+    pub(crate) fn devices(&self, agent: u32) -> u32
+        requires agent { IsAgent AGENTS agent }
+        ensures { (d : ℕ) → d < DEVICES → (bit_at result d == 1) ≡ entry self.now agent d }
     {
-        self.rows[agent as usize - 1][device as usize]
+        others(self.denied[agent as usize - 1])
     }
 
     pub(crate) fn set(&mut self, agent: u32, device: u32, allow: bool)
-        requires first { 1 ≤ agent }
-        requires last { agent ≤ AGENTS }
+        requires agent { IsAgent AGENTS agent }
         requires device { device < DEVICES }
         ensures { (a d : ℕ) → 1 ≤ a → d < DEVICES → entry self.new a d
             ≡ (if agent == a && device == d then allow else entry self.old a d) }
     {
-        self.rows[agent as usize - 1][device as usize] = allow;
+        let place = agent as usize - 1;
+        let denied = with_device(self.denied[place], device, allow);
+        self.denied[place] = denied;
     }
 
     /// Sets yes for an agent on every device.
     pub(crate) fn allow(&mut self, agent: u32)
-        requires first { 1 ≤ agent }
-        requires last { agent ≤ AGENTS }
+        requires agent { IsAgent AGENTS agent }
         ensures { (a d : ℕ) → 1 ≤ a → d < DEVICES → entry self.new a d
             ≡ (if agent == a then true else entry self.old a d) }
     {
-        self.rows[agent as usize - 1].fill(true);
+        self.denied[agent as usize - 1] = 0;
     }
+}
+
+/// A mask of the devices with no, with one device set, and every other as it was.
+fn with_device(denied: u32, device: u32, allow: bool) -> u32
+    requires { device < DEVICES }
+    ensures { (d : ℕ) → d < DEVICES → (bit_at result d == 0)
+        ≡ (if device == d then allow else (bit_at denied d == 0)) }
+{
+    let bit = 1u32 << device;
+    if allow { denied & !bit } else { denied | bit }
+}
+
+/// The devices that a mask does not have.
+fn others(mask: u32) -> u32
+    ensures { (d : ℕ) → d < DEVICES → (bit_at result d == 1) ≡ (bit_at mask d == 0) }
+{
+    !mask
 }

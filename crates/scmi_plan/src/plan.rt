@@ -226,7 +226,8 @@ impl Plan {
         requires resource { IsOnBoard self.now resource }
         ensures { result ≡ holds (device_at self.now device) resource }
     {
-        self.devices[device as usize].holds(resource)
+        let device = self.devices[device as usize];
+        device.holds(resource)
     }
 
     /// The devices that hold a domain or clock of the board: bit d of the mask is for device d.

@@ -1,46 +1,31 @@
-use Rattle.std.proofs.Common.{◌≡◌, ◌+◌, ◌<◌, ℕ, Bool, true, ◌&&◌, ◌||◌, not, refl, sym, ◌∙◌, arith, length, get_or}
-use Rattle.std.specs.List.{list_any, range_with_len}
-use Rattle.std.proofs.Math.Bool.{or-true, or-false}
-use Rattle.std.proofs.lemmas.List.Folds.{list_any_at}
-use Rattle.std.proofs.lemmas.List.FromFn.{length-range_with_len, get_or-range_with_len}
+use Rattle.std.proofs.Common.{◌≡◌, ◌<◌, ◌^◌, ◌==◌, ◌&&◌, ℕ, Bool, false, not, length, bit_and, refl, arith}
+use Rattle.std.proofs.lemmas.Bool.{ne_eqb}
+use Rattle.std.proofs.lemmas.Nat.{and_le_l}
 use Rattle.scmi_plan.specs.Board.{holds, device_at}
 use Rattle.scmi_base.specs.Permission.{is_allowed, some_device, allows, protocol_of}
-use Rattle.scmi_base.proofs.Tables.{any_below-more}
+use Rattle.scmi_base.proofs.Masks.{some-of_mask, bits-of_both}
 use Rattle.scmi_base.proofs.base_state.BaseState.may_change.Goals as goal
-use Rattle.scmi_base.proofs.base_state.BaseState.may_change.Goals.{then-holds+else-allows, else-holds}
 
-pub loop-device-preserved : goal.loop-device-preserved
-loop-device-preserved c =
-    let holder : ℕ → Bool = λ device. holds (device_at c.args.plan.now device) c.args.resource in
-    let opens : ℕ → Bool = λ device. holder device && allows (is_allowed c.args.self.now c.args.agent device) (protocol_of c.args.resource) in
-    let d = c.loop-device.device in
-    let held : list_any holder (range_with_len 0 (d + 1)) ≡ (c.loop-device.held || holder d) =
-    rw c.loop-device.invariant.held (any_below-more holder d) in
-    let opened : list_any opens (range_with_len 0 (d + 1)) ≡ opens d =
-    any_below-more opens d ∙ rw c.loop-device.invariant.not_allowed refl in
-    elim c.if-holds.branch [
-      | then-holds+else-allows w ↦
-          record {
-            held = w.held-is ∙ sym (held ∙ rw (← w.if-holds.ensures) (or-true c.loop-device.held));
-            not_allowed = opened ∙ rw (← w.if-holds.ensures, ← w.if-allows.ensures) refl;
-          }
-      | else-holds w ↦
-          record {
-            held = w.held-is ∙ sym (held ∙ rw (← w.if-holds.ensures) (or-false c.loop-device.held));
-            not_allowed = opened ∙ rw (← w.if-holds.ensures) refl;
-          }
-    ]
-
-pub returns-then-allows : goal.returns-then-allows
-returns-then-allows c =
+pub returns-then-holders-eq0 : goal.returns-then-holders-eq0
+returns-then-holders-eq0 c =
     let board = c.args.plan.now in
     let holder : ℕ → Bool = λ device. holds (device_at board device) c.args.resource in
-    let opens : ℕ → Bool = λ device. holder device && allows (is_allowed c.args.self.now c.args.agent device) (protocol_of c.args.resource) in
-    let count : ℕ = length board.devices in
-    let d = c.loop-device.device in
-    let small : d < count = omega (arith, c.loop-device-test.true, c.devices-device-end.ensures.count) in
-    let size : length (range_with_len 0 count) ≡ count = length-range_with_len 0 count in
-    let item : get_or (range_with_len 0 count) d 0 ≡ d = get_or-range_with_len 0 count d 0 small ∙ (let z : 0 + d ≡ d = omega arith in z) in
-    let yes : opens d ≡ true = rw (← c.if-holds.ensures, ← c.if-allows.ensures) refl in
-    let found : some_device board opens ≡ true = list_any_at opens (range_with_len 0 count) d 0 (omega arith) (rw item yes) in
-    rw found (sym (or-true (not (some_device board holder))))
+    let held : not (c.holders-holders.result == 0) ≡ some_device board holder =
+    some-of_mask c.holders-holders.result (length board.devices) holder c.holders-holders.type_inv c.agents-agents.ensures.valid.few_devices c.holders-holders.ensures in
+    rw (← held, c.if-holders-eq0.true) refl
+
+pub returns-else-holders-eq0 : goal.returns-else-holders-eq0
+returns-else-holders-eq0 c =
+    let board = c.args.plan.now in
+    let holders = c.holders-holders.result in
+    let few = c.agents-agents.ensures.valid.few_devices in
+    let fits : holders < 2 ^ 32 = c.holders-holders.type_inv in
+    let some : (holders == 0) ≡ false = ne_eqb holders 0 c.if-holders-eq0.false in
+    let holder : ℕ → Bool = λ device. holds (device_at board device) c.args.resource in
+    let opens : ℕ → Bool = λ device. allows (is_allowed c.args.self.now c.args.agent device) (protocol_of c.args.resource) in
+    let held : not (holders == 0) ≡ some_device board holder = some-of_mask holders (length board.devices) holder fits few c.holders-holders.ensures in
+    let less = and_le_l holders c.allowed.result in
+    let opened : not (bit_and holders c.allowed.result == 0) ≡ some_device board (λ device. holder device && opens device) =
+    some-of_mask (bit_and holders c.allowed.result) (length board.devices) (λ device. holder device && opens device) (omega arith) few
+    (bits-of_both holders c.allowed.result (length board.devices) holder opens c.holders-holders.ensures c.allowed.ensures) in
+    rw (← held, some) opened
