@@ -1,10 +1,9 @@
 //! The checks of the commands that change permissions, in the order of the profile (own).
-ghost use Rattle.std.specs.Prelude.{◌≡◌, ◌≤◌, ◌<◌, ◌==◌, ◌≢◌, ◌∷◌, [], if◌then◌else◌, nat_lt, Ok, Err, IfOk, IfErr, OnOk};
-ghost use Rattle.scmi_codec.specs.Reply.{bit_0};
-ghost use Rattle.scmi_codec.specs.declared.status.Status.TheVariants.{Success, Denied, NotFound, InvalidParameters};
+ghost use Rattle.std.specs.Prelude.{◌≡◌, ◌<◌, ◌==◌, if◌then◌else◌, nat_lt, Ok, Err, IfOk};
+ghost use Rattle.scmi_codec.specs.Reply.{bit_0, AreDecided};
+ghost use Rattle.scmi_codec.specs.declared.status.Status.TheVariants.{Denied, NotFound, InvalidParameters};
 ghost use Rattle.scmi_base.specs.BaseReply.{base_reply, no_agent, no_device, no_protocol};
 ghost use Rattle.scmi_codec.specs.declared.base_command.BaseCommand.TheVariants.{Permit, PermitProtocol, ResetAgent};
-ghost use Rattle.scmi_codec.specs.Status.{status_word};
 ghost use Rattle.scmi_base.specs.Permission.{protocol_named};
 ghost use Rattle.scmi_plan.specs.Agent.{IsAgent};
 ghost use Rattle.scmi_plan.specs.declared.limits.TheConstants.{AGENTS, DEVICES};
@@ -23,13 +22,10 @@ pub(crate) fn check_permit(
     device: u32,
     flags: u32,
 ) -> Result<bool, Status>
-    ensures ok { OnOk result (base_reply plan.now caller (Permit agent device flags) ≡ 0 ∷ []) }
+    ensures decided { AreDecided (base_reply plan.now caller (Permit agent device flags)) result }
     ensures allow { IfOk result (λ allow. allow ≡ bit_0 flags) }
     ensures agent { IfOk result (λ allow. IsAgent AGENTS agent) }
     ensures device { IfOk result (λ allow. device < DEVICES) }
-    ensures status { IfErr result (λ status. base_reply plan.now caller (Permit agent device flags)
-        ≡ status_word status ∷ []) }
-    ensures refused { IfErr result (λ status. status ≢ Success) }
 {
     check_agent(plan, agent)?;
     check_device(plan, device)?;
@@ -49,16 +45,12 @@ pub(crate) fn check_permit_protocol(
     protocol: u32,
     flags: u32,
 ) -> Result<(Scope, bool), Status>
-    ensures ok { OnOk result
-        (base_reply plan.now caller (PermitProtocol agent device protocol flags) ≡ 0 ∷ []) }
+    ensures decided { AreDecided
+        (base_reply plan.now caller (PermitProtocol agent device protocol flags)) result }
     ensures scope { IfOk result (λ r. r.0 ≡ protocol_named protocol) }
     ensures allow { IfOk result (λ r. r.1 ≡ bit_0 flags) }
     ensures agent { IfOk result (λ r. IsAgent AGENTS agent) }
     ensures device { IfOk result (λ r. device < DEVICES) }
-    ensures status { IfErr result (λ status.
-        base_reply plan.now caller (PermitProtocol agent device protocol flags)
-        ≡ status_word status ∷ []) }
-    ensures refused { IfErr result (λ status. status ≢ Success) }
 {
     check_agent(plan, agent)?;
     check_device(plan, device)?;
@@ -73,12 +65,9 @@ pub(crate) fn check_permit_protocol(
 /// are to be reset too.
 #[tactic(auto, unfolding(crate::specs::BaseReply::base_reply))]
 pub(crate) fn check_reset(plan: &Plan, caller: u32, agent: u32, flags: u32) -> Result<bool, Status>
-    ensures ok { OnOk result (base_reply plan.now caller (ResetAgent agent flags) ≡ 0 ∷ []) }
+    ensures decided { AreDecided (base_reply plan.now caller (ResetAgent agent flags)) result }
     ensures permissions { IfOk result (λ permissions. permissions ≡ bit_0 flags) }
     ensures agent { IfOk result (λ permissions. IsAgent AGENTS agent) }
-    ensures status { IfErr result (λ status. base_reply plan.now caller (ResetAgent agent flags)
-        ≡ status_word status ∷ []) }
-    ensures refused { IfErr result (λ status. status ≢ Success) }
 {
     check_agent(plan, agent)?;
     let permissions = single_flag(flags)?;

@@ -1,8 +1,7 @@
 //! The checks of commands, in the order of the profile (own).
-ghost use Rattle.std.specs.Prelude.{◌≡◌, ◌<◌, ◌≢◌, ◌∷◌, ◌&&◌, ◌||◌, not, true, false, [], if◌then◌else◌, length, is_none, Some, Ok, Err, IfOk, IfErr, OnOk};
-ghost use Rattle.scmi_codec.specs.Reply.{bit_0};
-ghost use Rattle.scmi_codec.specs.Status.{status_word};
-ghost use Rattle.scmi_codec.specs.declared.status.Status.TheVariants.{Success, NotFound, InvalidParameters, NotSupported, Denied, Busy, OutOfRange};
+ghost use Rattle.std.specs.Prelude.{◌≡◌, ◌<◌, ◌&&◌, ◌||◌, not, true, false, if◌then◌else◌, length, is_none, Some, Ok, Err, IfOk, IfErr, OnOk};
+ghost use Rattle.scmi_codec.specs.Reply.{bit_0, AreDecided};
+ghost use Rattle.scmi_codec.specs.declared.status.Status.TheVariants.{NotFound, InvalidParameters, NotSupported, Denied, Busy, OutOfRange};
 ghost use Rattle.scmi_plan.specs.Agent.{IsAgent};
 ghost use Rattle.scmi_plan.specs.Board.{channel_of};
 ghost use Rattle.scmi_plan.specs.Rates.{HasValidRates};
@@ -40,15 +39,12 @@ pub(crate) fn check_set(
     load: Load,
 ) -> Result<RateSet, Status>
     requires caller { IsAgent (length plan.now.agents) caller }
-    ensures ok { OnOk result (set_words plan.now base.now caller load flags clock rate ≡ 0 ∷ []) }
+    ensures decided { AreDecided (set_words plan.now base.now caller load flags clock rate) result }
     ensures rate { IfOk result (λ set. set.rate ≡ set_rate plan.now flags clock rate) }
     ensures asynchronous { IfOk result (λ set. set.asynchronous ≡ is_asynchronous flags) }
     ensures response_wanted { IfOk result (λ set. set.response_wanted ≡ is_response_wanted flags) }
     ensures clock { IfOk result (λ set. (clock < length plan.now.clocks) × (clock < CLOCKS)) }
     ensures room { IfOk result (λ set. is_asynchronous flags ≡ true → load.room ≡ true) }
-    ensures status { IfErr result (λ status.
-        set_words plan.now base.now caller load flags clock rate ≡ status_word status ∷ []) }
-    ensures refused { IfErr result (λ status. status ≢ Success) }
 {
     check_clock(plan, clock)?;
     let set = rounded_set(&plan.clock(clock).rates, flags, rate)?;
@@ -90,12 +86,9 @@ pub(crate) fn check_config(
     attributes: u32,
 ) -> Result<bool, Status>
     requires caller { IsAgent (length plan.now.agents) caller }
-    ensures ok { OnOk result (config_words plan.now base.now caller clock attributes ≡ 0 ∷ []) }
+    ensures decided { AreDecided (config_words plan.now base.now caller clock attributes) result }
     ensures enable { IfOk result (λ enable. enable ≡ bit_0 attributes) }
     ensures clock { IfOk result (λ enable. (clock < length plan.now.clocks) × (clock < CLOCKS)) }
-    ensures status { IfErr result (λ status.
-        config_words plan.now base.now caller clock attributes ≡ status_word status ∷ []) }
-    ensures refused { IfErr result (λ status. status ≢ Success) }
 {
     check_clock(plan, clock)?;
     let enable = single_flag(attributes)?;

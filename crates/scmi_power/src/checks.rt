@@ -1,8 +1,7 @@
 //! The checks of the commands on a domain, in the order of the profile (own).
-ghost use Rattle.std.specs.Prelude.{◌≡◌, ◌≢◌, ◌≤◌, ◌<◌, ◌&&◌, ◌||◌, ◌∷◌, [], not, true, length, if◌then◌else◌, Ok, Err, IfOk, IfErr, OnOk};
-ghost use Rattle.scmi_codec.specs.Reply.{bit_0};
-ghost use Rattle.scmi_codec.specs.Status.{status_word};
-ghost use Rattle.scmi_codec.specs.declared.status.Status.TheVariants.{Success, NotFound, NotSupported, Denied, Busy};
+ghost use Rattle.std.specs.Prelude.{◌≡◌, ◌≤◌, ◌<◌, ◌&&◌, ◌||◌, not, true, length, if◌then◌else◌, Ok, Err, IfOk};
+ghost use Rattle.scmi_codec.specs.Reply.{bit_0, AreDecided};
+ghost use Rattle.scmi_codec.specs.declared.status.Status.TheVariants.{NotFound, NotSupported, Denied, Busy};
 ghost use Rattle.scmi_plan.specs.Agent.{IsAgent};
 ghost use Rattle.scmi_plan.specs.Plan.{IsValid};
 ghost use Rattle.scmi_plan.specs.declared.limits.TheConstants.{AGENTS, DOMAINS};
@@ -27,14 +26,12 @@ pub(crate) fn check_set(
     load: Load,
 ) -> Result<bool, Status>
     requires caller { IsAgent (length plan.now.agents) caller }
-    ensures ok { OnOk result (set_words plan.now base.now caller load flags domain state ≡ 0 ∷ []) }
+    ensures decided { AreDecided
+        (set_words plan.now base.now caller load flags domain state) result }
     ensures asynchronous { IfOk result (λ asynchronous. asynchronous ≡ bit_0 flags) }
     ensures known { IfOk result (λ asynchronous. domain < length plan.now.domains) }
     ensures domain { IfOk result (λ asynchronous. domain < DOMAINS) }
     ensures room { IfOk result (λ asynchronous. asynchronous ≡ true → load.room ≡ true) }
-    ensures status { IfErr result (λ status.
-        set_words plan.now base.now caller load flags domain state ≡ status_word status ∷ []) }
-    ensures refused { IfErr result (λ status. status ≢ Success) }
 {
     check_domain(plan, domain)?;
     let asynchronous = single_flag(flags)?;
@@ -55,13 +52,10 @@ pub(crate) fn check_notify(
     enable: u32,
 ) -> Result<bool, Status>
     requires caller { IsAgent (length plan.now.agents) caller }
-    ensures ok { OnOk result (notify_words plan.now base.now caller domain enable ≡ 0 ∷ []) }
+    ensures decided { AreDecided (notify_words plan.now base.now caller domain enable) result }
     ensures enabled { IfOk result (λ enabled. enabled ≡ bit_0 enable) }
     ensures domain { IfOk result (λ enabled. domain < DOMAINS) }
     ensures agent { IfOk result (λ enabled. caller ≤ AGENTS) }
-    ensures status { IfErr result (λ status.
-        notify_words plan.now base.now caller domain enable ≡ status_word status ∷ []) }
-    ensures refused { IfErr result (λ status. status ≢ Success) }
 {
     check_domain(plan, domain)?;
     let enabled = single_flag(enable)?;
