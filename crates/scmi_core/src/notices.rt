@@ -13,13 +13,7 @@ use crate::tables::Tables;
 impl Tables {
     /// Notifies subscribers of a domain's state that was set, if it differs from the one before.
     #[inline(always)]
-    pub fn announce(
-        &mut self,
-        agents: u32,
-        causer: u32,
-        changed: Option<(u32, u32)>,
-        differs: bool,
-    )
+    pub fn announce(&mut self, agents: u32, causer: u32, changed: Option<(u32, u32)>, differs: bool)
         requires agents { agents ≤ AGENTS }
         requires domain { IfSome changed (λ set. set.0 < DOMAINS) }
         ensures rest { SameButOutboxes self.old self.new }
