@@ -1,5 +1,5 @@
 -- A list whose first items are mapped, one after another.
-use Rattle.std.proofs.Common.{◌≡◌, ◌+◌, ◌<◌, ◌++◌, ◌∷◌, ℕ, zero, suc, List, [], length, take, drop, get_or, map, set, refl, ap, arith}
+use Rattle.std.proofs.Common.{◌≡◌, ◌<◌, ◌++◌, ◌∷◌, ℕ, zero, suc, List, [], length, take, drop, get_or, map, set, refl, ap, arith}
 
 abbrev pub mapped_to : {X : Type 0} → (X → X) → ℕ → List X → List X
 mapped_to f i xs = map f (take i xs) ++ drop i xs

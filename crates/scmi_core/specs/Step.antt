@@ -1,5 +1,5 @@
 -- What an event leaves of the tables.
-use Rattle.std.specs.Prelude.{◌≡◌, ℕ, ◌==◌, ◌&&◌, nat_lt, Bool, if◌then◌else◌, List, [], ◌∷◌, ◌++◌, length, drop, slice_get, Option, Some, None, unwrap_or, Result, ◌<◌, ◌≤◌, IfSome, ◌≢◌, map}
+use Rattle.std.specs.Prelude.{◌≡◌, ℕ, ◌&&◌, nat_lt, Bool, if◌then◌else◌, List, [], ◌∷◌, ◌++◌, length, drop, slice_get, Option, Some, None, unwrap_or, Result, ◌<◌, ◌≤◌, IfSome, ◌≢◌, map}
 use Rattle.std.specs.Option.{option_map_or, option_and_then, option_to_list}
 use Rattle.std.specs.List.{All}
 use Rattle.scmi_codec.specs.Header.{HeaderFields}

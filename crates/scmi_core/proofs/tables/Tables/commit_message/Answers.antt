@@ -25,8 +25,8 @@ announce-requires-clause-domain c =
     let few = c.requires.valid.few_domains in
     omega (arith, known, few)
 
-pub complete-requires-in-Rate : goal.complete-requires-in-Rate
-complete-requires-in-Rate c =
+pub complete-requires : goal.complete-requires
+complete-requires c =
     let m = c.args.message.now in
     let set = rate-set c.args.plan.now c.args.agent m.header (situation_in c.args.agent c.args.self.now) (command_of m) c.in-Rate.clock c.in-Rate.rate
     (effect-fits c.args.plan.now c.args.agent m (situation_in c.args.agent c.args.self.now) (effect.Rate c.in-Rate.clock c.in-Rate.rate) (c.requires.effect ∙ ap Some c.in-Rate.is)).1 in
@@ -70,10 +70,10 @@ returns-in-Rate-clause-answer c =
 
 pub returns-in-Rate-clause-stepped : goal.returns-in-Rate-clause-stepped
 returns-in-Rate-clause-stepped c =
-    rate-committed c.args.plan.now c.args.self.now _ c.complete-in-Rate.new.self c.args.agent c.args.message.now
+    rate-committed c.args.plan.now c.args.self.now _ c.complete.new.self c.args.agent c.args.message.now
     c.in-Rate.clock c.in-Rate.rate c.requires.valid c.requires.agent.0 c.requires.agent.1
     (c.requires.effect ∙ ap Some c.in-Rate.is)
-    c.complete-in-Rate.ensures.rates c.complete-in-Rate.ensures.enabled refl
+    c.complete.ensures.rates c.complete.ensures.enabled refl
 
 pub returns-in-Enabled-clause-answer : goal.returns-in-Enabled-clause-answer
 returns-in-Enabled-clause-answer c =

@@ -42,12 +42,12 @@ returns-in-Rate c =
       valid = c.agents-agents.ensures.valid;
       stepped =
           rate-completed board t
-          (record { base = t.base; power = t.power; clocks = c.complete-in-Rate.new.self; pending = left; outboxes = c.respond-in-Rate.new.self })
-          c.complete-in-Rate.new.self left p.agent p.header p.wanted c.in-Rate.clock c.in-Rate.rate
+          (record { base = t.base; power = t.power; clocks = c.complete.new.self; pending = left; outboxes = c.respond-in-Rate.new.self })
+          c.complete.new.self left p.agent p.header p.wanted c.in-Rate.clock c.in-Rate.rate
           c.agents-agents.ensures.valid.few_clocks known.first known.last inside
           (c.pop_first-done.ensures.first ∙ ap (λ s. Some (record { agent = p.agent; setting = s; header = p.header; wanted = p.wanted })) c.in-Rate.is)
           c.pop_first-done.ensures.rest
-          c.complete-in-Rate.ensures.rates c.complete-in-Rate.ensures.enabled
+          c.complete.ensures.rates c.complete.ensures.enabled
           (record { base = refl; power = refl; clocks = refl; pending = refl })
           c.respond-in-Rate.ensures;
     }
