@@ -33,7 +33,7 @@ pub enum CheckError {
 impl CheckError {
     /// The exit status: 1 for a failed output, 2 for a rejected input, 4 for out of memory.
     pub fn status(&self) -> u8
-        ensures { result ≡ status_of self.now }
+        ensures status { result ≡ status_of self.now }
         ensures not_checked { (result ≢ 0) × (result ≢ DIFFERS) }
     {
         match self {

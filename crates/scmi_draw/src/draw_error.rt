@@ -36,7 +36,7 @@ impl DrawError {
     /// The exit status of a run that ends in this way: 1 for a failed output, 2 for a rejected
     /// input, 4 for out of memory.
     pub fn status(&self) -> u8
-        ensures { result ≡ status_of self.now }
+        ensures status { result ≡ status_of self.now }
         ensures not_done { result ≢ 0 }
     {
         match self {

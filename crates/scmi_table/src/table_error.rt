@@ -28,7 +28,7 @@ pub enum TableError {
 impl TableError {
     /// The exit status: 1 for a failed output, 2 for a rejected input, 4 when out of memory.
     pub fn status(&self) -> u8
-        ensures { result ≡ status_of self.now }
+        ensures status { result ≡ status_of self.now }
         ensures not_done { result ≢ 0 }
     {
         match self {
