@@ -151,7 +151,3 @@ refusal-differs board h a f x is = by (is_same_answer (answer_to board a f h) x)
   by : (same : Bool) → is_same_answer (answer_to board a f h) x ≡ same → same ≡ false
   by true same = absurd (let both : false ≡ true = ap (λ b. not b && is_to_change board a f h) (sym (done same)) ∙ is in cc)
   by false same = refl
-
--- there the command was to change the hardware
-pub refusal-effect : (board : Board) (h : List Event) (a : ℕ) (f : Frame) (x : Answer) → is_refusal board a f x h ≡ true → effect_after board h (Command a f) ≢ None
-refusal-effect board h a f x is = some-not (effect_after board h (Command a f)) (refusal-changes board h a f x is)

@@ -1,9 +1,12 @@
 -- What is added after an entry: nothing if it is what the definitions give.
-use Rattle.std.proofs.Common.{◌≡◌, ℕ, ◌==◌, ◌&&◌, true, List, [], ◌∷◌, ◌++◌, slice_get, Some, None, refl, sym, ap, ◌∙◌, if◌then◌else◌}
+use Rattle.std.proofs.Common.{◌≡◌, ◌≢◌, ℕ, zero, suc, ◌<◌, ◌==◌, ◌&&◌, true, List, [], ◌∷◌, ◌++◌, slice_get, Some, None, refl, sym, ap, ◌∙◌, arith, if◌then◌else◌}
+use Rattle.std.specs.Prelude.{Result, Ok, Err, OnOk}
 use Rattle.std.proofs.lemmas.List.{append_assoc, append-nil}
 use Rattle.scmi_plan.specs.Board.{Board}
 use Rattle.scmi_codec.specs.declared.message.Message.{Message}
 use Rattle.scmi_codec.specs.declared.frame.Frame.TheVariants.{Good, Malformed}
+use Rattle.scmi_core.specs.declared.core_error.CoreError.{CoreError}
+use Rattle.scmi_core.specs.declared.core_error.CoreError.TheVariants.{Memory}
 use Rattle.scmi_core.specs.declared.event.Event.{Event}
 use Rattle.scmi_core.specs.declared.event.Event.TheVariants.{AdvanceFailed, Sent}
 use Rattle.scmi_core.specs.declared.pending_set.PendingSet.{PendingSet}
@@ -36,7 +39,8 @@ pub takes : (a : ℕ) (m : Message) (waiting : List Message) → slice_get waiti
 takes a m [] first = absurd (cc)
 takes a m (n ∷ waiting) first = refl
 
-withdrawn : (board : Board) (h : List Event) (a : ℕ) (m : Message) (p : PendingSet) → pending_sets board (deeds board h) ≡ p ∷ []
+-- the only pending set that is withdrawn, and the response to it, if one waits then
+pub withdrawn : (board : Board) (h : List Event) (a : ℕ) (m : Message) (p : PendingSet) → pending_sets board (deeds board h) ≡ p ∷ []
     → ((p.agent == a && is_same_header p.header m.header) && is_agent board a) ≡ true → slice_get (outbox board a h) 0 ≡ None
     → set_withdrawn board h a m (pending_sets board (deeds board h)) ≡ AdvanceFailed ∷ taking a (outbox board a (h ++ AdvanceFailed ∷ []))
 withdrawn board h a m p one is none =
@@ -44,19 +48,19 @@ withdrawn board h a m p one is none =
     ap (set_withdrawn board h a m) one ∙ ap (λ b. if b then where_nothing_waits (outbox board a h) events else []) is
     ∙ ap (λ ms. where_nothing_waits ms events) (nothing-first (outbox board a h) none)
 
--- the only pending set that is withdrawn, and the response to it, if one waits then
-pub withdrawn-taken : (board : Board) (h : List Event) (a : ℕ) (m n : Message) (p : PendingSet) → pending_sets board (deeds board h) ≡ p ∷ []
+pub withdrawn-taken : (board : Board) (h : List Event) (a : ℕ) (m : Message) (p : PendingSet) → pending_sets board (deeds board h) ≡ p ∷ []
     → ((p.agent == a && is_same_header p.header m.header) && is_agent board a) ≡ true → slice_get (outbox board a h) 0 ≡ None
-    → slice_get (outbox board a (h ++ AdvanceFailed ∷ [])) 0 ≡ Some n
-    → (h ++ AdvanceFailed ∷ []) ++ Sent a ∷ [] ≡ h ++ set_withdrawn board h a m (pending_sets board (deeds board h))
-withdrawn-taken board h a m n p one is none first =
-    append_assoc h (AdvanceFailed ∷ []) (Sent a ∷ []) ∙ ap (λ es. h ++ AdvanceFailed ∷ es) (takes a n (outbox board a (h ++ AdvanceFailed ∷ [])) first)
+    → (h ++ AdvanceFailed ∷ []) ++ taking a (outbox board a (h ++ AdvanceFailed ∷ [])) ≡ h ++ set_withdrawn board h a m (pending_sets board (deeds board h))
+withdrawn-taken board h a m p one is none =
+    append_assoc h (AdvanceFailed ∷ []) (taking a (outbox board a (h ++ AdvanceFailed ∷ [])))
     ∙ ap (λ es. h ++ es) (sym (withdrawn board h a m p one is none))
 
-pub withdrawn-silent : (board : Board) (h : List Event) (a : ℕ) (m : Message) (p : PendingSet) → pending_sets board (deeds board h) ≡ p ∷ []
-    → ((p.agent == a && is_same_header p.header m.header) && is_agent board a) ≡ true → slice_get (outbox board a h) 0 ≡ None
-    → slice_get (outbox board a (h ++ AdvanceFailed ∷ [])) 0 ≡ None
-    → h ++ AdvanceFailed ∷ [] ≡ h ++ set_withdrawn board h a m (pending_sets board (deeds board h))
-withdrawn-silent board h a m p one is none nothing =
-    ap (λ ms. h ++ AdvanceFailed ∷ taking a ms) (sym (nothing-first (outbox board a (h ++ AdvanceFailed ∷ [])) nothing))
-    ∙ ap (λ es. h ++ es) (sym (withdrawn board h a m p one is none))
+-- what a call left on success, and what it means
+pub on-ok : {A E : Type 0} (r : Result A E) (P Q : Type 0) → (P → Q) → OnOk r P → OnOk r Q
+on-ok (Ok v) P Q f p = f p
+on-ok (Err e) P Q f p = tt
+
+-- if out of memory comes only without room, and came, there is no room
+pub no-room : {A : Type 0} (room : ℕ) (r : Result A CoreError) → (0 < room → r ≢ Err Memory) → r ≡ Err Memory → room ≡ 0
+no-room zero r unless is = refl
+no-room (suc n) r unless is = absurd (unless (omega arith) is)

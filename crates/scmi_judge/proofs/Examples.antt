@@ -115,14 +115,14 @@ unfolding other_values verdict_of events_of endings_shown corrections deeds outb
 other_values-judged = refl
 
 -- agent 2 is notified of the first domain, so the state that is read is not given to it, and differs again
-watched_value : List Entry
-watched_value =
+notified_value : List Entry
+notified_value =
     exchange 2 0 0x11 0x6 (0 ∷ 1 ∷ []) (0 ∷ []) ∷ exchange 1 0 0x11 0x5 (0 ∷ []) (0 ∷ 0 ∷ []) ∷ exchange 1 1 0x11 0x5 (0 ∷ []) (0 ∷ 0 ∷ []) ∷ []
 
-watched_value-judged : verdicts_of board_b watched_value
+notified_value-judged : verdicts_of board_b notified_value
     ≡ verdict.Same ∷ verdict.Answer (Reply (message_of 0 0 0x11 0x5 (0 ∷ 0x40000000 ∷ []))) ∷ verdict.Answer (Reply (message_of 0 1 0x11 0x5 (0 ∷ 0x40000000 ∷ []))) ∷ []
-unfolding watched_value verdict_of events_of endings_shown corrections deeds outbox reply_words base_reply power_reply clock_reply fold_with_prefix
-watched_value-judged = refl
+unfolding notified_value verdict_of events_of endings_shown corrections deeds outbox reply_words base_reply power_reply clock_reply fold_with_prefix
+notified_value-judged = refl
 
 -- an asynchronous set that the record shows as refused, and a set of the same domain by another agent, which is then not BUSY
 withdrawn_set : List Entry
@@ -132,3 +132,34 @@ withdrawn_set =
 withdrawn_set-judged : verdicts_of board_b withdrawn_set ≡ verdict.Answer (Reply (message_of 0 0 0x11 0x4 (0 ∷ []))) ∷ verdict.Same ∷ []
 unfolding withdrawn_set verdict_of events_of endings_shown corrections deeds outbox reply_words base_reply power_reply clock_reply fold_with_prefix
 withdrawn_set-judged = refl
+
+-- a notification waits for agent 1, so its set that the record shows as refused is not withdrawn, and a set of the same domain by agent 2 is BUSY
+waiting_message : List Entry
+waiting_message =
+    exchange 1 0 0x11 0x6 (0 ∷ 1 ∷ []) (0 ∷ []) ∷ exchange 2 0 0x11 0x4 (0 ∷ 0 ∷ 0 ∷ []) (0 ∷ [])
+    ∷ exchange 1 1 0x11 0x4 (1 ∷ 0 ∷ 0x40000000 ∷ []) (0xfffffffd ∷ []) ∷ exchange 2 1 0x11 0x4 (0 ∷ 0 ∷ 0 ∷ []) (0xfffffffa ∷ []) ∷ []
+
+waiting_message-judged : verdicts_of board_b waiting_message
+    ≡ verdict.Same ∷ verdict.Same ∷ verdict.Answer (Reply (message_of 0 1 0x11 0x4 (0 ∷ []))) ∷ verdict.Same ∷ []
+unfolding waiting_message verdict_of events_of endings_shown corrections deeds outbox reply_words base_reply power_reply clock_reply fold_with_prefix
+waiting_message-judged = refl
+
+-- a set of a rate is pending too, so the set of a state that the record shows as refused is not withdrawn, and a set of the same domain by agent 2 is BUSY
+two_pending : List Entry
+two_pending =
+    exchange 1 0 0x14 0x5 (1 ∷ 0 ∷ 200 ∷ 0 ∷ []) (0 ∷ []) ∷ exchange 1 1 0x11 0x4 (1 ∷ 0 ∷ 0 ∷ []) (0xfffffffd ∷ [])
+    ∷ exchange 2 0 0x11 0x4 (0 ∷ 0 ∷ 0 ∷ []) (0xfffffffa ∷ []) ∷ []
+
+two_pending-judged : verdicts_of board_b two_pending ≡ verdict.Same ∷ verdict.Answer (Reply (message_of 0 1 0x11 0x4 (0 ∷ []))) ∷ verdict.Same ∷ []
+unfolding two_pending verdict_of events_of endings_shown corrections deeds outbox reply_words base_reply power_reply clock_reply fold_with_prefix
+two_pending-judged = refl
+
+-- a set of the first domain is pending, so no agent may set the state that is read before it is complete, which is not given, and differs again
+pending_value : List Entry
+pending_value =
+    exchange 1 0 0x11 0x4 (1 ∷ 0 ∷ 0 ∷ []) (0 ∷ []) ∷ exchange 2 0 0x11 0x5 (0 ∷ []) (0 ∷ 0 ∷ []) ∷ exchange 2 1 0x11 0x5 (0 ∷ []) (0 ∷ 0 ∷ []) ∷ []
+
+pending_value-judged : verdicts_of board_b pending_value
+    ≡ verdict.Same ∷ verdict.Answer (Reply (message_of 0 0 0x11 0x5 (0 ∷ 0x40000000 ∷ []))) ∷ verdict.Answer (Reply (message_of 0 1 0x11 0x5 (0 ∷ 0x40000000 ∷ []))) ∷ []
+unfolding pending_value verdict_of events_of endings_shown corrections deeds outbox reply_words base_reply power_reply clock_reply fold_with_prefix
+pending_value-judged = refl

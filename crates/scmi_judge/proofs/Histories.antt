@@ -15,7 +15,7 @@ use Rattle.scmi_core.specs.Legal.{IsLegal}
 use Rattle.scmi_core.specs.Pending.{pending_sets}
 use Rattle.scmi_judge.specs.Correction.{steps_of}
 use Rattle.scmi_judge.specs.Law.{ArePieces, HasHistory, IsPiece, IsSplitBy, first_endings}
-use Rattle.scmi_judge.specs.Record.{IsAnswerTo, IsShown, command_shown, ending_of, endings_of, endings_shown, events_of, shown_to, taking, where_nothing_waits}
+use Rattle.scmi_judge.specs.Record.{IsAnswerTo, IsShown, command_shown, ending_of, endings_of, endings_shown, events_of, shown_to, where_nothing_waits}
 use Rattle.scmi_judge.specs.Verdict.{verdict_of}
 use Rattle.scmi_judge.specs.Whole.{history_from, history_of, verdicts_from, verdicts_of}
 use Rattle.scmi_judge.specs.declared.entry.Entry.{Entry}

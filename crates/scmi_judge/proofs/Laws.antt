@@ -22,7 +22,7 @@ use Rattle.scmi_core.proofs.Legal.{Grown, empty, grow, grown}
 use Rattle.scmi_core.proofs.Laws.{advance, advance_failed, sent_to, answers_empty, answers_failed_other, answers_failed_own, answers_other, answers_own, answers_quiet, delivered_empty, delivered_kept, delivered_other, delivered_sent, empty_is_legal, frames_empty, frames_failed_other, frames_failed_own, frames_other, frames_own, frames_quiet}
 use Rattle.scmi_judge.specs.Law.{IsHistoryOf, answer_shown, frame_shown, message_shown}
 use Rattle.scmi_judge.specs.Correction.{steps_of}
-use Rattle.scmi_judge.specs.Record.{IsAnswerTo, IsShown, command_shown, ending_of, endings_of, endings_shown, events_of, is_failure_of, shown_to, taking, where_nothing_waits}
+use Rattle.scmi_judge.specs.Record.{IsAnswerTo, IsShown, command_shown, ending_of, endings_of, endings_shown, events_of, is_failure_of, shown_to, where_nothing_waits}
 use Rattle.scmi_judge.specs.Whole.{IsRecordOf, history_from, history_of}
 use Rattle.scmi_judge.specs.declared.entry.Entry.{Entry}
 use Rattle.scmi_judge.specs.declared.entry.Entry.TheVariants.{Answered, Delivered}

@@ -1,3 +1,4 @@
+pub mod Agents
 pub mod Alike
 pub mod Changes
 pub mod Corrections
@@ -6,5 +7,4 @@ pub mod Examples
 pub mod Histories
 pub mod Laws
 pub mod Records
-pub mod Setters
 pub mod Verdicts

@@ -1,8 +1,6 @@
 -- All entries of a record are the same if and only if each is what the definitions give.
-use Rattle.std.proofs.Common.{◌≡◌, ◌↔◌, ℕ, suc, ◌<◌, List, [], ◌∷◌, ◌++◌, length, drop, get_or, refl, sym, ap, ◌∙◌, subst, arith}
+use Rattle.std.proofs.Common.{◌≡◌, ◌↔◌, suc, List, [], ◌∷◌, ◌++◌, refl, sym, ap, subst, arith}
 use Rattle.std.specs.List.{All}
-use Rattle.std.proofs.Math.Seq.{drop-cons}
-use Rattle.std.proofs.lemmas.List.{append_assoc}
 use Rattle.std.proofs.lemmas.List.Elements.{All-cons, All-nil}
 use Rattle.scmi_plan.specs.Board.{Board}
 use Rattle.scmi_core.specs.declared.event.Event.{Event}
@@ -46,10 +44,3 @@ all_same board entries verdicts are = (
   },
   λ shown. subst (λ vs. All (λ v. v ≡ Same) vs) (sym are) (same-of board [] entries shown.each),
 )
-
--- one entry of a record after those before it
-pub one-entry : (board : Board) (h : List Event) (vs : List Verdict) (entries : List Entry) (i : ℕ) (e : Entry) → i < length entries → e ≡ get_or entries i e
-    → (vs ++ verdict_of board h e ∷ []) ++ verdicts_from board (h ++ steps_of board h e) (drop (suc i) entries) ≡ vs ++ verdicts_from board h (drop i entries)
-one-entry board h vs entries i e less is =
-    append_assoc vs (verdict_of board h e ∷ []) (verdicts_from board (h ++ steps_of board h e) (drop (suc i) entries))
-    ∙ ap (λ es. vs ++ verdicts_from board h es) (ap (λ x. x ∷ drop (suc i) entries) is ∙ sym (drop-cons entries i e less))

@@ -1,5 +1,6 @@
 -- How a judge goes on after an entry that differs: by events that bring the platform to what the entry shows.
-use Rattle.std.specs.Prelude.{ℕ, zero, suc, ◌==◌, ◌&&◌, ◌||◌, nat_lt, Bool, true, false, if◌then◌else◌, List, [], ◌∷◌, ◌++◌, length, Option, Some, None, Result, Ok}
+use Rattle.std.specs.Prelude.{ℕ, ◌==◌, ◌&&◌, nat_lt, Bool, true, false, if◌then◌else◌, List, [], ◌∷◌, ◌++◌, length, Option, Some, None, Result, Ok}
+use Rattle.std.specs.List.{filter, last_or, list_any, range_with_len}
 use Rattle.std.specs.Option.{option_map}
 use Rattle.scmi_plan.specs.Board.{Board}
 use Rattle.scmi_codec.specs.Command.{command_header, command_of, command_words}
@@ -8,6 +9,7 @@ use Rattle.scmi_codec.specs.declared.clock_command.ClockCommand.TheVariants as c
 use Rattle.scmi_codec.specs.declared.command.Command as codec
 use Rattle.scmi_codec.specs.declared.command.Command.TheVariants.{Power, Clock}
 use Rattle.scmi_codec.specs.declared.message.Message.{Message}
+use Rattle.scmi_codec.specs.declared.frame.Frame.{Frame}
 use Rattle.scmi_codec.specs.declared.frame.Frame.TheVariants.{Good}
 use Rattle.scmi_codec.specs.declared.frame.Answer.{Answer}
 use Rattle.scmi_codec.specs.declared.frame.Answer.TheVariants.{Reply}
@@ -51,36 +53,38 @@ abbrev pub set_shown : Message → Message → Option Message
 set_shown command reply =
     if sets_value (command_of command) then Some command else option_map message_of (value_shown (command_of command) reply.payload.items)
 
--- of the agents up to this one, the last whose frame is to change the hardware after a history
-abbrev pub setter_among : Board → Message → List Event → ℕ → Option ℕ
-setter_among board m h zero = None
-setter_among board m h (suc n) = if is_to_change board (suc n) (Good m) h then Some (suc n) else setter_among board m h n
+-- the agents of a board, in order
+abbrev pub agents_of : Board → List ℕ
+agents_of board = range_with_len 1 (length board.agents)
+
+-- the last agent of the board whose frame is to change the hardware after a history, if there is one
+abbrev pub last_setter : Board → Frame → List Event → Option ℕ
+last_setter board frame h = last_or None (filter (λ a. is_to_change board a frame h) (agents_of board))
 
 -- whether an agent is notified of the changes of a domain of the board
 abbrev pub is_notified : Board → ℕ → ℕ → List Event → Bool
 is_notified board a d h = nat_lt d (length board.domains) && is_subscriber_after board a d h
 
--- whether an agent, of those up to this one, is notified of a domain's changes
-abbrev pub is_watched : Board → ℕ → List Event → ℕ → Bool
-is_watched board d h zero = false
-is_watched board d h (suc n) = is_notified board (suc n) d h || is_watched board d h n
+-- whether some agent of the board is notified of a domain's changes
+abbrev pub has_subscriber : Board → ℕ → List Event → Bool
+has_subscriber board d h = list_any (λ a. is_notified board a d h) (agents_of board)
 
--- whether an agent is notified of an effect
-abbrev pub is_heard : Board → List Event → Option Effect → Bool
-is_heard board h (Some (effect.State d state)) = is_watched board d h (length board.agents)
-is_heard board h _ = false
+-- whether some agent of the board is notified of an effect
+abbrev pub is_notified_of : Board → List Event → Option Effect → Bool
+is_notified_of board h (Some (effect.State d state)) = has_subscriber board d h
+is_notified_of board h _ = false
 
 -- a set by an agent that may, if there is one and no agent is notified of it
 abbrev pub set_by : Board → List Event → Message → Option ℕ → List Event
 set_by board h m None = []
-set_by board h m (Some b) = if is_heard board h (effect_after board h (Command b (Good m))) then [] else Command b (Good m) ∷ []
+set_by board h m (Some b) = if is_notified_of board h (effect_after board h (Command b (Good m))) then [] else Command b (Good m) ∷ []
 
--- what gives the value that is shown, if one is
+-- the set that gives the value that is shown, if one is shown
 abbrev pub value_given : Board → List Event → Option Message → List Event
 value_given board h None = []
-value_given board h (Some m) = set_by board h m (setter_among board m h (length board.agents))
+value_given board h (Some m) = set_by board h m (last_setter board (Good m) h)
 
--- the end of the only pending set, if it is this one of agent a and no message waits for the agent: it failed, and the response to it is taken
+-- the end of the only pending set as failed, and the taking of the response to it, if it is the set of this command of agent a and no message waits for the agent
 abbrev pub set_withdrawn : Board → List Event → ℕ → Message → List PendingSet → List Event
 set_withdrawn board h a m (p ∷ []) =
     if (p.agent == a && is_same_header p.header m.header) && is_agent board a
@@ -94,7 +98,7 @@ reply_corrected board h a m (Reply seen) due =
     else if has_succeeded due then set_withdrawn board h a m (pending_sets board (deeds board h)) else []
 reply_corrected board h a m seen due = []
 
--- what a judge adds after an entry with this verdict, which has added its own events
+-- what a judge adds after an entry with this verdict, once the events of the entry are added
 unfoldable pub corrections : Board → List Event → Entry → Verdict → List Event
 corrections board h (Answered a (Good m) seen) (verdict.Answer due) = reply_corrected board h a m seen due
 corrections board h entry verdict = []

@@ -49,11 +49,11 @@ pub record IsFailed (a : ℕ) (frame : Frame) (answer : Answer) (events : List E
   pub are : events ≡ CommandFailed a frame ∷ []
   pub due : answer ≡ failed_answer frame
 
--- the first of the pending sets end before agent a takes a message, in order, so many
+-- the ends of the first `count` pending sets, in order, before agent a takes a message
 abbrev pub first_endings : Board → ℕ → Message → List Event → ℕ → List Event
 first_endings board a m h count = map (ending_of a m) (take count (pending_sets board (deeds board h)))
 
--- after a history these events are ends of the first pending sets, before each of which no message waited for agent a, and then its taking of the first that waits
+-- after a history these events are the ends of the first pending sets, before each of which no message waited for agent a, and then its taking of the first message that waits
 pub record IsTaken (board : Board) (h : List Event) (a : ℕ) (message : Message) (events : List Event) : Type 0 where
   pub count : ℕ
   pub are : events ≡ first_endings board a message h count ++ Sent a ∷ []
@@ -65,7 +65,7 @@ abbrev pub IsPiece : Board → List Event → Entry → List Event → Type 0
 IsPiece board h (Answered a frame answer) events = IsExecuted board h a frame answer events ⊎ IsFailed a frame answer events
 IsPiece board h (Delivered a message) events = IsTaken board h a message events
 
--- events are a piece that an entry shows after a history, and then others, of which more is said
+-- events begin with a piece that an entry shows after a history, and `Goes` holds of the history with that piece and of the rest
 pub record BeginsWith (board : Board) (h : List Event) (entry : Entry) (events : List Event) (Goes : List Event → List Event → Type 0) : Type 0 where
   pub piece : List Event
   pub rest : List Event

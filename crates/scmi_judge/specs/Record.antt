@@ -28,12 +28,12 @@ IsAnswer (Delivered a message) = ⊥
 abbrev pub is_agent : Board → ℕ → Bool
 is_agent board a = nat_le 1 a && nat_le a (length board.agents)
 
--- these events if no message waits, and else none
+-- these events if no message waits, or else none
 abbrev pub where_nothing_waits : List Message → List Event → List Event
 where_nothing_waits [] events = events
 where_nothing_waits (m ∷ ms) events = []
 
--- whether a message to agent a is the delayed response to a set of it whose change the hardware refused
+-- whether a message to agent a is the delayed response to a set of this agent whose change the hardware refused
 abbrev pub is_failure_of : ℕ → Message → PendingSet → Bool
 is_failure_of a m p = p.agent == a && (p.wanted && is_same_message (failed_response_to p.header) m)
 
@@ -41,13 +41,13 @@ is_failure_of a m p = p.agent == a && (p.wanted && is_same_message (failed_respo
 abbrev pub ending_of : ℕ → Message → PendingSet → Event
 ending_of a m p = if is_failure_of a m p then AdvanceFailed else Advance
 
--- of these pending sets, in order: the ends of those that end before a message waits for agent a, which then takes m
+-- the ends of these pending sets, in order, until a message waits for agent a, which then takes m
 abbrev pub endings_of : Board → ℕ → Message → List PendingSet → List Event → List Event
 endings_of board a m [] h = []
 endings_of board a m (p ∷ ps) h =
     where_nothing_waits (outbox board a h) (ending_of a m p ∷ endings_of board a m ps (h ++ ending_of a m p ∷ []))
 
--- the ends of sets that a message to agent a shows: pending sets end until one waits for it, and no more
+-- the ends of sets that a message to agent a shows: pending sets end until a message waits for the agent, and no more
 unfoldable pub endings_shown : Board → ℕ → Message → List Event → List Event
 endings_shown board a m h = endings_of board a m (pending_sets board (deeds board h)) h
 
@@ -70,7 +70,7 @@ has_succeeded ChannelError = false
 abbrev pub is_to_change : Board → ℕ → Frame → List Event → Bool
 is_to_change board a frame h = is_some (effect_after board h (Command a frame))
 
--- whether an answer shows that a frame of agent a changed nothing, which was to change the hardware: it is no success
+-- whether an answer shows that the hardware refused the change that a frame of agent a was to make: it is no success
 abbrev pub is_refusal : Board → ℕ → Frame → Answer → List Event → Bool
 is_refusal board a frame answer h = not (has_succeeded answer) && is_to_change board a frame h
 

@@ -1,4 +1,4 @@
--- What the definitions say of an entry.
+-- The verdict on an entry.
 use Rattle.std.specs.Prelude.{ℕ, List, [], ◌∷◌, ◌&&◌, if◌then◌else◌}
 use Rattle.scmi_plan.specs.Board.{Board}
 use Rattle.scmi_codec.specs.declared.message.Message.{Message}
@@ -29,7 +29,7 @@ abbrev pub verdict_on_message : List Message → Message → Verdict
 verdict_on_message [] message = verdict.NoMessage
 verdict_on_message (due ∷ later) message = if is_same_message due message then verdict.Same else verdict.Message due
 
--- what is said of an entry after a history
+-- the verdict on an entry after a history
 unfoldable pub verdict_of : Board → List Event → Entry → Verdict
 verdict_of board h (Answered a frame answer) =
     if is_agent board a then verdict_on_answer (due_answer board a frame answer h) answer else verdict.NoAgent

@@ -1,4 +1,4 @@
--- The history that a whole record encodes, and what is said of each entry. Each is judged at its prefix: what the entries before it encode.
+-- The history that a whole record encodes, and the verdict on each entry. Each is judged at its prefix: what the entries before it encode.
 use Rattle.std.specs.Prelude.{◌≡◌, List, [], ◌∷◌, ◌++◌}
 use Rattle.scmi_plan.specs.Board.{Board}
 use Rattle.scmi_core.specs.declared.event.Event.{Event}
@@ -21,11 +21,11 @@ history_of board entries = history_from board [] entries
 pub record IsRecordOf (board : Board) (entries : List Entry) : Type 0 where
   pub each : (before after : List Entry) (entry : Entry) → entries ≡ before ++ entry ∷ after → IsShown board (history_of board before) entry
 
--- what is said of each entry of a record, after a history
+-- the verdicts on the entries of a record, in order, after a history
 abbrev pub verdicts_from : Board → List Event → List Entry → List Verdict
 verdicts_from board h [] = []
 verdicts_from board h (entry ∷ entries) = verdict_of board h entry ∷ verdicts_from board (h ++ steps_of board h entry) entries
 
--- what is said of each entry of a record
+-- the verdicts on the entries of a record, in order
 abbrev pub verdicts_of : Board → List Entry → List Verdict
 verdicts_of board entries = verdicts_from board [] entries

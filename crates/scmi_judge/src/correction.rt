@@ -1,18 +1,17 @@
 //! How a judge goes on after an entry that differs.
-ghost use Rattle.std.specs.Prelude.{◌≡◌, ◌++◌, length, IfSome, OnOk, IfErr, Some};
+ghost use Rattle.std.specs.Prelude.{◌≡◌, ◌≤◌, ◌++◌, length, IfSome, IsOk, OnOk, OnErr, IfErr};
 ghost use Rattle.scmi_plan.specs.Agent.{IsAgent};
 ghost use Rattle.scmi_core.specs.Effect.{effect_after};
-ghost use Rattle.scmi_core.specs.History.{deeds};
+ghost use Rattle.scmi_core.specs.History.{deeds, outbox};
 ghost use Rattle.scmi_core.specs.Legal.{IsLegal};
 ghost use Rattle.scmi_core.specs.Pending.{pending_sets};
-ghost use Rattle.scmi_judge.specs.Correction.{corrections, is_heard, is_notified, is_watched, reply_corrected, set_by, set_withdrawn, setter_among, value_given};
-ghost use Rattle.scmi_judge.specs.Record.{is_to_change};
+ghost use Rattle.scmi_judge.specs.Correction.{corrections, has_subscriber, is_notified, is_notified_of, last_setter, reply_corrected, set_withdrawn, value_given};
+ghost use Rattle.scmi_judge.specs.Record.{taking};
 ghost use Rattle.scmi_core.specs.declared.event.Event.TheVariants.{Command};
-ghost use Rattle.scmi_codec.specs.declared.frame.Frame.TheVariants.{Good};
 
 use crate::endings::has_agent;
 use crate::entry::Entry;
-use crate::refusals::has_succeeded;
+use crate::refusals::{has_succeeded, is_to_change};
 use crate::same::is_same_header;
 use crate::set_shown::set_shown;
 use crate::verdict::Verdict;
@@ -28,6 +27,10 @@ pub(crate) fn correct(core: &mut Core, entry: &Entry, verdict: &Verdict) -> Resu
     ensures legal { IsLegal core.old.board core.old.history
         → IsLegal core.new.board core.new.history }
     ensures errors { IfErr result (λ e. e ≡ CoreError.Memory) }
+    ensures memory { let added
+        = corrections core.old.board core.old.history entry.now verdict.now in
+        length added ≤ 1 → length added ≤ core.old.room → IsOk result }
+    ensures full { OnErr result (core.new.room ≡ 0) }
 {
     match (entry, verdict) {
         (
@@ -56,6 +59,10 @@ fn correct_reply(
     ensures legal { IsLegal core.old.board core.old.history
         → IsLegal core.new.board core.new.history }
     ensures errors { IfErr result (λ e. e ≡ CoreError.Memory) }
+    ensures memory { let added = reply_corrected
+        core.old.board core.old.history agent command.now seen.now due.now in
+        length added ≤ 1 → length added ≤ core.old.room → IsOk result }
+    ensures full { OnErr result (core.new.room ≡ 0) }
 {
     let Answer::Reply(reply) = seen else {
         return Ok(());
@@ -78,15 +85,18 @@ fn give_value(core: &mut Core, set: Option<Message>) -> Result<(), CoreError>
     ensures legal { IsLegal core.old.board core.old.history
         → IsLegal core.new.board core.new.history }
     ensures errors { IfErr result (λ e. e ≡ CoreError.Memory) }
+    ensures memory { length (value_given core.old.board core.old.history set) ≤ core.old.room
+        → IsOk result }
+    ensures full { OnErr result (core.new.room ≡ 0) }
 {
     let Some(set) = set else {
         return Ok(());
     };
     let frame = Frame::Good(set);
-    let Some(agent) = setter_of(core, &frame) else {
+    let Some(agent) = last_setter(core, &frame) else {
         return Ok(());
     };
-    if is_heard(core, agent, &frame) {
+    if is_notified_of(core, agent, &frame) {
         return Ok(());
     }
     core.command(agent, &frame)?;
@@ -94,10 +104,9 @@ fn give_value(core: &mut Core, set: Option<Message>) -> Result<(), CoreError>
 }
 
 /// The last agent whose frame is to change the hardware.
-fn setter_of(core: &Core, frame: &Frame) -> Option<u32>
+fn last_setter(core: &Core, frame: &Frame) -> Option<u32>
     ensures agent { IfSome result (λ agent. IsAgent (length core.now.board.agents) agent) }
-    ensures setter { (m : Message) → frame.now ≡ Good m → result
-        ≡ setter_among core.now.board m core.now.history (length core.now.board.agents) }
+    ensures setter { result ≡ last_setter core.now.board frame.now core.now.history }
 {
     let mut agent = core.agents();
     'agents: while agent > 0 {
@@ -109,33 +118,21 @@ fn setter_of(core: &Core, frame: &Frame) -> Option<u32>
     None
 }
 
-/// Whether a frame of an agent of the board is to change the hardware.
-fn is_to_change(core: &Core, agent: u32, frame: &Frame) -> bool
-    requires { IsAgent (length core.now.board.agents) agent }
-    ensures { result ≡ is_to_change core.now.board agent frame.now core.now.history }
-{
-    match core.effect_of(agent, frame) {
-        Ok(effect) => effect.is_some(),
-        Err(_) => false,
-    }
-}
-
 /// Whether an agent is notified of the effect that a frame of an agent of the board has.
-fn is_heard(core: &Core, agent: u32, frame: &Frame) -> bool
+fn is_notified_of(core: &Core, agent: u32, frame: &Frame) -> bool
     requires { IsAgent (length core.now.board.agents) agent }
-    ensures { result ≡ is_heard core.now.board core.now.history
+    ensures { result ≡ is_notified_of core.now.board core.now.history
         (effect_after core.now.board core.now.history (Command agent frame.now)) }
 {
     match core.effect_of(agent, frame) {
-        Ok(Some(Effect::State { domain, .. })) => is_watched(core, domain),
+        Ok(Some(Effect::State { domain, .. })) => has_subscriber(core, domain),
         _ => false,
     }
 }
 
 /// Whether an agent is notified of a domain's changes.
-fn is_watched(core: &Core, domain: u32) -> bool
-    ensures { result ≡ is_watched core.now.board domain core.now.history
-        (length core.now.board.agents) }
+fn has_subscriber(core: &Core, domain: u32) -> bool
+    ensures { result ≡ has_subscriber core.now.board domain core.now.history }
 {
     let mut agent = core.agents();
     'agents: while agent > 0 {
@@ -168,6 +165,10 @@ fn withdraw(core: &mut Core, agent: u32, command: &Message) -> Result<(), CoreEr
     ensures legal { IsLegal core.old.board core.old.history
         → IsLegal core.new.board core.new.history }
     ensures errors { IfErr result (λ e. e ≡ CoreError.Memory) }
+    ensures memory { let added = set_withdrawn core.old.board core.old.history agent command.now
+        (pending_sets core.old.board (deeds core.old.board core.old.history)) in
+        length added ≤ 1 → length added ≤ core.old.room → IsOk result }
+    ensures full { OnErr result (core.new.room ≡ 0) }
 {
     let [set] = core.pending_sets() else {
         return Ok(());
@@ -182,8 +183,25 @@ fn withdraw(core: &mut Core, agent: u32, command: &Message) -> Result<(), CoreEr
         return Ok(());
     }
     core.advance_failed()?;
-    if core.first(agent).is_some() {
-        core.sent(agent)?;
+    take_first(core, agent)
+}
+
+/// Takes the first message that waits for an agent of the board, if one waits.
+fn take_first(core: &mut Core, agent: u32) -> Result<(), CoreError>
+    requires { IsAgent (length core.old.board.agents) agent }
+    ensures event { OnOk result (core.new.history ≡ core.old.history
+        ++ taking agent (outbox core.old.board agent core.old.history)) }
+    ensures board { core.new.board ≡ core.old.board }
+    ensures legal { IsLegal core.old.board core.old.history
+        → IsLegal core.new.board core.new.history }
+    ensures errors { IfErr result (λ e. e ≡ CoreError.Memory) }
+    ensures memory { length (taking agent (outbox core.old.board agent core.old.history))
+        ≤ core.old.room → IsOk result }
+    ensures full { OnErr result (core.new.room ≡ 0) }
+{
+    if core.first(agent).is_none() {
+        return Ok(());
     }
+    core.sent(agent)?;
     Ok(())
 }

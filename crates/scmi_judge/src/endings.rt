@@ -8,8 +8,8 @@ ghost use Rattle.scmi_core.specs.declared.pending_set.PendingSet.{PendingSet};
 ghost use Rattle.scmi_judge.specs.Record.{ending_of, endings_shown, is_agent, is_failure_of, shown_to};
 
 use crate::same::is_same_message;
-use scmi_codec::{DELAYED_RESPONSE, Header, Message, Status, payload_of};
-use scmi_core::{Core, CoreError, PendingSet};
+use scmi_codec::Message;
+use scmi_core::{Core, CoreError, PendingSet, failed_response};
 
 /// Whether the board of a controller has an agent of this number.
 pub(crate) fn has_agent(core: &Core, agent: u32) -> bool
@@ -71,15 +71,6 @@ fn end_first(core: &mut Core, agent: u32, message: &Message) -> Result<bool, Cor
 fn is_failure_of(agent: u32, message: &Message, set: &PendingSet) -> bool
     ensures { result ≡ is_failure_of agent message.now set.now }
 {
-    let failed = Message {
-        header: Header {
-            reserved: 0,
-            token: set.header.token,
-            protocol: set.header.protocol,
-            kind: DELAYED_RESPONSE,
-            id: set.header.id,
-        },
-        payload: payload_of(&[Status::HardwareError.word()]),
-    };
+    let failed = failed_response(set.header);
     set.agent == agent && set.wanted && is_same_message(&failed, message)
 }

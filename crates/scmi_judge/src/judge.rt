@@ -88,14 +88,19 @@ impl Judge {
     /// reply of success shows, where another answer was due, is given to its domain or clock by an
     /// agent that may set it; if none may, or if an agent is notified of the domain's changes,
     /// nothing is done. A pending set that the record shows as refused is withdrawn, if it is the
-    /// only one and no message waits for its agent. `Memory` is the only refusal; then the judge is
-    /// of no further use.
+    /// only one and no message waits for its agent. `Memory` is the only refusal, and comes only
+    /// once there is no room: not if at most one event is added, and there is room for it. Then the
+    /// judge is of no further use.
     pub fn correct(&mut self, entry: &Entry, verdict: &Verdict) -> Result<(), CoreError>
         ensures event { OnOk result (self.new.history ≡ self.old.history
             ++ corrections self.old.board self.old.history entry.now verdict.now) }
         ensures board { self.new.board ≡ self.old.board }
         ensures legal { IsLegal self.new.board self.new.history }
         ensures errors { IfErr result (λ e. e ≡ CoreError.Memory) }
+        ensures memory { let added = corrections self.old.board self.old.history entry.now
+            verdict.now in
+            length added ≤ 1 → length added ≤ self.old.room → IsOk result }
+        ensures full { OnErr result (self.new.room ≡ 0) }
     {
         correction::correct(&mut self.core, entry, verdict)
     }

@@ -12,7 +12,7 @@ use scmi_codec::{Answer, Frame, Message};
 use scmi_core::{Core, CoreError};
 
 /// Judges the answer that a record shows to a command, and executes the command, unless the answer
-/// shows that it changed nothing of the hardware, which it was to change.
+/// shows that the hardware refused the change that it was to make.
 pub(crate) fn judge_answer(
     core: &mut Core,
     agent: u32,

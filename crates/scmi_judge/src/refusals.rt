@@ -2,7 +2,7 @@
 ghost use Rattle.std.specs.Prelude.{◌≡◌, ◌<◌, ◌++◌, length, true, IsOk, IfOk, OnOk, OnErr, IfErr};
 ghost use Rattle.scmi_plan.specs.Agent.{IsAgent};
 ghost use Rattle.scmi_core.specs.Legal.{IsLegal};
-ghost use Rattle.scmi_judge.specs.Record.{events_of, has_succeeded, is_refusal};
+ghost use Rattle.scmi_judge.specs.Record.{events_of, has_succeeded, is_refusal, is_to_change};
 ghost use Rattle.scmi_judge.specs.Verdict.{verdict_of};
 ghost use Rattle.scmi_judge.specs.declared.entry.Entry.TheVariants.{Answered};
 
@@ -12,14 +12,19 @@ use scmi_codec::{Answer, Frame, Message, SUCCESS, is_success, payload_of};
 use scmi_core::{Core, CoreError};
 
 /// Whether the answer that a record shows to a command of an agent of the board shows that the
-/// command changed nothing, which was to change the hardware.
+/// hardware refused the change that the command was to make.
 pub(crate) fn is_refusal(core: &Core, agent: u32, frame: &Frame, answer: &Answer) -> bool
     requires { IsAgent (length core.now.board.agents) agent }
     ensures { result ≡ is_refusal core.now.board agent frame.now answer.now core.now.history }
 {
-    if has_succeeded(answer) {
-        return false;
-    }
+    !has_succeeded(answer) && is_to_change(core, agent, frame)
+}
+
+/// Whether a frame of an agent of the board is to change the hardware.
+pub(crate) fn is_to_change(core: &Core, agent: u32, frame: &Frame) -> bool
+    requires { IsAgent (length core.now.board.agents) agent }
+    ensures { result ≡ is_to_change core.now.board agent frame.now core.now.history }
+{
     match core.effect_of(agent, frame) {
         Ok(effect) => effect.is_some(),
         Err(_) => false,

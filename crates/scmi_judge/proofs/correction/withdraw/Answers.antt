@@ -1,16 +1,16 @@
-use Rattle.std.proofs.Common.{◌≡◌, ◌==◌, ◌&&◌, ◌∷◌, ◌++◌, [], true, rules, sym, ap, ◌∙◌, arith, length, slice_get, None, Some}
+use Rattle.std.proofs.Common.{◌≡◌, ◌==◌, ◌&&◌, ◌∷◌, ◌++◌, [], true, rules, sym, ◌∙◌, arith, length, slice_get, None, Some}
 use Rattle.std.proofs.lemmas.Grind.{common_steps}
 use Rattle.scmi_core.specs.History.{deeds, outbox}
 use Rattle.scmi_core.specs.Pending.{pending_sets}
-use Rattle.scmi_core.specs.declared.event.Event.TheVariants.{AdvanceFailed, Sent}
+use Rattle.scmi_core.specs.declared.event.Event.TheVariants.{AdvanceFailed}
 use Rattle.scmi_judge.specs.Record.{is_agent}
 use Rattle.scmi_judge.specs.Same.{is_same_header}
-use Rattle.scmi_judge.proofs.Corrections.{withdrawn-taken}
-use Rattle.scmi_judge.proofs.Ending.{none-is, only-one, some-is}
+use Rattle.scmi_judge.proofs.Corrections.{on-ok, withdrawn, withdrawn-taken}
+use Rattle.scmi_judge.proofs.Ending.{none-is, only-one}
 use Rattle.scmi_judge.proofs.correction.withdraw.Goals as goal
 
-pub returns-in_ok-sent-clause-event : goal.returns-in_ok-sent-clause-event
-returns-in_ok-sent-clause-event c =
+pub returns-clause-event : goal.returns-clause-event
+returns-clause-event c =
     let board = c.args.core.now.board in
     let h = c.args.core.now.history in
     let a = c.args.agent in
@@ -20,8 +20,6 @@ returns-in_ok-sent-clause-event c =
     let one = only-one (pending_sets board (deeds board h)) set count at in
     let is : ((set.agent == a && is_same_header set.header c.args.command.now.header) && is_agent board a) ≡ true = search rules in
     let none : slice_get (outbox board a h) 0 ≡ None = sym c.first.ensures ∙ none-is c.first.result (search rules) in
-    let some = some-is c.first-2.result (search rules) in
     let event : c.advance_failed.new.self.history ≡ h ++ AdvanceFailed ∷ [] = search rules in
     let same : c.advance_failed.new.self.board ≡ board = search rules in
-    let first : slice_get (outbox board a (h ++ AdvanceFailed ∷ [])) 0 ≡ Some some.0 = rw (sym same, sym event) (sym c.first-2.ensures ∙ some.1) in
-    c.in_ok-sent.ensures.event ∙ ap (λ k. k ++ Sent a ∷ []) event ∙ withdrawn-taken board h a c.args.command.now some.0 set one is none first
+    on-ok c.take_first.result _ _ (λ taken. taken ∙ rw (same, event) (withdrawn-taken board h a c.args.command.now set one is none)) c.take_first.ensures.event

@@ -1,13 +1,13 @@
-use Rattle.std.proofs.Common.{◌≡◌, ◌<◌, true, false, rules, ◌∙◌, arith}
+use Rattle.std.proofs.Common.{◌≡◌, ◌<◌, true, false, rules, sym, ◌∙◌, arith}
 use Rattle.scmi_judge.specs.Record.{is_to_change}
-use Rattle.scmi_judge.proofs.Setters.{setter-below, setter-here}
-use Rattle.scmi_judge.proofs.correction.setter_of.Goals as goal
+use Rattle.scmi_judge.proofs.Agents.{last-below, last-here}
+use Rattle.scmi_judge.proofs.correction.last_setter.Goals as goal
 
 pub returns-then-is_to_change-clause-setter : goal.returns-then-is_to_change-clause-setter
-returns-then-is_to_change-clause-setter c = λ m frame.
+returns-then-is_to_change-clause-setter c =
     let some : 0 < c.agents.agent = search rules in
     let is : is_to_change c.args.core.now.board c.agents.agent c.args.frame.now c.args.core.now.history ≡ true = search rules in
-    setter-here c.args.core.now.board c.args.frame.now m c.args.core.now.history c.agents.agent frame some is ∙ c.agents.invariant.rest m frame
+    sym (last-here (λ a. is_to_change c.args.core.now.board a c.args.frame.now c.args.core.now.history) c.agents.agent some is) ∙ c.agents.invariant.rest
 
 pub agents-preserved : goal.agents-preserved
 agents-preserved c =
@@ -16,5 +16,5 @@ agents-preserved c =
     let within = c.agents.invariant.within in
     record {
       within = omega (arith, within);
-      rest = λ m frame. setter-below c.args.core.now.board c.args.frame.now m c.args.core.now.history c.agents.agent frame some isnt ∙ c.agents.invariant.rest m frame;
+      rest = last-below (λ a. is_to_change c.args.core.now.board a c.args.frame.now c.args.core.now.history) c.agents.agent some isnt ∙ c.agents.invariant.rest;
     }
