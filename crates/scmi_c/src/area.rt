@@ -1,5 +1,5 @@
 //! Areas that a platform answers and fills.
-ghost use Rattle.std.specs.Prelude.{◌≡◌, ◌≢◌, ◌↔◌, Some, None, List, IsSomeAnd, IfOk, OnOk, OnErr, Ok, Err};
+ghost use Rattle.std.specs.Prelude.{◌≡◌, ◌≢◌, ◌↔◌, Some, None, List, IsSomeAnd, IfOk, IfErr, OnOk, OnErr, Ok, Err, ◌⊎◌};
 ghost use Rattle.scmi_codec.specs.Area.{area_after_answer, frame_waiting, header_at, message_of};
 ghost use Rattle.scmi_codec.specs.declared.frame.Answer.TheVariants as frame_answer;
 ghost use Rattle.scmi_core.specs.Effect.{effect_after};
@@ -43,9 +43,58 @@ pub fn answer(
     let Ok(true) = read_area_into(area, &mut exchange.frame) else {
         return Err(Refusal::Nothing);
     };
+    // The answer of a platform without a history is here, and nothing of it is a call of this crate's.
+    if held.is_recorded() {
+        return execute_apart(held, exchange, agent, area);
+    }
+    execute(held, exchange, agent, area)
+}
+
+/// Executes the frame that was read from an agent's area, and writes the answer over it. `NoAgent`
+/// if the board lacks the agent, and `Memory` if the history could not grow; then nothing changed.
+#[inline(always)]
+fn execute(
+    held: &mut Held,
+    exchange: &mut Exchange,
+    agent: u32,
+    area: &mut [u8; AREA_BYTES],
+) -> Result<(), Refusal>
+    requires waits { frame_waiting area.old ≡ Some exchange.old.frame }
+    ensures answered { OnOk result
+        (HasAnswered held.old held.new agent exchange.old.frame area.old area.new) }
+    ensures no_agent { (result ≡ Err Refusal.NoAgent) ↔ LacksAgent agent held.old }
+    ensures memory { result ≡ Err Refusal.Memory → HasNoRoom held.old }
+    ensures errors { IfErr result (λ e. (e ≡ Refusal.NoAgent) ⊎ (e ≡ Refusal.Memory)) }
+    ensures frame { exchange.new.frame ≡ exchange.old.frame }
+    ensures err { OnErr result (held.new ≡ held.old) }
+    ensures kept { OnErr result (area.new ≡ area.old) }
+{
+    // Once this is known, what `command` gives for other numbers is no longer in the way.
+    held.check_agent(agent)?;
     let answered = held.command(agent, &exchange.frame, &mut exchange.reply)?;
     put_answer(area, answered, &exchange.reply.payload);
     Ok(())
+}
+
+/// As `execute`, for callers that need not be fast: they share its code.
+#[inline(never)]
+fn execute_apart(
+    held: &mut Held,
+    exchange: &mut Exchange,
+    agent: u32,
+    area: &mut [u8; AREA_BYTES],
+) -> Result<(), Refusal>
+    requires waits { frame_waiting area.old ≡ Some exchange.old.frame }
+    ensures answered { OnOk result
+        (HasAnswered held.old held.new agent exchange.old.frame area.old area.new) }
+    ensures no_agent { (result ≡ Err Refusal.NoAgent) ↔ LacksAgent agent held.old }
+    ensures memory { result ≡ Err Refusal.Memory → HasNoRoom held.old }
+    ensures errors { IfErr result (λ e. (e ≡ Refusal.NoAgent) ⊎ (e ≡ Refusal.Memory)) }
+    ensures frame { exchange.new.frame ≡ exchange.old.frame }
+    ensures err { OnErr result (held.new ≡ held.old) }
+    ensures kept { OnErr result (area.new ≡ area.old) }
+{
+    execute(held, exchange, agent, area)
 }
 
 /// Writes the answer to a frame over it: the reply's header is the frame's, which is in the area.
@@ -93,8 +142,7 @@ pub fn ask(
     };
     let effect = held.ask(agent, &exchange.frame)?;
     if effect.is_none() {
-        let answered = held.command(agent, &exchange.frame, &mut exchange.reply)?;
-        put_answer(area, answered, &exchange.reply.payload);
+        execute_apart(held, exchange, agent, area)?;
     }
     Ok(effect)
 }

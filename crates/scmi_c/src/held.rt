@@ -9,7 +9,7 @@ ghost use Rattle.scmi_core.specs.declared.event.Event.TheVariants.{Command as Ca
 ghost use Rattle.scmi_codec.specs.declared.frame.Answer.TheVariants.{Reply};
 ghost use Rattle.scmi_core.specs.Effect.{effect_after};
 ghost use Rattle.scmi_core.specs.Reply.{failed_answer};
-ghost use Rattle.scmi_c.specs.Standing.{board_of, StandsAt, StandsAsBefore, HasNoRoom, HasRoom};
+ghost use Rattle.scmi_c.specs.Standing.{board_of, StandsAt, StandsAsBefore, HasNoRoom, HasRoom, IsRecorded};
 ghost use Rattle.scmi_c.specs.Calls.{HasHappened, ChangesNothing};
 
 use crate::unrecorded::Unrecorded;
@@ -28,6 +28,7 @@ pub enum Held {
 impl Held {
     /// Executes what an agent posted, and writes the reply into its place. `NoAgent` if the board
     /// lacks the agent, and `Memory` if the history could not grow; then nothing changed.
+    #[inline(always)]
     pub fn command(
         &mut self,
         agent: u32,
@@ -86,13 +87,24 @@ impl Held {
         })
     }
 
+    /// Whether it keeps its history.
+    pub fn is_recorded(&self) -> bool
+        ensures { (result ≡ true) ↔ IsRecorded self.now }
+    {
+        match self {
+            Held::Endless(_) => false,
+            Held::Recorded(_) => true,
+        }
+    }
+
     /// Refuses a number that is no agent's.
-    fn check_agent(&self, agent: u32) -> Result<(), CoreError>
+    pub fn check_agent(&self, agent: u32) -> Result<(), CoreError>
         ensures ok { OnOk result (IsAgent (length (board_of self.now).agents) agent) }
         ensures no_agent { OnErr result (IsNoAgent (length (board_of self.now).agents) agent) }
         ensures errors { IfErr result (λ e. e ≡ CoreError.NoAgent) }
     {
-        if agent == 0 || agent > self.agents() {
+        let agents = self.agents();
+        if agent == 0 || agent > agents {
             Err(CoreError::NoAgent)
         } else {
             Ok(())

@@ -50,6 +50,7 @@ pub fn read_area(area: &[u8]) -> Result<Option<Frame>, AreaError>
 
 /// Reads the frame that a caller has posted, as `read_area`, into `frame`, and returns whether
 /// there is one. Only the words that are there are written.
+#[inline(always)]
 pub fn read_area_into(area: &[u8], frame: &mut Frame) -> Result<bool, AreaError>
     ensures ok { length area.now ≡ AREA_BYTES → result ≡ Ok (is_some (frame_waiting area.now)) }
     ensures frame { result ≡ Ok true → frame_waiting area.now ≡ Some frame.new }

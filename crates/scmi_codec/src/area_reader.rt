@@ -1,5 +1,5 @@
 //! Reading what is in an area, whatever its size.
-ghost use Rattle.std.specs.Prelude.{◌≡◌, ◌==◌, ◌%◌, ◌+◌, ◌*◌, ◌≤◌, length};
+ghost use Rattle.std.specs.Prelude.{◌≡◌, ◌≢◌, ◌==◌, ◌/◌, ◌%◌, ◌+◌, ◌-◌, ◌*◌, ◌<◌, ◌≤◌, length};
 ghost use Rattle.scmi_codec.specs.Header.{header_of};
 ghost use Rattle.scmi_codec.specs.Word.{words_at};
 ghost use Rattle.scmi_codec.specs.Area.{frame_within, message_of, status_at, is_well_formed_within};
@@ -21,7 +21,19 @@ pub(crate) fn is_well_formed_within(length: u32, words: usize) -> bool
     requires few { words ≤ PAYLOAD_WORDS }
     ensures { result ≡ is_well_formed_within words length }
 {
-    length >= 4 && length <= 4 + 4 * words as u32 && length % 4 == 0
+    payload_words(length) <= words as u32
+}
+
+/// How many payload words a length in bytes leaves, of header and payload; more than any payload
+/// has, if the length is not well formed.
+fn payload_words(length: u32) -> u32
+    ensures whole { 4 ≤ length → length % 4 ≡ 0 → result ≡ (length - 4) / 4 }
+    ensures broken { length % 4 ≢ 0 → PAYLOAD_WORDS < result }
+    ensures less { length < 4 → PAYLOAD_WORDS < result }
+{
+    let bytes = length.wrapping_sub(4);
+    // A rotation by two bits: what is no whole word comes to the top.
+    bytes / 4 + bytes % 4 * 0x4000_0000
 }
 
 /// The channel status word of an area.
@@ -43,6 +55,7 @@ pub(crate) fn is_marked_free(area: &[u8]) -> bool
 
 /// Reads the frame that is in an area of this many payload words, whatever its status word, into
 /// `frame`.
+#[inline(always)]
 pub(crate) fn read_frame(area: &[u8], words: usize, frame: &mut Frame)
     requires few { words ≤ PAYLOAD_WORDS }
     requires room { 0x1C + 4 * words ≤ length area.now }
@@ -54,7 +67,7 @@ pub(crate) fn read_frame(area: &[u8], words: usize, frame: &mut Frame)
         frame.set_malformed(length, header);
         return;
     }
-    let count = ((length - 4) / 4) as usize;
+    let count = payload_words(length) as usize;
     match frame {
         Frame::Good(message) => read_message(area, header, count, message),
         Frame::Malformed { .. } => read_anew(area, header, count, frame),

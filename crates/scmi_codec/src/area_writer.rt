@@ -85,15 +85,18 @@ fn write_parts(area: &mut [u8], header: u32, words: &[u32], status: u32)
     write_word(area, STATUS_AT, status);
 }
 
-/// Writes the payload words. Most replies have one to three, which take no loop.
+/// Writes the payload words. Most replies have one to three, which take no loop; one word, which
+/// a command that sets a value is answered with, takes no table of jumps.
 fn write_payload(area: &mut [u8], words: &[u32])
     requires room { 0x1C + 4 * length words.now ≤ length area.old }
     ensures written { area.new ≡ put_words 0x1C words.now area.old }
     ensures words { AllByRecursion (λ w. w < 2 ^ 32) words.now }
 {
+    if words.len() < 2 {
+        write_short(area, words);
+        return;
+    }
     match words.len() {
-        0 => {}
-        1 => write_word(area, PAYLOAD_AT, words[0]),
         2 => {
             write_word(area, PAYLOAD_AT, words[0]);
             write_word(area, PAYLOAD_AT + 4, words[1]);
@@ -104,6 +107,19 @@ fn write_payload(area: &mut [u8], words: &[u32])
             write_word(area, PAYLOAD_AT + 8, words[2]);
         }
         _ => write_words(area, words),
+    }
+}
+
+/// Writes one payload word, or none.
+fn write_short(area: &mut [u8], words: &[u32])
+    requires few { length words.now ≤ 1 }
+    requires room { 0x1C + 4 * length words.now ≤ length area.old }
+    ensures written { area.new ≡ put_words 0x1C words.now area.old }
+    ensures words { AllByRecursion (λ w. w < 2 ^ 32) words.now }
+{
+    match words.len() {
+        1 => write_word(area, PAYLOAD_AT, words[0]),
+        _ => {}
     }
 }
 

@@ -1,15 +1,9 @@
-use Rattle.scmi_codec.proofs.ShortLemmas.{write-none, write-one, write-two, write-three}
+use Rattle.scmi_codec.proofs.ShortLemmas.{write-two, write-three}
 use Rattle.scmi_codec.proofs.area_writer.write_payload.Goals as goal
-
-pub returns-in-0-clause-written : goal.returns-in-0-clause-written
-returns-in-0-clause-written c = write-none c.args.words.now c.args.area.now c.in-0.is
-
-pub returns-in-1-clause-written : goal.returns-in-1-clause-written
-returns-in-1-clause-written c = rw c.write_word.ensures (write-one c.args.words.now c.args.area.now c.in-1.is)
 
 pub returns-in-2-clause-written : goal.returns-in-2-clause-written
 returns-in-2-clause-written c =
-    rw (c.write_word-in-2-2.ensures, c.write_word-in-2.ensures) (write-two c.args.words.now c.args.area.now c.in-2.is)
+    rw (c.write_word-in-2.ensures, c.write_word.ensures) (write-two c.args.words.now c.args.area.now c.in-2.is)
 
 pub returns-in-3-clause-written : goal.returns-in-3-clause-written
 returns-in-3-clause-written c =
