@@ -37,6 +37,8 @@ pub(crate) fn clock_holders(devices: &[Device]) -> [u32; CLOCKS]
 }
 
 /// The devices that hold a domain or clock.
+// Its callers' loops would repeat it.
+#[inline(never)]
 fn holders_of(devices: &[Device], resource: Resource) -> u32
     requires few { length devices.now ≤ DEVICES }
     requires possible { IsPossible resource }
