@@ -62,6 +62,27 @@ pub(crate) fn read_frame(area: &[u8], words: usize, frame: &mut Frame)
     ensures { frame.new ≡ frame_within words area.now }
 {
     let length = read_word(area, LENGTH_AT);
+    let count = payload_words(length) as usize;
+    if let Frame::Good(message) = frame {
+        // Most commands have few words, and as many as the one before.
+        if count <= 4 && is_well_formed_within(length, words) && message.payload.len() == count {
+            message.header = Header::unpack(read_word(area, HEADER_AT));
+            read_words(area, message.payload.as_mut_slice());
+            return;
+        }
+    }
+    read_any(area, words, frame);
+}
+
+/// As `read_frame`, whatever the number of words. It is one call, so that what it needs is not among
+/// the locals of its callers.
+#[inline(never)]
+fn read_any(area: &[u8], words: usize, frame: &mut Frame)
+    requires few { words ≤ PAYLOAD_WORDS }
+    requires room { 0x1C + 4 * words ≤ length area.now }
+    ensures { frame.new ≡ frame_within words area.now }
+{
+    let length = read_word(area, LENGTH_AT);
     let header = read_word(area, HEADER_AT);
     if !is_well_formed_within(length, words) {
         frame.set_malformed(length, header);
@@ -75,7 +96,6 @@ pub(crate) fn read_frame(area: &[u8], words: usize, frame: &mut Frame)
 }
 
 /// Reads a message as `read_message` into a frame that holds no message.
-#[inline(never)]
 fn read_anew(area: &[u8], header: u32, count: usize, frame: &mut Frame)
     requires few { count ≤ PAYLOAD_WORDS }
     requires room { 0x1C + 4 * count ≤ length area.now }
