@@ -1,5 +1,6 @@
 pub mod Backward
 pub mod Figures
+pub mod Rows
 pub mod Readable
 pub mod SameText
 pub mod TextExamples

@@ -7,6 +7,7 @@ pub mod LinePart
 pub mod Lists
 pub mod Literal
 pub mod Names
+pub mod Parts
 pub mod Replies
 pub mod Text
 pub mod Value

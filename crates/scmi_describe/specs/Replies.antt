@@ -1,13 +1,14 @@
 -- Replies, delayed responses and notifications: their forms and their fields.
 use Rattle.std.specs.Prelude.{ℕ, ◌+◌, ◌*◌, ◌/◌, ◌%◌, ◌^◌, ◌==◌, ◌&&◌, nat_lt, Bool, true, false, if◌then◌else◌, List, [], ◌∷◌, length, slice_index, Option, Some, None, option_and_then, Result, Ok, Err}
+use Rattle.std.specs.List.{list_any}
 use Rattle.arrayvec.specs.ArrayVec.{ArrayVec}
 use Rattle.scmi_codec.specs.Header.{HeaderFields}
-use Rattle.scmi_codec.specs.Rate.{rate_of}
-use Rattle.scmi_codec.specs.Row.{from_table}
+use Rattle.scmi_codec.specs.Listing.{Said, listed_row, words_of}
 use Rattle.scmi_codec.specs.Status.{status_of}
 use Rattle.scmi_codec.specs.declared.message.Message.{Message}
 use Rattle.scmi_codec.specs.declared.status.Status.{Status}
-use Rattle.scmi_codec.specs.declared.status.Status.TheVariants.{Success, NotSupported}
+use Rattle.scmi_codec.specs.declared.status.Status.TheVariants.{Success, NotSupported, ProtocolError}
+use Rattle.scmi_describe.specs.Parts.{describes_agent, fields_by, is_list}
 use Rattle.scmi_describe.specs.declared.field.Field.{Field}
 use Rattle.scmi_describe.specs.declared.field.Field.TheVariants as field
 
@@ -15,52 +16,17 @@ use Rattle.scmi_describe.specs.declared.field.Field.TheVariants as field
 abbrev pub FieldList : Type 0
 FieldList = ArrayVec Field
 
--- the name in the four words from a place on
-abbrev pub name_at : ℕ → List ℕ → Field
-name_at k w = field.Name (slice_index w k ∷ slice_index w (k + 1) ∷ slice_index w (k + 2) ∷ slice_index w (k + 3) ∷ [])
-
--- the replies of the base protocol but its list: message id, number of words behind the status, and the fields
-abbrev pub base_fields : ℕ → List ℕ → Result FieldList Status
-base_fields id words = from_table
-    ((0x0, 1, λ w. record { items = field.Version (slice_index w 0) ∷ [] })
-    ∷ (0x1, 1, λ w. record { items = field.Counts (slice_index w 0) ∷ [] })
-    ∷ (0x2, 1, λ w. record { items = field.Attributes (slice_index w 0) ∷ [] })
-    ∷ (0x3, 4, λ w. record { items = name_at 0 w ∷ [] })
-    ∷ (0x4, 4, λ w. record { items = name_at 0 w ∷ [] })
-    ∷ (0x5, 1, λ w. record { items = field.Implementation (slice_index w 0) ∷ [] })
-    ∷ (0x7, 5, λ w. record { items = field.Agent (slice_index w 0) ∷ name_at 1 w ∷ [] })
-    ∷ (0x9, 0, λ w. record { items = [] }) ∷ (0xA, 0, λ w. record { items = [] }) ∷ (0xB, 0, λ w. record { items = [] })
-    ∷ []) id words
-
--- the replies of the power domain protocol
-abbrev pub power_fields : ℕ → List ℕ → Result FieldList Status
-power_fields id words = from_table
-    ((0x0, 1, λ w. record { items = field.Version (slice_index w 0) ∷ [] })
-    ∷ (0x1, 4, λ w. record { items = field.Domains (slice_index w 0) ∷ field.Statistics (slice_index w 1 ∷ slice_index w 2 ∷ slice_index w 3 ∷ []) ∷ [] })
-    ∷ (0x2, 1, λ w. record { items = field.Attributes (slice_index w 0) ∷ [] })
-    ∷ (0x3, 5, λ w. record { items = field.DomainAttributes (slice_index w 0) ∷ name_at 1 w ∷ [] })
-    ∷ (0x4, 0, λ w. record { items = [] })
-    ∷ (0x5, 1, λ w. record { items = field.State (slice_index w 0) ∷ [] })
-    ∷ (0x6, 0, λ w. record { items = [] })
-    ∷ []) id words
-
--- the replies of the clock protocol but its list
-abbrev pub clock_fields : ℕ → List ℕ → Result FieldList Status
-clock_fields id words = from_table
-    ((0x0, 1, λ w. record { items = field.Version (slice_index w 0) ∷ [] })
-    ∷ (0x1, 1, λ w. record { items = field.Clocks (slice_index w 0) ∷ [] })
-    ∷ (0x2, 1, λ w. record { items = field.Attributes (slice_index w 0) ∷ [] })
-    ∷ (0x3, 5, λ w. record { items = field.ClockAttributes (slice_index w 0) ∷ name_at 1 w ∷ [] })
-    ∷ (0x5, 0, λ w. record { items = [] })
-    ∷ (0x6, 2, λ w. record { items = field.Rate (rate_of (slice_index w 0) (slice_index w 1)) ∷ [] })
-    ∷ (0x7, 0, λ w. record { items = [] })
-    ∷ []) id words
+-- the fields of a reply's words after its status by the row of its message: NOT_SUPPORTED if there is none or it gives a list, PROTOCOL_ERROR for another number of words
+abbrev pub given_fields : Option Said → List ℕ → Result FieldList Status
+given_fields None words = Err NotSupported
+given_fields (Some row) words =
+    if list_any is_list row.gives then Err NotSupported
+    else if length words == words_of row.gives then Ok (record { items = fields_by (describes_agent row) row.gives words })
+    else Err ProtocolError
 
 -- the fields of a successful reply after its status, by protocol and message id
 abbrev pub reply_fields : ℕ → ℕ → List ℕ → Result FieldList Status
-reply_fields protocol id words =
-    if protocol == 0x10 then base_fields id words else if protocol == 0x11 then power_fields id words
-    else if protocol == 0x14 then clock_fields id words else Err NotSupported
+reply_fields protocol id words = given_fields (listed_row protocol id) words
 
 -- a number, and this many ids of protocols, four to a word
 abbrev pub has_protocols : List ℕ → Bool
@@ -98,13 +64,15 @@ payload_status h (word ∷ words) = option_and_then (λ s. if may_follow h s wor
 abbrev pub response_status : Message → Option Status
 response_status m = payload_status m.header m.payload.items
 
+-- the fields of a delayed response's words by the row of its message; none if it has another number of words
+abbrev pub later_fields : Option Said → List ℕ → List Field
+later_fields (Some row) (status ∷ words) =
+    if length words == words_of row.later then fields_by (describes_agent row) row.later words else []
+later_fields _ _ = []
+
 -- the fields of a delayed response after its status
 abbrev pub delayed_fields : Message → List Field
-delayed_fields m =
-    let w = m.payload.items in
-    if (m.header.protocol == 0x11) && (m.header.id == 4) && (length w == 3) then field.Domain (slice_index w 1) ∷ field.State (slice_index w 2) ∷ []
-    else if (m.header.protocol == 0x14) && (m.header.id == 5) && (length w == 4) then field.Clock (slice_index w 1) ∷ field.Rate (rate_of (slice_index w 2) (slice_index w 3)) ∷ []
-    else []
+delayed_fields m = later_fields (listed_row m.header.protocol m.header.id) m.payload.items
 
 -- the fields of a notification
 abbrev pub notification_fields : Message → List Field

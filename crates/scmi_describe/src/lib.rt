@@ -32,6 +32,7 @@ mod lists;
 mod literal;
 mod name_text;
 mod names;
+mod parts;
 mod reply;
 mod reply_text;
 mod text;

@@ -1,9 +1,10 @@
 //! Replies, delayed responses and notifications: their forms and their fields.
 ghost use Rattle.std.specs.Prelude.{◌≡◌};
-ghost use Rattle.scmi_describe.specs.Replies.{response_status, has_reply_form, has_protocols, has_rates, reply_fields, base_fields, power_fields, clock_fields, delayed_fields, notification_fields};
+ghost use Rattle.scmi_describe.specs.Replies.{response_status, has_reply_form, has_protocols, has_rates, reply_fields, delayed_fields, notification_fields};
 
 use crate::field::{Field, Fields, fields_of};
-use scmi_codec::{BASE_PROTOCOL, CLOCK_PROTOCOL, Message, POWER_PROTOCOL, Status, rate_of};
+use crate::parts::{describes_agent, fields_by, has_list, row_of, words_of};
+use scmi_codec::{BASE_PROTOCOL, CLOCK_PROTOCOL, Message, POWER_PROTOCOL, Status};
 
 /// The status of a message that has the form of a reply: its first word is a status, and what follows
 /// is nothing for a refusal, and for SUCCESS as many words as the reply to this message has; a list of
@@ -68,70 +69,16 @@ fn has_rates(words: &[u32]) -> bool
 pub fn reply_fields(protocol: u8, id: u8, words: &[u32]) -> Result<Fields, Status>
     ensures { result ≡ reply_fields protocol id words.now }
 {
-    match protocol {
-        BASE_PROTOCOL => base_fields(id, words),
-        POWER_PROTOCOL => power_fields(id, words),
-        CLOCK_PROTOCOL => clock_fields(id, words),
-        _ => Err(Status::NotSupported),
+    let Some(row) = row_of(protocol, id) else {
+        return Err(Status::NotSupported);
+    };
+    if has_list(row.gives) {
+        return Err(Status::NotSupported);
     }
-}
-
-fn base_fields(id: u8, words: &[u32]) -> Result<Fields, Status>
-    ensures { result ≡ base_fields id words.now }
-{
-    match (id, words) {
-        (0x0, [word]) => Ok(fields_of(&[Field::Version(*word)])),
-        (0x1, [word]) => Ok(fields_of(&[Field::Counts(*word)])),
-        (0x2, [word]) => Ok(fields_of(&[Field::Attributes(*word)])),
-        (0x3 | 0x4, [a, b, c, d]) => Ok(fields_of(&[Field::Name([*a, *b, *c, *d])])),
-        (0x5, [word]) => Ok(fields_of(&[Field::Implementation(*word)])),
-        (0x7, [agent, a, b, c, d]) => Ok(fields_of(&[
-            Field::Agent(*agent),
-            Field::Name([*a, *b, *c, *d]),
-        ])),
-        (0x9..=0xb, []) => Ok(fields_of(&[])),
-        (0x0..=0x5 | 0x7 | 0x9..=0xb, _) => Err(Status::ProtocolError),
-        _ => Err(Status::NotSupported),
+    if words.len() != words_of(row.gives) {
+        return Err(Status::ProtocolError);
     }
-}
-
-fn power_fields(id: u8, words: &[u32]) -> Result<Fields, Status>
-    ensures { result ≡ power_fields id words.now }
-{
-    match (id, words) {
-        (0x0, [word]) => Ok(fields_of(&[Field::Version(*word)])),
-        (0x1, [word, low, high, length]) => Ok(fields_of(&[
-            Field::Domains(*word),
-            Field::Statistics([*low, *high, *length]),
-        ])),
-        (0x2, [word]) => Ok(fields_of(&[Field::Attributes(*word)])),
-        (0x3, [word, a, b, c, d]) => Ok(fields_of(&[
-            Field::DomainAttributes(*word),
-            Field::Name([*a, *b, *c, *d]),
-        ])),
-        (0x5, [state]) => Ok(fields_of(&[Field::State(*state)])),
-        (0x4 | 0x6, []) => Ok(fields_of(&[])),
-        (0x0..=0x6, _) => Err(Status::ProtocolError),
-        _ => Err(Status::NotSupported),
-    }
-}
-
-fn clock_fields(id: u8, words: &[u32]) -> Result<Fields, Status>
-    ensures { result ≡ clock_fields id words.now }
-{
-    match (id, words) {
-        (0x0, [word]) => Ok(fields_of(&[Field::Version(*word)])),
-        (0x1, [word]) => Ok(fields_of(&[Field::Clocks(*word)])),
-        (0x2, [word]) => Ok(fields_of(&[Field::Attributes(*word)])),
-        (0x3, [word, a, b, c, d]) => Ok(fields_of(&[
-            Field::ClockAttributes(*word),
-            Field::Name([*a, *b, *c, *d]),
-        ])),
-        (0x6, [low, high]) => Ok(fields_of(&[Field::Rate(rate_of(*low, *high))])),
-        (0x5 | 0x7, []) => Ok(fields_of(&[])),
-        (0x0..=0x3 | 0x5..=0x7, _) => Err(Status::ProtocolError),
-        _ => Err(Status::NotSupported),
-    }
+    Ok(fields_by(describes_agent(&row), row.gives, words))
 }
 
 /// The fields of a delayed response after its status; none if it has another form.
@@ -139,12 +86,12 @@ pub(crate) fn delayed_fields(message: &Message) -> Fields
     ensures { result.items ≡ delayed_fields message.now }
 {
     let header = message.header;
-    match (header.protocol, header.id, message.payload.as_slice()) {
-        (POWER_PROTOCOL, 0x4, [_, domain, state]) => {
-            fields_of(&[Field::Domain(*domain), Field::State(*state)])
-        }
-        (CLOCK_PROTOCOL, 0x5, [_, clock, low, high]) => {
-            fields_of(&[Field::Clock(*clock), Field::Rate(rate_of(*low, *high))])
+    let Some(row) = row_of(header.protocol, header.id) else {
+        return fields_of(&[]);
+    };
+    match message.payload.as_slice() {
+        [_, words @ ..] if words.len() == words_of(row.later) => {
+            fields_by(describes_agent(&row), row.later, words)
         }
         _ => fields_of(&[]),
     }
