@@ -56,22 +56,22 @@ itself = refl
 
 -- DENIED
 denied : answer_words board (Reply (message_of 0x4404 (0xFFFFFFFD ∷ []))) outcome.Refusal ≡ name_alone (codes "DENIED")
-unfolding answer_words
+unfolding answer_words rows_of
 denied = refl
 
 -- a successful POWER_STATE_GET of a domain that is on
 state : answer_words board (Reply (message_of 0x4405 (0 ∷ 0 ∷ []))) outcome.Success ≡ words (codes "SUCCESS") (codes "ON") [] []
-unfolding answer_words
+unfolding answer_words rows_of
 state = refl
 
 -- two rates of a clock, of which one more is left
 listed : answer_words board (Reply (message_of 0x5004 (0 ∷ 0x10002 ∷ []))) outcome.Success ≡ words (codes "SUCCESS") (codes "2 rates, 1 left") [] []
-unfolding answer_words list_text filled digits
+unfolding answer_words rows_of list_text filled digits
 listed = refl
 
 -- a set that takes effect later
 accepted : answer_words board (Reply (message_of 0x4404 (0 ∷ []))) outcome.Pending ≡ words (codes "SUCCESS") [] [] (codes "accepted, takes effect at an advance")
-unfolding answer_words
+unfolding answer_words rows_of
 accepted = refl
 
 -- POWER_STATE_CHANGED: the gpu is off by the agent ap
