@@ -5,15 +5,14 @@ ghost use Rattle.scmi_chart.specs.LabelWords.{words_of};
 ghost use Rattle.scmi_chart.specs.Fields.{with_fields};
 ghost use Rattle.scmi_chart.specs.Answered.{delayed_words, notified_words, posted_fields, posted_words};
 ghost use Rattle.scmi_describe.specs.Names.{notification_text};
-ghost use Rattle.scmi_describe.specs.Replies.{delayed_fields, notification_fields};
 
 use crate::fields::add_fields;
 use crate::label::{name_label, name_of, plain_label};
 use crate::label_texts::{COMPLETED, FAILED};
 use crate::reply_label::status_words;
 use crate::value::{Value, filled_words};
-use scmi_codec::{CLOCK_PROTOCOL, Message, POWER_PROTOCOL, rate_of};
-use scmi_describe::{Field, notification_name};
+use scmi_codec::Message;
+use scmi_describe::{delayed_fields, notification_fields, notification_name};
 use scmi_plan::RawPlan;
 use scmi_svg::Label;
 use std::alloc::{AllocError, Global};
@@ -76,53 +75,13 @@ fn add_posted_fields(
         (posted_fields message.now) (words_of label.old)) }
 {
     match message.header.kind {
-        3 => add_notification_fields(alloc, board, label, message),
-        2 => add_delayed_fields(alloc, board, label, message),
-        _ => Ok(()),
-    }
-}
-
-fn add_notification_fields(
-    alloc: Global,
-    board: &RawPlan,
-    label: &mut Label,
-    message: &Message,
-) -> Result<(), AllocError>
-    ensures { OnOk result (words_of label.new ≡ with_fields (asked_board board.now)
-        (notification_fields message.now) (words_of label.old)) }
-{
-    let header = message.header;
-    match message.payload.as_slice() {
-        [agent, domain, state] if header.protocol == POWER_PROTOCOL && header.id == 0x0 => {
-            let fields = [
-                Field::By(*agent),
-                Field::Domain(*domain),
-                Field::State(*state),
-            ];
-            add_fields(alloc, board, label, &fields)
+        3 => {
+            let fields = notification_fields(message);
+            add_fields(alloc, board, label, fields.as_slice())
         }
-        _ => Ok(()),
-    }
-}
-
-fn add_delayed_fields(
-    alloc: Global,
-    board: &RawPlan,
-    label: &mut Label,
-    message: &Message,
-) -> Result<(), AllocError>
-    ensures { OnOk result (words_of label.new ≡ with_fields (asked_board board.now)
-        (delayed_fields message.now) (words_of label.old)) }
-{
-    let header = message.header;
-    match message.payload.as_slice() {
-        [_, domain, state] if header.protocol == POWER_PROTOCOL && header.id == 0x4 => {
-            let fields = [Field::Domain(*domain), Field::State(*state)];
-            add_fields(alloc, board, label, &fields)
-        }
-        [_, clock, low, high] if header.protocol == CLOCK_PROTOCOL && header.id == 0x5 => {
-            let fields = [Field::Clock(*clock), Field::Rate(rate_of(*low, *high))];
-            add_fields(alloc, board, label, &fields)
+        2 => {
+            let fields = delayed_fields(message);
+            add_fields(alloc, board, label, fields.as_slice())
         }
         _ => Ok(()),
     }

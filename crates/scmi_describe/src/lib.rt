@@ -48,5 +48,5 @@ pub use describing::describe;
 pub use description::Description;
 pub use field::{FIELDS, Field, Fields};
 pub use names::{notification_name, protocol_name, status_name};
-pub use reply::{reply_fields, response_status};
+pub use reply::{delayed_fields, notification_fields, reply_fields, response_status};
 pub use text::write_description;

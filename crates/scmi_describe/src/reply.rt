@@ -82,7 +82,7 @@ pub fn reply_fields(protocol: u8, id: u8, words: &[u32]) -> Result<Fields, Statu
 }
 
 /// The fields of a delayed response after its status; none if it has another form.
-pub(crate) fn delayed_fields(message: &Message) -> Fields
+pub fn delayed_fields(message: &Message) -> Fields
     ensures { result.items ≡ delayed_fields message.now }
 {
     let header = message.header;
@@ -98,7 +98,7 @@ pub(crate) fn delayed_fields(message: &Message) -> Fields
 }
 
 /// The fields of a notification; none if it has another form.
-pub(crate) fn notification_fields(message: &Message) -> Fields
+pub fn notification_fields(message: &Message) -> Fields
     ensures { result.items ≡ notification_fields message.now }
 {
     let header = message.header;
