@@ -35,7 +35,7 @@ extern "C" {
 #endif
 
 /* The version of this header and of the library that came with it (scmi_version). */
-#define SCMI_VERSION "0.9.0-dev"
+#define SCMI_VERSION "1.0.0"
 
 #define SCMI_AREA_BYTES 284
 #define SCMI_PAYLOAD_WORDS 64

@@ -28,7 +28,7 @@ import struct
 from collections import namedtuple
 from pathlib import Path
 
-__version__ = "0.9.0-dev"
+__version__ = "1.0.0"
 
 DONE, NOTHING, MEMORY, NO_AGENT, NOT_FREE, NO_PLATFORM, IN_USE, NO_HISTORY, NO_FRAME = range(9)
 WRONG_SIZE, NO_RESOURCE, ASKED, EFFECT, TABLE = 10, 11, 12, 13, 14

@@ -1,10 +1,11 @@
 /*
  * One command again and again, for ./bench to count what an answer takes:
  *
- *     answers post|answer|exchange COUNT HEADER WORD..
+ *     answers [devices] post|answer|exchange COUNT HEADER WORD..
  *
  * `post` writes the command into the area COUNT times, `answer` has it answered each time too, and `exchange`
- * reads the words of each reply besides.
+ * reads the words of each reply besides. With `devices` the board has 32 devices, each of which holds domain 0 and
+ * clock 0.
  */
 #include <stdio.h>
 #include <stdlib.h>
@@ -19,9 +20,18 @@ static const char board[] = "board Acme Lab 0x00010000 1\n"
                             "domain cpu off san\n"
                             "clock core on 100 list 100,200,300\n"
                             "clock bus off 1000 steps 1000 4000 500\n"
-                            "clock pix on 1 list 1,2,3,4,5,6,7,8,9,10,11,12,13,14,15,16,17,18,19,20\n"
-                            "end\n";
+                            "clock pix on 1 list 1,2,3,4,5,6,7,8,9,10,11,12,13,14,15,16,17,18,19,20\n";
+static char text[sizeof(board) + 32 * sizeof("device 0 0\n") + sizeof("end\n")];
 static uint8_t memory[64 * 1024];
+
+/* The text of the board with so many devices. */
+static void describe(unsigned devices)
+{
+    strcpy(text, board);
+    for (unsigned i = 0; i < devices; i++)
+        strcat(text, "device 0 0\n");
+    strcat(text, "end\n");
+}
 
 static uint32_t read_reply(const uint8_t *area)
 {
@@ -38,8 +48,15 @@ int main(int argc, char **argv)
     scmi_platform platform = { 0 };
     uint32_t words[SCMI_PAYLOAD_WORDS], header, sum = 0;
     unsigned long times;
-    unsigned count = (unsigned)argc - 4;
+    unsigned count, devices = 0;
 
+    if (argc > 1 && !strcmp(argv[1], "devices")) {
+        devices = 32;
+        argv++;
+        argc--;
+    }
+    describe(devices);
+    count = (unsigned)argc - 4;
     if (argc < 4 || count > SCMI_PAYLOAD_WORDS)
         return 64;
     times = strtoul(argv[2], NULL, 0);
@@ -47,7 +64,7 @@ int main(int argc, char **argv)
     for (unsigned i = 0; i < count; i++)
         words[i] = (uint32_t)strtoul(argv[4 + i], NULL, 0);
     scmi_memory_give(memory, sizeof(memory));
-    if (scmi_platform_new(&platform, (const uint8_t *)board, sizeof(board) - 1) != SCMI_DONE)
+    if (scmi_platform_new(&platform, (const uint8_t *)text, strlen(text)) != SCMI_DONE)
         return 1;
     for (unsigned long i = 0; i < times; i++) {
         area_post(area, header, count, words);

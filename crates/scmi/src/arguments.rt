@@ -29,7 +29,8 @@ pub fn read_arguments<'a>(
         request_of (map string_bytes words.entry.now) ≡ Some (seen asked)) }
     ensures taken { IfOk result (λ _. faults_of (map string_bytes words.entry.now) ≡ []) }
     ensures refused { IfErr result (IsRefusal (map string_bytes words.entry.now)) }
-    ensures ways { (way : Way) → IsWay way → map string_bytes words.entry.now ≡ words_of way →
+    ensures ways { (way : Way) → IsWay way →
+        map string_bytes words.entry.now ≡ words_of way →
         MatchResult result (λ asked. seen asked ≡ asked_for way) IsOfMemory }
 {
     let found = match matches_of(alloc, words) {

@@ -38,7 +38,8 @@ pub enum Unread<'a> {
 
 /// What the matches of a command line ask for.
 pub fn asked_of<'a>(matches: &ArgMatches<'a>) -> Result<HeldAsked<'a>, Unread<'a>>
-    ensures { Says (asked_by (rows_of (found_of matches.now)) (subcommand_rows_of matches.now)) result }
+    ensures { Says
+        (asked_by (rows_of (found_of matches.now)) (subcommand_rows_of matches.now)) result }
 {
     if is_used(matches, HELP) {
         return Ok(with_no_file(Request::Help));
@@ -108,7 +109,7 @@ fn with_no_file<'a>(request: Request) -> HeldAsked<'a>
     }
 }
 
-/// Whether a name is there that begins with a dash, as no file's may.
+/// Whether there is a name that begins with a dash, as no file's name may.
 fn is_no_file(name: Option<&str>) -> bool
     ensures { result ≡ is_no_file (option_map (λ s. s.now) name.entry) }
 {
@@ -129,7 +130,8 @@ fn begins_with_dash(name: &[u8]) -> bool
 
 /// The subcommand that was found, and what was found after its word.
 fn below<'m, 'a>(matches: &'m ArgMatches<'a>) -> Option<(&'a str, &'m ArgMatches<'a>)>
-    ensures { option_map (λ p. (p.0.now, rows_of (found_of p.1.now))) result ≡ subcommand_rows_of matches.now }
+    ensures { option_map (λ p. (p.0.now, rows_of (found_of p.1.now))) result
+        ≡ subcommand_rows_of matches.now }
 {
     matches.subcommand()
 }
@@ -150,7 +152,8 @@ fn source_of(matches: &ArgMatches<'_>, name: &str) -> Option<ValueSource>
 
 /// The word that was found under a name.
 fn value_of<'a>(matches: &ArgMatches<'a>, name: &str) -> Option<&'a str>
-    ensures { option_map (λ s. s.now) result ≡ first_of name.now (rows_of (found_of matches.now)) }
+    ensures { option_map (λ s. s.now) result
+        ≡ first_of name.now (rows_of (found_of matches.now)) }
 {
     matches.get_str(name)
 }

@@ -29,8 +29,8 @@ pub const SECOND: &str = "second";
 
 /// The program's command, whose words are those after its name.
 ///
-/// Its flags for help and the version are flags like others: what clap's own are given is an error,
-/// and no contract states which text that has.
+/// Its flags for help and the version are declared as any flag: clap's own end in an error, whose
+/// text no contract states.
 pub fn program<'a>(alloc: Global) -> Result<Command<'a>, AllocError>
     ensures { IfOk result (λ c. app_of c ≡ program) }
 {

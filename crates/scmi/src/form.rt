@@ -47,7 +47,7 @@ pub fn form_of(task: Task) -> HeldForm
     FORMS[task as usize]
 }
 
-/// The task that a word asks for, which is written exactly so.
+/// The task whose word is exactly this one.
 pub fn task_of(word: &str) -> Option<Task>
     ensures { result ≡ task_of word.now }
 {

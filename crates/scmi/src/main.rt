@@ -1,5 +1,6 @@
-//! The program for people: it runs sessions, decodes areas of shared memory, draws sessions, answers
-//! the lines of a session one by one, checks records of other platforms, and prints boards as tables.
+//! The program for people: it runs sessions, decodes areas of shared memory, draws sessions,
+//! answers the lines of a session one by one, checks records of other platforms, and prints boards
+//! as tables.
 //!
 //! The main type is `Asked`, what the arguments ask for. The main theorem is the contract of
 //! `run_request` with that of `read_arguments`, and that of `run_session`: if the status is 0, what
@@ -16,6 +17,7 @@ mod read_as;
 mod refusal;
 mod report;
 mod report_board;
+mod report_found;
 mod request;
 mod run;
 mod serve;
@@ -31,8 +33,9 @@ use crate::arguments::{ArgumentError, read_arguments};
 use crate::refusal::{WRONG_ARGUMENT, refuse, refuse_unread};
 use crate::serve::serve;
 use clap::error::ErrorKind;
+use scmi_fault::write_fault;
 use scmi_modes::RunError;
-use std::io::{Print, Write};
+use std::io::Print;
 use std::process::ExitCode;
 use std::{env, io};
 
@@ -47,7 +50,9 @@ fn main(rt: HostRuntime) -> ExitCode {
             return lacks_memory(&rt);
         }
         Err(_) => {
-            let _ = eprintln!(rt; "scmi: an argument is no text; see scmi --help");
+            let _ = eprintln!(rt;
+                "scmi: an argument is not UTF-8; rename the file that it names, or see scmi --help"
+            );
             return ExitCode::from(WRONG_ARGUMENT);
         }
     };
@@ -69,8 +74,5 @@ fn main(rt: HostRuntime) -> ExitCode {
 /// Reports that there was no memory to read the arguments.
 fn lacks_memory(rt: &impl Print) -> ExitCode {
     let fault = RunError::Memory;
-    match writeln!(io::writer(rt), "fault {fault}") {
-        Ok(()) => ExitCode::from(fault.status()),
-        Err(_) => ExitCode::from(RunError::Write.status()),
-    }
+    ExitCode::from(write_fault(&mut io::writer(rt), &fault, fault.status()))
 }

@@ -1,5 +1,6 @@
 //! The board of a session, from its file.
 
+use crate::report_found::report_found;
 use scmi_board::{Lines, read_board};
 use scmi_explain::{Expected, Fault, explain};
 use scmi_input::{CountedReader, InputError, read_rest};
@@ -31,7 +32,7 @@ enum Why {
     /// It is rejected as an input of a mode would be.
     Fault(RunError),
     /// The line of this number follows the board.
-    Behind(u32),
+    After(u32),
 }
 
 impl Opened {
@@ -72,7 +73,7 @@ impl Opened {
 }
 
 impl Refused {
-    /// A board that was read from these bytes, and rejected with this fault, whose line is theirs.
+    /// The rejection of these bytes as a board, with this fault, whose line is one of theirs.
     pub fn of_bytes(alloc: Global, mut bytes: &[u8], fault: Fault) -> Refused {
         let mut text = Vec::new(alloc);
         let _ = fill(alloc, &mut text, &mut bytes);
@@ -89,8 +90,8 @@ impl Refused {
     /// The fault, whose line is one of the file.
     pub fn fault(&self) -> RunError {
         match self.why {
-            Why::Fault(RunError::Board(line)) | Why::Behind(line) => {
-                RunError::Board(line.saturating_sub(1).max(1))
+            Why::Fault(RunError::Board(line)) | Why::After(line) => {
+                RunError::Board(line_of_file(line))
             }
             Why::Fault(fault) => fault,
         }
@@ -100,8 +101,8 @@ impl Refused {
     /// reads.
     pub fn report(&self, rt: &impl Eprint, alloc: Global, name: &str, error: Option<Error>) {
         let fault = match self.why {
-            Why::Behind(line) => {
-                let line = line.saturating_sub(1);
+            Why::After(line) => {
+                let line = line_of_file(line);
                 let _ = eprintln!(rt;
                     "{name}:{line}: a session's file has a board and nothing behind its line end; \
                     the steps are read from standard input"
@@ -110,7 +111,8 @@ impl Refused {
             }
             Why::Fault(RunError::Board(0 | 1)) => {
                 let _ = eprintln!(rt;
-                    "{name}: the file has no board; its first line is board VENDOR SUBVENDOR VERSION TRUSTED"
+                    "{name}: the file has no board; its first line is board VENDOR SUBVENDOR \
+                    VERSION TRUSTED"
                 );
                 return;
             }
@@ -122,21 +124,23 @@ impl Refused {
         };
         let mut found = explain(alloc, Expected::Session, &self.text, fault);
         found.line = match found.line {
-            Some(line) => Some(line.saturating_sub(1).max(1)),
+            Some(line) => Some(line_of_file(line)),
             None => None,
         };
-        let _ = match error {
-            Some(error) if fault == Fault::Read => eprintln!(rt; "{name}{found}: {error}"),
-            _ => eprintln!(rt; "{name}{found}"),
-        };
+        report_found(rt, name, fault, found, error);
     }
+}
+
+/// The line of a file, from 1, that is this line of its text after the line of a mode.
+fn line_of_file(line: u32) -> u32 {
+    line.saturating_sub(1).max(1)
 }
 
 fn refusal_for(why: Why, text: Vec<u8>) -> Refused {
     Refused { why, text }
 }
 
-/// Reads a file after the line of a mode; the last line gets the line feed that it may lack.
+/// Appends the line of a mode and a file to a text, and the line feed that its last line may lack.
 fn fill<B: Read>(alloc: Global, text: &mut Vec<u8>, file: &mut B) -> Result<(), InputError> {
     let file = read_rest(alloc, &mut CountedReader::new(file))?;
     let is_kept = text.extend_from_slice(MODE_LINE).is_ok()
@@ -149,7 +153,7 @@ fn fill<B: Read>(alloc: Global, text: &mut Vec<u8>, file: &mut B) -> Result<(), 
     }
 }
 
-/// The board of a text, which keeps every rule, and which nothing follows.
+/// The board of a text, if it keeps every rule and nothing follows it.
 fn board_of(alloc: Global, text: &[u8]) -> Result<RawPlan, Why> {
     let mut lines = Lines::new(&text[MODE_LINE.len().min(text.len())..]);
     let board = match read_board(alloc, &mut lines) {
@@ -157,7 +161,7 @@ fn board_of(alloc: Global, text: &[u8]) -> Result<RawPlan, Why> {
         Err(error) => return Err(Why::Fault(RunError::from(error))),
     };
     if let Some(line) = lines.next_line() {
-        return Err(Why::Behind(line.number));
+        return Err(Why::After(line.number));
     }
     match Plan::check(alloc, &board) {
         Ok(_) => Ok(board),

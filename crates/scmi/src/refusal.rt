@@ -60,8 +60,8 @@ fn file_alone<'w, T: Files>(rt: &T, words: &'w [String]) -> Option<&'w str> {
     match words {
         [only] => {
             let name = only.as_str();
-            let looks_so = name.contains('/') || name.contains('.');
-            if looks_so && fs::open(rt, name).is_ok() {
+            let is_like_path = name.contains('/') || name.contains('.');
+            if is_like_path && fs::open(rt, name).is_ok() {
                 Some(name)
             } else {
                 None

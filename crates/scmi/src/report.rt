@@ -1,11 +1,13 @@
 //! What is reported on standard error of a run that failed.
 
 use crate::report_board::report_board;
+use crate::report_found::report_found;
 use crate::request::Request;
 use crate::task::Task;
-use scmi_explain::{Expected, Fault, Kept, explain};
+use scmi_explain::{Expected, Fault, Kept, LastLine, explain};
+use scmi_fault::FAILED_OUTPUT;
 use std::alloc::Global;
-use std::io::{Eprint, Error, ErrorKind, Read};
+use std::io::{Eprint, ErrorKind, Read, Write};
 
 /// Reports what is wrong with the input of this name, if a run's last line is a fault.
 pub fn report_input<R: Read + Drop>(
@@ -23,13 +25,11 @@ pub fn report_input<R: Read + Drop>(
         return report_board(rt, alloc, name, input, fault);
     }
     let found = explain(alloc, expected_of(request), input.bytes(), fault);
-    let _ = match input.error() {
-        Some(error) if fault == Fault::Read => eprintln!(rt; "{name}{found}: {error}"),
-        _ => eprintln!(rt; "{name}{found}"),
-    };
+    report_found(rt, name, fault, found, input.error());
 }
 
-/// Why a run failed, whose last line is this: of dumps that are all written none is an area.
+/// Why a run failed, by its last line. A decode that failed after its last dump found no area, and
+/// has no line of a fault.
 fn fault_of(request: Request, last_line: &[u8]) -> Option<Fault> {
     match Fault::of_line(last_line) {
         None if request == Request::Do(Task::Decode) => Some(Fault::Area),
@@ -37,17 +37,26 @@ fn fault_of(request: Request, last_line: &[u8]) -> Option<Fault> {
     }
 }
 
-/// Reports that the output could not be written, and why, if its writer reports that; nothing if
-/// its reader went away.
-pub fn report_output(rt: &impl Eprint, error: Option<Error>) {
-    let _ = match error {
+/// Flushes the output of a run that ends with this status, and gives the exit status: the same, or
+/// `FAILED_OUTPUT` if the output failed. That is reported, with the writer's error; nothing if the
+/// output's reader went away.
+pub fn report_output<W: Write + Drop>(
+    rt: &impl Eprint,
+    output: &mut LastLine<W>,
+    status: u8,
+) -> u8 {
+    if output.flush().is_ok() && status != FAILED_OUTPUT {
+        return status;
+    }
+    let _ = match output.error() {
         Some(error) if error.kind() == ErrorKind::BrokenPipe => Ok(()),
         Some(error) => eprintln!(rt; "scmi: the output could not be written: {error}"),
         None => eprintln!(rt; "scmi: the output could not be written"),
     };
+    FAILED_OUTPUT
 }
 
-/// What the input was to be.
+/// What the input of a task should be.
 fn expected_of(request: Request) -> Expected {
     match request {
         Request::Do(Task::Decode) => Expected::Dumps,

@@ -1,4 +1,4 @@
-//! What is reported on standard error of a board that has no tables.
+//! What is reported on standard error of a rejected board.
 
 use crate::opened::Refused;
 use scmi_board::{Items, Lines};
@@ -9,7 +9,7 @@ use std::io::{Eprint, Read};
 /// The first word of a line for the channels of an agent.
 const CHANNEL: &[u8] = b"channel";
 
-/// Reports why the board of this name has no tables.
+/// Reports why the board of this name is rejected.
 pub fn report_board<R: Read + Drop>(
     rt: &impl Eprint,
     alloc: Global,
@@ -19,8 +19,8 @@ pub fn report_board<R: Read + Drop>(
 ) {
     if let Some(line) = line_for_channels(board.bytes(), fault) {
         let _ = eprintln!(rt;
-            "{name}:{line}: a line for channels is channel AGENT BYTES or channel AGENT BYTES one-way, after all \
-            other lines and once for an agent; BYTES is 60 to 284, in steps of 4"
+            "{name}:{line}: a line for channels is channel AGENT BYTES or channel AGENT BYTES \
+            one-way, after all other lines and once for an agent; BYTES is 60 to 284, in steps of 4"
         );
         return;
     }

@@ -1,4 +1,4 @@
-//! What is asked for is done, with the files that are named.
+//! Does what is asked for, with the files that are named.
 
 use crate::STANDARD_INPUT;
 use crate::asked::HeldAsked;
@@ -12,7 +12,7 @@ use crate::serve_session::serve_session;
 use crate::task::Task;
 use scmi_check::Style;
 use scmi_explain::{Kept, LastLine};
-use scmi_modes::RunError;
+use scmi_fault::FAILED_OUTPUT;
 use std::alloc::Global;
 use std::fs::{self, Files};
 use std::io::{self, BufWriter, Eprint, Input, Print, Read, Write};
@@ -82,13 +82,8 @@ fn serve_on<T: Threads + Wait + Sync + Eprint, R: Read + Drop, W: Write + Drop>(
     let mut output = LastLine::new(writer);
     let mut readings = ReadAs::new(rt, name);
     let status = run_request(rt, alloc, request, &mut input, &mut output, &mut readings);
-    let is_flushed = output.flush().is_ok();
-    let unwritten = RunError::Write.status();
-    if status == unwritten || !is_flushed {
-        report_output(rt, output.error());
-        return unwritten;
-    }
-    if status != 0 {
+    let status = report_output(rt, &mut output, status);
+    if status != 0 && status != FAILED_OUTPUT {
         report_input(rt, alloc, request, name, &input, output.line());
     }
     status

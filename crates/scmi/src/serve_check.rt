@@ -7,8 +7,8 @@ use crate::report_board::report_board;
 use scmi_board::Items;
 use scmi_check::{DIFFERS, Style, run_check};
 use scmi_explain::{Fault, Kept, LastLine};
+use scmi_fault::FAILED_OUTPUT;
 use scmi_input::INPUT_BYTES;
-use scmi_modes::RunError;
 use std::alloc::Global;
 use std::fs::{self, Files};
 use std::io::{self, BufWriter, Eprint, Input, Print, Read, Write};
@@ -22,7 +22,7 @@ pub struct AskedCheck<'a> {
     pub record: Option<&'a str>,
 }
 
-/// Opens the files of a check, makes it, and gives the exit status.
+/// Opens the files of a check, runs it, and gives the exit status.
 pub fn serve_check<T: Files + Print + Eprint + Input>(
     rt: &T,
     alloc: Global,
@@ -41,7 +41,8 @@ pub fn serve_check<T: Files + Print + Eprint + Input>(
     }
 }
 
-/// Makes a check of these files. What is wrong with one of them is reported on standard error.
+/// Checks the record of these files, and gives the exit status. What is wrong with a file, or the
+/// output, is reported on standard error.
 fn check<T: Print + Eprint, B: Read + Drop, R: Read + Drop>(
     rt: &T,
     alloc: Global,
@@ -51,13 +52,13 @@ fn check<T: Print + Eprint, B: Read + Drop, R: Read + Drop>(
 ) -> u8 {
     // If there is no memory for a buffer, the output goes straight out.
     match BufWriter::new(alloc, io::writer(rt)) {
-        Ok(writer) => check_to(rt, alloc, asked, board, record, writer),
-        Err(_) => check_to(rt, alloc, asked, board, record, io::writer(rt)),
+        Ok(writer) => check_on(rt, alloc, asked, board, record, writer),
+        Err(_) => check_on(rt, alloc, asked, board, record, io::writer(rt)),
     }
 }
 
 /// The same with this output.
-fn check_to<T: Eprint, B: Read + Drop, R: Read + Drop, W: Write + Drop>(
+fn check_on<T: Eprint, B: Read + Drop, R: Read + Drop, W: Write + Drop>(
     rt: &T,
     alloc: Global,
     asked: AskedCheck<'_>,
@@ -69,13 +70,8 @@ fn check_to<T: Eprint, B: Read + Drop, R: Read + Drop, W: Write + Drop>(
     let mut record = Kept::new(alloc, record);
     let mut output = LastLine::new(writer);
     let status = run_check(alloc, &mut board, &mut record, &mut output, asked.style);
-    let is_flushed = output.flush().is_ok();
-    let unwritten = RunError::Write.status();
-    if status == unwritten || !is_flushed {
-        report_output(rt, output.error());
-        return unwritten;
-    }
-    if status != 0 && status != DIFFERS {
+    let status = report_output(rt, &mut output, status);
+    if status != 0 && status != DIFFERS && status != FAILED_OUTPUT {
         report(rt, alloc, asked, &board, &record, output.line());
     }
     status
@@ -93,14 +89,17 @@ fn report<B: Read + Drop, R: Read + Drop>(
     let name = asked.record.unwrap_or(STANDARD_INPUT);
     if let Some(line) = line_of_record(last_line) {
         let _ = eprintln!(rt;
-            "{name}:{line}: this is no line of a record, or a command that has no answer; docs/CHECK.md has the lines"
+            "{name}:{line}: this is no line of a record, or a command that has no answer; \
+            docs/CHECK.md has the lines"
         );
     } else if let Some(error) = record.error() {
         let _ = eprintln!(rt; "{name}: the record can't be read: {error}");
     } else if let Some(fault) = fault_of_board(last_line, board) {
         report_board(rt, alloc, asked.board, board, fault);
     } else if Fault::of_line(last_line) == Some(Fault::Size) {
-        let _ = eprintln!(rt; "{name}: the record is longer than {INPUT_BYTES} bytes");
+        let _ = eprintln!(rt;
+            "{name}: the record is longer than {INPUT_BYTES} bytes; check a shorter one"
+        );
     }
 }
 

@@ -1,18 +1,17 @@
 //! A session of the program: its board from a file, and its lines from standard input.
 
+use crate::STANDARD_INPUT;
 use crate::opened::Opened;
 use crate::report::report_output;
+use crate::report_found::report_found;
 use crate::session::run_session;
 use crate::teller::Teller;
 use scmi_explain::{Expected, Fault, Kept, LastLine, explain};
+use scmi_fault::{FAILED_OUTPUT, write_fault};
 use scmi_input::INPUT_BYTES;
-use scmi_modes::RunError;
 use std::alloc::Global;
 use std::io;
 use std::io::{BufWriter, Eprint, Print, Read, Write};
-
-/// What messages call the lines of a session.
-pub const LINES: &str = "standard input";
 
 /// Answers the lines of a reader on the board of a file of this name, and gives the exit status.
 pub fn serve_session<T: Print + Eprint, B: Read + Drop, R: Read + Drop>(
@@ -23,20 +22,20 @@ pub fn serve_session<T: Print + Eprint, B: Read + Drop, R: Read + Drop>(
     reader: R,
 ) -> u8 {
     let mut file = Kept::new(alloc, file);
-    let mut writer = LastLine::new(io::writer(rt));
     match Opened::read(alloc, &mut file) {
         Ok(opened) => match BufWriter::new(alloc, io::writer(rt)) {
             Ok(buffer) => answer(rt, alloc, &opened, reader, buffer),
             Err(_) => answer(rt, alloc, &opened, reader, io::writer(rt)),
         },
         Err(refused) => {
+            let mut writer = LastLine::new(io::writer(rt));
             let fault = refused.fault();
-            if writeln!(writer, "fault {fault}").is_err() {
-                report_output(rt, writer.error());
-                return RunError::Write.status();
+            let status = write_fault(&mut writer, &fault, fault.status());
+            let status = report_output(rt, &mut writer, status);
+            if status != FAILED_OUTPUT {
+                refused.report(rt, alloc, name, file.error());
             }
-            refused.report(rt, alloc, name, file.error());
-            fault.status()
+            status
         }
     }
 }
@@ -53,10 +52,9 @@ fn answer<T: Eprint, R: Read + Drop, W: Write + Drop>(
     let mut output = LastLine::new(writer);
     let mut teller = Teller::new(rt, alloc, opened);
     let status = run_session(alloc, opened, &mut kept, &mut output, &mut teller);
-    let is_flushed = output.flush().is_ok();
-    if status == RunError::Write.status() || !is_flushed {
-        report_output(rt, output.error());
-        return RunError::Write.status();
+    let status = report_output(rt, &mut output, status);
+    if status == FAILED_OUTPUT {
+        return status;
     }
     if let Some(fault) = Fault::of_line(output.line()) {
         report_lines(rt, alloc, fault, kept.error());
@@ -66,10 +64,10 @@ fn answer<T: Eprint, R: Read + Drop, W: Write + Drop>(
 
 /// Reports why the lines were not read to their end.
 fn report_lines(rt: &impl Eprint, alloc: Global, fault: Fault, error: Option<io::Error>) {
+    if fault == Fault::Size {
+        let _ = eprintln!(rt; "{STANDARD_INPUT}: a line is longer than {INPUT_BYTES} bytes");
+        return;
+    }
     let found = explain(alloc, Expected::Session, &[], fault);
-    let _ = match (fault, error) {
-        (Fault::Size, _) => eprintln!(rt; "{LINES}: a line is longer than {INPUT_BYTES} bytes"),
-        (Fault::Read, Some(error)) => eprintln!(rt; "{LINES}{found}: {error}"),
-        _ => eprintln!(rt; "{LINES}{found}"),
-    };
+    report_found(rt, STANDARD_INPUT, fault, found, error);
 }

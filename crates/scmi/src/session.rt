@@ -4,14 +4,16 @@ ghost use Rattle.scmi_plan.specs.RawPlan.{asked_board};
 ghost use Rattle.scmi.specs.Session.{IsSession};
 
 use crate::opened::Opened;
+use scmi_fault::write_fault;
 use scmi_input::{CountedRead, CountedReader, Input};
 use scmi_live::{Listener, LiveError, run_live};
 use scmi_words::WordChannel;
 use std::alloc::Global;
 use std::io::{Read, Write};
 
-/// Answers the lines of a reader on the board of a session, and gives the exit status: 0, or that of the
-/// error, which the last line names. A fault that can't be written gives status 1.
+/// Answers the lines of a reader on the board of a session, and gives the exit status: 0, or that
+/// of the error, whose text is written as the last line. A fault that can't be written gives
+/// status 1.
 pub fn run_session<R: Read, W: Write, L: Listener>(
     alloc: Global,
     opened: &Opened,
@@ -26,10 +28,7 @@ pub fn run_session<R: Read, W: Write, L: Listener>(
     match answer_lines(alloc, opened, &mut input, writer, listener) {
         Ok(()) => 0,
         Err(LiveError::Write) => LiveError::Write.status(),
-        Err(fault) => match writeln!(writer, "fault {fault}") {
-            Ok(()) => fault.status(),
-            Err(_) => LiveError::Write.status(),
-        },
+        Err(fault) => write_fault(writer, &fault, fault.status()),
     }
 }
 

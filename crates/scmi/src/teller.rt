@@ -1,7 +1,7 @@
 //! What is reported on standard error while a session runs.
 
+use crate::STANDARD_INPUT;
 use crate::opened::Opened;
-use crate::serve_session::LINES;
 use crate::unknown_text::UnknownText;
 use scmi_explain::{Expected, Fault, explain};
 use scmi_live::{Listener, unknown_in};
@@ -33,7 +33,7 @@ impl<'a, T: Eprint> Teller<'a, T> {
         let fault = Fault::Script(u32::try_from(line).unwrap_or(u32::MAX));
         let mut found = explain(self.alloc, Expected::Session, &whole, fault);
         found.line = Some(u32::try_from(number).unwrap_or(u32::MAX));
-        let _ = eprintln!(self.rt; "{LINES}{found}");
+        let _ = eprintln!(self.rt; "{STANDARD_INPUT}{found}");
     }
 }
 
@@ -43,12 +43,12 @@ impl<T: Eprint> Listener for Teller<'_, T> {
         let agents = board.agents.len().min(u32::MAX as usize) as u32;
         match unknown_in(self.alloc, board, agents, text) {
             Some(unknown) => {
-                let said = UnknownText {
+                let reason = UnknownText {
                     unknown,
                     board,
                     alloc: self.alloc,
                 };
-                let _ = eprintln!(self.rt; "{LINES}:{number}: {said}");
+                let _ = eprintln!(self.rt; "{STANDARD_INPUT}:{number}: {reason}");
             }
             None => self.explain_numbers(number, text),
         }
@@ -60,7 +60,8 @@ impl<T: Eprint> Listener for Teller<'_, T> {
         let what = board.domains.get(domain as usize);
         if let (Some(who), Some(what)) = (who, what) {
             let _ = eprintln!(self.rt;
-                "dropped: agent {agent} {who} is not notified of domain {domain} {}: its outbox has no room",
+                "dropped: agent {agent} {who} is not notified of domain {domain} {}: its outbox \
+                has no room",
                 what.name
             );
         }

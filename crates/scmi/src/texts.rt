@@ -10,7 +10,7 @@ use crate::request::Request;
 use std::io;
 use std::io::Write;
 
-/// The texts that are of no task.
+/// The texts that belong to no task.
 ///
 /// It is generic because a constant has a name in definitions only if its struct holds no reference
 /// of its own.
@@ -45,13 +45,14 @@ likely slip.
 
 Example: scmi run examples/two_agents.in
 ",
-    version: "Tolbjir scmi 0.9.0-dev: SCMI 2.0 (DEN0056B), proved in Rattle where the build says so\n",
+    version: "Tolbjir scmi 1.0.0: SCMI 2.0 (DEN0056B), proved in Rattle where the build says so\n",
 };
 
 /// Writes the text that a request asks for; nothing if it asks for a task. The error is the
 /// writer's; some parts may then be written.
 pub fn write_text<W: Write>(writer: &mut W, request: Request) -> io::Result<()>
-    ensures { OnOk result (Appends (W.contents writer.old) (W.contents writer.new) (text_of request)) }
+    ensures { OnOk result (Appends (W.contents writer.old) (W.contents writer.new)
+        (text_of request)) }
 {
     match request {
         Request::Help => write_help(writer),

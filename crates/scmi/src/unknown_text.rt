@@ -19,41 +19,52 @@ pub struct UnknownText<'a, 'b> {
 impl fmt::Display for UnknownText<'_, '_> {
     fn fmt<W: fmt::Write>(&self, f: &mut fmt::Formatter<W>) -> fmt::Result {
         match self.unknown {
-            Unknown::Agent(item) => {
-                write!(f, "item 2, \"{}\", is no agent: the board has", shown(item))?;
-                write_names(f, 1, &self.board.agents)
-            }
+            Unknown::Agent(item) => write_part(f, self.board, 2, item, Part::Agent),
             Unknown::Message(item) => {
-                write!(f, "\"{}\" is no message, protocol or number", shown(item))?;
+                write!(
+                    f,
+                    "\"{}\" is no message, protocol or number",
+                    item_text(item)
+                )?;
                 match from_utf8(item)
                     .ok()
                     .and_then(|text| near_message(self.alloc, text))
                 {
                     Some(name) => write!(f, "; did you mean {name}?"),
-                    None => Ok(()),
+                    None => f.write_str("; docs/PROTOCOL.md has the messages"),
                 }
             }
             Unknown::Shared(item) => write!(
                 f,
                 "each protocol has a message {}; write base, power or clock before it",
-                shown(item)
+                item_text(item)
             ),
-            Unknown::Part(number, item, part) => {
-                write!(
-                    f,
-                    "item {number}, \"{}\", is no {}",
-                    shown(item),
-                    text_of(part)
-                )?;
-                write_known(f, self.board, part)
-            }
+            Unknown::Part(number, item, part) => write_part(f, self.board, number, item, part),
             Unknown::Count(name, parts) => write_parts(f, name, parts),
         }
     }
 }
 
-fn shown(item: &[u8]) -> &str {
+fn item_text(item: &[u8]) -> &str {
     from_utf8(item).unwrap_or("(not UTF-8)")
+}
+
+/// Writes that the item of this number is not this part of a message, and which names the board has
+/// for the part.
+fn write_part<W: fmt::Write>(
+    f: &mut fmt::Formatter<W>,
+    board: &RawPlan,
+    number: usize,
+    item: &[u8],
+    part: Part,
+) -> fmt::Result {
+    write!(
+        f,
+        "item {number}, \"{}\", is no {}",
+        item_text(item),
+        text_of(part)
+    )?;
+    write_known(f, board, part)
 }
 
 /// The message whose name is near.
@@ -66,15 +77,14 @@ fn near_message(alloc: Global, text: &str) -> Option<&'static str> {
 /// What a message has in the place of this part.
 fn text_of(part: Part) -> &'static str {
     match part {
-        Part::Agent => "agent",
+        Part::Agent | Part::Subject => "agent",
         Part::Device => "device's number",
         Part::Protocol => "protocol",
         Part::Message => "message of the protocol",
         Part::Domain => "domain",
         Part::Clock => "clock",
         Part::State => "state (on, off or a number)",
-        Part::Enable => "switch (on, off or a number)",
-        Part::ClockAttributes => "switch (on, off or a number)",
+        Part::Enable | Part::ClockAttributes => "switch (on, off or a number)",
         Part::Rate => "rate in Hz",
         Part::PermitFlags | Part::ResetFlags | Part::PowerFlags | Part::RateFlags => {
             "number, as flags are"
@@ -83,16 +93,19 @@ fn text_of(part: Part) -> &'static str {
     }
 }
 
-/// Which names the board has for a part.
+/// Writes which names the board has for a part.
 fn write_known<W: fmt::Write>(
     f: &mut fmt::Formatter<W>,
     board: &RawPlan,
     part: Part,
 ) -> fmt::Result {
     match part {
-        Part::Agent => {
+        Part::Agent | Part::Subject => {
             f.write_str(": the board has")?;
-            write_names(f, 1, &board.agents)
+            for (place, name) in board.agents.iter().enumerate() {
+                write_name(f, place.saturating_add(1), name)?;
+            }
+            Ok(())
         }
         Part::Domain => {
             f.write_str(": the board has")?;
@@ -112,22 +125,11 @@ fn write_known<W: fmt::Write>(
     }
 }
 
-fn write_names<W: fmt::Write>(
-    f: &mut fmt::Formatter<W>,
-    first: usize,
-    names: &[String],
-) -> fmt::Result {
-    for (place, name) in names.iter().enumerate() {
-        write_name(f, first.saturating_add(place), name)?;
-    }
-    Ok(())
-}
-
 fn write_name<W: fmt::Write>(f: &mut fmt::Formatter<W>, number: usize, name: &str) -> fmt::Result {
     write!(f, " {number} {name}")
 }
 
-/// Which items a message has.
+/// Writes which items a message has.
 fn write_parts<W: fmt::Write>(
     f: &mut fmt::Formatter<W>,
     name: &str,

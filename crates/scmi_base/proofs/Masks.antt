@@ -1,11 +1,11 @@
 -- Masks of devices: bit d is for device d.
-use Rattle.std.proofs.Common.{◌≡◌, ◌≢◌, ◌⊎◌, inl, inr, ℕ, zero, suc, ◌+◌, ◌-◌, ◌*◌, ◌^◌, ◌%◌, ◌<◌, ◌≤◌, ◌==◌, nat_lt, min, Bool, true, false, not, ◌&&◌, if◌then◌else◌, length, get_or, replicate, bit_and, bit_or, w32, refl, sym, ap, ◌∙◌, subst, arith}
+use Rattle.std.proofs.Common.{◌≡◌, ◌≢◌, ◌⊎◌, inl, inr, ℕ, zero, suc, ◌+◌, ◌-◌, ◌^◌, ◌<◌, ◌≤◌, ◌==◌, nat_lt, min, Bool, true, false, not, ◌&&◌, ◌||◌, if◌then◌else◌, length, get_or, replicate, bit_and, w32, refl, sym, ap, ◌∙◌, subst, arith}
 use Rattle.std.specs.Int.{bit_at, trailing_zeros}
 use Rattle.std.specs.List.{list_any, range_with_len}
 use Rattle.std.proofs.lemmas.Bool.Decides.{eqb_tells, leb_tells, nat_tests}
 use Rattle.std.proofs.lemmas.List.Folds.{list_any_at}
 use Rattle.std.proofs.lemmas.List.FromFn.{length-range_with_len, get_or-range_with_len}
-use Rattle.std.proofs.lemmas.Nat.Bits.{bit_at-zero, bit_at-lt, bit_at_and, bit_at_not, bit_at-trailing_zeros, bit_at_set_same, bit_at_set_other, bit_at_clear_same, bit_at_clear_other}
+use Rattle.std.proofs.lemmas.Nat.Bits.{bit_at-zero, bit_at-lt, bit_at_and, bit_at_not, bit_at-trailing_zeros}
 
 -- a list of zeros has 0 at each place
 all_zero : (n i : ℕ) → ◌≡◌ {A = ℕ} (get_or (replicate n 0) i 0) 0
@@ -47,25 +47,31 @@ bits-of_both a b count f g is_f is_g d small =
       moved true y z = refl
       moved false y z = refl
 
--- after a device's bit is cleared it alone differs
-pub bit_of-clear : (mask device d : ℕ) → device < 32 → d < 32
-    → (bit_at (bit_and mask (4294967295 - 1 * 2 ^ device % 4294967296)) d == 0) ≡ (if device == d then true else (bit_at mask d == 0))
-bit_of-clear mask device d h small = by_case (eqb_tells device d) where
-  by_case : (((device == d) ≡ true) × (device ≡ d)) ⊎ (((device == d) ≡ false) × (device ≢ d))
-      → (bit_at (bit_and mask (4294967295 - 1 * 2 ^ device % 4294967296)) d == 0) ≡ (if device == d then true else (bit_at mask d == 0))
-  by_case (inl t) = rw (t.0, ← t.1) (ap (λ n. n == 0) (bit_at_clear_same w32 mask device h))
-  by_case (inr t) = let other : d ≢ device = let apart = t.1 in omega arith in
-      rw t.0 (ap (λ n. n == 0) (bit_at_clear_other w32 mask device h d small other))
+-- a bit is 0 if and only if it is not 1
+zero_bit : (mask d : ℕ) → (bit_at mask d == 0) ≡ not (bit_at mask d == 1)
+zero_bit mask d = turned (bit_at mask d) (bit_at-lt mask d) where
+  turned : (b : ℕ) → b < 2 → (b == 0) ≡ not (b == 1)
+  turned zero h = refl
+  turned (suc zero) h = refl
+  turned (suc (suc b)) h = grind (arith, nat_tests)
 
--- after a device's bit is set it alone differs
-pub bit_of-set : (mask device d : ℕ) → device < 32
-    → (bit_at (bit_or mask (1 * 2 ^ device % 4294967296)) d == 0) ≡ (if device == d then false else (bit_at mask d == 0))
-bit_of-set mask device d h = by_case (eqb_tells device d) where
+-- after a device's bit is cleared it alone is 0 that may have been 1
+pub zeros-without : (mask after device d : ℕ) → (bit_at after d == 1) ≡ (not (d == device) && (bit_at mask d == 1))
+    → (bit_at after d == 0) ≡ (if device == d then true else (bit_at mask d == 0))
+zeros-without mask after device d is = zero_bit after d ∙ ap not is ∙ by_case (eqb_tells device d) where
   by_case : (((device == d) ≡ true) × (device ≡ d)) ⊎ (((device == d) ≡ false) × (device ≢ d))
-      → (bit_at (bit_or mask (1 * 2 ^ device % 4294967296)) d == 0) ≡ (if device == d then false else (bit_at mask d == 0))
-  by_case (inl t) = rw (t.0, ← t.1) (ap (λ n. n == 0) (bit_at_set_same w32 mask device h))
-  by_case (inr t) = let other : d ≢ device = let apart = t.1 in omega arith in
-      rw t.0 (ap (λ n. n == 0) (bit_at_set_other w32 mask device h d other))
+      → not (not (d == device) && (bit_at mask d == 1)) ≡ (if device == d then true else (bit_at mask d == 0))
+  by_case (inl t) = let same = t.1 in let here : (d == device) ≡ true = grind (arith, nat_tests) in rw (t.0, here) refl
+  by_case (inr t) = let apart = t.1 in let other : (d == device) ≡ false = grind (arith, nat_tests) in rw (t.0, other) (sym (zero_bit mask d))
+
+-- after a device's bit is set it alone is 1 that may have been 0
+pub zeros-with : (mask after device d : ℕ) → (bit_at after d == 1) ≡ ((d == device) || (bit_at mask d == 1))
+    → (bit_at after d == 0) ≡ (if device == d then false else (bit_at mask d == 0))
+zeros-with mask after device d is = zero_bit after d ∙ ap not is ∙ by_case (eqb_tells device d) where
+  by_case : (((device == d) ≡ true) × (device ≡ d)) ⊎ (((device == d) ≡ false) × (device ≢ d))
+      → not ((d == device) || (bit_at mask d == 1)) ≡ (if device == d then false else (bit_at mask d == 0))
+  by_case (inl t) = let same = t.1 in let here : (d == device) ≡ true = grind (arith, nat_tests) in rw (t.0, here) refl
+  by_case (inr t) = let apart = t.1 in let other : (d == device) ≡ false = grind (arith, nat_tests) in rw (t.0, other) (sym (zero_bit mask d))
 
 -- no number of a range passes a test that each of them fails
 any_from-none : (test : ℕ → Bool) (a n : ℕ) → ((d : ℕ) → a ≤ d → d < a + n → test d ≡ false) → list_any test (range_with_len a n) ≡ false

@@ -5,7 +5,7 @@ ghost use Rattle.scmi_base.specs.PermissionTable.{entry};
 ghost use Rattle.scmi_plan.specs.Agent.{IsAgent};
 ghost use Rattle.scmi_plan.specs.declared.limits.TheConstants.{AGENTS, DEVICES};
 
-use scmi_plan::AGENTS;
+use scmi_plan::{AGENTS, with_bit, without_bit};
 use std::marker::Model;
 
 /// A mask for each agent from 1 on, of the devices with no: bit d is for device d.
@@ -70,8 +70,11 @@ fn with_device(denied: u32, device: u32, allow: bool) -> u32
     ensures { (d : ℕ) → d < DEVICES → (bit_at result d == 0)
         ≡ (if device == d then allow else (bit_at denied d == 0)) }
 {
-    let bit = 1u32 << device;
-    if allow { denied & !bit } else { denied | bit }
+    if allow {
+        without_bit(denied, device)
+    } else {
+        with_bit(denied, device)
+    }
 }
 
 /// The devices that a mask does not have.

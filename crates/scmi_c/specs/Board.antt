@@ -4,16 +4,16 @@ use Rattle.scmi_plan.specs.Board.{Board}
 use Rattle.scmi_plan.specs.PlanError.{first_fault, number}
 use Rattle.scmi_plan.specs.declared.plan_error.PlanError.{PlanError}
 use Rattle.scmi_board.specs.Channels.{Described, described_left, with_channels}
-use Rattle.scmi_board.specs.Lines.{Line}
+use Rattle.scmi_board.specs.Lines.{Line, whole}
 use Rattle.scmi_c.specs.declared.code.TheConstants.{MEMORY, RULE, LINE}
 
 -- out of memory, a rule of boards (1 to 5), or a line
 abbrev pub IsFault : ℕ → Type 0
 IsFault n = (n ≡ MEMORY) ⊎ ((RULE < n) × (n ≤ RULE + 5)) ⊎ (LINE ≤ n)
 
--- the number of a line of another form; the lines of a board are numbered from 2, and for C from 1
+-- the number of a line of another form
 abbrev pub line_fault : ℕ → ℕ
-line_fault line = min (LINE + (line - 1)) (2 ^ 32 - 1)
+line_fault line = min (LINE + line) (2 ^ 32 - 1)
 
 -- a board that breaks no rule, or the number of the first that it breaks
 abbrev pub unless_fault : Option PlanError → Board → Result Board ℕ
@@ -27,4 +27,4 @@ board_said (Ok said) = unless_fault (first_fault said.0.0) (with_channels said.0
 
 -- the board of a text with the channels of its agents, or the number of its first fault
 abbrev pub board_of_text : List ℕ → Result Board ℕ
-board_of_text text = board_said (described_left (record { rest = text; number = 1 }))
+board_of_text text = board_said (described_left (whole text))

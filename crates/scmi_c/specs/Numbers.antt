@@ -33,6 +33,6 @@ numbers_of_library =
 abbrev pub version_number : ℕ → ℕ → ℕ → ℕ
 version_number major minor patch = major * 2 ^ 16 + minor * 2 ^ 8 + patch
 
--- the library's, 0.9.0
+-- the library's, 1.0.0
 abbrev pub version_of_library : ℕ
-version_of_library = version_number 0 9 0
+version_of_library = version_number 1 0 0

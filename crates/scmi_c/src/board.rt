@@ -1,16 +1,14 @@
 //! A platform's plan, of a board's text.
-ghost use Rattle.std.specs.Prelude.{◌≡◌, ◌≢◌, ℕ, ◌+◌, List, Result, IfOk, IfErr, Ok, Err};
+ghost use Rattle.std.specs.Prelude.{◌≡◌, ◌≢◌, ◌+◌, List, IfOk, IfErr, Ok, Err, ℕ};
 ghost use Rattle.scmi_plan.specs.Plan.{IsValid};
 ghost use Rattle.scmi_plan.specs.PlanError.{number};
 ghost use Rattle.scmi_plan.specs.declared.plan_error.PlanError.TheVariants as plan_error;
-ghost use Rattle.scmi_board.specs.BoardText.{FailsBoard};
-ghost use Rattle.scmi_board.specs.Channels.{Described};
-ghost use Rattle.scmi_board.specs.Lines.{Line};
-ghost use Rattle.scmi_c.specs.Board.{IsFault, board_of_text, board_said};
+ghost use Rattle.scmi_board.specs.ValidBoard.{IsBoardFault};
+ghost use Rattle.scmi_c.specs.Board.{IsFault, board_of_text};
 ghost use Rattle.scmi_c.specs.declared.code.TheConstants.{MEMORY, RULE};
 
 use crate::code::{LINE, MEMORY, RULE};
-use scmi_board::{Lines, TextError, read_board_with_channels, set_channels};
+use scmi_board::{BoardError, ValidBoard, read_valid_board};
 use scmi_plan::{Plan, PlanError};
 use std::alloc::Global;
 
@@ -24,31 +22,25 @@ pub fn read_plan(alloc: Global, text: &[u8]) -> Result<Plan, u32>
     ensures valid { IfOk result IsValid }
     ensures faults { IfErr result IsFault }
 {
-    let said = match read_board_with_channels(alloc, &mut Lines::new(text)) {
-        Ok(said) => said,
-        Err(error) => return Err(line_code(error)),
-    };
-    let mut plan = match Plan::check(alloc, &said.board) {
-        Ok(plan) => plan,
-        Err(error) => return Err(rule_code(error)),
-    };
-    set_channels(&mut plan, &said.channels);
-    let _agents = plan.agents();
-    Ok(plan)
+    match read_valid_board(alloc, text) {
+        Ok(ValidBoard { described: _, plan }) => {
+            let _agents = plan.agents();
+            Ok(plan)
+        }
+        Err(error) => Err(fault_code(error)),
+    }
 }
 
-/// The number of a text's fault.
-fn line_code(error: TextError) -> u32
-    ensures line { (there : Result (Described × List Line) ℕ) → FailsBoard error there →
-        result ≢ MEMORY → board_said there ≡ Err result }
+/// The number of the fault of a text, or of its board.
+fn fault_code(error: BoardError) -> u32
+    ensures fault { (text : List ℕ) → IsBoardFault text error →
+        result ≢ MEMORY → board_of_text text ≡ Err result }
     ensures faults { IsFault result }
 {
     match error {
-        // A text for C has no line before the board.
-        TextError::Board(line) | TextError::Script(line) => {
-            LINE.saturating_add(line.saturating_sub(1))
-        }
-        TextError::Memory => MEMORY,
+        BoardError::Line(line) => LINE.saturating_add(line),
+        BoardError::Rule(rule) => rule_code(rule),
+        BoardError::Memory => MEMORY,
     }
 }
 

@@ -10,7 +10,7 @@ use crate::effect::{ENABLED, RATE, STATE};
 use scmi_codec::{AREA_BYTES, PAYLOAD_WORDS};
 
 /// The version of the library: major, minor and patch, a byte each.
-const VERSION: u32 = 0x0000_0900;
+const VERSION: u32 = 0x0001_0000;
 
 /// The numbers that C is given or has to know.
 #[repr(C)]

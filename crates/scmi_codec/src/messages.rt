@@ -20,7 +20,10 @@ pub enum Part {
     Skip,
     /// A number, and that many ids of protocols, four to a word.
     Protocols,
+    /// An agent that a message asks for or describes; 0xFFFFFFFF is the caller.
     Agent,
+    /// An agent whose permissions or settings a message changes.
+    Subject,
     Device,
     Protocol,
     PermitFlags,
@@ -85,9 +88,9 @@ pub const BASE_MESSAGES: [HeldRow; 11] = rows![
     0x5 BASE_DISCOVER_IMPLEMENTATION_VERSION () -> (Implementation);
     0x6 BASE_DISCOVER_LIST_PROTOCOLS (Skip) -> (Protocols);
     0x7 BASE_DISCOVER_AGENT (Agent) -> (Agent, Name);
-    0x9 BASE_SET_DEVICE_PERMISSIONS (Agent, Device, PermitFlags) -> ();
-    0xa BASE_SET_PROTOCOL_PERMISSIONS (Agent, Device, Protocol, PermitFlags) -> ();
-    0xb BASE_RESET_AGENT_CONFIGURATION (Agent, ResetFlags) -> ();
+    0x9 BASE_SET_DEVICE_PERMISSIONS (Subject, Device, PermitFlags) -> ();
+    0xa BASE_SET_PROTOCOL_PERMISSIONS (Subject, Device, Protocol, PermitFlags) -> ();
+    0xb BASE_RESET_AGENT_CONFIGURATION (Subject, ResetFlags) -> ();
 ];
 
 /// The messages of the power domain protocol, 0x11.

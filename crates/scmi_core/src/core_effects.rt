@@ -1,5 +1,5 @@
 //! Changes of hardware, of a platform that keeps its history.
-ghost use Rattle.std.specs.Prelude.{◌≡◌, ◌≢◌, ◌<◌, ◌++◌, ◌∷◌, [], ◌↔◌, length, true, false, None, IfOk, OnOk, OnErr, IfErr, Err};
+ghost use Rattle.std.specs.Prelude.{◌≡◌, ◌≢◌, ◌≤◌, ◌<◌, ◌+◌, ◌++◌, ◌∷◌, [], ◌↔◌, length, true, false, None, IfOk, OnOk, OnErr, IfErr, Err};
 ghost use Rattle.scmi_codec.specs.declared.frame.Answer.TheVariants.{Reply};
 ghost use Rattle.scmi_plan.specs.Agent.{IsAgent, IsNoAgent};
 ghost use Rattle.scmi_core.specs.Effect.{effect_after};
@@ -84,6 +84,7 @@ impl Core {
         ensures memory { IfErr result (λ e.
             (e ≡ CoreError.Memory) × (self.old.room ≡ 0)
             × ¬ (IsIdle self.old.board self.old.history)) }
+        ensures room { OnOk result (self.old.room ≤ self.new.room + 1) }
         ensures err { OnErr result (self.new ≡ self.old) }
     {
         if self.platform.is_idle() {

@@ -1,5 +1,5 @@
 //! The notifications to subscribers of a domain's state.
-ghost use Rattle.std.specs.Prelude.{◌≡◌, ◌≢◌, ◌≤◌, ◌<◌, ℕ, IfSome};
+ghost use Rattle.std.specs.Prelude.{◌≡◌, ◌≢◌, ◌≤◌, ◌<◌, ℕ, false, IfSome};
 ghost use Rattle.scmi_plan.specs.Agent.{IsAgent};
 ghost use Rattle.scmi_plan.specs.declared.limits.TheConstants.{AGENTS, DOMAINS};
 ghost use Rattle.scmi_power.specs.PowerTable.{is_subscribed};
@@ -21,13 +21,15 @@ impl Tables {
             (announced_at self.old a causer changed differs) }
     {
         if let Some((domain, state)) = changed {
-            if differs {
+            if differs && self.has_subscribers(domain) {
                 self.notify(agents, causer, domain, state);
             }
         }
     }
 
     /// Notifies the subscribers of a domain of its new state, by rising agent number.
+    // Most sets are of a domain without subscribers; they pay nothing for the loop.
+    #[inline(never)]
     fn notify(&mut self, agents: u32, causer: u32, domain: u32, state: u32)
         requires agents { agents ≤ AGENTS }
         requires domain { domain < DOMAINS }
@@ -54,6 +56,14 @@ impl Tables {
             self.outboxes
                 .put_state_changed(agent, causer, domain, state);
         }
+    }
+
+    /// Whether some agent is notified of a domain's changes.
+    fn has_subscribers(&self, domain: u32) -> bool
+        requires domain { domain < DOMAINS }
+        ensures none { result ≡ false → (a : ℕ) → is_subscribed self.now.power a domain ≡ false }
+    {
+        self.power.subscribers(domain) != 0
     }
 
     /// Whether an agent is notified of a domain's changes.

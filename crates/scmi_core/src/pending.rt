@@ -1,22 +1,19 @@
 //! The sets that are pending.
-ghost use Rattle.std.specs.Prelude.{◌≡◌, ◌≤◌, ◌<◌, ◌==◌, ◌||◌, ◌++◌, ◌∷◌, [], ◌↔◌, ℕ, Some, true, false, length, drop, map, slice_get};
+ghost use Rattle.std.specs.Prelude.{◌≡◌, ◌≤◌, ◌<◌, ◌==◌, ◌||◌, ◌++◌, ◌∷◌, [], ◌↔◌, ℕ, Some, true, false, length, drop, map, nat_lt, slice_get};
 ghost use Rattle.std.specs.Int.{bit_at};
 ghost use Rattle.scmi_clock.specs.declared.discovery.TheConstants.{PENDING_SETS};
 ghost use Rattle.scmi_plan.specs.declared.resource.Resource.TheVariants as resource;
 ghost use Rattle.scmi_plan.specs.declared.limits.TheConstants.{CLOCKS, DOMAINS};
+ghost use Rattle.scmi_plan.specs.declared.mask.TheConstants.{MASK_BITS};
 ghost use Rattle.scmi_core.specs.Pending.{has_room_beside, has_set_of, load_beside, sets_by, unwanted};
 ghost use Rattle.scmi_core.specs.declared.outboxes.TheConstants.{OUTBOX_ROOM};
-ghost use Rattle.scmi_core.specs.declared.pending.TheConstants.{MASK_BITS};
 
 use crate::outboxes::OUTBOX_ROOM;
 use crate::pending_set::{PendingSet, Setting};
 use arrayvec::ArrayVec;
 use scmi_clock::PENDING_SETS;
-use scmi_plan::{Load, Resource};
+use scmi_plan::{Load, MASK_BITS, Resource, with_bit};
 use std::marker::Model;
-
-/// How many domains or clocks a mask has bits for.
-const MASK_BITS: u32 = u32::BITS;
 
 /// The sets that were accepted for later and are not complete, at most `PENDING_SETS`, in order of
 /// acceptance. They complete in that order.
@@ -118,14 +115,42 @@ impl Pending {
             → (bit_at result.busy d == 1) ≡ has_set_of (resource.Domain d) self.now }
         ensures room { result.room ≡ has_room_beside waiting agent self.now }
     {
+        if self.is_empty() {
+            return idle_load(waiting);
+        }
+        self.busy_domain_load(agent, waiting)
+    }
+
+    /// The load that a clock command of an agent meets whose outbox has `waiting` messages.
+    pub fn clock_load(&self, agent: u32, waiting: usize) -> Load
+        requires { waiting ≤ OUTBOX_ROOM }
+        ensures busy { (c : ℕ) → c < CLOCKS
+            → (bit_at result.busy c == 1) ≡ has_set_of (resource.Clock c) self.now }
+        ensures room { result.room ≡ has_room_beside waiting agent self.now }
+    {
+        if self.is_empty() {
+            return idle_load(waiting);
+        }
+        self.busy_clock_load(agent, waiting)
+    }
+
+    /// As `domain_load`, where some set is pending.
+    #[inline(never)]
+    fn busy_domain_load(&self, agent: u32, waiting: usize) -> Load
+        requires { waiting ≤ OUTBOX_ROOM }
+        ensures busy { (d : ℕ) → d < DOMAINS
+            → (bit_at result.busy d == 1) ≡ has_set_of (resource.Domain d) self.now }
+        ensures room { result.room ≡ has_room_beside waiting agent self.now }
+    {
         Load {
             busy: self.busy_domains(),
             room: self.has_room(agent, waiting),
         }
     }
 
-    /// The load that a clock command of an agent meets whose outbox has `waiting` messages.
-    pub fn clock_load(&self, agent: u32, waiting: usize) -> Load
+    /// As `clock_load`, where some set is pending.
+    #[inline(never)]
+    fn busy_clock_load(&self, agent: u32, waiting: usize) -> Load
         requires { waiting ≤ OUTBOX_ROOM }
         ensures busy { (c : ℕ) → c < CLOCKS
             → (bit_at result.busy c == 1) ≡ has_set_of (resource.Clock c) self.now }
@@ -201,13 +226,24 @@ impl Pending {
     }
 }
 
+/// The load of an agent whose outbox has `waiting` messages, if no set is pending.
+fn idle_load(waiting: usize) -> Load
+    ensures busy { result.busy ≡ 0 }
+    ensures room { result.room ≡ nat_lt waiting OUTBOX_ROOM }
+{
+    Load {
+        busy: 0,
+        room: waiting < OUTBOX_ROOM,
+    }
+}
+
 /// A mask with one more bit, if it has that bit.
 fn mark(busy: u32, number: u32) -> u32
     ensures { (d : ℕ) → d < MASK_BITS
         → (bit_at result d == 1) ≡ ((d == number) || (bit_at busy d == 1)) }
 {
     if number < MASK_BITS {
-        busy | (1u32 << number)
+        with_bit(busy, number)
     } else {
         busy
     }

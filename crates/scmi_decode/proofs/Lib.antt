@@ -5,6 +5,7 @@ mod Messages
 mod OneDump
 mod Pairs
 mod Rows
+mod Short
 mod UnderWay
 pub mod Words
 mod Zeros

@@ -51,7 +51,7 @@ no_more all (Some bytes) (Some more) none =
     some-not-none e = cc e
 
 -- bytes that fit a row
-fits_row : (all bytes : List ℕ) (o : Option (List ℕ)) → fitting all o ≡ Some bytes → (o ≡ Some bytes) × (length all + length bytes ≤ ROW_BYTES)
+pub fits_row : (all bytes : List ℕ) (o : Option (List ℕ)) → fitting all o ≡ Some bytes → (o ≡ Some bytes) × (length all + length bytes ≤ ROW_BYTES)
 fits_row all bytes None some = cc some
 fits_row all bytes (Some found) some =
     elim (cases_Bool (nat_lt (length all + length found) (ROW_BYTES + 1))) [
@@ -66,54 +66,46 @@ fits_row all bytes (Some found) some =
 pub line_in_two : (line item behind : List ℕ) → item ≡ take (item_length line) line → behind ≡ drop (item_length line) line → line_bytes line ≡ both_bytes (item_bytes item) (items_bytes (behind_items behind))
 line_in_two line item behind is_item is_behind = rw (is_item, is_behind) (ap items_bytes (split_first line))
 
--- a row so far and the bytes of the rest are those of the line
-pub record IsRowOf (line all rest : List ℕ) : Type 0 where
-  pub so_far : both_bytes (Some all) (line_bytes rest) ≡ line_bytes line
-  pub room : length all ≤ ROW_BYTES
-
-pub row_begins : (line : List ℕ) → IsRowOf line [] line
-row_begins line = record { so_far = begun (line_bytes line); room = omega arith }
-  where
-    begun : (o : Option (List ℕ)) → both_bytes (Some []) o ≡ o
-    begun None = refl
-    begun (Some x) = refl
+-- the bytes of a row so far and those of the rest are the bytes of all
+abbrev pub IsRowOf : (whole : Option (List ℕ)) → (all rest : List ℕ) → Type 0
+IsRowOf whole all rest = both_bytes (Some all) (line_bytes rest) ≡ whole
 
 -- the next item has no bytes, or they do not fit
-pub row_stops : (line all new rest item behind : List ℕ) (added : Bool) → IsRowOf line all rest → item ≡ take (item_length rest) rest → behind ≡ drop (item_length rest) rest → Adds (fitting all (item_bytes item)) added all new → added ≡ false
-    → None ≡ fitting [] (line_bytes line)
-row_stops line all new rest item behind added is is_item is_behind adds not_added =
+pub row_stops : (whole : Option (List ℕ)) (all new rest item behind : List ℕ) (added : Bool) → IsRowOf whole all rest → item ≡ take (item_length rest) rest → behind ≡ drop (item_length rest) rest → Adds (fitting all (item_bytes item)) added all new → added ≡ false
+    → None ≡ fitting [] whole
+row_stops whole all new rest item behind added is is_item is_behind adds not_added =
     let none = adds_none (fitting all (item_bytes item)) added all new adds not_added in
-    sym (ap (fitting []) (sym is.so_far ∙ ap (both_bytes (Some all)) (line_in_two rest item behind is_item is_behind)) ∙ no_more all (item_bytes item) (items_bytes (behind_items behind)) none)
+    sym (ap (fitting []) (sym is ∙ ap (both_bytes (Some all)) (line_in_two rest item behind is_item is_behind)) ∙ no_more all (item_bytes item) (items_bytes (behind_items behind)) none)
 
 -- the next item is added
-added_item : (line all new rest item behind : List ℕ) (added : Bool) → IsRowOf line all rest → item ≡ take (item_length rest) rest → behind ≡ drop (item_length rest) rest → Adds (fitting all (item_bytes item)) added all new → added ≡ true
-    → (both_bytes (Some new) (items_bytes (behind_items behind)) ≡ line_bytes line) × (length new ≤ ROW_BYTES)
-added_item line all new rest item behind added is is_item is_behind adds is_added =
+added_item : (whole : Option (List ℕ)) (all new rest item behind : List ℕ) (added : Bool) → IsRowOf whole all rest → item ≡ take (item_length rest) rest → behind ≡ drop (item_length rest) rest → Adds (fitting all (item_bytes item)) added all new → added ≡ true
+    → (both_bytes (Some new) (items_bytes (behind_items behind)) ≡ whole) × (length new ≤ ROW_BYTES)
+added_item whole all new rest item behind added is is_item is_behind adds is_added =
     let (bytes, fits, joined) = adds_some (fitting all (item_bytes item)) added all new adds is_added in
     let (some, room) = fits_row all bytes (item_bytes item) fits in
     let after = items_bytes (behind_items behind) in
-    let whole : both_bytes (Some all) (line_bytes rest) ≡ both_bytes (Some (all ++ bytes)) after =
+    let joined_all : both_bytes (Some all) (line_bytes rest) ≡ both_bytes (Some (all ++ bytes)) after =
     ap (both_bytes (Some all)) (line_in_two rest item behind is_item is_behind ∙ ap (λ o. both_bytes o after) some) ∙ joined_in_turn (Some all) (Some bytes) after in
     let size : length new ≡ length all + length bytes = ap length joined ∙ list.length-append all bytes in
-    (ap (λ bs. both_bytes (Some bs) after) joined ∙ sym whole ∙ is.so_far, omega (arith, size))
+    (ap (λ bs. both_bytes (Some bs) after) joined ∙ sym joined_all ∙ is, omega (arith, size))
 
 after_gap_is : (behind : List ℕ) → 0 < length behind → items_bytes (behind_items behind) ≡ line_bytes (take (length behind - 1) (drop 1 behind))
 after_gap_is [] more = absurd (omega arith)
 after_gap_is (b ∷ bs) more = sym (ap line_bytes (list.take_all (length (b ∷ bs) - 1) bs (omega arith)))
 
 -- the next item is added, and items follow
-pub row_goes_on : (line all new rest item behind : List ℕ) (added : Bool) → IsRowOf line all rest → item ≡ take (item_length rest) rest → behind ≡ drop (item_length rest) rest → Adds (fitting all (item_bytes item)) added all new → added ≡ true
-    → 0 < length behind → IsRowOf line new (take (length behind - 1) (drop 1 behind))
-row_goes_on line all new rest item behind added is is_item is_behind adds is_added more =
-    let (whole, room) = added_item line all new rest item behind added is is_item is_behind adds is_added in
-    record { so_far = ap (both_bytes (Some new)) (sym (after_gap_is behind more)) ∙ whole; room = room }
+pub row_goes_on : (whole : Option (List ℕ)) (all new rest item behind : List ℕ) (added : Bool) → IsRowOf whole all rest → item ≡ take (item_length rest) rest → behind ≡ drop (item_length rest) rest → Adds (fitting all (item_bytes item)) added all new → added ≡ true
+    → 0 < length behind → IsRowOf whole new (take (length behind - 1) (drop 1 behind))
+row_goes_on whole all new rest item behind added is is_item is_behind adds is_added more =
+    let (is_whole, room) = added_item whole all new rest item behind added is is_item is_behind adds is_added in
+    ap (both_bytes (Some new)) (sym (after_gap_is behind more)) ∙ is_whole
 
 -- the last item is added
-pub row_ends : (line all new rest item behind : List ℕ) (added : Bool) → IsRowOf line all rest → item ≡ take (item_length rest) rest → behind ≡ drop (item_length rest) rest → Adds (fitting all (item_bytes item)) added all new → added ≡ true
-    → length behind < 1 → Some new ≡ fitting [] (line_bytes line)
-row_ends line all new rest item behind added is is_item is_behind adds is_added last =
-    let (whole, room) = added_item line all new rest item behind added is is_item is_behind adds is_added in
+pub row_ends : (whole : Option (List ℕ)) (all new rest item behind : List ℕ) (added : Bool) → IsRowOf whole all rest → item ≡ take (item_length rest) rest → behind ≡ drop (item_length rest) rest → Adds (fitting all (item_bytes item)) added all new → added ≡ true
+    → length behind < 1 → Some new ≡ fitting [] whole
+row_ends whole all new rest item behind added is is_item is_behind adds is_added last =
+    let (is_whole, room) = added_item whole all new rest item behind added is is_item is_behind adds is_added in
     let none : behind ≡ [] = list.nil_from_length behind (omega arith) in
-    let all_of : line_bytes line ≡ Some new = sym whole ∙ ap (λ bs. both_bytes (Some new) (items_bytes (behind_items bs))) none ∙ ap Some (list.append-nil new) in
+    let all_of : whole ≡ Some new = sym is_whole ∙ ap (λ bs. both_bytes (Some new) (items_bytes (behind_items bs))) none ∙ ap Some (list.append-nil new) in
     let fits : nat_lt (0 + length new) (ROW_BYTES + 1) ≡ true = grind (arith, nat_tests) in
     sym (ap (fitting []) all_of ∙ rw fits refl)

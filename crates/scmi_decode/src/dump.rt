@@ -1,7 +1,9 @@
 //! The bytes of a line of a dump.
-ghost use Rattle.std.specs.Prelude.{◌≡◌, ◌≢◌, ◌/◌, [], IfOk, map, reverse, length, false, true};
+ghost use Rattle.std.specs.Prelude.{◌≡◌, ◌/◌, [], Some, IfOk, map, reverse, length, false, true};
+ghost use Rattle.std.specs.List.{list_all};
 ghost use Rattle.std.specs.Option.{option_map};
-ghost use Rattle.scmi_decode.specs.Dump.{Adds, bytes_of, digits_of, fitting, is_number, number_bytes, has_mark, item_bytes, items_bytes, line_bytes};
+ghost use Rattle.hex.specs.Hex.{is_hex_digit};
+ghost use Rattle.scmi_decode.specs.Dump.{Adds, both_bytes, bytes_of, digits_of, fitting, is_number, number_bytes, has_mark, item_bytes, items_bytes, line_bytes};
 
 use crate::number::pair_byte;
 use crate::row::ROW_BYTES;
@@ -12,13 +14,14 @@ use std::alloc::{AllocError, Global};
 /// An item of at most this many digits takes no memory of its own (own).
 const SHORT_DIGITS: usize = 64;
 
-/// The bytes of a line, `None` if an item of it is of another form, or they are more than a row has.
-/// An item is bytes of two hexadecimal digits each; or a number, its lowest byte first: eight digits,
-/// or `0x` and digits (own).
-pub fn line_bytes(line: &[u8]) -> Option<ArrayVec<u8, ROW_BYTES>>
-    ensures { option_map (λ bytes. bytes.items) result ≡ fitting [] (line_bytes line.now) }
+/// The bytes of a row and those of a line behind them, `None` if an item of the line is of another
+/// form, or they are more than a row has. An item is bytes of two hexadecimal digits each; or a number,
+/// its lowest byte first: eight digits, or `0x` and digits (own).
+pub fn line_bytes(row: ArrayVec<u8, ROW_BYTES>, line: &[u8]) -> Option<ArrayVec<u8, ROW_BYTES>>
+    ensures { option_map (λ bytes. bytes.items) result ≡
+        fitting [] (both_bytes (Some row.items) (line_bytes line.now)) }
 {
-    let mut all = ArrayVec::new();
+    let mut all = row;
     let mut rest = line;
     'items: loop {
         let (item, behind) = rest.split_at(item_length(rest));
@@ -54,26 +57,48 @@ fn add_number(row: &mut ArrayVec<u8, ROW_BYTES>, digits: &[u8]) -> bool
     match digits.len() {
         2 => add_found(row, pair_of(digits)),
         8 => add_found(row, word_of(digits)),
-        _ => add_other(row, digits, true),
+        _ => add_other(row, digits),
     }
 }
 
 /// Adds the bytes of digits, two for each.
-fn add_bytes(row: &mut ArrayVec<u8, ROW_BYTES>, digits: &[u8]) -> bool
+pub(crate) fn add_bytes(row: &mut ArrayVec<u8, ROW_BYTES>, digits: &[u8]) -> bool
     ensures { Adds (fitting row.old.items (bytes_of digits.now)) result row.old.items
         row.new.items }
 {
-    match digits.len() {
-        0 => add_found(row, Some([])),
-        2 => add_found(row, pair_of(digits)),
-        4 => add_found(row, pairs_of(digits)),
-        _ => add_other(row, digits, false),
+    let full = row.is_full();
+    let [high, low, rest @ ..] = digits else {
+        return digits.is_empty();
+    };
+    let Some(byte) = pair_byte(*high, *low) else {
+        return false;
+    };
+    if full {
+        return false;
+    }
+    row.push(byte);
+    add_bytes(row, rest)
+}
+
+/// Adds the bytes of an item of two, four or eight digits, if they have room, or else nothing.
+pub(crate) fn add_digits(row: &mut ArrayVec<u8, ROW_BYTES>, item: &[u8]) -> bool
+    ensures some { result ≡ true →
+        Adds (fitting row.old.items (item_bytes item.now)) true row.old.items row.new.items }
+    ensures digits { result ≡ true → list_all is_hex_digit item.now ≡ true }
+    ensures none { result ≡ false → row.new ≡ row.old }
+{
+    match item.len() {
+        2 => add_found(row, pair_of(item)),
+        4 => add_found(row, pairs_of(item)),
+        8 => add_found(row, word_of(item)),
+        _ => false,
     }
 }
 
 /// Adds bytes, if they were found and have room.
 fn add_found<const N: usize>(row: &mut ArrayVec<u8, ROW_BYTES>, found: Option<[u8; N]>) -> bool
-    ensures { Adds (fitting row.old.items found.entry) result row.old.items row.new.items }
+    ensures bytes { Adds (fitting row.old.items found.entry) result row.old.items row.new.items }
+    ensures none { result ≡ false → row.new ≡ row.old }
 {
     match found {
         Some(bytes) => row.try_extend_from_slice(&bytes).is_ok(),
@@ -115,12 +140,9 @@ fn word_of(digits: &[u8]) -> Option<[u8; 4]>
     Some([lowest, lower, higher, highest])
 }
 
-/// Adds the bytes of digits of any number, the lowest first if they are a number's.
-fn add_other(row: &mut ArrayVec<u8, ROW_BYTES>, digits: &[u8], is_number: bool) -> bool
-    ensures bytes { is_number ≡ false →
-        Adds (fitting row.old.items (bytes_of digits.now)) result row.old.items row.new.items }
-    ensures number { is_number ≡ true →
-        Adds (fitting row.old.items (number_bytes digits.now)) result row.old.items
+/// Adds the bytes of a number of any length, the lowest first.
+fn add_other(row: &mut ArrayVec<u8, ROW_BYTES>, digits: &[u8]) -> bool
+    ensures { Adds (fitting row.old.items (number_bytes digits.now)) result row.old.items
         row.new.items }
 {
     if digits.len() > 2 * ROW_BYTES {
@@ -131,9 +153,7 @@ fn add_other(row: &mut ArrayVec<u8, ROW_BYTES>, digits: &[u8], is_number: bool) 
     if !decode_digits(digits, found) {
         return false;
     }
-    if is_number {
-        found.reverse();
-    }
+    found.reverse();
     row.try_extend_from_slice(found).is_ok()
 }
 

@@ -26,6 +26,7 @@ mod parts;
 mod reading;
 mod readings;
 mod row;
+mod row_bytes;
 mod scan;
 mod step;
 mod traced;

@@ -20,6 +20,7 @@ const DIGIT_VALUES: [u8; 256] = [
 ];
 
 /// The value of a digit of either case, 16 for what is no hexadecimal digit.
+#[inline(always)]
 fn digit_value(byte: u8) -> u64
     ensures { result ≡ digit_value byte }
 {
@@ -27,6 +28,7 @@ fn digit_value(byte: u8) -> u64
 }
 
 /// The byte of two hexadecimal digits.
+#[inline(always)]
 pub(crate) fn pair_byte(high: u8, low: u8) -> Option<u8>
     ensures { result ≡ pair_byte high low }
 {

@@ -1,17 +1,17 @@
 //! The parts of a row.
 ghost use Rattle.std.specs.Prelude.{◌≡◌};
-ghost use Rattle.scmi_decode.specs.Row.{ends_in_colon, without_last, is_symbol, is_pair, is_offset, parts_of, marked_parts, before_column, before_bar};
+ghost use Rattle.scmi_decode.specs.Row.{ends_in_colon, without_last, is_symbol, is_pair, is_offset, parts_of, marked_parts, data_of};
 
 use crate::dump::has_mark;
 use crate::form::Form;
 use crate::scan::{after_gap, bar_length, column_length, item_and_rest};
 
-/// The form of a row, the digits of its address, and the place of its bytes.
+/// The form of a row, the digits of its address, and the text behind it: its bytes and the column.
 #[derive(Drop)]
 pub(crate) struct Parts<'a> {
     pub(crate) form: Form,
     pub(crate) digits: &'a [u8],
-    pub(crate) bytes: &'a [u8],
+    pub(crate) text: &'a [u8],
 }
 
 /// The parts of a line as a row; of a line that begins with no address all of it is data (own).
@@ -19,7 +19,7 @@ pub(crate) struct Parts<'a> {
 pub(crate) fn parts_of(line: &[u8]) -> Parts<'_>
     ensures form { result.form ≡ (parts_of line.now).form }
     ensures digits { result.digits.now ≡ (parts_of line.now).digits }
-    ensures bytes { result.bytes.now ≡ (parts_of line.now).bytes }
+    ensures bytes { data_of result.form result.text.now ≡ (parts_of line.now).bytes }
 {
     let (first, behind) = item_and_rest(line);
     if ends_in_colon(first) {
@@ -36,13 +36,13 @@ pub(crate) fn parts_of(line: &[u8]) -> Parts<'_>
         return Parts {
             form: Form::Offset,
             digits: first,
-            bytes: before_bar(behind),
+            text: behind,
         };
     }
     Parts {
         form: Form::Plain,
         digits: &[],
-        bytes: line,
+        text: line,
     }
 }
 
@@ -51,28 +51,26 @@ pub(crate) fn parts_of(line: &[u8]) -> Parts<'_>
 fn marked_parts<'a>(digits: &'a [u8], behind: &'a [u8]) -> Parts<'a>
     ensures form { result.form ≡ (marked_parts digits.now behind.now).form }
     ensures digits { result.digits.now ≡ (marked_parts digits.now behind.now).digits }
-    ensures bytes { result.bytes.now ≡ (marked_parts digits.now behind.now).bytes }
+    ensures bytes { data_of result.form result.text.now ≡
+        (marked_parts digits.now behind.now).bytes }
 {
     Parts {
         form: Form::Marked,
         digits,
-        bytes: before_column(behind),
+        text: after_gap(behind),
     }
 }
 
-/// What comes before two spaces, apart from the gap at the beginning.
-fn before_column(behind: &[u8]) -> &[u8]
-    ensures { result.now ≡ before_column behind.now }
+/// What comes before the column of text of a row of this form: it is behind two spaces, or behind `|`
+/// or `>`.
+pub(crate) fn data_of(form: Form, text: &[u8]) -> &[u8]
+    ensures { result.now ≡ data_of form text.now }
 {
-    let data = after_gap(behind);
-    &data[..column_length(data)]
-}
-
-/// What comes before `|` or `>`.
-fn before_bar(behind: &[u8]) -> &[u8]
-    ensures { result.now ≡ before_bar behind.now }
-{
-    &behind[..bar_length(behind)]
+    match form {
+        Form::Plain => text,
+        Form::Marked => &text[..column_length(text)],
+        Form::Offset => &text[..bar_length(text)],
+    }
 }
 
 /// Whether an item has a colon as its last byte.

@@ -5,7 +5,7 @@ ghost use Rattle.scmi_decode.specs.Reading.{alone_reading, first_full, is_wide, 
 use crate::dump::is_number;
 use crate::form::Form;
 use crate::message_line::{behind_event, behind_got};
-use crate::parts::parts_of;
+use crate::parts::{data_of, parts_of};
 use crate::scan::first_item;
 
 /// How a dump is read, or a line that reports a message.
@@ -73,7 +73,8 @@ pub(crate) fn row_reading(line: &[u8]) -> Reading
     ensures { result ≡ row_reading line.now }
 {
     let parts = parts_of(line);
-    rows_reading(parts.form, is_wide(first_item(parts.bytes)))
+    let data = data_of(parts.form, parts.text);
+    rows_reading(parts.form, is_wide(first_item(data)))
 }
 
 /// How rows of a form are read, whose items are wide or not.

@@ -1,11 +1,12 @@
 //! A row of a dump.
-ghost use Rattle.std.specs.Prelude.{◌≡◌, IfOk};
-ghost use Rattle.scmi_decode.specs.Row.{address_of, base_of, without_mark, parts_row, row_of, row_with};
+ghost use Rattle.std.specs.Prelude.{◌≡◌, Some, IfOk, IfSome};
+ghost use Rattle.scmi_decode.specs.Row.{address_of, base_of, data_of, without_mark, parts_row, row_of, row_with};
 
-use crate::dump::{has_mark, line_bytes};
+use crate::dump::{add_bytes, has_mark};
 use crate::form::Form;
 use crate::number::number_from;
 use crate::parts::parts_of;
+use crate::row_bytes::row_bytes;
 use arrayvec::ArrayVec;
 use std::marker::Model;
 
@@ -59,17 +60,37 @@ pub(crate) fn row_of(line: &[u8]) -> Option<Row>
     if line.len() > ROW_LINE_BYTES {
         return None;
     }
-    let parts = parts_of(line);
-    parts_row(parts.form, parts.digits, parts.bytes)
+    match digits_row(line) {
+        Some(row) => Some(row),
+        None => {
+            let parts = parts_of(line);
+            parts_row(parts.form, parts.digits, parts.text)
+        }
+    }
 }
 
-/// The row of a form, the digits of an address, and the text that has its bytes.
+/// The row of a line that is digits alone, as `xxd -p` prints them; `None` of any other line, and of
+/// eight digits, which are a number.
+fn digits_row(line: &[u8]) -> Option<Row>
+    ensures { IfSome result (λ row. row_of line.now ≡ Some row) }
+{
+    if line.len() % 2 != 0 || line.len() > 2 * ROW_BYTES || line.len() == 8 {
+        return None;
+    }
+    let mut bytes = ArrayVec::new();
+    if !add_bytes(&mut bytes, line) {
+        return None;
+    }
+    row_with(Form::Plain, 0, bytes)
+}
+
+/// The row of a form, the digits of an address, and the text behind it.
 #[tactic(auto, unfolding(crate::specs::Row::parts_row))]
-fn parts_row(form: Form, digits: &[u8], bytes: &[u8]) -> Option<Row>
-    ensures { result ≡ parts_row form digits.now bytes.now }
+fn parts_row(form: Form, digits: &[u8], text: &[u8]) -> Option<Row>
+    ensures { result ≡ parts_row form digits.now (data_of form text.now) }
 {
     let address = address_of(form, digits)?;
-    let bytes = line_bytes(bytes)?;
+    let bytes = row_bytes(form, text)?;
     row_with(form, address, bytes)
 }
 

@@ -3,13 +3,13 @@ use Rattle.std.specs.Prelude.{ℕ, List, [], Option, Some, None}
 use Rattle.scmi_codec.specs.Command.{command_header, command_words}
 use Rattle.scmi_codec.specs.Listing.{Said, listed_row}
 use Rattle.scmi_codec.specs.declared.command.Command.{Command}
-use Rattle.scmi_describe.specs.Parts.{describes_agent, fields_by}
+use Rattle.scmi_describe.specs.Parts.{fields_by}
 use Rattle.scmi_describe.specs.declared.field.Field.{Field}
 
 -- the fields of a command's payload words by the row of its message
 abbrev pub asked_fields : Option Said → List ℕ → List Field
 asked_fields None words = []
-asked_fields (Some row) words = fields_by (describes_agent row) row.asks words
+asked_fields (Some row) words = fields_by row.asks words
 
 -- the fields of a command
 abbrev pub command_fields : Command → List Field

@@ -8,7 +8,7 @@ use Rattle.scmi_codec.specs.Status.{status_of}
 use Rattle.scmi_codec.specs.declared.message.Message.{Message}
 use Rattle.scmi_codec.specs.declared.status.Status.{Status}
 use Rattle.scmi_codec.specs.declared.status.Status.TheVariants.{Success, NotSupported, ProtocolError}
-use Rattle.scmi_describe.specs.Parts.{describes_agent, fields_by, is_list}
+use Rattle.scmi_describe.specs.Parts.{fields_by, is_list}
 use Rattle.scmi_describe.specs.declared.field.Field.{Field}
 use Rattle.scmi_describe.specs.declared.field.Field.TheVariants as field
 
@@ -21,7 +21,7 @@ abbrev pub given_fields : Option Said → List ℕ → Result FieldList Status
 given_fields None words = Err NotSupported
 given_fields (Some row) words =
     if list_any is_list row.gives then Err NotSupported
-    else if length words == words_of row.gives then Ok (record { items = fields_by (describes_agent row) row.gives words })
+    else if length words == words_of row.gives then Ok (record { items = fields_by row.gives words })
     else Err ProtocolError
 
 -- the fields of a successful reply after its status, by protocol and message id
@@ -67,7 +67,7 @@ response_status m = payload_status m.header m.payload.items
 -- the fields of a delayed response's words by the row of its message; none if it has another number of words
 abbrev pub later_fields : Option Said → List ℕ → List Field
 later_fields (Some row) (status ∷ words) =
-    if length words == words_of row.later then fields_by (describes_agent row) row.later words else []
+    if length words == words_of row.later then fields_by row.later words else []
 later_fields _ _ = []
 
 -- the fields of a delayed response after its status

@@ -3,7 +3,7 @@ ghost use Rattle.std.specs.Prelude.{◌≡◌};
 ghost use Rattle.scmi_describe.specs.Commands.{command_fields};
 
 use crate::field::{Fields, fields_of};
-use crate::parts::{describes_agent, fields_by, row_of};
+use crate::parts::{fields_by, row_of};
 use scmi_codec::Command;
 
 /// The fields of a command, in the order of its payload words.
@@ -14,7 +14,7 @@ pub fn command_fields(command: &Command) -> Fields
     let message = command.pack(0);
     let header = message.header;
     match row_of(header.protocol, header.id) {
-        Some(row) => fields_by(describes_agent(&row), row.asks, message.payload.as_slice()),
+        Some(row) => fields_by(row.asks, message.payload.as_slice()),
         None => fields_of(&[]),
     }
 }

@@ -3,7 +3,7 @@ ghost use Rattle.std.specs.Prelude.{◌≡◌, ◌≤◌, IfSome, drop, length, 
 ghost use Rattle.std.specs.List.{list_any};
 ghost use Rattle.std.specs.Option.{option_map};
 ghost use Rattle.scmi_codec.specs.Listing.{said, listed_row, size_of, words_of};
-ghost use Rattle.scmi_describe.specs.Parts.{agent_field, describes_agent, field_of, fields_by, is_agent, is_list, name_field, statistics_field};
+ghost use Rattle.scmi_describe.specs.Parts.{field_of, fields_by, is_list, name_field, statistics_field};
 ghost use Rattle.scmi_describe.specs.declared.field.TheConstants.{FIELDS};
 
 use crate::field::{Field, Fields};
@@ -18,20 +18,6 @@ pub(crate) fn row_of(protocol: u8, id: u8) -> Option<HeldRow>
     ensures later { IfSome result (λ r. length r.later.now ≤ FIELDS) }
 {
     listed_row(protocol, u32::from(id))
-}
-
-/// Whether the reply to a message describes an agent, so that 0xFFFFFFFF is the caller there and in
-/// what asks for it.
-pub(crate) fn describes_agent(row: &HeldRow) -> bool
-    ensures { result ≡ describes_agent (said row.now) }
-{
-    row.gives.iter().any(|part| is_agent(*part))
-}
-
-fn is_agent(part: Part) -> bool
-    ensures { result ≡ is_agent part }
-{
-    matches!(part, Part::Agent)
 }
 
 /// Whether one of these parts is a list, which has no field.
@@ -72,15 +58,14 @@ fn size_of(part: Part) -> usize
     }
 }
 
-/// The fields of parts in their order, from payload words of a message that describes an agent or
-/// does not.
-pub(crate) fn fields_by(describes: bool, parts: &[Part], mut words: &[u32]) -> Fields
+/// The fields of parts in their order, each from the words after those of the parts before it.
+pub(crate) fn fields_by(parts: &[Part], mut words: &[u32]) -> Fields
     requires { length parts.now ≤ FIELDS }
-    ensures { result.items ≡ fields_by describes parts.now words.entry.now }
+    ensures { result.items ≡ fields_by parts.now words.entry.now }
 {
     let mut fields = ArrayVec::new();
     'parts: for part in parts {
-        if let Some(field) = field_of(describes, *part, words) {
+        if let Some(field) = field_of(*part, words) {
             let _ = fields.try_push(field);
         }
         words = behind(words, size_of(*part));
@@ -100,8 +85,8 @@ fn behind(words: &[u32], count: usize) -> &[u32]
 }
 
 /// The field of a part, whose words are the first ones; `None` for a list.
-fn field_of(describes: bool, part: Part, words: &[u32]) -> Option<Field>
-    ensures { result ≡ field_of describes part words.now }
+fn field_of(part: Part, words: &[u32]) -> Option<Field>
+    ensures { result ≡ field_of part words.now }
 {
     let word = word_at(words, 0);
     Some(match part {
@@ -112,7 +97,8 @@ fn field_of(describes: bool, part: Part, words: &[u32]) -> Option<Field>
         Part::Name => name_field(words),
         Part::Implementation => Field::Implementation(word),
         Part::Skip => Field::Skip(word),
-        Part::Agent => agent_field(describes, word),
+        Part::Agent => Field::Agent(word),
+        Part::Subject => Field::Subject(word),
         Part::Device => Field::Device(word),
         Part::Protocol => Field::Protocol(word),
         Part::PermitFlags => Field::PermitFlags(word),
@@ -132,17 +118,6 @@ fn field_of(describes: bool, part: Part, words: &[u32]) -> Option<Field>
         Part::Rate => Field::Rate(rate_of(word, word_at(words, 1))),
         Part::Protocols | Part::Rates => return None,
     })
-}
-
-/// An agent of a message that describes one, or whose permissions or settings a message changes.
-fn agent_field(describes: bool, agent: u32) -> Field
-    ensures { result ≡ agent_field describes agent }
-{
-    if describes {
-        Field::Agent(agent)
-    } else {
-        Field::Subject(agent)
-    }
 }
 
 /// The four words of a name.

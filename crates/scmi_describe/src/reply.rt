@@ -3,7 +3,7 @@ ghost use Rattle.std.specs.Prelude.{◌≡◌};
 ghost use Rattle.scmi_describe.specs.Replies.{response_status, has_reply_form, has_protocols, has_rates, reply_fields, delayed_fields, notification_fields};
 
 use crate::field::{Field, Fields, fields_of};
-use crate::parts::{describes_agent, fields_by, has_list, row_of, words_of};
+use crate::parts::{fields_by, has_list, row_of, words_of};
 use scmi_codec::{BASE_PROTOCOL, CLOCK_PROTOCOL, Message, POWER_PROTOCOL, Status};
 
 /// The status of a message that has the form of a reply: its first word is a status, and what follows
@@ -78,7 +78,7 @@ pub fn reply_fields(protocol: u8, id: u8, words: &[u32]) -> Result<Fields, Statu
     if words.len() != words_of(row.gives) {
         return Err(Status::ProtocolError);
     }
-    Ok(fields_by(describes_agent(&row), row.gives, words))
+    Ok(fields_by(row.gives, words))
 }
 
 /// The fields of a delayed response after its status; none if it has another form.
@@ -90,9 +90,7 @@ pub fn delayed_fields(message: &Message) -> Fields
         return fields_of(&[]);
     };
     match message.payload.as_slice() {
-        [_, words @ ..] if words.len() == words_of(row.later) => {
-            fields_by(describes_agent(&row), row.later, words)
-        }
+        [_, words @ ..] if words.len() == words_of(row.later) => fields_by(row.later, words),
         _ => fields_of(&[]),
     }
 }

@@ -1,5 +1,5 @@
 -- What is added after an entry: nothing if it is what the definitions give.
-use Rattle.std.proofs.Common.{◌≡◌, ◌≢◌, ℕ, zero, suc, ◌<◌, ◌==◌, ◌&&◌, true, List, [], ◌∷◌, ◌++◌, slice_get, Some, None, refl, sym, ap, ◌∙◌, arith, if◌then◌else◌}
+use Rattle.std.proofs.Common.{◌≡◌, ◌≢◌, ℕ, zero, suc, ◌+◌, ◌<◌, ◌≤◌, ◌==◌, ◌&&◌, true, List, [], ◌∷◌, ◌++◌, length, slice_get, Some, None, refl, sym, ap, ◌∙◌, arith, if◌then◌else◌}
 use Rattle.std.specs.Prelude.{Result, Ok, Err, OnOk}
 use Rattle.std.proofs.lemmas.List.{append_assoc, append-nil}
 use Rattle.scmi_plan.specs.Board.{Board}
@@ -48,12 +48,12 @@ withdrawn board h a m p one is none =
     ap (set_withdrawn board h a m) one ∙ ap (λ b. if b then where_nothing_waits (outbox board a h) events else []) is
     ∙ ap (λ ms. where_nothing_waits ms events) (nothing-first (outbox board a h) none)
 
-pub withdrawn-taken : (board : Board) (h : List Event) (a : ℕ) (m : Message) (p : PendingSet) → pending_sets board (deeds board h) ≡ p ∷ []
-    → ((p.agent == a && is_same_header p.header m.header) && is_agent board a) ≡ true → slice_get (outbox board a h) 0 ≡ None
-    → (h ++ AdvanceFailed ∷ []) ++ taking a (outbox board a (h ++ AdvanceFailed ∷ [])) ≡ h ++ set_withdrawn board h a m (pending_sets board (deeds board h))
-withdrawn-taken board h a m p one is none =
-    append_assoc h (AdvanceFailed ∷ []) (taking a (outbox board a (h ++ AdvanceFailed ∷ [])))
-    ∙ ap (λ es. h ++ es) (sym (withdrawn board h a m p one is none))
+-- the end of a set as failed, and later events: the history, and the room for the later ones
+pub ended-then : (h k later events : List Event) → k ≡ h ++ AdvanceFailed ∷ [] → events ≡ AdvanceFailed ∷ later → k ++ later ≡ h ++ events
+ended-then h k later events ended are = ap (λ l. l ++ later) ended ∙ append_assoc h (AdvanceFailed ∷ []) later ∙ ap (λ es. h ++ es) (sym are)
+
+pub ended-room : (before after : ℕ) (later events : List Event) → events ≡ AdvanceFailed ∷ later → before ≤ after + 1 → length events ≤ before → length later ≤ after
+ended-room before after later events are room fits = let count : length events ≡ suc (length later) = ap length are in omega (arith, count, room, fits)
 
 -- what a call left on success, and what it means
 pub on-ok : {A E : Type 0} (r : Result A E) (P Q : Type 0) → (P → Q) → OnOk r P → OnOk r Q

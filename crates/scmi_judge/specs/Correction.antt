@@ -38,7 +38,7 @@ sets_value (Ok (Clock (clock.SetRate flags c rate))) = true
 sets_value (Ok (Clock (clock.Config c attributes))) = true
 sets_value _ = false
 
--- the set of the value that a command read, by the words of the reply
+-- the set of the value that a command read, from the words of the reply
 abbrev pub value_shown : Result codec.Command Status → List ℕ → Option codec.Command
 value_shown (Ok (Power (power.Get domain))) (status ∷ state ∷ []) = Some (Power (power.Set 0 domain state))
 value_shown (Ok (Clock (clock.GetRate c))) (status ∷ low ∷ high ∷ []) = Some (Clock (clock.SetRate 0 c (rate_of low high)))
@@ -74,7 +74,7 @@ abbrev pub is_notified_of : Board → List Event → Option Effect → Bool
 is_notified_of board h (Some (effect.State d state)) = has_subscriber board d h
 is_notified_of board h _ = false
 
--- a set by an agent that may, if there is one and no agent is notified of it
+-- a set by an agent that may make it, if there is one and no agent is notified of it
 abbrev pub set_by : Board → List Event → Message → Option ℕ → List Event
 set_by board h m None = []
 set_by board h m (Some b) = if is_notified_of board h (effect_after board h (Command b (Good m))) then [] else Command b (Good m) ∷ []
@@ -84,14 +84,14 @@ abbrev pub value_given : Board → List Event → Option Message → List Event
 value_given board h None = []
 value_given board h (Some m) = set_by board h m (last_setter board (Good m) h)
 
--- the end of the only pending set as failed, and the taking of the response to it, if it is the set of this command of agent a and no message waits for the agent
+-- the only pending set ends as failed, and agent a takes the response to it, if it is the set of this command of agent a and no message waits for the agent
 abbrev pub set_withdrawn : Board → List Event → ℕ → Message → List PendingSet → List Event
 set_withdrawn board h a m (p ∷ []) =
     if (p.agent == a && is_same_header p.header m.header) && is_agent board a
     then where_nothing_waits (outbox board a h) (AdvanceFailed ∷ taking a (outbox board a (h ++ AdvanceFailed ∷ []))) else []
 set_withdrawn board h a m _ = []
 
--- after a reply that was seen where another was due: the value that a success shows is given, and a set that was to succeed is withdrawn
+-- after a reply that was seen when another answer was due: the value that a success shows is given, and a set that was to succeed is withdrawn
 abbrev pub reply_corrected : Board → List Event → ℕ → Message → Answer → Answer → List Event
 reply_corrected board h a m (Reply seen) due =
     if has_succeeded (Reply seen) then value_given board h (set_shown m seen)

@@ -38,7 +38,7 @@ pub record IsHistoryOf (board : Board) (entries : List Entry) (h : List Event) :
   pub answers : (a : ℕ) → answers_to board a h ≡ filter_map (answer_shown a) entries
   pub messages : (a : ℕ) → delivered_messages board a h ≡ filter_map (message_shown a) entries
 
--- after a history these events are a command, and the answer is the one at its place
+-- after a history these events are a command, and the answer is the one that it gets there
 pub record IsExecuted (board : Board) (h : List Event) (a : ℕ) (frame : Frame) (answer : Answer) (events : List Event) : Type 0 where
   pub are : events ≡ Command a frame ∷ []
   pub due : answer ≡ answer_to board a frame h
@@ -53,7 +53,7 @@ pub record IsFailed (a : ℕ) (frame : Frame) (answer : Answer) (events : List E
 abbrev pub first_endings : Board → ℕ → Message → List Event → ℕ → List Event
 first_endings board a m h count = map (ending_of a m) (take count (pending_sets board (deeds board h)))
 
--- after a history these events are the ends of the first pending sets, before each of which no message waited for agent a, and then its taking of the first message that waits
+-- after a history these events are the ends of the first pending sets, before each of which no message waited for agent a, and then agent a takes the first message that waits
 pub record IsTaken (board : Board) (h : List Event) (a : ℕ) (message : Message) (events : List Event) : Type 0 where
   pub count : ℕ
   pub are : events ≡ first_endings board a message h count ++ Sent a ∷ []

@@ -1,4 +1,5 @@
 pub mod Correction
+pub mod Kept
 pub mod Law
 pub mod Record
 pub mod Same

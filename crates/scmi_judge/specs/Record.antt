@@ -55,7 +55,7 @@ endings_shown board a m h = endings_of board a m (pending_sets board (deeds boar
 abbrev pub shown_to : Board → ℕ → Message → List Event → List Event
 shown_to board a m h = h ++ endings_shown board a m h
 
--- an agent's taking of a message, if one waits
+-- agent a takes a message, if one waits
 abbrev pub taking : ℕ → List Message → List Event
 taking a [] = []
 taking a (m ∷ ms) = Sent a ∷ []
@@ -84,14 +84,14 @@ events_of board h (Answered a frame answer) = if is_agent board a then command_s
 events_of board h (Delivered a message) =
     if is_agent board a then endings_shown board a message h ++ taking a (outbox board a (shown_to board a message h)) else []
 
--- an answer is one that the definitions give to a frame of agent a after a history: the one of the protocol, or, if it
--- is to change the hardware, the one that it gets if the hardware refuses
+-- an answer is one that the definitions give to a frame of agent a after a history: the one of the protocol, or, if
+-- the frame is to change the hardware, the one that it gets if the hardware refuses
 abbrev pub IsAnswerTo : Board → ℕ → Frame → Answer → List Event → Type 0
 IsAnswerTo board a frame answer h =
     (answer ≡ answer_to board a frame h) ⊎ ((effect_after board h (Command a frame) ≢ None) × (answer ≡ failed_answer frame))
 
--- an entry is what the definitions give after a history: the answer is one to the frame, and the
--- message is the next to its agent
+-- an entry is what the definitions give after a history: its agent is one of the board, and the answer
+-- is one that they give to the frame, or the message is the next one for the agent
 abbrev pub IsShown : Board → List Event → Entry → Type 0
 IsShown board h (Answered a frame answer) = IsAgent (length board.agents) a × IsAnswerTo board a frame answer h
 IsShown board h (Delivered a message) =

@@ -14,8 +14,8 @@ use Rattle.scmi_judge.specs.declared.entry.Entry.TheVariants.{Answered, Delivere
 use Rattle.scmi_judge.specs.declared.verdict.Verdict.{Verdict}
 use Rattle.scmi_judge.specs.declared.verdict.Verdict.TheVariants as verdict
 
--- the answer that is due to a frame of agent a after a history, if a record shows this one: that of a refusal of the
--- hardware if the frame was to change it and the record shows that, or else the one of the protocol
+-- the answer that is due to a frame of agent a after a history, if a record shows this one: the one to a
+-- refusal of the hardware, if the frame was to change that and the record shows this answer, or else the one of the protocol
 abbrev pub due_answer : Board → ℕ → Frame → Answer → List Event → Answer
 due_answer board a frame answer h =
     if is_to_change board a frame h && is_same_answer (failed_answer frame) answer then failed_answer frame else answer_to board a frame h

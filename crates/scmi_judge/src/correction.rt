@@ -3,9 +3,9 @@ ghost use Rattle.std.specs.Prelude.{◌≡◌, ◌≤◌, ◌++◌, length, IfSo
 ghost use Rattle.scmi_plan.specs.Agent.{IsAgent};
 ghost use Rattle.scmi_core.specs.Effect.{effect_after};
 ghost use Rattle.scmi_core.specs.History.{deeds, outbox};
-ghost use Rattle.scmi_core.specs.Legal.{IsLegal};
 ghost use Rattle.scmi_core.specs.Pending.{pending_sets};
 ghost use Rattle.scmi_judge.specs.Correction.{corrections, has_subscriber, is_notified, is_notified_of, last_setter, reply_corrected, set_withdrawn, value_given};
+ghost use Rattle.scmi_judge.specs.Kept.{GoesOnLegally, IsOutOfMemory};
 ghost use Rattle.scmi_judge.specs.Record.{taking};
 ghost use Rattle.scmi_core.specs.declared.event.Event.TheVariants.{Command};
 
@@ -18,18 +18,16 @@ use crate::verdict::Verdict;
 use scmi_codec::{Answer, Frame, Message};
 use scmi_core::{Core, CoreError, Effect};
 
-/// Brings a controller to what an entry with this verdict shows, which it has judged.
+/// Brings a controller, which has judged an entry with this verdict, to what the entry shows.
 #[tactic(auto, unfolding(crate::specs::Correction::corrections))]
 pub(crate) fn correct(core: &mut Core, entry: &Entry, verdict: &Verdict) -> Result<(), CoreError>
     ensures event { OnOk result (core.new.history ≡ core.old.history
         ++ corrections core.old.board core.old.history entry.now verdict.now) }
-    ensures board { core.new.board ≡ core.old.board }
-    ensures legal { IsLegal core.old.board core.old.history
-        → IsLegal core.new.board core.new.history }
-    ensures errors { IfErr result (λ e. e ≡ CoreError.Memory) }
+    ensures goes { GoesOnLegally core.old core.new }
+    ensures errors { IfErr result IsOutOfMemory }
     ensures memory { let added
         = corrections core.old.board core.old.history entry.now verdict.now in
-        length added ≤ 1 → length added ≤ core.old.room → IsOk result }
+        length added ≤ core.old.room → IsOk result }
     ensures full { OnErr result (core.new.room ≡ 0) }
 {
     match (entry, verdict) {
@@ -45,7 +43,7 @@ pub(crate) fn correct(core: &mut Core, entry: &Entry, verdict: &Verdict) -> Resu
     }
 }
 
-/// The same after a reply that was seen where another was due.
+/// The same after a reply that was seen when another answer was due.
 fn correct_reply(
     core: &mut Core,
     agent: u32,
@@ -55,13 +53,11 @@ fn correct_reply(
 ) -> Result<(), CoreError>
     ensures event { OnOk result (core.new.history ≡ core.old.history
         ++ reply_corrected core.old.board core.old.history agent command.now seen.now due.now) }
-    ensures board { core.new.board ≡ core.old.board }
-    ensures legal { IsLegal core.old.board core.old.history
-        → IsLegal core.new.board core.new.history }
-    ensures errors { IfErr result (λ e. e ≡ CoreError.Memory) }
+    ensures goes { GoesOnLegally core.old core.new }
+    ensures errors { IfErr result IsOutOfMemory }
     ensures memory { let added = reply_corrected
         core.old.board core.old.history agent command.now seen.now due.now in
-        length added ≤ 1 → length added ≤ core.old.room → IsOk result }
+        length added ≤ core.old.room → IsOk result }
     ensures full { OnErr result (core.new.room ≡ 0) }
 {
     let Answer::Reply(reply) = seen else {
@@ -76,15 +72,13 @@ fn correct_reply(
     Ok(())
 }
 
-/// Executes a set, if there is one, for an agent that may set the value, if there is one and no
-/// agent is notified of it.
+/// Executes a set, if there is one, for an agent that may make it, if there is one and no agent is
+/// notified of it.
 fn give_value(core: &mut Core, set: Option<Message>) -> Result<(), CoreError>
     ensures event { OnOk result (core.new.history ≡ core.old.history
         ++ value_given core.old.board core.old.history set) }
-    ensures board { core.new.board ≡ core.old.board }
-    ensures legal { IsLegal core.old.board core.old.history
-        → IsLegal core.new.board core.new.history }
-    ensures errors { IfErr result (λ e. e ≡ CoreError.Memory) }
+    ensures goes { GoesOnLegally core.old core.new }
+    ensures errors { IfErr result IsOutOfMemory }
     ensures memory { length (value_given core.old.board core.old.history set) ≤ core.old.room
         → IsOk result }
     ensures full { OnErr result (core.new.room ≡ 0) }
@@ -161,13 +155,11 @@ fn withdraw(core: &mut Core, agent: u32, command: &Message) -> Result<(), CoreEr
     ensures event { OnOk result (core.new.history ≡ core.old.history
         ++ set_withdrawn core.old.board core.old.history agent command.now
         (pending_sets core.old.board (deeds core.old.board core.old.history))) }
-    ensures board { core.new.board ≡ core.old.board }
-    ensures legal { IsLegal core.old.board core.old.history
-        → IsLegal core.new.board core.new.history }
-    ensures errors { IfErr result (λ e. e ≡ CoreError.Memory) }
+    ensures goes { GoesOnLegally core.old core.new }
+    ensures errors { IfErr result IsOutOfMemory }
     ensures memory { let added = set_withdrawn core.old.board core.old.history agent command.now
         (pending_sets core.old.board (deeds core.old.board core.old.history)) in
-        length added ≤ 1 → length added ≤ core.old.room → IsOk result }
+        length added ≤ core.old.room → IsOk result }
     ensures full { OnErr result (core.new.room ≡ 0) }
 {
     let [set] = core.pending_sets() else {
@@ -191,10 +183,8 @@ fn take_first(core: &mut Core, agent: u32) -> Result<(), CoreError>
     requires { IsAgent (length core.old.board.agents) agent }
     ensures event { OnOk result (core.new.history ≡ core.old.history
         ++ taking agent (outbox core.old.board agent core.old.history)) }
-    ensures board { core.new.board ≡ core.old.board }
-    ensures legal { IsLegal core.old.board core.old.history
-        → IsLegal core.new.board core.new.history }
-    ensures errors { IfErr result (λ e. e ≡ CoreError.Memory) }
+    ensures goes { GoesOnLegally core.old core.new }
+    ensures errors { IfErr result IsOutOfMemory }
     ensures memory { length (taking agent (outbox core.old.board agent core.old.history))
         ≤ core.old.room → IsOk result }
     ensures full { OnErr result (core.new.room ≡ 0) }

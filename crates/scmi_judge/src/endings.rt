@@ -2,9 +2,9 @@
 ghost use Rattle.std.specs.Prelude.{◌≡◌, ◌↔◌, ◌++◌, ◌∷◌, [], IfOk, OnOk, OnErr, IfErr, Some, length, slice_get, true, false};
 ghost use Rattle.scmi_plan.specs.Agent.{IsAgent};
 ghost use Rattle.scmi_core.specs.History.{IsIdle, deeds};
-ghost use Rattle.scmi_core.specs.Legal.{IsLegal};
 ghost use Rattle.scmi_core.specs.Pending.{pending_sets};
 ghost use Rattle.scmi_core.specs.declared.pending_set.PendingSet.{PendingSet};
+ghost use Rattle.scmi_judge.specs.Kept.{GoesOnLegally, IsOutOfMemory};
 ghost use Rattle.scmi_judge.specs.Record.{ending_of, endings_shown, is_agent, is_failure_of, shown_to};
 
 use crate::same::is_same_message;
@@ -18,18 +18,16 @@ pub(crate) fn has_agent(core: &Core, agent: u32) -> bool
     agent >= 1 && agent <= core.agents()
 }
 
-/// Ends pending sets, in order, until a message waits for an agent or none is pending. The hardware
-/// refused the change of the one to which this message is the response that says so.
+/// Ends pending sets, in order, until a message waits for an agent or none is pending. The one to
+/// which this message is the response of HARDWARE_ERROR ends as failed; the others complete.
 pub(crate) fn end_for(core: &mut Core, agent: u32, message: &Message) -> Result<(), CoreError>
     requires { IsAgent (length core.old.board.agents) agent }
-    ensures board { core.new.board ≡ core.old.board }
     ensures ok { OnOk result
         (core.new.history ≡ shown_to core.old.board agent message.now core.old.history) }
     ensures done { OnOk result
         (endings_shown core.new.board agent message.now core.new.history ≡ []) }
-    ensures legal { IsLegal core.old.board core.old.history
-        → IsLegal core.new.board core.new.history }
-    ensures errors { IfErr result (λ e. e ≡ CoreError.Memory) }
+    ensures goes { GoesOnLegally core.old core.new }
+    ensures errors { IfErr result IsOutOfMemory }
     ensures err { OnErr result (shown_to core.new.board agent message.now core.new.history
         ≡ shown_to core.old.board agent message.now core.old.history) }
 {
@@ -50,10 +48,8 @@ fn end_first(core: &mut Core, agent: u32, message: &Message) -> Result<bool, Cor
         → slice_get (pending_sets core.old.board (deeds core.old.board core.old.history)) 0 ≡ Some set
         → core.new.history ≡ core.old.history ++ ending_of agent message.now set ∷ []) }
     ensures same { IfOk result (λ did. did ≡ false → core.new ≡ core.old) }
-    ensures board { core.new.board ≡ core.old.board }
-    ensures legal { IsLegal core.old.board core.old.history
-        → IsLegal core.new.board core.new.history }
-    ensures errors { IfErr result (λ e. e ≡ CoreError.Memory) }
+    ensures goes { GoesOnLegally core.old core.new }
+    ensures errors { IfErr result IsOutOfMemory }
     ensures err { OnErr result (core.new ≡ core.old) }
 {
     let [set, ..] = core.pending_sets() else {

@@ -49,12 +49,12 @@ impl Judge {
 
     /// Judges the next entry, and adds what it encodes, also if it differs. A command that was to
     /// change the hardware, and whose answer is no success, is one whose change the hardware
-    /// refused: due is HARDWARE_ERROR if the record shows that, and else SUCCESS. Any other command
+    /// refused: HARDWARE_ERROR is due if the record shows that, or else SUCCESS. Any other command
     /// is executed, and a message that was due is taken, whatever the record shows. For a message,
     /// pending sets end until one waits for its agent, and no more; if none comes, all have ended.
-    /// They complete, but for the one to which the message is the response of HARDWARE_ERROR.
+    /// They complete, except the one to which the message is the response of HARDWARE_ERROR.
     /// `Memory` is the only refusal, of an answer only if there is no room; then no event was added
-    /// but ends of sets that the entry shows, and the same entry can be judged again.
+    /// except ends of sets that the entry shows, and the same entry can be judged again.
     pub fn judge(&mut self, entry: &Entry) -> Result<Verdict, CoreError>
         ensures verdict { IfOk result (λ verdict.
             verdict ≡ verdict_of self.old.board self.old.history entry.now) }
@@ -85,11 +85,11 @@ impl Judge {
     }
 
     /// Goes on from what the entry just judged shows, if it differs by this verdict. A value that a
-    /// reply of success shows, where another answer was due, is given to its domain or clock by an
+    /// reply of success shows, when another answer was due, is given to its domain or clock by an
     /// agent that may set it; if none may, or if an agent is notified of the domain's changes,
     /// nothing is done. A pending set that the record shows as refused is withdrawn, if it is the
-    /// only one and no message waits for its agent. `Memory` is the only refusal, and comes only
-    /// once there is no room: not if at most one event is added, and there is room for it. Then the
+    /// only one and no message waits for its agent. `Memory` is the only refusal. It does not come
+    /// if there is room for each event that is added. If it comes there is no room left, and the
     /// judge is of no further use.
     pub fn correct(&mut self, entry: &Entry, verdict: &Verdict) -> Result<(), CoreError>
         ensures event { OnOk result (self.new.history ≡ self.old.history
@@ -97,9 +97,8 @@ impl Judge {
         ensures board { self.new.board ≡ self.old.board }
         ensures legal { IsLegal self.new.board self.new.history }
         ensures errors { IfErr result (λ e. e ≡ CoreError.Memory) }
-        ensures memory { let added = corrections self.old.board self.old.history entry.now
-            verdict.now in
-            length added ≤ 1 → length added ≤ self.old.room → IsOk result }
+        ensures memory { length (corrections self.old.board self.old.history entry.now verdict.now)
+            ≤ self.old.room → IsOk result }
         ensures full { OnErr result (self.new.room ≡ 0) }
     {
         correction::correct(&mut self.core, entry, verdict)

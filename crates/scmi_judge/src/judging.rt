@@ -1,6 +1,6 @@
 //! The judging of one entry, by a controller of the definitions.
 ghost use Rattle.std.specs.Prelude.{◌≡◌, ◌<◌, ◌++◌, IsOk, IfOk, OnOk, OnErr, IfErr};
-ghost use Rattle.scmi_core.specs.Legal.{IsLegal};
+ghost use Rattle.scmi_judge.specs.Kept.{GoesOnLegally, IsOutOfMemory};
 ghost use Rattle.scmi_judge.specs.Record.{events_of};
 ghost use Rattle.scmi_judge.specs.Verdict.{verdict_of};
 ghost use Rattle.scmi_judge.specs.declared.entry.Entry.TheVariants.{Answered, Delivered};
@@ -23,10 +23,8 @@ pub(crate) fn judge_answer(
         ≡ verdict_of core.old.board core.old.history (Answered agent frame.now answer.now)) }
     ensures event { OnOk result (core.new.history ≡ core.old.history
         ++ events_of core.old.board core.old.history (Answered agent frame.now answer.now)) }
-    ensures board { core.new.board ≡ core.old.board }
-    ensures legal { IsLegal core.old.board core.old.history
-        → IsLegal core.new.board core.new.history }
-    ensures errors { IfErr result (λ e. e ≡ CoreError.Memory) }
+    ensures goes { GoesOnLegally core.old core.new }
+    ensures errors { IfErr result IsOutOfMemory }
     ensures memory { 0 < core.old.room → IsOk result }
     ensures err { OnErr result (core.new ≡ core.old) }
 {
@@ -50,10 +48,8 @@ pub(crate) fn judge_message(
         ≡ verdict_of core.old.board core.old.history (Delivered agent message.now)) }
     ensures event { OnOk result (core.new.history ≡ core.old.history
         ++ events_of core.old.board core.old.history (Delivered agent message.now)) }
-    ensures board { core.new.board ≡ core.old.board }
-    ensures legal { IsLegal core.old.board core.old.history
-        → IsLegal core.new.board core.new.history }
-    ensures errors { IfErr result (λ e. e ≡ CoreError.Memory) }
+    ensures goes { GoesOnLegally core.old core.new }
+    ensures errors { IfErr result IsOutOfMemory }
     ensures again { OnErr result
         (verdict_of core.new.board core.new.history (Delivered agent message.now)
         ≡ verdict_of core.old.board core.old.history (Delivered agent message.now)) }

@@ -15,9 +15,10 @@ use std::alloc::Global;
 /// Judges each entry of a record of a platform of a board, in order. All are the same if and only
 /// if each is what the definitions give after the history that those before it encode, and that
 /// holds if and only if a legal history of the board splits into one piece for each entry: a
-/// command with the answer at its place, a command that failed since the hardware refused its
-/// change, with the answer to that, or the ends of sets that a message shows, and the taking of that
-/// message. After a difference it goes on as by `Judge::correct`. `Memory` is the only refusal.
+/// command with the answer that it gets there, a command that failed because the hardware refused
+/// its change, with the answer to that, or the ends of sets that a message shows, and the taking of
+/// that message. After a difference it goes on as by `Judge::correct`. `Memory` is the only
+/// refusal.
 pub fn judge_record(alloc: Global, plan: Plan, entries: &[Entry]) -> Result<Vec<Verdict>, CoreError>
     ensures verdicts { IfOk result (λ verdicts. verdicts.items ≡ verdicts_of plan entries.now) }
     ensures theorem { IfOk result (λ verdicts.

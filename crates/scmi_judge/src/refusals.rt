@@ -1,7 +1,7 @@
 //! The changes of hardware that a record shows were refused.
 ghost use Rattle.std.specs.Prelude.{◌≡◌, ◌<◌, ◌++◌, length, true, IsOk, IfOk, OnOk, OnErr, IfErr};
 ghost use Rattle.scmi_plan.specs.Agent.{IsAgent};
-ghost use Rattle.scmi_core.specs.Legal.{IsLegal};
+ghost use Rattle.scmi_judge.specs.Kept.{GoesOnLegally, IsOutOfMemory};
 ghost use Rattle.scmi_judge.specs.Record.{events_of, has_succeeded, is_refusal, is_to_change};
 ghost use Rattle.scmi_judge.specs.Verdict.{verdict_of};
 ghost use Rattle.scmi_judge.specs.declared.entry.Entry.TheVariants.{Answered};
@@ -55,10 +55,8 @@ pub(crate) fn judge_refusal(
         ≡ verdict_of core.old.board core.old.history (Answered agent frame.now answer.now)) }
     ensures event { OnOk result (core.new.history ≡ core.old.history
         ++ events_of core.old.board core.old.history (Answered agent frame.now answer.now)) }
-    ensures board { core.new.board ≡ core.old.board }
-    ensures legal { IsLegal core.old.board core.old.history
-        → IsLegal core.new.board core.new.history }
-    ensures errors { IfErr result (λ e. e ≡ CoreError.Memory) }
+    ensures goes { GoesOnLegally core.old core.new }
+    ensures errors { IfErr result IsOutOfMemory }
     ensures memory { 0 < core.old.room → IsOk result }
     ensures err { OnErr result (core.new ≡ core.old) }
 {

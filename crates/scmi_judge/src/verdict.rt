@@ -16,7 +16,7 @@ pub enum Verdict {
     Answer(Answer),
     /// The message that the agent was to get next; the record shows another.
     Message(Message),
-    /// No message was to come: nothing waits for the agent, also once no set is pending.
+    /// No message was to come: none waits for the agent, even once no set is pending.
     NoMessage,
 }
 

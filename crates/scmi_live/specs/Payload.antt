@@ -22,6 +22,7 @@ switched on off item = if bytes_eq item ON.now then Some on else if bytes_eq ite
 -- the word that a name means if a message of a protocol has this part
 abbrev pub word_named : Board → ℕ → Part → List ℕ → Option ℕ
 word_named board protocol part.Agent item = number_from 1 item board.agents
+word_named board protocol part.Subject item = number_from 1 item board.agents
 word_named board protocol part.Domain item = number_from 0 item (map (λ domain. domain.name) board.domains)
 word_named board protocol part.Clock item = number_from 0 item (map (λ clock. clock.name) board.clocks)
 word_named board protocol part.Protocol item = protocol_named item

@@ -63,7 +63,7 @@ fn word_named(board: &RawPlan, protocol: u8, part: Part, item: &[u8]) -> Option<
     ensures { result ≡ word_named (asked_board board.now) protocol part item.now }
 {
     match part {
-        Part::Agent => number_from(1, &board.agents, item),
+        Part::Agent | Part::Subject => number_from(1, &board.agents, item),
         Part::Domain => number_from(0, &board.domains, item),
         Part::Clock => number_from(0, &board.clocks, item),
         Part::Protocol => Some(u32::from(protocol_named(item)?)),

@@ -2,6 +2,7 @@
 use Rattle.std.proofs.Common.{◌≡◌, false, refl}
 use Rattle.scmi_plan.specs.declared.agent_channel.TheConstants.{LEAST_CHANNEL_WORDS, WHOLE_CHANNEL}
 use Rattle.scmi_plan.specs.declared.limits.TheConstants.{AGENTS, DOMAINS, CLOCKS, DEVICES, RATES}
+use Rattle.scmi_plan.specs.declared.mask.TheConstants.{MASK_BITS}
 
 agents : AGENTS ≡ 8
 agents = refl
@@ -23,3 +24,6 @@ channel_words = refl
 
 whole : WHOLE_CHANNEL ≡ record { words = 64; one_way = false }
 whole = refl
+
+mask_bits : MASK_BITS ≡ 32
+mask_bits = refl

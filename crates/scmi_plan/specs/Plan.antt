@@ -46,7 +46,7 @@ pub record IsValid (board : Board) : Type 0 where
   pub channels : length board.channels ≡ AGENTS
   pub valid_channels : All IsChannel board.channels
 
--- a mask for each of so many domains or clocks, which has the devices that hold it
+-- one mask for each of the first `count` domains or clocks: the devices that hold it
 pub record AreMasks (devices : List Device) (named : ℕ → Resource) (count : ℕ) (masks : List ℕ) : Type 0 where
   pub rows : length masks ≡ count
   pub holders : (r : ℕ) → r < count → AreHolders devices (named r) (get_or masks r 0)

@@ -1,5 +1,8 @@
 //! Builds the rows of a valid board. The only error is out of memory.
-ghost use Rattle.std.specs.Prelude.{◌≡◌, map, IfOk, All, string_bytes};
+//!
+//! Each list is built out of line: inlined, the code for names, room and errors would be many times
+//! in an image for firmware.
+ghost use Rattle.std.specs.Prelude.{◌≡◌, ◌∷◌, ◌++◌, [], map, IfOk, OnOk, All, string_bytes};
 ghost use Rattle.scmi_codec.specs.Name.{IsName};
 ghost use Rattle.scmi_plan.specs.RawPlan.{asked_domain, asked_clock};
 
@@ -10,6 +13,7 @@ use crate::raw_plan::{RawClock, RawDomain};
 use scmi_codec::Name;
 use std::alloc::{AllocError, Global};
 
+#[inline(never)]
 pub(crate) fn build_name(text: &str) -> Name
     requires { IsName text.now }
     ensures { result ≡ text.now }
@@ -17,6 +21,7 @@ pub(crate) fn build_name(text: &str) -> Name
     Name::new(text).unwrap()
 }
 
+#[inline(never)]
 pub(crate) fn build_agents(alloc: Global, raw: &[String]) -> Result<Vec<Name>, AllocError>
     requires { All (λ agent. IsName (string_bytes agent)) raw.now }
     ensures { IfOk result (λ agents. agents.items ≡ map string_bytes raw.now) }
@@ -28,6 +33,7 @@ pub(crate) fn build_agents(alloc: Global, raw: &[String]) -> Result<Vec<Name>, A
     Ok(agents)
 }
 
+#[inline(never)]
 pub(crate) fn build_domains(alloc: Global, raw: &[RawDomain]) -> Result<Vec<Domain>, AllocError>
     requires { All (λ domain. IsName (string_bytes domain.name)) raw.now }
     ensures { IfOk result (λ domains. domains.items ≡ map asked_domain raw.now) }
@@ -52,15 +58,26 @@ fn build_domain(raw: &RawDomain) -> Domain
     }
 }
 
+#[inline(never)]
 pub(crate) fn build_clocks(alloc: Global, raw: &[RawClock]) -> Result<Vec<Clock>, AllocError>
     requires { All (λ clock. IsName (string_bytes clock.name)) raw.now }
     ensures { IfOk result (λ clocks. clocks.items ≡ map asked_clock raw.now) }
 {
     let mut clocks = Vec::with_capacity(alloc, raw.len())?;
     for clock in raw {
-        clocks.push(build_clock(clock)?)?;
+        push_clock(&mut clocks, clock)?;
     }
     Ok(clocks)
+}
+
+// The clocks are dropped at one place: here they are only lent.
+#[inline(never)]
+fn push_clock(clocks: &mut Vec<Clock>, raw: &RawClock) -> Result<(), AllocError>
+    requires { IsName (string_bytes raw.now.name) }
+    ensures { OnOk result (clocks.new.items ≡ clocks.old.items ++ asked_clock raw.now ∷ []) }
+{
+    clocks.push(build_clock(raw)?)?;
+    Ok(())
 }
 
 fn build_clock(raw: &RawClock) -> Result<Clock, AllocError>
@@ -75,6 +92,7 @@ fn build_clock(raw: &RawClock) -> Result<Clock, AllocError>
     })
 }
 
+#[inline(never)]
 pub(crate) fn build_devices(alloc: Global, raw: &[Device]) -> Result<Vec<Device>, AllocError>
     ensures { IfOk result (λ devices. devices.items ≡ raw.now) }
 {

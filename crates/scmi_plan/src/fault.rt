@@ -12,6 +12,7 @@ use crate::raw_plan::{RawClock, RawDomain, RawPlan};
 use scmi_codec::Name;
 
 /// The first rule that a board breaks.
+#[inline(never)]
 pub(crate) fn first_fault(raw: &RawPlan) -> Option<PlanError>
     ensures fault { result ≡ first_fault (asked_board raw.now) }
     ensures rule { IfSome result (λ fault. fault ≢ Memory) }
@@ -70,6 +71,8 @@ fn are_clocks_named(clocks: &[RawClock]) -> bool
     clocks.iter().all(|clock| is_name(&clock.name))
 }
 
+// It is called at five places.
+#[inline(never)]
 fn is_name(text: &str) -> bool
     ensures { result ≡ is_name text.now }
 {

@@ -17,13 +17,13 @@ use crate::clock::Clock;
 use crate::device::Device;
 use crate::domain::Domain;
 use crate::fault::first_fault;
-use crate::holders::{clock_holders, domain_holders};
+use crate::holders::{fill_clock_holders, fill_domain_holders};
 use crate::limits::{AGENTS, CLOCKS, DOMAINS};
 use crate::plan_error::PlanError;
 use crate::raw_plan::RawPlan;
 use crate::resource::Resource;
 use scmi_codec::{Name, PAYLOAD_WORDS};
-use std::alloc::{AllocError, Global};
+use std::alloc::Global;
 use std::marker::Model;
 
 /// A board that keeps the limits and rules of the profile. Bit d of a mask of holders is for device d.
@@ -71,14 +71,20 @@ impl Plan {
     {
         match first_fault(raw) {
             Some(fault) => Err(fault),
-            None => Ok(Plan::build(alloc, raw)?),
+            None => Plan::build(alloc, raw),
         }
     }
 
-    fn build(alloc: Global, raw: &RawPlan) -> Result<Plan, AllocError>
+    // The error is that of `check`, so that no plan is copied from one result into another.
+    fn build(alloc: Global, raw: &RawPlan) -> Result<Plan, PlanError>
         requires { IsValid (asked_board raw.now) }
-        ensures { IfOk result (λ plan. plan ≡ asked_board raw.now) }
+        ensures ok { IfOk result (λ plan. plan ≡ asked_board raw.now) }
+        ensures memory { IfErr result (λ e. e ≡ Memory) }
     {
+        let mut domain_holders = [0; DOMAINS];
+        fill_domain_holders(&mut domain_holders, &raw.devices);
+        let mut clock_holders = [0; CLOCKS];
+        fill_clock_holders(&mut clock_holders, &raw.devices);
         Ok(Plan {
             vendor: build_name(&raw.vendor),
             sub_vendor: build_name(&raw.sub_vendor),
@@ -86,11 +92,12 @@ impl Plan {
             trusted: raw.trusted,
             agents: build_agents(alloc, &raw.agents)?,
             domains: build_domains(alloc, &raw.domains)?,
-            clocks: build_clocks(alloc, &raw.clocks)?,
             devices: build_devices(alloc, &raw.devices)?,
+            // Last of those that take memory: no error drops the clocks and their rates.
+            clocks: build_clocks(alloc, &raw.clocks)?,
             channels: [WHOLE_CHANNEL; AGENTS],
-            domain_holders: domain_holders(&raw.devices),
-            clock_holders: clock_holders(&raw.devices),
+            domain_holders,
+            clock_holders,
         })
     }
 

@@ -1,5 +1,5 @@
 -- What loads of the area tell of a message.
-use Rattle.std.proofs.Common.{◌≡◌, ℕ, suc, ◌+◌, ◌*◌, ◌<◌, List, [], ◌∷◌, ◌++◌, length, take, get_or, slice_index, refl, sym, ap, ◌∙◌, subst, arith}
+use Rattle.std.proofs.Common.{◌≡◌, ℕ, suc, ◌+◌, ◌-◌, ◌*◌, ◌/◌, ◌<◌, List, [], ◌∷◌, ◌++◌, length, take, get_or, slice_index, refl, sym, ap, ◌∙◌, subst, arith}
 use Rattle.std.specs.List.{refill}
 use Rattle.std.proofs.Math.ListN.{set}
 use Rattle.std.proofs.lemmas.List.{take_more, take_more_set, length-set}
@@ -10,7 +10,7 @@ use Rattle.scmi_words.specs.declared.view.CallerHalf.{CallerHalf}
 use Rattle.scmi_words.specs.declared.view.CalleeHalf.{CalleeHalf}
 use Rattle.scmi_words.specs.Area.{frame_words}
 use Rattle.scmi_words.specs.View.{TableSeat, CallerBecomes, caller_of, caller_or, CalleeBecomes, callee_of, callee_or, with_callee}
-use Rattle.scmi_words.specs.CallerSteps.{answer_area}
+use Rattle.scmi_words.specs.CallerSteps.{caller_after, answer_area}
 use Rattle.scmi_words.specs.CalleeSteps.{callee_after, frame_area}
 
 pub half_is : (s t : TableSeat) (h : CallerHalf) → CallerBecomes s h t → caller_of t ≡ h
@@ -42,6 +42,18 @@ pub word_at : (t : TableSeat) (h : CallerHalf) (m : Message) (n word i : ℕ) �
     → ((j : ℕ) → word ≡ 2 + j → j < length (answer_area (caller_of t)) → n ≡ slice_index (answer_area (caller_of t)) j) → word ≡ 2 + i → i < 2 + length m.payload.items → n ≡ get_or (frame_words (Good m)) i 0
 word_at t h m n word i is area told at lt = let here : answer_area (caller_of t) ≡ frame_words (Good m) = ap answer_area is ∙ area in
     told i at (subst (λ (xs : List ℕ). i < length xs) (sym here) (omega arith)) ∙ ap (λ (xs : List ℕ). get_or xs i 0) here
+
+-- the loads of the length and of the header of the response that the caller collected
+pub response_after : (s t u : TableSeat) (m : Message) (l w : ℕ) → CallerBecomes s (caller_after (caller_of s) 1) t → CallerBecomes t (caller_after (caller_of t) 1) u → answer_area (caller_of s) ≡ frame_words (Good m)
+    → ((j : ℕ) → 2 ≡ 2 + j → j < length (answer_area (caller_of s)) → l ≡ slice_index (answer_area (caller_of s)) j)
+    → ((j : ℕ) → 3 ≡ 2 + j → j < length (answer_area (caller_of t)) → w ≡ slice_index (answer_area (caller_of t)) j)
+    → (answer_area (caller_of u) ≡ frame_words (Good m)) × (w ≡ header_word m.header) × (l / 4 - 1 ≡ length m.payload.items)
+response_after s t u m l w a b area first second = let h = caller_of s in
+    let one : caller_of t ≡ caller_after h 1 = half_is s t (caller_after h 1) a in
+    let two : caller_of u ≡ caller_after (caller_after h 1) 1 = half_is t u (caller_after (caller_of t) 1) b ∙ ap (λ (z : CallerHalf). caller_after z 1) one in
+    let long : l ≡ 4 + 4 * length m.payload.items = word_at s h m l 2 0 refl area first (omega arith) (omega arith) in
+    let head : w ≡ header_word m.header = word_at t (caller_after h 1) m w 3 1 one area second (omega arith) (omega arith) in
+    (ap answer_area two ∙ area, head, omega arith)
 
 pub callee_is : (s t : TableSeat) (h : CalleeHalf) → CalleeBecomes s h t → callee_of t ≡ h
 callee_is s t h b = ap (λ (m : Rattle.atomic_table.specs.Table.Me (Unit {0}) Rattle.scmi_words.specs.declared.view.View.View). callee_or m.0.callee) b.2

@@ -6,6 +6,7 @@ pub mod View
 pub mod SharedTable
 pub mod CallerSteps
 pub mod CalleeSteps
+pub mod Frames
 pub mod Remembers
 pub mod WordCaller
 pub mod WordCallee

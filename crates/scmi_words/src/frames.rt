@@ -1,8 +1,8 @@
 //! Frames and answers, stored and loaded word by word.
-ghost use Rattle.std.specs.Prelude.{◌≡◌, ℕ, ◌+◌, ◌≤◌, [], length, false, None, Some};
+ghost use Rattle.std.specs.Prelude.{◌≡◌, ◌≢◌, ℕ, ◌+◌, ◌≤◌, [], length, false, None, Some};
 ghost use Rattle.std.specs.List.{last_or};
 ghost use Rattle.scmi_codec.specs.declared.frame.Frame.{Frame};
-ghost use Rattle.scmi_codec.specs.declared.frame.Frame.TheVariants.{Good, Malformed};
+ghost use Rattle.scmi_codec.specs.declared.frame.Frame.TheVariants.{Good};
 ghost use Rattle.scmi_codec.specs.declared.frame.Answer.{Answer};
 ghost use Rattle.scmi_codec.specs.declared.frame.Answer.TheVariants.{Reply, Released, ChannelError};
 ghost use Rattle.scmi_codec.specs.declared.message.Message.{Message};
@@ -13,8 +13,9 @@ ghost use Rattle.scmi_words.specs.Area.{frame_words, IsValid, IsValidAnswer, IsV
 ghost use Rattle.scmi_words.specs.StatusWord.{status_word, answer_mark};
 ghost use Rattle.scmi_words.specs.View.{HasCaller, HasCallee, CallerBecomes, CalleeBecomes, caller_of, callee_of};
 ghost use Rattle.scmi_words.specs.SharedTable.{IsSeatAt};
-ghost use Rattle.scmi_words.specs.CallerSteps.{caller_drafted, caller_after, answer_area};
-ghost use Rattle.scmi_words.specs.CalleeSteps.{callee_drafted, callee_after, frame_area, IsOwing};
+ghost use Rattle.scmi_words.specs.Frames.{HasResponse, HasMessage};
+ghost use Rattle.scmi_words.specs.CallerSteps.{caller_drafted, caller_after};
+ghost use Rattle.scmi_words.specs.CalleeSteps.{callee_drafted, callee_after, IsOwing};
 
 use crate::callee_steps::{load_frame_word, store_answer_word};
 use crate::caller_steps::{load_answer_word, store_frame_word};
@@ -44,30 +45,6 @@ pub fn write_command(table: &SharedTable, seat: &mut TableSeat, header: Header, 
     }
 }
 
-/// Loads the response that the caller collected, into `message`.
-fn read_response(table: &SharedTable, seat: &mut TableSeat, message: &mut Message)
-    ghost posted: { Message }
-    requires table { IsSeatAt table.now seat.old }
-    requires half { HasCaller seat.old × ((caller_of seat.old).state.phase ≡ Idle) ×
-        ((caller_of seat.old).state.draft ≡ []) }
-    requires area { answer_area (caller_of seat.old) ≡ frame_words (Good posted) }
-    requires valid { IsValidMessage posted }
-    ensures value { message.new ≡ posted }
-    ensures view { CallerBecomes seat.old
-        (caller_after (caller_of seat.old) (2 + length posted.payload.items)) seat.new }
-{
-    let length = load_answer_word(table, seat, LENGTH);
-    let header = load_answer_word(table, seat, HEADER);
-    let count = (length / 4 - 1) as usize;
-    message.header = Header::unpack(header);
-    if message.payload.len() != count {
-        set_length(&mut message.payload, count);
-    }
-    for i in 0..count {
-        message.payload[i] = load_answer_word(table, seat, PAYLOAD + i);
-    }
-}
-
 /// Loads the answer that the caller collected, which left the status `free`, into `answer`.
 pub fn read_answer(table: &SharedTable, seat: &mut TableSeat, free: u64, answer: &mut Answer)
     ghost given: { Answer }
@@ -81,64 +58,132 @@ pub fn read_answer(table: &SharedTable, seat: &mut TableSeat, free: u64, answer:
     ensures view { (n : ℕ) × (n + 1 ≡ answer_steps given) ×
         CallerBecomes seat.old (caller_after (caller_of seat.old) n) seat.new }
 {
-    match free {
-        FREE => read_reply(table, seat, answer),
-        CHANNEL_ERROR => set_channel_error(answer),
-        _ => set_released(answer),
+    if free == FREE {
+        read_reply(table, seat, answer);
+    } else {
+        set_no_reply(answer, free);
     }
 }
 
-/// Makes an answer that of a frame that was malformed. Its message is not a local of `read_answer`.
+/// Makes an answer one that is no message, which left the status `free`. What it is made of is not
+/// a local of `read_answer`, nor is the choice one of its steps.
 #[inline(never)]
-fn set_channel_error(answer: &mut Answer)
-    ensures { answer.new ≡ ChannelError }
+fn set_no_reply(answer: &mut Answer, free: u64)
+    ensures error { free ≡ CHANNEL_ERROR → answer.new ≡ ChannelError }
+    ensures released { free ≢ CHANNEL_ERROR → answer.new ≡ Released }
 {
-    *answer = Answer::ChannelError;
+    *answer = if free == CHANNEL_ERROR {
+        Answer::ChannelError
+    } else {
+        Answer::Released
+    };
 }
 
-/// Makes an answer that of an area marked free, as `set_channel_error`.
-#[inline(never)]
-fn set_released(answer: &mut Answer)
-    ensures { answer.new ≡ Released }
-{
-    *answer = Answer::Released;
-}
-
-/// Loads the response that the caller collected, into `answer`.
+/// Loads the response that the caller collected, into `answer`. If that is a reply of as many
+/// words, they are written over; no call has to return to it, so it saves no registers.
 fn read_reply(table: &SharedTable, seat: &mut TableSeat, answer: &mut Answer)
-    ghost posted: { Message }
-    requires table { IsSeatAt table.now seat.old }
-    requires half { HasCaller seat.old × ((caller_of seat.old).state.phase ≡ Idle) ×
-        ((caller_of seat.old).state.draft ≡ []) }
-    requires area { answer_area (caller_of seat.old) ≡ frame_words (Good posted) }
-    requires valid { IsValidMessage posted }
-    ensures value { answer.new ≡ Reply posted }
+    ghost given: { Message }
+    requires { HasResponse table.now seat.old given }
+    ensures value { answer.new ≡ Reply given }
     ensures view { CallerBecomes seat.old
-        (caller_after (caller_of seat.old) (2 + length posted.payload.items)) seat.new }
+        (caller_after (caller_of seat.old) (2 + length given.payload.items)) seat.new }
+{
+    let length = load_answer_word(table, seat, LENGTH);
+    let header = load_answer_word(table, seat, HEADER);
+    let count = (length / 4 - 1) as usize;
+    if let Answer::Reply(message) = answer {
+        if message.payload.len() == count {
+            return read_response(table, seat, header, count, message);
+        }
+    }
+    read_other_response(table, seat, header, count, answer);
+}
+
+/// Loads the payload of the response that the caller collected, into any other answer.
+#[inline(never)]
+fn read_other_response(
+    table: &SharedTable,
+    seat: &mut TableSeat,
+    header: u32,
+    count: usize,
+    answer: &mut Answer,
+)
+    ghost given: { Message }
+    requires given { HasResponse table.now seat.old given }
+    requires header { header ≡ header_word given.header }
+    requires count { count ≡ length given.payload.items }
+    ensures value { answer.new ≡ Reply given }
+    ensures view { CallerBecomes seat.old (caller_after (caller_of seat.old) count) seat.new }
 {
     match answer {
-        Answer::Reply(message) => read_response(table, seat, message),
-        _ => read_new_response(table, seat, answer),
+        Answer::Reply(message) => read_resized_response(table, seat, header, count, message),
+        _ => read_new_response(table, seat, header, count, answer),
     }
 }
 
-/// Loads the response that the caller collected, into a new message. A function clears its locals at its
-/// entry, so the message is not one of `read_reply`.
+/// Loads the payload of the response that the caller collected, into a message of any other
+/// length.
+fn read_resized_response(
+    table: &SharedTable,
+    seat: &mut TableSeat,
+    header: u32,
+    count: usize,
+    message: &mut Message,
+)
+    ghost given: { Message }
+    requires given { HasResponse table.now seat.old given }
+    requires header { header ≡ header_word given.header }
+    requires count { count ≡ length given.payload.items }
+    ensures value { message.new ≡ given }
+    ensures view { CallerBecomes seat.old (caller_after (caller_of seat.old) count) seat.new }
+{
+    set_length(&mut message.payload, count);
+    read_response(table, seat, header, count, message);
+}
+
+/// Loads the payload of the response that the caller collected, into a new message of this header
+/// word. A function clears its locals at its entry, so the message is not one of the callers.
 #[inline(never)]
-fn read_new_response(table: &SharedTable, seat: &mut TableSeat, answer: &mut Answer)
-    ghost posted: { Message }
-    requires table { IsSeatAt table.now seat.old }
-    requires half { HasCaller seat.old × ((caller_of seat.old).state.phase ≡ Idle) ×
-        ((caller_of seat.old).state.draft ≡ []) }
-    requires area { answer_area (caller_of seat.old) ≡ frame_words (Good posted) }
-    requires valid { IsValidMessage posted }
-    ensures value { answer.new ≡ Reply posted }
-    ensures view { CallerBecomes seat.old
-        (caller_after (caller_of seat.old) (2 + length posted.payload.items)) seat.new }
+fn read_new_response(
+    table: &SharedTable,
+    seat: &mut TableSeat,
+    header: u32,
+    count: usize,
+    answer: &mut Answer,
+)
+    ghost given: { Message }
+    requires given { HasResponse table.now seat.old given }
+    requires header { header ≡ header_word given.header }
+    requires count { count ≡ length given.payload.items }
+    ensures value { answer.new ≡ Reply given }
+    ensures view { CallerBecomes seat.old (caller_after (caller_of seat.old) count) seat.new }
 {
     let mut message = Message::default();
-    read_response(table, seat, &mut message);
+    read_resized_response(table, seat, header, count, &mut message);
     *answer = Answer::Reply(message);
+}
+
+/// Loads the payload of the response that the caller collected, into a message of this header word,
+/// over as many words.
+fn read_response(
+    table: &SharedTable,
+    seat: &mut TableSeat,
+    header: u32,
+    count: usize,
+    message: &mut Message,
+)
+    ghost given: { Message }
+    requires given { HasResponse table.now seat.old given }
+    requires header { header ≡ header_word given.header }
+    requires count { count ≡ length given.payload.items }
+    requires long { length message.old.payload.items ≡ count }
+    ensures value { message.new ≡ given }
+    ensures view { CallerBecomes seat.old (caller_after (caller_of seat.old) count) seat.new }
+{
+    message.header = Header::unpack(header);
+    for i in 0..count {
+        message.payload[i] = load_answer_word(table, seat, PAYLOAD + i);
+    }
 }
 
 /// Loads the frame that the callee took, into `frame`.
@@ -160,14 +205,58 @@ pub fn read_frame(table: &SharedTable, seat: &mut TableSeat, frame: &mut Frame)
         return;
     }
     let count = (length / 4 - 1) as usize;
+    if let Frame::Good(message) = frame {
+        if message.payload.len() == count {
+            return read_message(table, seat, header, count, message);
+        }
+    }
+    read_other_message(table, seat, header, count, frame);
+}
+
+/// Loads the payload of the frame that the callee took, into any other frame.
+#[inline(never)]
+fn read_other_message(
+    table: &SharedTable,
+    seat: &mut TableSeat,
+    header: u32,
+    count: usize,
+    frame: &mut Frame,
+)
+    ghost posted: { Message }
+    requires posted { HasMessage table.now seat.old posted }
+    requires header { header ≡ header_word posted.header }
+    requires count { count ≡ length posted.payload.items }
+    ensures value { frame.new ≡ Good posted }
+    ensures view { CalleeBecomes seat.old (callee_after (callee_of seat.old) count) seat.new }
+{
     match frame {
-        Frame::Good(message) => read_message(table, seat, header, count, message),
-        Frame::Malformed { .. } => read_new_message(table, seat, header, count, frame),
+        Frame::Good(message) => read_resized_message(table, seat, header, count, message),
+        _ => read_new_message(table, seat, header, count, frame),
     }
 }
 
-/// Loads the payload of the frame that the callee took, into a new message of this header word, which is
-/// not a local of `read_frame`.
+/// Loads the payload of the frame that the callee took, into a message of any other
+/// length.
+fn read_resized_message(
+    table: &SharedTable,
+    seat: &mut TableSeat,
+    header: u32,
+    count: usize,
+    message: &mut Message,
+)
+    ghost posted: { Message }
+    requires posted { HasMessage table.now seat.old posted }
+    requires header { header ≡ header_word posted.header }
+    requires count { count ≡ length posted.payload.items }
+    ensures value { message.new ≡ posted }
+    ensures view { CalleeBecomes seat.old (callee_after (callee_of seat.old) count) seat.new }
+{
+    set_length(&mut message.payload, count);
+    read_message(table, seat, header, count, message);
+}
+
+/// Loads the payload of the frame that the callee took, into a new message of this header word,
+/// which is not a local of the callers.
 #[inline(never)]
 fn read_new_message(
     table: &SharedTable,
@@ -177,22 +266,19 @@ fn read_new_message(
     frame: &mut Frame,
 )
     ghost posted: { Message }
-    requires table { IsSeatAt table.now seat.old }
-    requires half { HasCallee seat.old × IsOwing (callee_of seat.old) ×
-        ((callee_of seat.old).state.draft ≡ []) }
-    requires area { frame_area (callee_of seat.old) ≡ frame_words (Good posted) }
-    requires valid { IsValidMessage posted }
+    requires posted { HasMessage table.now seat.old posted }
     requires header { header ≡ header_word posted.header }
     requires count { count ≡ length posted.payload.items }
     ensures value { frame.new ≡ Good posted }
     ensures view { CalleeBecomes seat.old (callee_after (callee_of seat.old) count) seat.new }
 {
     let mut message = Message::default();
-    read_message(table, seat, header, count, &mut message);
+    read_resized_message(table, seat, header, count, &mut message);
     *frame = Frame::Good(message);
 }
 
-/// Loads the payload of the frame that the callee took, into a message of this header word.
+/// Loads the payload of the frame that the callee took, into a message of this header word, over as
+/// many words.
 fn read_message(
     table: &SharedTable,
     seat: &mut TableSeat,
@@ -201,28 +287,20 @@ fn read_message(
     message: &mut Message,
 )
     ghost posted: { Message }
-    requires table { IsSeatAt table.now seat.old }
-    requires half { HasCallee seat.old × IsOwing (callee_of seat.old) ×
-        ((callee_of seat.old).state.draft ≡ []) }
-    requires area { frame_area (callee_of seat.old) ≡ frame_words (Good posted) }
-    requires valid { IsValidMessage posted }
+    requires posted { HasMessage table.now seat.old posted }
     requires header { header ≡ header_word posted.header }
     requires count { count ≡ length posted.payload.items }
+    requires long { length message.old.payload.items ≡ count }
     ensures value { message.new ≡ posted }
     ensures view { CalleeBecomes seat.old (callee_after (callee_of seat.old) count) seat.new }
 {
     message.header = Header::unpack(header);
-    if message.payload.len() != count {
-        set_length(&mut message.payload, count);
-    }
     for i in 0..count {
         message.payload[i] = load_frame_word(table, seat, PAYLOAD + i);
     }
 }
 
-/// Makes a payload one of this many words, over which others are to be loaded. What it is made of
-/// is not a local of the callers.
-#[inline(never)]
+/// Makes a payload one of this many words, over which others are to be loaded.
 fn set_length(payload: &mut Payload, count: usize)
     requires { count ≤ PAYLOAD_WORDS }
     ensures { length payload.new.items ≡ count }

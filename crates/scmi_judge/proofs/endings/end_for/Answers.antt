@@ -10,7 +10,7 @@ sets-smaller c =
     let first = some-pending c.sets.core.board c.sets.core.history some in
     let less = fewer-pending c.sets.core.board c.args.agent c.args.message.now first.0 c.sets.core.history some in
     let new = c.in_ok-end_first.ensures.event did first.0 first.1 in
-    let board = c.in_ok-end_first.ensures.board in
+    let board = c.in_ok-end_first.ensures.goes.board in
     rw (board, new) less
 
 pub sets-preserved : goal.sets-preserved
@@ -19,14 +19,16 @@ sets-preserved c =
     let some : ¬ (IsIdle c.sets.core.board c.sets.core.history) = λ idle. absurd (let off = c.in_ok-end_first.ensures.waiting.1 idle in cc) in
     let first = some-pending c.sets.core.board c.sets.core.history some in
     let new = c.in_ok-end_first.ensures.event did first.0 first.1 in
-    let board = c.in_ok-end_first.ensures.board in
+    let board = c.in_ok-end_first.ensures.goes.board in
     let none : slice_get (outbox c.sets.core.board c.args.agent c.sets.core.history) 0 ≡ None = sym c.first.ensures ∙ none-is c.first.result (search rules) in
     let more = one-more c.sets.core.board c.args.agent c.args.message.now c.sets.core.history first.0 first.1 none in
     record {
-      board = board ∙ c.sets.invariant.board;
+      goes = record {
+        board = board ∙ c.sets.invariant.goes.board;
+        legal = λ old. c.in_ok-end_first.ensures.goes.legal (c.sets.invariant.goes.legal old);
+      };
       agent = rw board c.sets.invariant.agent;
       shown = rw (board, new) (more ∙ c.sets.invariant.shown);
-      legal = λ old. c.in_ok-end_first.ensures.legal (c.sets.invariant.legal old);
     }
 
 pub returns-after-sets-clause-done : goal.returns-after-sets-clause-done

@@ -1,18 +1,17 @@
 use Rattle.std.proofs.Common.{◌≡◌, length}
 use Rattle.scmi_plan.specs.Agent.{IsAgent}
 use Rattle.scmi_core.specs.History.{deeds}
-use Rattle.scmi_core.specs.Legal.{IsLegal}
 use Rattle.scmi_core.specs.Pending.{pending_sets}
+use Rattle.scmi_judge.specs.Kept.{GoesOnLegally}
 use Rattle.scmi_judge.specs.Record.{shown_to}
 use Rattle.scmi_judge.proofs.endings.end_for.Given as goal
 
 abbrev pub invariant-sets : goal.invariant-sets
 invariant-sets l =
     record {
-      board : l.core.board ≡ l.initial.core.board;
+      goes : GoesOnLegally l.initial.core l.core;
       agent : IsAgent (length l.core.board.agents) l.agent;
       shown : shown_to l.core.board l.agent l.message l.core.history ≡ shown_to l.initial.core.board l.agent l.message l.initial.core.history;
-      legal : IsLegal l.initial.core.board l.initial.core.history → IsLegal l.core.board l.core.history;
     }
 
 abbrev pub decreases-sets : goal.decreases-sets

@@ -27,7 +27,7 @@ always (Err e) P p = p
 pub returns-in_err-end_for-clause-again : goal.returns-in_err-end_for-clause-again
 returns-in_err-end_for-clause-again c =
     let here : is_agent c.args.core.now.board c.args.agent ≡ true = search rules in
-    let board = c.in_err-end_for.ensures.board in
+    let board = c.in_err-end_for.ensures.goes.board in
     let left = c.in_err-end_for.ensures.err in
     let shown : shown_to c.args.core.now.board c.args.agent c.args.message.now c.end_for.new.core.history ≡ shown_to c.args.core.now.board c.args.agent c.args.message.now c.args.core.now.history = cc in
     let both = message-again c.args.core.now.board c.args.core.now.history c.end_for.new.core.history c.args.agent c.args.message.now here shown in
@@ -36,7 +36,7 @@ returns-in_err-end_for-clause-again c =
 pub returns-in_err-end_for-clause-left : goal.returns-in_err-end_for-clause-left
 returns-in_err-end_for-clause-left c =
     let here : is_agent c.args.core.now.board c.args.agent ≡ true = search rules in
-    let board = c.in_err-end_for.ensures.board in
+    let board = c.in_err-end_for.ensures.goes.board in
     let left = c.in_err-end_for.ensures.err in
     let shown : shown_to c.args.core.now.board c.args.agent c.args.message.now c.end_for.new.core.history ≡ shown_to c.args.core.now.board c.args.agent c.args.message.now c.args.core.now.history = cc in
     let both = message-again c.args.core.now.board c.args.core.now.history c.end_for.new.core.history c.args.agent c.args.message.now here shown in
@@ -45,7 +45,7 @@ returns-in_err-end_for-clause-left c =
 pub returns-in_default-clause-verdict : goal.returns-in_default-clause-verdict
 returns-in_default-clause-verdict c =
     let here : is_agent c.args.core.now.board c.args.agent ≡ true = search rules in
-    let board = c.in_ok-end_for.ensures.board in
+    let board = c.in_ok-end_for.ensures.goes.board in
     let first = c.in_default.ensures in
     let none : slice_get (outbox c.args.core.now.board c.args.agent c.end_for.new.core.history) 0 ≡ None = first_of (search rules, cc) in
     (none-came c.args.core.now.board c.args.core.now.history c.end_for.new.core.history c.args.agent c.args.message.now here c.in_ok-end_for.ensures.ok none).0
@@ -53,7 +53,7 @@ returns-in_default-clause-verdict c =
 pub returns-in_default-clause-event : goal.returns-in_default-clause-event
 returns-in_default-clause-event c =
     let here : is_agent c.args.core.now.board c.args.agent ≡ true = search rules in
-    let board = c.in_ok-end_for.ensures.board in
+    let board = c.in_ok-end_for.ensures.goes.board in
     let first = c.in_default.ensures in
     let none : slice_get (outbox c.args.core.now.board c.args.agent c.end_for.new.core.history) 0 ≡ None = first_of (search rules, cc) in
     (none-came c.args.core.now.board c.args.core.now.history c.end_for.new.core.history c.args.agent c.args.message.now here c.in_ok-end_for.ensures.ok none).1
@@ -61,7 +61,7 @@ returns-in_default-clause-event c =
 pub returns-in_err-reserve-clause-again : goal.returns-in_err-reserve-clause-again
 returns-in_err-reserve-clause-again c =
     let here : is_agent c.args.core.now.board c.args.agent ≡ true = search rules in
-    let board = c.in_ok-end_for.ensures.board in
+    let board = c.in_ok-end_for.ensures.goes.board in
     let done = c.in_ok-end_for.ensures.done in
     let same = c.in_err-reserve.ensures.err in
     let none : endings_shown c.args.core.now.board c.args.agent c.args.message.now c.end_for.new.core.history ≡ [] = cc in
@@ -72,7 +72,7 @@ returns-in_err-reserve-clause-again c =
 pub returns-in_err-reserve-clause-left : goal.returns-in_err-reserve-clause-left
 returns-in_err-reserve-clause-left c =
     let here : is_agent c.args.core.now.board c.args.agent ≡ true = search rules in
-    let board = c.in_ok-end_for.ensures.board in
+    let board = c.in_ok-end_for.ensures.goes.board in
     let done = c.in_ok-end_for.ensures.done in
     let same = c.in_err-reserve.ensures.err in
     let none : endings_shown c.args.core.now.board c.args.agent c.args.message.now c.end_for.new.core.history ≡ [] = cc in
@@ -83,7 +83,7 @@ returns-in_err-reserve-clause-left c =
 pub returns-clause-verdict : goal.returns-clause-verdict
 returns-clause-verdict c =
     let here : is_agent c.args.core.now.board c.args.agent ≡ true = search rules in
-    let board = c.in_ok-end_for.ensures.board in
+    let board = c.in_ok-end_for.ensures.goes.board in
     let first = c.in-Some.ensures in
     let some : slice_get (outbox c.args.core.now.board c.args.agent c.end_for.new.core.history) 0 ≡ Some c.in-Some.due.now = first_of (search rules, cc) in
     let both = one-came c.args.core.now.board c.args.core.now.history c.end_for.new.core.history c.args.agent c.args.message.now c.in-Some.due.now here c.in_ok-end_for.ensures.ok some in
@@ -92,7 +92,7 @@ returns-clause-verdict c =
 pub returns-clause-event : goal.returns-clause-event
 returns-clause-event c =
     let here : is_agent c.args.core.now.board c.args.agent ≡ true = search rules in
-    let board = c.in_ok-end_for.ensures.board in
+    let board = c.in_ok-end_for.ensures.goes.board in
     let first = c.in-Some.ensures in
     let some : slice_get (outbox c.args.core.now.board c.args.agent c.end_for.new.core.history) 0 ≡ Some c.in-Some.due.now = first_of (search rules, cc) in
     let both = one-came c.args.core.now.board c.args.core.now.history c.end_for.new.core.history c.args.agent c.args.message.now c.in-Some.due.now here c.in_ok-end_for.ensures.ok some in

@@ -58,24 +58,24 @@ steps g c well t b = let h = callee_of c.args.seat.now in
 
 pub read_message-requires : goal.read_message-requires
 read_message-requires g c = let at = (goal.at.read_message-requires g c).After-is_well_formed in let well : is_well_formed c.load_frame_word-length.result ≡ true = search rules in
-    (search rules, ((search rules, search rules, search rules), (read g at well, (few g at well, (head g at well, count g at well)))))
+    ((search rules, (search rules, search rules, search rules), read g at well, few g at well), (head g at well, (count g at well, search rules)))
 
-pub read_new_message-requires : goal.read_new_message-requires
-read_new_message-requires g c = let at = (goal.at.read_new_message-requires g c).After-is_well_formed in let well : is_well_formed c.load_frame_word-length.result ≡ true = search rules in
-    (search rules, ((search rules, search rules, search rules), (read g at well, (few g at well, (head g at well, count g at well)))))
+pub read_other_message-requires : goal.read_other_message-requires
+read_other_message-requires g c = let at = (goal.at.read_other_message-requires g c).After-is_well_formed in let well : is_well_formed c.load_frame_word-length.result ≡ true = search rules in
+    ((search rules, (search rules, search rules, search rules), read g at well, few g at well), (head g at well, count g at well))
 
-pub returns-in-Good-clause-value : goal.returns-in-Good-clause-value
-returns-in-Good-clause-value g c = let at = (goal.at.returns-in-Good-clause-value g c).After-is_well_formed in let well : is_well_formed c.load_frame_word-length.result ≡ true = search rules in
+pub returns-then-len-count-clause-value : goal.returns-then-len-count-clause-value
+returns-then-len-count-clause-value g c = let at = (goal.at.returns-then-len-count-clause-value g c).After-is_well_formed in let well : is_well_formed c.load_frame_word-length.result ≡ true = search rules in
     ap (λ m. Good m) c.read_message.ensures.value ∙ sym (good g at well)
 
-pub returns-in-Good-clause-view : goal.returns-in-Good-clause-view
-returns-in-Good-clause-view g c = let at = (goal.at.returns-in-Good-clause-view g c).After-is_well_formed in let well : is_well_formed c.load_frame_word-length.result ≡ true = search rules in
+pub returns-then-len-count-clause-view : goal.returns-then-len-count-clause-view
+returns-then-len-count-clause-view g c = let at = (goal.at.returns-then-len-count-clause-view g c).After-is_well_formed in let well : is_well_formed c.load_frame_word-length.result ≡ true = search rules in
     steps g at well _ c.read_message.ensures.view
 
-pub returns-in-Malformed-clause-value : goal.returns-in-Malformed-clause-value
-returns-in-Malformed-clause-value g c = let at = (goal.at.returns-in-Malformed-clause-value g c).After-is_well_formed in let well : is_well_formed c.load_frame_word-length.result ≡ true = search rules in
-    c.read_new_message.ensures.value ∙ sym (good g at well)
+pub returns-clause-value : goal.returns-clause-value
+returns-clause-value g c = let at = (goal.at.returns-clause-value g c).After-is_well_formed in let well : is_well_formed c.load_frame_word-length.result ≡ true = search rules in
+    c.read_other_message.ensures.value ∙ sym (good g at well)
 
-pub returns-in-Malformed-clause-view : goal.returns-in-Malformed-clause-view
-returns-in-Malformed-clause-view g c = let at = (goal.at.returns-in-Malformed-clause-view g c).After-is_well_formed in let well : is_well_formed c.load_frame_word-length.result ≡ true = search rules in
-    steps g at well _ c.read_new_message.ensures.view
+pub returns-clause-view : goal.returns-clause-view
+returns-clause-view g c = let at = (goal.at.returns-clause-view g c).After-is_well_formed in let well : is_well_formed c.load_frame_word-length.result ≡ true = search rules in
+    steps g at well _ c.read_other_message.ensures.view

@@ -9,8 +9,8 @@ build-requires c =
     let none : first_fault (asked_board c.args.raw.now) ≡ None = cc c.in-None.ensures.fault in
     (valid c.args.raw.now).0 none
 
-pub returns-in_err-build-in-None-clause-rules : goal.returns-in_err-build-in-None-clause-rules
-returns-in_err-build-in-None-clause-rules c = valid c.args.raw.now
+pub returns-in-None-clause-rules : goal.returns-in-None-clause-rules
+returns-in-None-clause-rules c = valid c.args.raw.now
 
 pub returns-in-Some-clause-accepted : goal.returns-in-Some-clause-accepted
 returns-in-Some-clause-accepted c = λ law.

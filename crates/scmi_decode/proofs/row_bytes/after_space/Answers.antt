@@ -1,0 +1,11 @@
+use Rattle.std.proofs.Common.{List, ℕ, subst, sym}
+use Rattle.scmi_decode.specs.Row.{ContinuesAs}
+use Rattle.scmi_decode.proofs.Pairs.{rest_of}
+use Rattle.scmi_decode.proofs.Short.{goes_on_behind_space}
+use Rattle.scmi_decode.proofs.row_bytes.after_space.Goals as goal
+
+pub returns-then-begins_apart-clause-some : goal.returns-then-begins_apart-clause-some
+returns-then-begins_apart-clause-some c row =
+    let sure = c.if-begins_apart.true in
+    let is = c.begins_apart.ensures in
+    subst (λ (xs : List ℕ). ContinuesAs c.args.form row c.args.text.now row xs) (sym (rest_of 1 c.args.text.now)) (goes_on_behind_space c.args.form c.args.text.now row (is.some sure) (is.space sure) (is.form sure))
