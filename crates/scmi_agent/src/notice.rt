@@ -52,7 +52,7 @@ fn notice_of(message: &Message) -> Result<Notice, ReadError>
     ensures { result ≡ notice_of message.now }
 {
     let words = message.payload.as_slice();
-    match message.header.kind {
+    match message.header.kind() {
         2 => delayed_of(&message.header, words),
         3 => change_of(&message.header, words),
         _ => Err(ReadError::Foreign),
@@ -63,9 +63,9 @@ fn notice_of(message: &Message) -> Result<Notice, ReadError>
 fn delayed_of(header: &Header, words: &[u32]) -> Result<Notice, ReadError>
     ensures { result ≡ delayed_of header.now words.now }
 {
-    match (header.protocol, header.id) {
-        (POWER_PROTOCOL, 0x4) => state_set_of(header.token, words),
-        (CLOCK_PROTOCOL, 0x5) => rate_set_of(header.token, words),
+    match (header.protocol(), header.id()) {
+        (POWER_PROTOCOL, 0x4) => state_set_of(header.token(), words),
+        (CLOCK_PROTOCOL, 0x5) => rate_set_of(header.token(), words),
         _ => Err(ReadError::Foreign),
     }
 }
@@ -120,7 +120,7 @@ fn rate_set_of(token: u16, words: &[u32]) -> Result<Notice, ReadError>
 fn change_of(header: &Header, words: &[u32]) -> Result<Notice, ReadError>
     ensures { result ≡ change_of header.now words.now }
 {
-    if header.protocol != POWER_PROTOCOL || header.id != 0x0 {
+    if header.protocol() != POWER_PROTOCOL || header.id() != 0x0 {
         return Err(ReadError::Foreign);
     }
     match words {

@@ -33,7 +33,7 @@ impl Reply {
         match Status::of_word(*word) {
             None => Err(ReadError::UnknownStatus),
             Some(Status::Success) => {
-                given_by(header.protocol, header.id, words).ok_or(ReadError::WrongWords)
+                given_by(header.protocol(), header.id(), words).ok_or(ReadError::WrongWords)
             }
             Some(status) if words.is_empty() => Ok(Reply::Refused { status }),
             Some(_) => Err(ReadError::WrongWords),

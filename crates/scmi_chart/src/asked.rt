@@ -49,10 +49,10 @@ fn command_label(alloc: Global, board: &RawPlan, message: &Message) -> Result<La
         words_of label ≡ command_words (asked_board board.now) message.now) }
 {
     let header = message.header;
-    let mut label = name_label(alloc, name_of(alloc, header.protocol, header.id)?);
+    let mut label = name_label(alloc, name_of(alloc, header.protocol(), header.id())?);
     add_command(alloc, board, &mut label, message)?;
     add_itself(alloc, &mut label, message)?;
-    add_kind(alloc, &mut label, header.kind)?;
+    add_kind(alloc, &mut label, header.kind())?;
     Ok(label)
 }
 
@@ -93,7 +93,7 @@ fn add_itself(alloc: Global, label: &mut Label, message: &Message) -> Result<(),
 fn asks_for_itself(message: &Message) -> bool
     ensures { result ≡ asks_for_itself message.now }
 {
-    if message.header.protocol != BASE_PROTOCOL || message.header.id != 0x7 {
+    if message.header.protocol() != BASE_PROTOCOL || message.header.id() != 0x7 {
         return false;
     }
     match message.payload.as_slice() {

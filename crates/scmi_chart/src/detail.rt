@@ -63,10 +63,7 @@ fn with_token(header: Header, token: Option<u16>) -> Header
     ensures { result ≡ with_token token header }
 {
     match token {
-        Some(token) => Header {
-            token: token % TOKENS,
-            ..header
-        },
+        Some(token) => header.with_token(token % TOKENS),
         None => header,
     }
 }

@@ -38,8 +38,8 @@ fn posted_name(alloc: Global, message: &Message) -> Result<Label, AllocError>
         (notification_text message.now.header.protocol message.now.header.id)
         (message.now.header.kind == 3)) }
 {
-    match notification_name(message.header.protocol, message.header.id) {
-        Some(name) if message.header.kind == 3 => plain_label(alloc, name),
+    match notification_name(message.header.protocol(), message.header.id()) {
+        Some(name) if message.header.kind() == 3 => plain_label(alloc, name),
         _ => delayed_label(alloc, message),
     }
 }
@@ -49,7 +49,7 @@ fn delayed_label(alloc: Global, message: &Message) -> Result<Label, AllocError>
     ensures { IfOk result (λ label. words_of label ≡ delayed_words message.now.header.protocol
         message.now.header.id message.now.payload.items) }
 {
-    let name = name_of(alloc, message.header.protocol, message.header.id)?;
+    let name = name_of(alloc, message.header.protocol(), message.header.id())?;
     match message.payload.as_slice() {
         [status, ..] if *status != 0 => {
             let failed = filled_words(alloc, FAILED, &[Value::Words(&name)])?;
@@ -74,7 +74,7 @@ fn add_posted_fields(
     ensures { OnOk result (words_of label.new ≡ with_fields (asked_board board.now)
         (posted_fields message.now) (words_of label.old)) }
 {
-    match message.header.kind {
+    match message.header.kind() {
         3 => {
             let fields = notification_fields(message);
             add_fields(alloc, board, label, fields.as_slice())

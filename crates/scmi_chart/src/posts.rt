@@ -61,11 +61,5 @@ fn call_message(call: &Call) -> Message
 fn call_header(protocol: u8, id: u8) -> Header
     ensures { result ≡ protocol_header protocol 0 id }
 {
-    Header {
-        reserved: 0,
-        token: 0,
-        protocol,
-        kind: 0,
-        id,
-    }
+    Header::command(protocol, 0, id)
 }

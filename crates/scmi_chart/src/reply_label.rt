@@ -66,9 +66,9 @@ fn add_reply(
         ≡ with_reply (asked_board board.now) header.now.protocol words.now
         (reply_fields header.now.protocol header.now.id words.now) (words_of label.old)) }
 {
-    match reply_fields(header.protocol, header.id, words) {
+    match reply_fields(header.protocol(), header.id(), words) {
         Ok(fields) => add_fields(alloc, board, label, fields.as_slice()),
-        Err(Status::NotSupported) => add_list(alloc, label, header.protocol, words),
+        Err(Status::NotSupported) => add_list(alloc, label, header.protocol(), words),
         Err(_) => {
             label.object = payload_words(alloc, words)?;
             Ok(())

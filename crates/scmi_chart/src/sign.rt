@@ -24,7 +24,7 @@ pub(crate) fn raw_token(step: &Step) -> Option<u16>
         Step::Agent {
             step: AgentStep::Raw(message),
             ..
-        } => Some(message.header.token),
+        } => Some(message.header.token()),
         _ => None,
     }
 }
@@ -34,7 +34,7 @@ pub(crate) fn reply_token(collected: &Collected) -> Option<u16>
     ensures { result ≡ reply_token collected.now }
 {
     match collected {
-        Collected::Got(Answer::Reply(message)) => Some(message.header.token),
+        Collected::Got(Answer::Reply(message)) => Some(message.header.token()),
         _ => None,
     }
 }
@@ -87,12 +87,12 @@ pub(crate) fn command_mark(message: Message, token: Option<u16>, is_executed: bo
 pub(crate) fn posted_mark(message: Message, header: &Header) -> Mark
     ensures { sign_of result ≡ posted_sign message.agent header.now (wording_of message) }
 {
-    if header.kind == 3 {
+    if header.kind() == 3 {
         Mark::Notification { message }
     } else {
         Mark::Delayed {
             message,
-            token: header.token,
+            token: header.token(),
         }
     }
 }

@@ -84,10 +84,10 @@ fn is_when(when: When, command: &Message) -> bool
 {
     let header = &command.header;
     match when {
-        When::OtherType => header.kind != 0,
-        When::UnknownProtocol => !is_listed(header.protocol, 0),
-        When::UnknownMessage => !is_listed(header.protocol, u32::from(header.id)),
-        When::OtherSize => command.payload.len() != wanted_words(header.protocol, header.id),
+        When::OtherType => header.kind() != 0,
+        When::UnknownProtocol => !is_listed(header.protocol(), 0),
+        When::UnknownMessage => !is_listed(header.protocol(), u32::from(header.id())),
+        When::OtherSize => command.payload.len() != wanted_words(header.protocol(), header.id()),
         When::Command(protocol, id) => is_command(protocol, id, header),
         When::ReservedFlags(protocol, id) => {
             is_command(protocol, id, header) && has_reserved_flags(&Command::read(command))
@@ -98,5 +98,5 @@ fn is_when(when: When, command: &Message) -> bool
 fn is_command(protocol: u8, id: u8, header: &Header) -> bool
     ensures { result ≡ is_command protocol id header.now }
 {
-    header.protocol == protocol && header.id == id
+    header.protocol() == protocol && header.id() == id
 }

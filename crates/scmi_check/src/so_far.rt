@@ -82,13 +82,7 @@ impl SoFar {
             (with_called (shows_of self.old) line agent call) }
     {
         let token = self.take_token(agent)?;
-        let header = Header {
-            reserved: 0,
-            token,
-            protocol: call.protocol,
-            kind: 0,
-            id: call.message,
-        };
+        let header = Header::command(call.protocol, token, call.message);
         let payload = call.payload;
         self.post(line, agent, Frame::Good(Message { header, payload }))
     }
@@ -155,7 +149,7 @@ impl SoFar {
         ensures { GivesUnless (λ _. shows_of self.new) result
             (with_response (shows_of self.old) line agent message) }
     {
-        let frame = take_response(&mut self.waiting, agent, message.header.token)?;
+        let frame = take_response(&mut self.waiting, agent, message.header.token())?;
         let answer = Answer::Reply(message);
         self.push(
             line,

@@ -99,8 +99,8 @@ fn message_subject(message: &Message) -> Option<Resource>
 fn named_in(header: &Header, word: u32) -> Option<Resource>
     ensures { result ≡ named_in header.now word }
 {
-    if header.kind == DELAYED_RESPONSE {
-        named_first(later_parts(header.protocol, header.id), word)
+    if header.kind() == DELAYED_RESPONSE {
+        named_first(later_parts(header.protocol(), header.id()), word)
     } else if is_state_changed(header) {
         Some(Resource::Domain(word))
     } else {
@@ -123,7 +123,7 @@ fn named_first(parts: &[Part], word: u32) -> Option<Resource>
 fn is_state_changed(header: &Header) -> bool
     ensures { result ≡ is_state_changed header.now }
 {
-    header.kind == NOTIFICATION
-        && header.protocol == POWER_PROTOCOL
-        && header.id == POWER_STATE_CHANGED
+    header.kind() == NOTIFICATION
+        && header.protocol() == POWER_PROTOCOL
+        && header.id() == POWER_STATE_CHANGED
 }

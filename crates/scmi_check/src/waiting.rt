@@ -82,7 +82,7 @@ fn has_token(frame: &Frame, token: u16) -> bool
     ensures { result ≡ has_token token frame.now }
 {
     match frame {
-        Frame::Good(Message { header, .. }) => header.token == token,
+        Frame::Good(Message { header, .. }) => header.token() == token,
         Frame::Malformed { .. } => false,
     }
 }

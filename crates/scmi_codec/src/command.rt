@@ -27,12 +27,12 @@ impl Command {
         ensures value { result ≡ command_of message.now }
         ensures payload { IfOk result (λ c. message.now.payload.items ≡ command_words c) }
     {
-        if message.header.kind != 0 {
+        if message.header.kind() != 0 {
             return Err(Status::ProtocolError);
         }
-        let id = message.header.id;
+        let id = message.header.id();
         let words = message.payload.as_slice();
-        match message.header.protocol {
+        match message.header.protocol() {
             BASE_PROTOCOL => Ok(Command::Base(BaseCommand::read(id, words)?)),
             POWER_PROTOCOL => Ok(Command::Power(PowerCommand::read(id, words)?)),
             CLOCK_PROTOCOL => Ok(Command::Clock(ClockCommand::read(id, words)?)),
@@ -54,13 +54,7 @@ impl Command {
             Command::Power(command) => (POWER_PROTOCOL, command.id(), command.payload()),
             Command::Clock(command) => (CLOCK_PROTOCOL, command.id(), command.payload()),
         };
-        let header = Header {
-            reserved: 0,
-            token,
-            protocol,
-            kind: 0,
-            id,
-        };
+        let header = Header::command(protocol, token, id);
         Message { header, payload }
     }
 }

@@ -1,5 +1,7 @@
 //! The header word of a message.
-ghost use Rattle.std.specs.Prelude.{◌≡◌};
+ghost use Rattle.std.specs.Prelude.{◌≡◌, ◌<◌, ◌^◌};
+ghost use Rattle.scmi_codec.specs.Command.{protocol_header};
+ghost use Rattle.scmi_codec.specs.declared.header.TheConstants.{TOKENS};
 ghost use Rattle.scmi_codec.specs.Header.{header_of, header_word};
 
 use std::marker::Model;
@@ -13,63 +15,100 @@ pub const DELAYED_RESPONSE: u8 = 2;
 /// The type of a notification (DEN0056B, message header).
 pub const NOTIFICATION: u8 = 3;
 
-/// The fields of a message header (DEN0056B, message header), each within its width in bits:
+/// A message header (DEN0056B, message header), as its word. Its fields, by their width in bits:
 /// reserved 4, token 10, protocol 8, kind (the message type) 2, id 8.
 ///
 /// The type is 0 for a command and its response, 2 for a delayed response, 3 for a notification.
 #[derive(Clone, Copy, PartialEq, Eq, Debug)]
 pub struct Header {
-    pub reserved: u8,
-    pub token: u16,
-    pub protocol: u8,
-    pub kind: u8,
-    pub id: u8,
+    word: u32,
 }
 
 impl Model for Header {
-    ghost use Rattle.scmi_codec.specs.Header.{HeaderFields, FitsWidths};
+    ghost use Rattle.std.specs.Prelude.{◌≡◌, ◌<◌, ◌^◌};
+    ghost use Rattle.std.proofs.Common.{arith};
+    ghost use Rattle.scmi_codec.specs.Header.{HeaderFields, header_of, header_word};
 
     ghost Value = { HeaderFields };
 
-    ghost view = { λ h. record {
-      reserved = h.reserved;
-      token = h.token;
-      protocol = h.protocol;
-      kind = h.kind;
-      id = h.id;
-    } };
+    ghost view = { λ h. header_of h.word };
 
-    ghost invariant = { λ h. FitsWidths (record {
-      reserved = h.reserved;
-      token = h.token;
-      protocol = h.protocol;
-      kind = h.kind;
-      id = h.id;
-    }) };
+    ghost invariant = { λ h. h.word < 2 ^ 32 };
 
-    ghost inverse = { λ h. record { reserved = h.reserved; token = h.token; protocol = h.protocol; kind = h.kind; id = h.id } };
+    ghost inverse = { λ fields. record { word = header_word fields } };
+
+    ghost inverse_ok = { λ h small i.
+        let back : header_word (header_of h.word) ≡ h.word = omega (arith, small) in
+        record { word = back i } };
 }
 
 // What a place without a message contains.
 impl Default for Header {
     fn default() -> Header {
-        Header::unpack(0)
+        Header { word: 0 }
     }
 }
 
 impl Header {
-    /// The fields of a header word.
+    /// The header of a command, with reserved bits 0.
+    pub fn command(protocol: u8, token: u16, id: u8) -> Header
+        requires token { token < TOKENS }
+        ensures fields { result ≡ protocol_header protocol token id }
+    {
+        Header::of(0, token, protocol, 0, id)
+    }
+
+    /// The header of a message of this type, with reserved bits 0.
+    pub fn new(kind: u8, protocol: u8, token: u16, id: u8) -> Header
+        requires kind { kind < 2 ^ 2 }
+        requires token { token < TOKENS }
+        ensures fields { result ≡ (record (protocol_header protocol token id) { kind = kind }) }
+    {
+        Header::of(0, token, protocol, kind, id)
+    }
+
+    /// The same header with another token.
+    pub fn with_token(self, token: u16) -> Header
+        requires token { token < TOKENS }
+        ensures fields { result ≡ record self { token = token } }
+    {
+        Header::of(
+            self.reserved(),
+            token,
+            self.protocol(),
+            self.kind(),
+            self.id(),
+        )
+    }
+
+    /// The header of these fields.
+    fn of(reserved: u8, token: u16, protocol: u8, kind: u8, id: u8) -> Header
+        requires reserved { reserved < 2 ^ 4 }
+        requires token { token < 2 ^ 10 }
+        requires kind { kind < 2 ^ 2 }
+        ensures { result ≡ (record {
+          reserved = reserved;
+          token = token;
+          protocol = protocol;
+          kind = kind;
+          id = id;
+        }) }
+    {
+        Header {
+            word: (u32::from(reserved) << 28)
+                | (u32::from(token) << 18)
+                | (u32::from(protocol) << 10)
+                | (u32::from(kind) << 8)
+                | u32::from(id),
+        }
+    }
+
+    /// The header of this word.
     pub fn unpack(word: u32) -> Header
         ensures fields { result ≡ header_of word }
         ensures back { header_word result ≡ word }
     {
-        Header {
-            reserved: (word >> 28) as u8,
-            token: ((word >> 18) & 0x3ff) as u16,
-            protocol: ((word >> 10) & 0xff) as u8,
-            kind: ((word >> 8) & 0x3) as u8,
-            id: (word & 0xff) as u8,
-        }
+        Header { word }
     }
 
     /// The header word of the fields.
@@ -77,10 +116,41 @@ impl Header {
         ensures word { result ≡ header_word self.now }
         ensures back { header_of result ≡ self.now }
     {
-        (u32::from(self.reserved) << 28)
-            | (u32::from(self.token) << 18)
-            | (u32::from(self.protocol) << 10)
-            | (u32::from(self.kind) << 8)
-            | u32::from(self.id)
+        self.word
+    }
+
+    /// The reserved bits.
+    pub fn reserved(&self) -> u8
+        ensures { result ≡ self.now.reserved }
+    {
+        (self.word >> 28) as u8
+    }
+
+    /// The token.
+    pub fn token(&self) -> u16
+        ensures { result ≡ self.now.token }
+    {
+        ((self.word >> 18) & 0x3ff) as u16
+    }
+
+    /// The protocol.
+    pub fn protocol(&self) -> u8
+        ensures { result ≡ self.now.protocol }
+    {
+        ((self.word >> 10) & 0xff) as u8
+    }
+
+    /// The message type.
+    pub fn kind(&self) -> u8
+        ensures { result ≡ self.now.kind }
+    {
+        ((self.word >> 8) & 0x3) as u8
+    }
+
+    /// The message id.
+    pub fn id(&self) -> u8
+        ensures { result ≡ self.now.id }
+    {
+        (self.word & 0xff) as u8
     }
 }

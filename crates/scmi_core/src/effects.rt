@@ -117,7 +117,7 @@ fn may_have_effect(header: &Header) -> bool
         || header.now.protocol == 0x14 && (header.now.id == 0x5 || header.now.id == 0x7)) }
 {
     matches!(
-        (header.protocol, header.id),
+        (header.protocol(), header.id()),
         (POWER_PROTOCOL, 0x4) | (CLOCK_PROTOCOL, 0x5 | 0x7)
     )
 }

@@ -21,13 +21,7 @@ impl Outboxes {
         ensures put { Gets self.old self.new agent (state_changed causer domain state ∷ []) }
         ensures others { (a : ℕ) → 1 ≤ a → a ≢ agent → HasSameOutbox self.old self.new a }
     {
-        let header = Header {
-            reserved: 0,
-            token: 0,
-            protocol: POWER_PROTOCOL,
-            kind: NOTIFICATION,
-            id: 0,
-        };
+        let header = Header::new(NOTIFICATION, POWER_PROTOCOL, 0, 0);
         self.put(agent, header, &[causer, domain, state]);
     }
 
@@ -87,11 +81,10 @@ fn delayed_header(header: Header) -> Header
           id = header.id;
         }) }
 {
-    Header {
-        reserved: 0,
-        token: header.token,
-        protocol: header.protocol,
-        kind: DELAYED_RESPONSE,
-        id: header.id,
-    }
+    Header::new(
+        DELAYED_RESPONSE,
+        header.protocol(),
+        header.token(),
+        header.id(),
+    )
 }

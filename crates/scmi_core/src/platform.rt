@@ -39,8 +39,6 @@ impl Model for Platform {
 
 impl Platform {
     /// The platform of a board, at the start.
-    // Made in its place: out of line it would be copied from frame to frame.
-    #[inline(always)]
     pub fn new(plan: Plan) -> Platform
         ensures board { result.board ≡ plan }
         ensures start { StandsAfter result [] }

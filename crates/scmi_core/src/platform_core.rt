@@ -41,8 +41,6 @@ impl Model for Core {
 
 impl Core {
     /// A controller of a board, with the empty history. It takes no memory.
-    // Made in its place, as a platform is.
-    #[inline(always)]
     pub fn new(alloc: Global, plan: Plan) -> Core
         ensures board { result.board ≡ plan }
         ensures history { result.history ≡ [] }

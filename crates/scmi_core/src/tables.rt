@@ -54,8 +54,6 @@ pub struct Tables {
 
 impl Tables {
     /// The tables at the start.
-    // Made in their place, as a platform is.
-    #[inline(always)]
     pub fn new(plan: &Plan) -> Tables
         ensures base { (a d : ℕ) (scope : Scope) → is_allowed result.base a d scope ≡ true }
         ensures subscriptions { (a d : ℕ) → is_subscribed result.power a d ≡ false }

@@ -64,13 +64,7 @@ pub(crate) fn event_header(kind: EventKind, items: &[&[u8]]) -> Option<Header>
     let protocol = field_number(256, value_of(PROTOCOL, items))?;
     let id = field_number(256, value_of(MESSAGE_ID, items))?;
     let token = field_number(1024, value_of(TOKEN, items))?;
-    Some(Header {
-        reserved: 0,
-        token: token as u16,
-        protocol: protocol as u8,
-        kind: message_type(kind),
-        id: id as u8,
-    })
+    Some(Header::new(message_type(kind), protocol as u8, token as u16, id as u8))
 }
 
 /// The payload of an event's message: `s=` has its status, if it has one, and `pyld=` the bytes

@@ -42,7 +42,7 @@ fn write_command_line<W: Write>(
     match request {
         Err(Status::ProtocolError) => {
             let count = message.payload.len();
-            let wanted = wanted_words(header.protocol, header.id);
+            let wanted = wanted_words(header.protocol(), header.id());
             let pieces = [Name(header), Token(header), Count(count), Count(wanted)];
             write_filled(writer, OTHER_SIZE, &pieces)
         }

@@ -13,7 +13,7 @@ pub fn command_fields(command: &Command) -> Fields
     // The token is in none of the fields.
     let message = command.pack(0);
     let header = message.header;
-    match row_of(header.protocol, header.id) {
+    match row_of(header.protocol(), header.id()) {
         Some(row) => fields_by(row.asks, message.payload.as_slice()),
         None => fields_of(&[]),
     }

@@ -42,7 +42,7 @@ pub(crate) fn describe_posted(frame: Frame) -> Description
             header,
         },
         Frame::Good(message) => {
-            if message.header.kind == 0 {
+            if message.header.kind() == 0 {
                 let request = Command::read(&message);
                 return Description::Command { message, request };
             }
@@ -70,7 +70,7 @@ pub(crate) fn describe_left(is_error: bool, frame: Frame) -> Description
             }
         }
         Frame::Good(message) => {
-            if message.header.kind == 0 {
+            if message.header.kind() == 0 {
                 return describe_response(message);
             }
             describe_p2a(true, message)
@@ -96,7 +96,7 @@ fn describe_response(message: Message) -> Description
 fn describe_p2a(is_free: bool, message: Message) -> Description
     ensures { result ≡ described_p2a is_free message }
 {
-    match message.header.kind {
+    match message.header.kind() {
         2 => Description::Delayed { is_free, message },
         3 => Description::Notification { is_free, message },
         _ => Description::Foreign { is_free, message },

@@ -17,7 +17,7 @@ pub(crate) fn write_message_name<W: Write>(writer: &mut W, header: Header) -> io
     ensures { OnOk result (Appends (W.contents writer.old) (W.contents writer.new)
         (name_text header)) }
 {
-    match message_name(header.protocol, header.id) {
+    match message_name(header.protocol(), header.id()) {
         Some(name) => write!(writer, "{name}"),
         None => write_unknown(writer, header),
     }
@@ -29,7 +29,7 @@ pub(crate) fn write_notification_name<W: Write>(writer: &mut W, header: Header) 
     ensures { OnOk result (Appends (W.contents writer.old) (W.contents writer.new)
         (notification_name_text header)) }
 {
-    match notification_name(header.protocol, header.id) {
+    match notification_name(header.protocol(), header.id()) {
         Some(name) => write!(writer, "{name}"),
         None => write_unknown(writer, header),
     }
@@ -41,9 +41,9 @@ fn write_unknown<W: Write>(writer: &mut W, header: Header) -> io::Result<()>
     ensures { OnOk result (Appends (W.contents writer.old) (W.contents writer.new)
         (unknown_text header)) }
 {
-    let id = Value::Hex(u32::from(header.id));
-    write_filled(writer, UNKNOWN, &[id, Value::Byte(header.protocol)])?;
-    write_in_brackets(writer, header.protocol)
+    let id = Value::Hex(u32::from(header.id()));
+    write_filled(writer, UNKNOWN, &[id, Value::Byte(header.protocol())])?;
+    write_in_brackets(writer, header.protocol())
 }
 
 /// Writes the short name of a protocol that has one, in brackets.
@@ -73,7 +73,7 @@ pub(crate) fn write_own_token<W: Write>(writer: &mut W, header: Header) -> io::R
     ensures { OnOk result (Appends (W.contents writer.old) (W.contents writer.new)
         (own_token_text header)) }
 {
-    if header.token == 0 && header.reserved == 0 {
+    if header.token() == 0 && header.reserved() == 0 {
         return Ok(());
     }
     write_token_as(writer, OWN_TOKEN, header)
@@ -84,10 +84,10 @@ fn write_token_as<W: Write>(writer: &mut W, text: &str, header: Header) -> io::R
     ensures { OnOk result (Appends (W.contents writer.old) (W.contents writer.new)
         (token_in text.now header)) }
 {
-    let token = Value::Number(u32::from(header.token));
+    let token = Value::Number(u32::from(header.token()));
     write_filled(
         writer,
         text,
-        &[token, Value::Reserved(u32::from(header.reserved))],
+        &[token, Value::Reserved(u32::from(header.reserved()))],
     )
 }

@@ -17,7 +17,7 @@ pub fn response_status(message: &Message) -> Option<Status>
     };
     let status = Status::of_word(*word)?;
     let fits = match status {
-        Status::Success => has_reply_form(message.header.protocol, message.header.id, words),
+        Status::Success => has_reply_form(message.header.protocol(), message.header.id(), words),
         _ => words.is_empty(),
     };
     if fits { Some(status) } else { None }
@@ -86,7 +86,7 @@ pub fn delayed_fields(message: &Message) -> Fields
     ensures { result.items ≡ delayed_fields message.now }
 {
     let header = message.header;
-    let Some(row) = row_of(header.protocol, header.id) else {
+    let Some(row) = row_of(header.protocol(), header.id()) else {
         return fields_of(&[]);
     };
     match message.payload.as_slice() {
@@ -100,7 +100,7 @@ pub fn notification_fields(message: &Message) -> Fields
     ensures { result.items ≡ notification_fields message.now }
 {
     let header = message.header;
-    match (header.protocol, header.id, message.payload.as_slice()) {
+    match (header.protocol(), header.id(), message.payload.as_slice()) {
         (POWER_PROTOCOL, 0x0, [agent, domain, state]) => fields_of(&[
             Field::By(*agent),
             Field::Domain(*domain),

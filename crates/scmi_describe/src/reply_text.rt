@@ -54,7 +54,7 @@ fn write_reply_fields<W: Write>(writer: &mut W, message: &Message) -> io::Result
     let [_, words @ ..] = message.payload.as_slice() else {
         return Ok(());
     };
-    write_listed(writer, header.protocol, header.id, words)
+    write_listed(writer, header.protocol(), header.id(), words)
 }
 
 /// Writes what follows the status of a successful reply: a list, or the fields of its row.

@@ -74,8 +74,8 @@ fn call_of(message: &Message) -> Call
     ensures { result ≡ call_of message.now }
 {
     Call {
-        protocol: message.header.protocol,
-        message: message.header.id,
+        protocol: message.header.protocol(),
+        message: message.header.id(),
         payload: payload_of(message.payload.as_slice()),
     }
 }

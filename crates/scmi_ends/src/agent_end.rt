@@ -110,13 +110,7 @@ impl<C: Channel> AgentEnd<C> {
             Posts C.FULL self.old.caller (Good message) result self.new.caller }
     {
         let token = self.token;
-        let header = Header {
-            reserved: 0,
-            token,
-            protocol,
-            kind: 0,
-            id,
-        };
+        let header = Header::command(protocol, token, id);
         link.a2p.post_parts(&mut self.caller, header, payload)?;
         self.token = (token + 1) % TOKENS;
         Ok(token)

@@ -115,13 +115,7 @@ fn holds(bench: &mut Bench, row: &Row<'_>) -> bool {
 
 /// The command of a message, if it carries one.
 fn read(protocol: u8, id: u8, words: &[u32]) -> Option<Command> {
-    let header = Header {
-        reserved: 0,
-        token: 0,
-        protocol,
-        kind: 0,
-        id,
-    };
+    let header = Header::command(protocol, 0, id);
     Command::read(&message(header.pack(), words)).ok()
 }
 

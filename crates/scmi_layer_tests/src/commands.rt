@@ -10,7 +10,7 @@ type Row<'a> = (u32, &'a [u32], Command);
 /// Whether a message is read as the command, and packed from it.
 fn carries(header: u32, words: &[u32], command: Command) -> bool {
     let message = message(header, words);
-    let token = message.header.token & 0x3ff;
+    let token = message.header.token() & 0x3ff;
     Command::read(&message) == Ok(command) && command.pack(token) == message
 }
 

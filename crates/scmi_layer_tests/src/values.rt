@@ -18,14 +18,15 @@ const HEADERS: [(u32, (u8, u16, u8, u8, u8)); 6] = [
 /// Whether a word has these fields, and a header of them this word.
 fn is_header(word: u32, fields: (u8, u16, u8, u8, u8)) -> bool {
     let header = Header::unpack(word);
-    let Header {
-        reserved,
-        token,
+    let (protocol, id) = (header.protocol(), header.id());
+    (
+        header.reserved(),
+        header.token(),
         protocol,
-        kind,
+        header.kind(),
         id,
-    } = header;
-    (reserved, token, protocol, kind, id) == fields && header.pack() == word
+    ) == fields
+        && header.pack() == word
 }
 
 #[test]

@@ -59,7 +59,7 @@ fn described_line(line: &StepLine) -> Option<Description>
 fn described_message(message: Message) -> Description
     ensures { result ≡ described_free (Frame.Good message) }
 {
-    match message.header.kind {
+    match message.header.kind() {
         0 => described_response(message),
         2 => Description::Delayed {
             is_free: true,

@@ -135,12 +135,6 @@ fn message_of<A: Allocator>(arguments: Args<A>) -> Option<Message> {
     'words: for argument in arguments {
         payload.try_push(argument.parse().ok()?).ok()?;
     }
-    let header = Header {
-        reserved: 0,
-        token: 0,
-        protocol,
-        kind: 0,
-        id,
-    };
+    let header = Header::command(protocol, 0, id);
     Some(Message { header, payload })
 }

@@ -75,13 +75,7 @@ fn execute<W: Write>(lines: &mut Lines<'_, W>, core: &mut Core, token: u16, id: 
     requires token { token < TOKENS }
     requires words { length words.now ≤ PAYLOAD_WORDS }
 {
-    let header = Header {
-        reserved: 0,
-        token,
-        protocol: POWER_PROTOCOL,
-        kind: 0,
-        id,
-    };
+    let header = Header::command(POWER_PROTOCOL, token, id);
     let payload = payload_of(words);
     let frame = Frame::Good(Message { header, payload });
     if !is_executed(lines, core, &frame) {

@@ -118,13 +118,7 @@ impl<'a, C: Channel> ScriptRun<'a, C> {
             self.new.log }
     {
         let token = self.end.call(self.link, protocol, id, payload)?;
-        let header = Header {
-            reserved: 0,
-            token,
-            protocol,
-            kind: 0,
-            id,
-        };
+        let header = Header::command(protocol, token, id);
         let payload = payload_of(payload.as_slice());
         self.log
             .note_posted(Frame::Good(Message { header, payload }));

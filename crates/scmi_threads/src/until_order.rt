@@ -74,8 +74,8 @@ impl<'a, C: Channel> ScriptRun<'a, C> {
         let command = Command::Power(PowerCommand::Get { domain }).pack(0);
         self.ask(
             rt,
-            command.header.protocol,
-            command.header.id,
+            command.header.protocol(),
+            command.header.id(),
             &command.payload,
         )
     }
