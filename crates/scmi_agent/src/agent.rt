@@ -108,5 +108,5 @@ impl Agent {
 fn is_same(first: &Header, second: &Header) -> bool
     ensures { IsTrue result ↔ (first.now ≡ second.now) }
 {
-    first == second
+    first.pack() == second.pack()
 }
