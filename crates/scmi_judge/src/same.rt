@@ -30,9 +30,9 @@ pub(crate) fn is_same_message(a: &Message, b: &Message) -> bool
 pub fn is_same_header(a: Header, b: Header) -> bool
     ensures { result ≡ is_same_header a b }
 {
-    a.reserved == b.reserved
-        && a.token == b.token
-        && a.protocol == b.protocol
-        && a.kind == b.kind
-        && a.id == b.id
+    a.reserved() == b.reserved()
+        && a.token() == b.token()
+        && a.protocol() == b.protocol()
+        && a.kind() == b.kind()
+        && a.id() == b.id()
 }
