@@ -4,7 +4,7 @@ ghost use Rattle.scmi_describe.specs.Alike.{state_of, StandAlike};
 ghost use Rattle.scmi_describe.specs.Description.{described_area};
 ghost use Rattle.scmi_describe.specs.Text.{description_text};
 
-use scmi_codec::{AREA_BYTES, Frame, frame_of, status_at};
+use scmi_codec::{AREA_BYTES, Frame, Header, Message, frame_of, status_at};
 
 /// Whether two areas are described alike, with the same text. This holds if and only if they have
 /// the same frame (header and payload words, or the length and header word of a malformed one) and
@@ -34,5 +34,32 @@ fn state_of(area: &[u8; AREA_BYTES]) -> u32
 fn are_same(first: &Frame, second: &Frame) -> bool
     ensures { IsTrue result ↔ (first.now ≡ second.now) }
 {
-    first == second
+    match (first, second) {
+        (Frame::Good(first), Frame::Good(second)) => are_same_messages(first, second),
+        (
+            Frame::Malformed {
+                length: first_length,
+                header: first_header,
+            },
+            Frame::Malformed {
+                length: second_length,
+                header: second_header,
+            },
+        ) => first_length == second_length && first_header == second_header,
+        _ => false,
+    }
+}
+
+/// Whether two messages are the same, word for word.
+fn are_same_messages(first: &Message, second: &Message) -> bool
+    ensures { IsTrue result ↔ (first.now ≡ second.now) }
+{
+    are_same_headers(first.header, second.header) && first.payload == second.payload
+}
+
+/// Whether two headers are the same. Their words are, since a header is its word.
+fn are_same_headers(first: Header, second: Header) -> bool
+    ensures { IsTrue result ↔ (first ≡ second) }
+{
+    first.pack() == second.pack()
 }
