@@ -151,8 +151,6 @@ impl Tables {
     }
 
     /// Executes a command of the base protocol.
-    // Few commands are, and what these need is not among the locals of the others.
-    #[inline(never)]
     fn execute_base(
         &mut self,
         plan: &Plan,
