@@ -113,9 +113,86 @@ data_behind Plain s rest all other = refl
 data_behind Marked s rest all other = column_behind s rest all (other refl)
 data_behind Offset s rest all other = bar_behind s rest all
 
--- a text is such digits, a space and the rest
-text_is : (text : List ℕ) (n : ℕ) → n < length text → slice_index text n ≡ 32 → text ≡ take n text ++ 32 ∷ drop (n + 1) text
-text_is text n inside space = sym (list.take-append-drop n text) ∙ ap (λ (xs : List ℕ). take n text ++ xs) (list.drop_more text n 0 inside ∙ ap (λ (b : ℕ). b ∷ drop (n + 1) text) space)
+-- digits are not of the column of text, whatever follows them
+bar_on : (s rest : List ℕ) → AreDigits s → data_of Offset (s ++ rest) ≡ s ++ data_of Offset rest
+bar_on [] rest all = refl
+bar_on (b ∷ s) rest all =
+    let parts = and_parts (is_hex_digit b) (list_all is_hex_digit s) all in
+    let one_more : 1 + bar_length (s ++ rest) ≡ suc (bar_length (s ++ rest)) = omega arith in
+    let len : bar_length (b ∷ s ++ rest) ≡ suc (bar_length (s ++ rest)) = rw (no_bar b parts.0) one_more in
+    rw len (ap (λ (xs : List ℕ). b ∷ xs) (bar_on s rest parts.1))
+
+column_on : (s rest : List ℕ) → AreDigits s → data_of Marked (s ++ rest) ≡ s ++ data_of Marked rest
+column_on [] rest all = refl
+column_on (b ∷ s) rest all =
+    let parts = and_parts (is_hex_digit b) (list_all is_hex_digit s) all in
+    let one_more : 1 + column_length (s ++ rest) ≡ suc (column_length (s ++ rest)) = omega arith in
+    let len : column_length (b ∷ s ++ rest) ≡ suc (column_length (s ++ rest)) = rw (no_space b parts.0) one_more in
+    rw len (ap (λ (xs : List ℕ). b ∷ xs) (column_on s rest parts.1))
+
+data_on : (f : Form) (s rest : List ℕ) → AreDigits s → data_of f (s ++ rest) ≡ s ++ data_of f rest
+data_on Plain s rest all = refl
+data_on Marked s rest all = column_on s rest all
+data_on Offset s rest all = bar_on s rest all
+
+-- a text is empty or begins with a space
+abbrev IsApart : List ℕ → Type 0
+IsApart [] = Unit {0}
+IsApart (b ∷ bs) = b ≡ 32
+
+take_apart : (n : ℕ) (text : List ℕ) → IsApart text → IsApart (take n text)
+take_apart zero [] apart = tt
+take_apart zero (b ∷ bs) apart = tt
+take_apart (suc n) [] apart = tt
+take_apart (suc n) (b ∷ bs) apart = apart
+
+data_apart : (f : Form) (text : List ℕ) → IsApart text → IsApart (data_of f text)
+data_apart Plain text apart = apart
+data_apart Marked text apart = take_apart (column_length text) text apart
+data_apart Offset text apart = take_apart (bar_length text) text apart
+
+drop_apart : (text : List ℕ) (n : ℕ) → (n < length text → slice_index text n ≡ 32) → IsApart (drop n text)
+drop_apart [] zero space = tt
+drop_apart [] (suc n) space = tt
+drop_apart (b ∷ bs) zero space = space (omega arith)
+drop_apart (b ∷ bs) (suc n) space = drop_apart bs n (λ inside. space (omega (arith, inside)))
+
+pub nothing_first : (o : Option (List ℕ)) → both_bytes (Some []) o ≡ o
+nothing_first None = refl
+nothing_first (Some xs) = refl
+
+no_line : line_bytes [] ≡ Some []
+no_line = ap (λ o. both_bytes o (Some [])) bytes_of-none
+
+-- a space adds nothing
+space_first : (rest : List ℕ) → line_bytes (32 ∷ rest) ≡ line_bytes rest
+space_first rest = line_in_items [] rest refl ∙ ap (λ o. both_bytes o (line_bytes rest)) bytes_of-none ∙ nothing_first (line_bytes rest)
+
+-- the bytes of digits alone, as those of a line
+one_item : (s : List ℕ) → AreDigits s → line_bytes s ≡ both_bytes (item_bytes s) (Some [])
+one_item s all =
+    let len : item_length s ≡ length s = item_alone s all in
+    let item : s ≡ take (item_length s) s = sym (ap (λ n. take n s) len ∙ list.take_all (length s) s (omega arith)) in
+    let behind : [] ≡ drop (item_length s) s = sym (ap (λ n. drop n s) len ∙ list.drop_all (length s) s (omega arith)) in
+    line_in_two s s [] item behind
+
+-- the bytes of digits and of what follows them
+line_apart : (s rest : List ℕ) → AreDigits s → IsApart rest → line_bytes (s ++ rest) ≡ both_bytes (item_bytes s) (line_bytes rest)
+line_apart s [] all apart = ap line_bytes (list.append-nil s) ∙ one_item s all ∙ ap (both_bytes (item_bytes s)) (sym no_line)
+line_apart s (b ∷ rest) all apart =
+    subst (λ (x : ℕ). line_bytes (s ++ x ∷ rest) ≡ both_bytes (item_bytes s) (line_bytes (x ∷ rest))) (sym apart) (line_in_items s rest all ∙ ap (both_bytes (item_bytes s)) (sym (space_first rest)))
+
+-- such an item is added to a row
+pub goes_on : (f : Form) (text row new : List ℕ) (n : ℕ) → (n < length text → slice_index text n ≡ 32) → AreDigits (take n text) → Adds (fitting row (item_bytes (take n text))) true row new → ContinuesAs f row text new (drop n text)
+goes_on f text row new n space all adds =
+    let s = take n text in
+    let rest = drop n text in
+    let (bytes, fits, joined) = adds_some (fitting row (item_bytes s)) true row new adds refl in
+    let some = (fits_row row bytes (item_bytes s) fits).0 in
+    let cut : data_of f text ≡ s ++ data_of f rest = ap (data_of f) (sym (list.take-append-drop n text)) ∙ data_on f s rest all in
+    let all_bytes : line_bytes (data_of f text) ≡ both_bytes (Some bytes) (line_bytes (data_of f rest)) =
+    ap line_bytes cut ∙ line_apart s (data_of f rest) all (data_apart f rest (drop_apart text n space)) ∙ ap (λ o. both_bytes o (line_bytes (data_of f rest))) some in
+    ap (both_bytes (Some row)) all_bytes ∙ joined_in_turn (Some row) (Some bytes) (line_bytes (data_of f rest)) ∙ ap (λ xs. both_bytes (Some xs) (line_bytes (data_of f rest))) (sym joined)
 
 first_other : (text : List ℕ) (n : ℕ) → slice_index text n ≢ 32 → begins_with_space (drop n text) ≡ false
 first_other [] zero other = refl
@@ -123,34 +200,14 @@ first_other [] (suc n) other = refl
 first_other (b ∷ text) zero other = grind (arith, nat_tests)
 first_other (b ∷ text) (suc n) other = first_other text n other
 
--- such an item is added to a row
-pub goes_on : (f : Form) (text row new : List ℕ) (n : ℕ) → EndsAt f text n → AreDigits (take n text) → Adds (fitting row (item_bytes (take n text))) true row new → ContinuesAs f row text new (drop (n + 1) text)
-goes_on f text row new n ends all adds =
-    let s = take n text in
-    let rest = drop (n + 1) text in
-    let inside : n < length text = omega (arith, ends.0) in
-    let parts = text_is text n inside ends.1 in
-    let (bytes, fits, joined) = adds_some (fitting row (item_bytes s)) true row new adds refl in
-    let some = (fits_row row bytes (item_bytes s) fits).0 in
-    let cut : data_of f text ≡ s ++ 32 ∷ data_of f rest = ap (data_of f) parts ∙ data_behind f s rest all (λ marked. first_other text (n + 1) (ends.2 marked)) in
-    let all_bytes : line_bytes (data_of f text) ≡ both_bytes (Some bytes) (line_bytes (data_of f rest)) =
-    ap line_bytes cut ∙ line_in_items s (data_of f rest) all ∙ ap (λ o. both_bytes o (line_bytes (data_of f rest))) some in
-    ap (both_bytes (Some row)) all_bytes ∙ joined_in_turn (Some row) (Some bytes) (line_bytes (data_of f rest)) ∙ ap (λ xs. both_bytes (Some xs) (line_bytes (data_of f rest))) (sym joined)
-
-pub nothing_first : (o : Option (List ℕ)) → both_bytes (Some []) o ≡ o
-nothing_first None = refl
-nothing_first (Some xs) = refl
-
--- a space before an item adds nothing
-behind_space : (f : Form) (rest row : List ℕ) → f ≢ Marked → ContinuesAs f row (32 ∷ rest) row rest
+behind_space : (f : Form) (rest row : List ℕ) → (f ≡ Marked → begins_with_space rest ≡ false) → ContinuesAs f row (32 ∷ rest) row rest
 behind_space f rest row other =
-    let cut : data_of f (32 ∷ rest) ≡ 32 ∷ data_of f rest = data_behind f [] rest refl (λ marked. absurd (other marked)) in
-    let none : item_bytes [] ≡ Some [] = bytes_of-none in
-    ap (both_bytes (Some row)) (ap line_bytes cut ∙ line_in_items [] (data_of f rest) refl ∙ ap (λ o. both_bytes o (line_bytes (data_of f rest))) none ∙ nothing_first (line_bytes (data_of f rest)))
+    let cut : data_of f (32 ∷ rest) ≡ 32 ∷ data_of f rest = data_behind f [] rest refl other in
+    ap (both_bytes (Some row)) (ap line_bytes cut ∙ space_first (data_of f rest))
 
-pub goes_on_behind_space : (f : Form) (text row : List ℕ) → 0 < length text → slice_index text 0 ≡ 32 → f ≢ Marked → ContinuesAs f row text row (drop 1 text)
-goes_on_behind_space f [] row some space other = absurd (omega arith)
-goes_on_behind_space f (b ∷ rest) row some space other = subst (λ (x : ℕ). ContinuesAs f row (x ∷ rest) row rest) (sym space) (behind_space f rest row other)
+pub goes_on_behind_space : (f : Form) (text row : List ℕ) → EndsAt f text 0 → ContinuesAs f row text row (drop 1 text)
+goes_on_behind_space f [] row ends = absurd (omega (arith, ends.0))
+goes_on_behind_space f (b ∷ rest) row ends = subst (λ (x : ℕ). ContinuesAs f row (x ∷ rest) row rest) (sym ends.1) (behind_space f rest row (λ marked. first_other (b ∷ rest) 1 (ends.2 marked)))
 
 -- the last of digits is one
 last_digit : (b : ℕ) (s : List ℕ) → AreDigits (b ∷ s) → is_hex_digit (slice_index (b ∷ s) (length s)) ≡ true
@@ -232,11 +289,7 @@ word_added row new item o added adds sure is eight =
     (subst (λ (p : Option (List ℕ)). Adds (fitting row p) true row new) same (subst (λ (b : Bool). Adds (fitting row o) b row new) sure adds), all)
 
 alone_bytes : (line bytes : List ℕ) → AreDigits line → length line ≢ 8 → bytes_of line ≡ Some bytes → line_bytes line ≡ Some bytes
-alone_bytes line bytes all other some =
-    let len : item_length line ≡ length line = item_alone line all in
-    let item : line ≡ take (item_length line) line = sym (ap (λ n. take n line) len ∙ list.take_all (length line) line (omega arith)) in
-    let behind : [] ≡ drop (item_length line) line = sym (ap (λ n. drop n line) len ∙ list.drop_all (length line) line (omega arith)) in
-    line_in_two line line [] item behind ∙ ap (λ o. both_bytes o (Some [])) (plain_item line all other ∙ some) ∙ ap Some (list.append-nil bytes)
+alone_bytes line bytes all other some = one_item line all ∙ ap (λ o. both_bytes o (Some [])) (plain_item line all other ∙ some) ∙ ap Some (list.append-nil bytes)
 
 row_if_alone : (line bytes : List ℕ) → line_bytes line ≡ Some bytes → parts_row Plain [] line ≡ row_with Plain 0 bytes
 unfolding parts_row address_of

@@ -81,6 +81,7 @@ pub(crate) fn add_bytes(row: &mut ArrayVec<u8, ROW_BYTES>, digits: &[u8]) -> boo
 }
 
 /// Adds the bytes of an item of two, four or eight digits, if they have room, or else nothing.
+#[inline(always)]
 pub(crate) fn add_digits(row: &mut ArrayVec<u8, ROW_BYTES>, item: &[u8]) -> bool
     ensures some { result ≡ true →
         Adds (fitting row.old.items (item_bytes item.now)) true row.old.items row.new.items }
@@ -96,6 +97,7 @@ pub(crate) fn add_digits(row: &mut ArrayVec<u8, ROW_BYTES>, item: &[u8]) -> bool
 }
 
 /// Adds bytes, if they were found and have room.
+#[inline(always)]
 fn add_found<const N: usize>(row: &mut ArrayVec<u8, ROW_BYTES>, found: Option<[u8; N]>) -> bool
     ensures bytes { Adds (fitting row.old.items found.entry) result row.old.items row.new.items }
     ensures none { result ≡ false → row.new ≡ row.old }
@@ -107,6 +109,7 @@ fn add_found<const N: usize>(row: &mut ArrayVec<u8, ROW_BYTES>, found: Option<[u
 }
 
 /// The byte of two digits.
+#[inline(always)]
 fn pair_of(digits: &[u8]) -> Option<[u8; 1]>
     requires two { length digits.now ≡ 2 }
     ensures bytes { result ≡ bytes_of digits.now }
@@ -119,6 +122,7 @@ fn pair_of(digits: &[u8]) -> Option<[u8; 1]>
 }
 
 /// The bytes of four digits.
+#[inline(always)]
 fn pairs_of(digits: &[u8]) -> Option<[u8; 2]>
     requires four { length digits.now ≡ 4 }
     ensures { result ≡ bytes_of digits.now }
@@ -129,6 +133,7 @@ fn pairs_of(digits: &[u8]) -> Option<[u8; 2]>
 }
 
 /// The bytes of a word of eight digits, the lowest first.
+#[inline(always)]
 fn word_of(digits: &[u8]) -> Option<[u8; 4]>
     requires eight { length digits.now ≡ 8 }
     ensures { result ≡ number_bytes digits.now }
