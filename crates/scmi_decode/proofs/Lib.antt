@@ -1,3 +1,4 @@
+mod Alone
 mod Digits
 mod Forms
 mod Items

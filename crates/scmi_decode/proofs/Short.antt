@@ -257,7 +257,7 @@ second_of : (c1 c2 : Bool) (o1 o2 o3 : Option (List ℕ)) → c1 ≡ false → c
 second_of c1 c2 o1 o2 o3 e1 e2 = rw (e1, e2) refl
 
 -- digits that are not eight are bytes in their order
-plain_item : (s : List ℕ) → AreDigits s → length s ≢ 8 → item_bytes s ≡ bytes_of s
+pub plain_item : (s : List ℕ) → AreDigits s → length s ≢ 8 → item_bytes s ≡ bytes_of s
 plain_item s all other =
     let no : (length s == 8) ≡ false = grind (arith, nat_tests) in
     third (has_mark s) (length s == 8) (number_bytes (drop 2 s)) (number_bytes s) (bytes_of s) (unmarked s all) no
