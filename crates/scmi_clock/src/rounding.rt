@@ -46,8 +46,6 @@ fn below(rates: &Rates, asked: u64) -> Option<u64>
     }
 }
 
-// Most sets round down in a list: what the others need is not among their locals.
-#[inline(never)]
 fn above(rates: &Rates, asked: u64) -> Option<u64>
     requires { HasValidRates rates.now }
     ensures { result ≡ rate_above rates.now asked }
@@ -59,7 +57,7 @@ fn above(rates: &Rates, asked: u64) -> Option<u64>
 }
 
 #[tactic(auto, using(crate::proofs::Rounds::below_low, crate::proofs::Rounds::above_high))]
-#[inline(never)]
+#[inline(always)]
 fn nearest(rates: &Rates, asked: u64) -> Option<u64>
     requires { HasValidRates rates.now }
     ensures { result ≡ nearer asked (rate_below rates.now asked) (rate_above rates.now asked) }
@@ -99,7 +97,6 @@ fn list_above(list: &[u64], asked: u64) -> Option<u64>
 }
 
 #[tactic(auto, using(crate::proofs::StepRates::below_none, crate::proofs::StepRates::below_high, crate::proofs::StepRates::below_between))]
-#[inline(never)]
 fn step_below(low: u64, high: u64, step: u64, asked: u64) -> Option<u64>
     requires { HasValidRates (Steps low high step) }
     ensures { result ≡ rate_below (Steps low high step) asked }

@@ -118,7 +118,7 @@ impl Pending {
         if self.is_empty() {
             return idle_load(waiting);
         }
-        self.busy_load(agent, waiting, self.busy_domains())
+        self.busy_domain_load(agent, waiting)
     }
 
     /// The load that a clock command of an agent meets whose outbox has `waiting` messages.
@@ -131,19 +131,33 @@ impl Pending {
         if self.is_empty() {
             return idle_load(waiting);
         }
-        self.busy_load(agent, waiting, self.busy_clocks())
+        self.busy_clock_load(agent, waiting)
     }
 
-    /// The load of an agent beside these busy domains or clocks.
-    // It is apart, since mostly no set is pending.
+    /// As `domain_load`, where some set is pending.
     #[inline(never)]
-    fn busy_load(&self, agent: u32, waiting: usize, busy: u32) -> Load
+    fn busy_domain_load(&self, agent: u32, waiting: usize) -> Load
         requires { waiting ≤ OUTBOX_ROOM }
-        ensures busy { result.busy ≡ busy }
+        ensures busy { (d : ℕ) → d < DOMAINS
+            → (bit_at result.busy d == 1) ≡ has_set_of (resource.Domain d) self.now }
         ensures room { result.room ≡ has_room_beside waiting agent self.now }
     {
         Load {
-            busy,
+            busy: self.busy_domains(),
+            room: self.has_room(agent, waiting),
+        }
+    }
+
+    /// As `clock_load`, where some set is pending.
+    #[inline(never)]
+    fn busy_clock_load(&self, agent: u32, waiting: usize) -> Load
+        requires { waiting ≤ OUTBOX_ROOM }
+        ensures busy { (c : ℕ) → c < CLOCKS
+            → (bit_at result.busy c == 1) ≡ has_set_of (resource.Clock c) self.now }
+        ensures room { result.room ≡ has_room_beside waiting agent self.now }
+    {
+        Load {
+            busy: self.busy_clocks(),
             room: self.has_room(agent, waiting),
         }
     }
@@ -180,7 +194,6 @@ impl Pending {
     }
 
     /// Which domains have a pending set, a bit for each.
-    #[inline(never)]
     fn busy_domains(&self) -> u32
         ensures { (d : ℕ) → d < DOMAINS
             → (bit_at result d == 1) ≡ has_set_of (resource.Domain d) self.now }
@@ -197,7 +210,6 @@ impl Pending {
     }
 
     /// Which clocks have a pending set, a bit for each.
-    #[inline(never)]
     fn busy_clocks(&self) -> u32
         ensures { (c : ℕ) → c < CLOCKS
             → (bit_at result c == 1) ≡ has_set_of (resource.Clock c) self.now }

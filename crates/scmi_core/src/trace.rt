@@ -196,37 +196,8 @@ fn append(words: &mut Vec<u32>, first: u32, size: u32, header: u32, payload: &[u
     words.push_reserved(first);
     words.push_reserved(size);
     words.push_reserved(header);
-    push_words(words, payload);
-}
-
-/// Adds the words of a payload after others, in the room that there is.
-// Commands have four at most, and then no copy is called.
-fn push_words(words: &mut Vec<u32>, payload: &[u32])
-    requires { vec_len words.old + length payload.now ≤ vec_capacity words.old }
-    ensures items { words.new.items ≡ words.old.items ++ payload.now }
-    ensures len { vec_len words.new ≡ vec_len words.old + length payload.now }
-    ensures capacity { vec_capacity words.old ≤ vec_capacity words.new }
-{
-    match payload {
-        [] => {}
-        [a] => words.push_reserved(*a),
-        [a, b] => {
-            words.push_reserved(*a);
-            words.push_reserved(*b);
-        }
-        [a, b, c] => {
-            words.push_reserved(*a);
-            words.push_reserved(*b);
-            words.push_reserved(*c);
-        }
-        [a, b, c, d] => {
-            words.push_reserved(*a);
-            words.push_reserved(*b);
-            words.push_reserved(*c);
-            words.push_reserved(*d);
-        }
-        _ => {
-            let _ = words.extend_from_slice(payload);
-        }
+    // Most commands have few words or none, and then no copy is called.
+    if !payload.is_empty() {
+        let _ = words.extend_from_slice(payload);
     }
 }
