@@ -90,13 +90,13 @@ fn read_reply(table: &SharedTable, seat: &mut TableSeat, answer: &mut Answer)
 {
     let length = load_answer_word(table, seat, LENGTH);
     let header = load_answer_word(table, seat, HEADER);
+    let count = (length / 4 - 1) as usize;
     if let Answer::Reply(message) = answer {
-        let count = message.payload.len();
-        if length == 4 + 4 * count as u32 {
+        if message.payload.len() == count {
             return read_response(table, seat, header, count, message);
         }
     }
-    read_other_response(table, seat, header, (length / 4 - 1) as usize, answer);
+    read_other_response(table, seat, header, count, answer);
 }
 
 /// Loads the payload of the response that the caller collected, into any other answer.
@@ -115,22 +115,52 @@ fn read_other_response(
     ensures value { answer.new ≡ Reply given }
     ensures view { CallerBecomes seat.old (caller_after (caller_of seat.old) count) seat.new }
 {
-    make_reply(answer, count);
-    let Answer::Reply(message) = answer else {
-        unreachable!();
-    };
+    match answer {
+        Answer::Reply(message) => read_resized_response(table, seat, header, count, message),
+        _ => read_new_response(table, seat, header, count, answer),
+    }
+}
+
+/// Loads the payload of the response that the caller collected, into a message of any other
+/// length.
+fn read_resized_response(
+    table: &SharedTable,
+    seat: &mut TableSeat,
+    header: u32,
+    count: usize,
+    message: &mut Message,
+)
+    ghost given: { Message }
+    requires given { HasResponse table.now seat.old given }
+    requires header { header ≡ header_word given.header }
+    requires count { count ≡ length given.payload.items }
+    ensures value { message.new ≡ given }
+    ensures view { CallerBecomes seat.old (caller_after (caller_of seat.old) count) seat.new }
+{
+    set_length(&mut message.payload, count);
     read_response(table, seat, header, count, message);
 }
 
-/// Makes an answer a reply of this many words, over which others are to be loaded.
-fn make_reply(answer: &mut Answer, count: usize)
-    requires { count ≤ PAYLOAD_WORDS }
-    ensures { (m : Message) × (answer.new ≡ Reply m) × (length m.payload.items ≡ count) }
+/// Loads the payload of the response that the caller collected, into a new message of this header
+/// word. A function clears its locals at its entry, so the message is not one of the callers.
+#[inline(never)]
+fn read_new_response(
+    table: &SharedTable,
+    seat: &mut TableSeat,
+    header: u32,
+    count: usize,
+    answer: &mut Answer,
+)
+    ghost given: { Message }
+    requires given { HasResponse table.now seat.old given }
+    requires header { header ≡ header_word given.header }
+    requires count { count ≡ length given.payload.items }
+    ensures value { answer.new ≡ Reply given }
+    ensures view { CallerBecomes seat.old (caller_after (caller_of seat.old) count) seat.new }
 {
-    match answer {
-        Answer::Reply(message) => set_length(&mut message.payload, count),
-        _ => *answer = Answer::Reply(message_of_length(count)),
-    }
+    let mut message = Message::default();
+    read_resized_response(table, seat, header, count, &mut message);
+    *answer = Answer::Reply(message);
 }
 
 /// Loads the payload of the response that the caller collected, into a message of this header word,
@@ -170,18 +200,17 @@ pub fn read_frame(table: &SharedTable, seat: &mut TableSeat, frame: &mut Frame)
 {
     let length = load_frame_word(table, seat, LENGTH);
     let header = load_frame_word(table, seat, HEADER);
-    // A length of as many words as the message has is well formed.
-    if let Frame::Good(message) = frame {
-        let count = message.payload.len();
-        if length == 4 + 4 * count as u32 {
-            return read_message(table, seat, header, count, message);
-        }
-    }
     if !is_well_formed(length) {
         frame.set_malformed(length, header);
         return;
     }
-    read_other_message(table, seat, header, (length / 4 - 1) as usize, frame);
+    let count = (length / 4 - 1) as usize;
+    if let Frame::Good(message) = frame {
+        if message.payload.len() == count {
+            return read_message(table, seat, header, count, message);
+        }
+    }
+    read_other_message(table, seat, header, count, frame);
 }
 
 /// Loads the payload of the frame that the callee took, into any other frame.
@@ -200,22 +229,52 @@ fn read_other_message(
     ensures value { frame.new ≡ Good posted }
     ensures view { CalleeBecomes seat.old (callee_after (callee_of seat.old) count) seat.new }
 {
-    make_good(frame, count);
-    let Frame::Good(message) = frame else {
-        unreachable!();
-    };
+    match frame {
+        Frame::Good(message) => read_resized_message(table, seat, header, count, message),
+        _ => read_new_message(table, seat, header, count, frame),
+    }
+}
+
+/// Loads the payload of the frame that the callee took, into a message of any other
+/// length.
+fn read_resized_message(
+    table: &SharedTable,
+    seat: &mut TableSeat,
+    header: u32,
+    count: usize,
+    message: &mut Message,
+)
+    ghost posted: { Message }
+    requires posted { HasMessage table.now seat.old posted }
+    requires header { header ≡ header_word posted.header }
+    requires count { count ≡ length posted.payload.items }
+    ensures value { message.new ≡ posted }
+    ensures view { CalleeBecomes seat.old (callee_after (callee_of seat.old) count) seat.new }
+{
+    set_length(&mut message.payload, count);
     read_message(table, seat, header, count, message);
 }
 
-/// Makes a frame a message of this many words, over which others are to be loaded.
-fn make_good(frame: &mut Frame, count: usize)
-    requires { count ≤ PAYLOAD_WORDS }
-    ensures { (m : Message) × (frame.new ≡ Good m) × (length m.payload.items ≡ count) }
+/// Loads the payload of the frame that the callee took, into a new message of this header word,
+/// which is not a local of the callers.
+#[inline(never)]
+fn read_new_message(
+    table: &SharedTable,
+    seat: &mut TableSeat,
+    header: u32,
+    count: usize,
+    frame: &mut Frame,
+)
+    ghost posted: { Message }
+    requires posted { HasMessage table.now seat.old posted }
+    requires header { header ≡ header_word posted.header }
+    requires count { count ≡ length posted.payload.items }
+    ensures value { frame.new ≡ Good posted }
+    ensures view { CalleeBecomes seat.old (callee_after (callee_of seat.old) count) seat.new }
 {
-    match frame {
-        Frame::Good(message) => set_length(&mut message.payload, count),
-        _ => *frame = Frame::Good(message_of_length(count)),
-    }
+    let mut message = Message::default();
+    read_resized_message(table, seat, header, count, &mut message);
+    *frame = Frame::Good(message);
 }
 
 /// Loads the payload of the frame that the callee took, into a message of this header word, over as
@@ -239,18 +298,6 @@ fn read_message(
     for i in 0..count {
         message.payload[i] = load_frame_word(table, seat, PAYLOAD + i);
     }
-}
-
-/// A message of this many words, over which others are to be loaded. A function clears its locals at
-/// its entry, so the message is not one of the callers.
-#[inline(never)]
-fn message_of_length(count: usize) -> Message
-    requires { count ≤ PAYLOAD_WORDS }
-    ensures { length result.payload.items ≡ count }
-{
-    let mut message = Message::default();
-    set_length(&mut message.payload, count);
-    message
 }
 
 /// Makes a payload one of this many words, over which others are to be loaded.
