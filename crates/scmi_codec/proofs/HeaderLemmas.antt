@@ -1,7 +1,17 @@
 -- How a header word is put together from its fields and taken apart.
-use Rattle.std.proofs.Common.{◌≡◌, ℕ, ◌+◌, ◌*◌, ◌%◌, ◌^◌, ◌<◌, bit_or, arith}
+use Rattle.std.proofs.Common.{◌≡◌, ◌==◌, ◌∙◌, ℕ, ◌+◌, ◌*◌, ◌%◌, ◌^◌, ◌<◌, bit_or, ap, sym, arith}
 use Rattle.std.proofs.lemmas.Nat.{or_shifted}
-use Rattle.scmi_codec.specs.Header.{HeaderFields, FitsWidths, field, header_of, header_word}
+use Rattle.std.specs.Bool.{Decides}
+use Rattle.std.proofs.lemmas.Bool.Decides.{Decides-and, Decides-eqb, Decides-like, same_from_decides}
+use Rattle.scmi_codec.specs.Header.{HeaderFields, field, header_of, header_word, is_same_header}
+
+-- each field within its width
+pub record FitsWidths (h : HeaderFields) : Type 0 where
+  pub reserved : h.reserved < 2 ^ 4
+  pub token : h.token < 2 ^ 10
+  pub protocol : h.protocol < 2 ^ 8
+  pub kind : h.kind < 2 ^ 2
+  pub id : h.id < 2 ^ 8
 
 -- two neighbouring fields, the upper one shifted
 joined : (a b k : ℕ) → b < 2 ^ k → bit_or (a * 2 ^ k) b ≡ a * 2 ^ k + b
@@ -49,3 +59,27 @@ header_of-header_word h w = λ j. record {
 
 pub header_word-header_of : (word : ℕ) → word < 2 ^ 32 → header_word (header_of word) ≡ word
 header_word-header_of word small = omega arith
+
+-- the fields of two headers are equal
+abbrev HaveSameFields : HeaderFields → HeaderFields → Type 0
+HaveSameFields a b = ((((a.reserved ≡ b.reserved) × (a.token ≡ b.token)) × (a.protocol ≡ b.protocol)) × (a.kind ≡ b.kind)) × (a.id ≡ b.id)
+
+fields_to_header : (a b : HeaderFields) → HaveSameFields a b → a ≡ b
+fields_to_header a b ((((r, t), p), k), d) = λ i. record { reserved = r i; token = t i; protocol = p i; kind = k i; id = d i }
+
+header_to_fields : (a b : HeaderFields) → a ≡ b → HaveSameFields a b
+header_to_fields a b is = ((((ap (λ h. h.reserved) is, ap (λ h. h.token) is), ap (λ h. h.protocol) is), ap (λ h. h.kind) is), ap (λ h. h.id) is)
+
+pub header_decides : (a b : HeaderFields) → Decides (is_same_header a b) (a ≡ b)
+header_decides a b =
+    Decides-like (is_same_header a b) (fields_to_header a b) (header_to_fields a b)
+    (Decides-and _ _ (Decides-and _ _ (Decides-and _ _ (Decides-and _ _ (Decides-eqb a.reserved b.reserved) (Decides-eqb a.token b.token))
+    (Decides-eqb a.protocol b.protocol)) (Decides-eqb a.kind b.kind)) (Decides-eqb a.id b.id))
+
+-- words of as many bits are equal if and only if they have the same fields
+pub same_words : (v w : ℕ) → v < 2 ^ 32 → w < 2 ^ 32 → (v == w) ≡ is_same_header (header_of v) (header_of w)
+same_words v w hv hw =
+    let same : header_of v ≡ header_of w → v ≡ w =
+    λ e. sym (header_word-header_of v hv) ∙ ap header_word e ∙ header_word-header_of w hw in
+    same_from_decides (v == w) (is_same_header (header_of v) (header_of w)) (Decides-eqb v w)
+    (Decides-like _ same (ap header_of) (header_decides (header_of v) (header_of w)))

@@ -19,7 +19,7 @@ pub const NOTIFICATION: u8 = 3;
 /// reserved 4, token 10, protocol 8, kind (the message type) 2, id 8.
 ///
 /// The type is 0 for a command and its response, 2 for a delayed response, 3 for a notification.
-#[derive(Clone, Copy, PartialEq, Eq, Debug)]
+#[derive(Clone, Copy, Debug)]
 pub struct Header {
     word: u32,
 }
@@ -40,6 +40,25 @@ impl Model for Header {
     ghost inverse_ok = { λ h small i.
         let back : header_word (header_of h.word) ≡ h.word = omega (arith, small) in
         record { word = back i } };
+}
+
+impl PartialEq for Header {
+    ghost use Rattle.std.specs.Cmp.{partial_equiv_from_equiv};
+    ghost use Rattle.scmi_codec.specs.Header.{is_same_header, same_header_equiv};
+
+    ghost eq = { is_same_header };
+
+    ghost laws = { partial_equiv_from_equiv same_header_equiv };
+
+    fn eq(&self, other: &Header) -> bool {
+        self.word == other.word
+    }
+}
+
+impl Eq for Header {
+    ghost use Rattle.scmi_codec.specs.Header.{same_header_equiv};
+
+    ghost laws = { same_header_equiv };
 }
 
 // What a place without a message contains.
