@@ -180,24 +180,45 @@ impl Trace {
             ≡ self.old.events ++ event_of mark size header payload.now ∷ [] }
         ensures room { self.old.room ≤ self.new.room + 1 }
     {
-        append(&mut self.words, mark.pack(), size, header, payload);
+        append_head(&mut self.words, mark.pack(), size, header);
         self.count += 1;
+        append_payload(&mut self.words, payload);
     }
 }
 
-/// Adds the words of an event after others, in the room that there is.
-fn append(words: &mut Vec<u32>, first: u32, size: u32, header: u32, payload: &[u32])
-    requires { vec_len words.old + 3 + length payload.now ≤ vec_capacity words.old }
-    ensures items { words.new.items ≡ words.old.items ++ first ∷ size ∷ header ∷ payload.now }
-    ensures len { vec_len words.new ≡ vec_len words.old + 3 + length payload.now }
+/// Adds the first three words of an event after others, in the room that there is.
+fn append_head(words: &mut Vec<u32>, first: u32, size: u32, header: u32)
+    requires { vec_len words.old + 3 ≤ vec_capacity words.old }
+    ensures items { words.new.items ≡ words.old.items ++ first ∷ size ∷ header ∷ [] }
+    ensures len { vec_len words.new ≡ vec_len words.old + 3 }
     ensures capacity { vec_capacity words.old ≤ vec_capacity words.new }
     ensures few { length words.new.items < 2 ^ 64 }
 {
     words.push_reserved(first);
     words.push_reserved(size);
     words.push_reserved(header);
-    // Most commands have few words or none, and then no copy is called.
+}
+
+/// Adds the payload of an event after its first words, in the room that there is. Most have few
+/// words or none, and then no copy is called.
+fn append_payload(words: &mut Vec<u32>, payload: &[u32])
+    requires { vec_len words.old + length payload.now ≤ vec_capacity words.old }
+    ensures items { words.new.items ≡ words.old.items ++ payload.now }
+    ensures len { vec_len words.new ≡ vec_len words.old + length payload.now }
+    ensures capacity { vec_capacity words.old ≤ vec_capacity words.new }
+{
     if !payload.is_empty() {
-        let _ = words.extend_from_slice(payload);
+        append_words(words, payload);
     }
+}
+
+// Its caller has nothing left to do, so it saves no registers.
+#[inline(never)]
+fn append_words(words: &mut Vec<u32>, payload: &[u32])
+    requires { vec_len words.old + length payload.now ≤ vec_capacity words.old }
+    ensures items { words.new.items ≡ words.old.items ++ payload.now }
+    ensures len { vec_len words.new ≡ vec_len words.old + length payload.now }
+    ensures capacity { vec_capacity words.old ≤ vec_capacity words.new }
+{
+    let _ = words.extend_from_slice(payload);
 }
