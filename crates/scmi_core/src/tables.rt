@@ -4,7 +4,6 @@ ghost use Rattle.std.specs.List.{All};
 ghost use Rattle.std.specs.Int.{bit_at};
 ghost use Rattle.scmi_base.specs.Permission.{is_allowed};
 ghost use Rattle.scmi_base.specs.declared.scope.Scope.{Scope};
-ghost use Rattle.scmi_codec.specs.Command.{command_of};
 ghost use Rattle.scmi_codec.specs.declared.frame.Frame.TheVariants.{Good};
 ghost use Rattle.scmi_codec.specs.declared.command.Command.TheVariants.{Base, Power, Clock};
 ghost use Rattle.scmi_power.specs.PowerTable.{is_subscribed};
@@ -31,7 +30,8 @@ use crate::pending_set::{PendingSet, Setting};
 use scmi_base::BaseState;
 use scmi_clock::ClockState;
 use scmi_codec::{
-    BaseCommand, ClockCommand, Command, Frame, Header, Message, Payload, PowerCommand, set_refusal,
+    BaseCommand, ClockCommand, Command, Frame, Header, Message, Payload, PowerCommand, Status,
+    set_refusal,
 };
 use scmi_plan::{DOMAINS, Load, Plan};
 use scmi_power::PowerState;
@@ -106,46 +106,37 @@ impl Tables {
         ensures stepped { HasAnswered plan.now agent (Good message.now) self.old self.new }
     {
         if fits_channel(plan, agent, message) {
+            let command = Command::read(message);
             reply.header = message.header;
-            self.execute(plan, agent, message, &mut reply.payload);
+            self.execute(plan, agent, message.header, command, &mut reply.payload);
             Answered::Reply
         } else {
             Answered::ChannelError
         }
     }
 
-    /// Executes a message of an agent, and writes the payload of its reply.
+    /// Executes what a message of an agent with this header was read as, and writes the payload of
+    /// its reply.
     #[tactic(auto, unfolding(crate::specs::Reply::reply_words))]
-    fn execute(&mut self, plan: &Plan, agent: u32, message: &Message, reply: &mut Payload)
+    fn execute(
+        &mut self,
+        plan: &Plan,
+        agent: u32,
+        header: Header,
+        command: Result<Command, Status>,
+        reply: &mut Payload,
+    )
         requires agent { IsAgent (length plan.now.agents) agent }
         requires valid { IsValid plan.now }
         ensures reply { reply.new.items
-            ≡ reply_words plan.now agent (situation_in agent self.old) (command_of message.now) }
-        ensures stepped { HasExecuted plan.now agent message.now.header
-            (command_of message.now) reply.new.items self.old self.new }
+            ≡ reply_words plan.now agent (situation_in agent self.old) command }
+        ensures stepped { HasExecuted plan.now agent header command
+            reply.new.items self.old self.new }
     {
-        match Command::read(message) {
-            Ok(Command::Base(command)) => self.execute_base(
-                plan,
-                agent,
-                message.header,
-                command,
-                reply,
-            ),
-            Ok(Command::Power(command)) => self.execute_power(
-                plan,
-                agent,
-                message.header,
-                command,
-                reply,
-            ),
-            Ok(Command::Clock(command)) => self.execute_clock(
-                plan,
-                agent,
-                message.header,
-                command,
-                reply,
-            ),
+        match command {
+            Ok(Command::Base(command)) => self.execute_base(plan, agent, header, command, reply),
+            Ok(Command::Power(command)) => self.execute_power(plan, agent, header, command, reply),
+            Ok(Command::Clock(command)) => self.execute_clock(plan, agent, header, command, reply),
             Err(status) => set_refusal(reply, status),
         }
     }
