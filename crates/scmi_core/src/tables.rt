@@ -107,8 +107,9 @@ impl Tables {
     {
         if fits_channel(plan, agent, message) {
             let command = Command::read(message);
-            reply.header = message.header;
-            self.execute(plan, agent, message.header, command, &mut reply.payload);
+            let header = message.header;
+            reply.header = header;
+            self.execute(plan, agent, header, command, &mut reply.payload);
             Answered::Reply
         } else {
             Answered::ChannelError
