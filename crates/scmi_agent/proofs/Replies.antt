@@ -1,5 +1,5 @@
 -- What makes a message the reply to a command.
-use Rattle.std.proofs.Common.{◌≡◌, ℕ, ◌%◌, List, Ok, Result, sym, ap, ◌∙◌}
+use Rattle.std.proofs.Common.{◌≡◌, ℕ, ◌%◌, List, Ok, sym, ap, ◌∙◌}
 use Rattle.scmi_codec.specs.Area.{status_at, frame_of}
 use Rattle.scmi_codec.specs.Header.{HeaderFields}
 use Rattle.scmi_codec.specs.declared.frame.Frame.TheVariants.{Good}

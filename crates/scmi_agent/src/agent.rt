@@ -88,7 +88,7 @@ impl Agent {
             return Err(ReadError::NotPosted);
         };
         let message = answer_in(area)?;
-        if !is_same(&message.header, &header) {
+        if message.header != header {
             return Err(ReadError::Foreign);
         }
         let reply = Reply::read(&header, message.payload.as_slice())?;
@@ -102,11 +102,4 @@ impl Agent {
     {
         self.posted = None;
     }
-}
-
-/// Whether two headers are the same, field for field.
-fn is_same(first: &Header, second: &Header) -> bool
-    ensures { IsTrue result ↔ (first.now ≡ second.now) }
-{
-    first.pack() == second.pack()
 }

@@ -9,7 +9,7 @@ use Rattle.scmi_codec.specs.Command.{command_of}
 use Rattle.scmi_codec.specs.declared.frame.Answer.TheVariants.{Reply, Released, ChannelError}
 use Rattle.scmi_codec.specs.declared.frame.Frame.TheVariants.{Good, Malformed}
 use Rattle.scmi_codec.specs.declared.message.Message.{Message}
-use Rattle.scmi_judge.specs.Same.{is_same_header}
+use Rattle.scmi_codec.specs.Header.{is_same_header}
 use Rattle.scmi_judge.specs.declared.entry.Entry.{Entry}
 use Rattle.scmi_judge.specs.declared.entry.Entry.TheVariants.{Answered, Delivered}
 use Rattle.scmi_judge.specs.declared.verdict.Verdict.{Verdict}

@@ -4,7 +4,7 @@ ghost use Rattle.scmi_check.specs.Finding.{answer_finding, finding_of, reply_fin
 
 use crate::own_rule::{OwnRule, own_rule};
 use scmi_codec::{Answer, Command, Frame, Message};
-use scmi_judge::{Entry, Verdict, is_same_header};
+use scmi_judge::{Entry, Verdict};
 
 /// What is found of an entry, by the verdict on it.
 #[derive(Clone, Copy, PartialEq, Eq, Debug)]
@@ -48,7 +48,7 @@ fn answer_finding(entry: &Entry, due: &Message) -> Finding
 fn reply_finding(command: &Message, due: &Message, seen: &Message) -> Finding
     ensures { result ≡ reply_finding command.now due.now seen.now }
 {
-    if !is_same_header(due.header, seen.header) {
+    if due.header != seen.header {
         return Finding::Differs;
     }
     let read = Command::read(command);

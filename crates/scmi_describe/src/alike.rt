@@ -4,7 +4,7 @@ ghost use Rattle.scmi_describe.specs.Alike.{state_of, StandAlike};
 ghost use Rattle.scmi_describe.specs.Description.{described_area};
 ghost use Rattle.scmi_describe.specs.Text.{description_text};
 
-use scmi_codec::{AREA_BYTES, Frame, Header, Message, frame_of, status_at};
+use scmi_codec::{AREA_BYTES, Frame, Message, frame_of, status_at};
 
 /// Whether two areas are described alike, with the same text. This holds if and only if they have
 /// the same frame (header and payload words, or the length and header word of a malformed one) and
@@ -51,15 +51,9 @@ fn are_same(first: &Frame, second: &Frame) -> bool
 }
 
 /// Whether two messages are the same, word for word.
+#[tactic(auto, using(scmi_codec::proofs::HeaderLemmas::header_decides))]
 fn are_same_messages(first: &Message, second: &Message) -> bool
     ensures { IsTrue result ↔ (first.now ≡ second.now) }
 {
-    are_same_headers(first.header, second.header) && first.payload == second.payload
-}
-
-/// Whether two headers are the same. Their words are, since a header is its word.
-fn are_same_headers(first: Header, second: Header) -> bool
-    ensures { IsTrue result ↔ (first ≡ second) }
-{
-    first.pack() == second.pack()
+    first.header == second.header && first.payload == second.payload
 }

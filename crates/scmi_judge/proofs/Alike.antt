@@ -1,29 +1,12 @@
 -- The tests of two messages and of two answers are right.
 use Rattle.std.proofs.Common.{◌≡◌, ◌↔◌, true, refl, ap}
-use Rattle.std.specs.Bool.{Decides}
 use Rattle.std.proofs.lemmas.Bool.Decides.{Decides-and, Decides-eqb, Decides-like}
 use Rattle.std.proofs.lemmas.Slice.Eq.{slice_eq-Decides}
-use Rattle.scmi_codec.specs.Header.{HeaderFields}
+use Rattle.scmi_codec.proofs.HeaderLemmas.{header_decides}
 use Rattle.scmi_codec.specs.declared.message.Message.{Message}
 use Rattle.scmi_codec.specs.declared.frame.Answer.{Answer}
 use Rattle.scmi_codec.specs.declared.frame.Answer.TheVariants.{Reply, Released, ChannelError}
-use Rattle.scmi_judge.specs.Same.{is_same_answer, is_same_header, is_same_message}
-
--- the fields of two headers are equal
-abbrev HaveSameFields : HeaderFields → HeaderFields → Type 0
-HaveSameFields a b = ((((a.reserved ≡ b.reserved) × (a.token ≡ b.token)) × (a.protocol ≡ b.protocol)) × (a.kind ≡ b.kind)) × (a.id ≡ b.id)
-
-fields_to_header : (a b : HeaderFields) → HaveSameFields a b → a ≡ b
-fields_to_header a b same = λ i. record { reserved = same.0.0.0.0 i; token = same.0.0.0.1 i; protocol = same.0.0.1 i; kind = same.0.1 i; id = same.1 i }
-
-header_to_fields : (a b : HeaderFields) → a ≡ b → HaveSameFields a b
-header_to_fields a b is = ((((ap (λ h. h.reserved) is, ap (λ h. h.token) is), ap (λ h. h.protocol) is), ap (λ h. h.kind) is), ap (λ h. h.id) is)
-
-header_decides : (a b : HeaderFields) → Decides (is_same_header a b) (a ≡ b)
-header_decides a b =
-    Decides-like (is_same_header a b) (fields_to_header a b) (header_to_fields a b)
-    (Decides-and _ _ (Decides-and _ _ (Decides-and _ _ (Decides-and _ _ (Decides-eqb a.reserved b.reserved) (Decides-eqb a.token b.token))
-    (Decides-eqb a.protocol b.protocol)) (Decides-eqb a.kind b.kind)) (Decides-eqb a.id b.id))
+use Rattle.scmi_judge.specs.Same.{is_same_answer, is_same_message}
 
 parts_to_message : (a b : Message) → (a.header ≡ b.header) × (a.payload.items ≡ b.payload.items) → a ≡ b
 parts_to_message a b same = λ i. record { header = same.0 i; payload = record { items = same.1 i } }

@@ -14,7 +14,7 @@ use Rattle.scmi_core.specs.History.{deeds, outbox}
 use Rattle.scmi_core.specs.Pending.{pending_sets}
 use Rattle.scmi_judge.specs.Correction.{corrections, set_withdrawn, steps_of}
 use Rattle.scmi_judge.specs.Record.{IsShown, events_of, is_agent, taking, where_nothing_waits}
-use Rattle.scmi_judge.specs.Same.{is_same_header}
+use Rattle.scmi_codec.specs.Header.{is_same_header}
 use Rattle.scmi_judge.specs.declared.entry.Entry.{Entry}
 use Rattle.scmi_judge.specs.declared.entry.Entry.TheVariants.{Answered, Delivered}
 use Rattle.scmi_judge.specs.declared.verdict.Verdict.TheVariants.{Same}

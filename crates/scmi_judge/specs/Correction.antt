@@ -24,7 +24,7 @@ use Rattle.scmi_core.specs.Effect.{effect_after}
 use Rattle.scmi_core.specs.History.{deeds, is_subscriber_after, outbox}
 use Rattle.scmi_core.specs.Pending.{pending_sets}
 use Rattle.scmi_judge.specs.Record.{events_of, has_succeeded, is_agent, is_to_change, taking, where_nothing_waits}
-use Rattle.scmi_judge.specs.Same.{is_same_header}
+use Rattle.scmi_codec.specs.Header.{is_same_header}
 use Rattle.scmi_judge.specs.Verdict.{verdict_of}
 use Rattle.scmi_judge.specs.declared.entry.Entry.{Entry}
 use Rattle.scmi_judge.specs.declared.entry.Entry.TheVariants.{Answered}

@@ -1,14 +1,10 @@
 -- Whether two messages or two answers are the same.
-use Rattle.std.specs.Prelude.{◌==◌, ◌&&◌, nat_eq, Bool, true, false}
+use Rattle.std.specs.Prelude.{◌&&◌, nat_eq, Bool, true, false}
 use Rattle.std.specs.Cmp.Lexicographic.{pointwise}
-use Rattle.scmi_codec.specs.Header.{HeaderFields}
+use Rattle.scmi_codec.specs.Header.{is_same_header}
 use Rattle.scmi_codec.specs.declared.message.Message.{Message}
 use Rattle.scmi_codec.specs.declared.frame.Answer.{Answer}
 use Rattle.scmi_codec.specs.declared.frame.Answer.TheVariants.{Reply, Released, ChannelError}
-
--- whether two headers have the same fields
-abbrev pub is_same_header : HeaderFields → HeaderFields → Bool
-is_same_header a b = a.reserved == b.reserved && a.token == b.token && a.protocol == b.protocol && a.kind == b.kind && a.id == b.id
 
 -- whether two messages have the same header and the same words
 abbrev pub is_same_message : Message → Message → Bool

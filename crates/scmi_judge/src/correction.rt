@@ -12,7 +12,6 @@ ghost use Rattle.scmi_core.specs.declared.event.Event.TheVariants.{Command};
 use crate::endings::has_agent;
 use crate::entry::Entry;
 use crate::refusals::{has_succeeded, is_to_change};
-use crate::same::is_same_header;
 use crate::set_shown::set_shown;
 use crate::verdict::Verdict;
 use scmi_codec::{Answer, Frame, Message};
@@ -165,10 +164,7 @@ fn withdraw(core: &mut Core, agent: u32, command: &Message) -> Result<(), CoreEr
     let [set] = core.pending_sets() else {
         return Ok(());
     };
-    if set.agent != agent
-        || !is_same_header(set.header, command.header)
-        || !has_agent(core, agent)
-    {
+    if set.agent != agent || set.header != command.header || !has_agent(core, agent) {
         return Ok(());
     }
     if core.first(agent).is_some() {

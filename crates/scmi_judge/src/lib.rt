@@ -26,6 +26,5 @@ pub use judge::Judge;
 pub use legal_record::every_record;
 pub use record::judge_record;
 pub use refusals::has_succeeded;
-pub use same::is_same_header;
 pub use set_shown::sets_value;
 pub use verdict::Verdict;

@@ -1,8 +1,8 @@
 //! Whether what a record shows is what was due.
 ghost use Rattle.std.specs.Prelude.{◌≡◌, ◌↔◌, true};
-ghost use Rattle.scmi_judge.specs.Same.{is_same_answer, is_same_header, is_same_message};
+ghost use Rattle.scmi_judge.specs.Same.{is_same_answer, is_same_message};
 
-use scmi_codec::{Answer, Header, Message};
+use scmi_codec::{Answer, Message};
 
 /// Whether two answers are the same: each a reply of the same message, or the same without one.
 #[tactic(auto, using(crate::proofs::Alike::same_answer_decides))]
@@ -23,16 +23,5 @@ pub(crate) fn is_same_message(a: &Message, b: &Message) -> bool
     ensures value { result ≡ is_same_message a.now b.now }
     ensures same { (result ≡ true) ↔ (a.now ≡ b.now) }
 {
-    is_same_header(a.header, b.header) && a.payload.as_slice() == b.payload.as_slice()
-}
-
-/// Whether two headers are the same, in each field.
-pub fn is_same_header(a: Header, b: Header) -> bool
-    ensures { result ≡ is_same_header a b }
-{
-    a.reserved() == b.reserved()
-        && a.token() == b.token()
-        && a.protocol() == b.protocol()
-        && a.kind() == b.kind()
-        && a.id() == b.id()
+    a.header == b.header && a.payload.as_slice() == b.payload.as_slice()
 }

@@ -5,7 +5,7 @@ use Rattle.scmi_core.specs.Pending.{pending_sets}
 use Rattle.scmi_core.specs.declared.event.Event.TheVariants.{AdvanceFailed}
 use Rattle.scmi_judge.specs.Correction.{set_withdrawn}
 use Rattle.scmi_judge.specs.Record.{is_agent, taking}
-use Rattle.scmi_judge.specs.Same.{is_same_header}
+use Rattle.scmi_codec.specs.Header.{is_same_header}
 use Rattle.scmi_judge.proofs.Corrections.{ended-room, ended-then, on-ok, withdrawn}
 use Rattle.scmi_judge.proofs.Ending.{none-is, only-one}
 use Rattle.scmi_judge.proofs.correction.withdraw.Goals.{After-take_first}
