@@ -42,7 +42,7 @@ impl WordCaller {
             Phase::Waiting => return Err(PostError::Outstanding),
             _ => return Err(PostError::Closed),
         }
-        if self.closed || self.told {
+        if self.closed | self.told {
             return Err(PostError::Closed);
         }
         Ok(())

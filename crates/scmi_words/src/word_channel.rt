@@ -264,7 +264,7 @@ impl Channel for WordChannel {
             callee.new }
     {
         callee.takes = callee.takes.wrapping_add(1);
-        if callee.owes || callee.closed || callee.told {
+        if callee.owes | callee.closed | callee.told {
             return false;
         }
         let found = take_over(&self.table, &mut callee.seat);
