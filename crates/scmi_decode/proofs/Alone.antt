@@ -1,7 +1,8 @@
 -- A line of many digits alone.
-use Rattle.std.proofs.Common.{◌≡◌, ◌≢◌, ℕ, ◌<◌, true, false, List, [], ◌∷◌, length, take, drop, None, Some, ◌∙◌, ap, refl, arith}
-use Rattle.std.specs.Prelude.{◌==◌}
+use Rattle.std.proofs.Common.{◌≡◌, ◌≢◌, ℕ, ◌<◌, true, false, List, [], ◌∷◌, length, take, drop, Option, None, Some, Result, Ok, Err, sym, ◌∙◌, ap, refl, arith}
+use Rattle.std.specs.Prelude.{◌==◌, IfOk, IfSome}
 use Rattle.std.specs.List.{list_all, slice_split}
+use Rattle.std.specs.Option.{option_map}
 use Rattle.std.proofs.lemmas.Bool.{and_parts}
 use Rattle.std.proofs.lemmas.Bool.Decides.{nat_tests}
 use Rattle.std.proofs.lemmas.List as list
@@ -39,7 +40,7 @@ one_split s all =
     split_first s ∙ ap (λ (xs : List ℕ). xs ∷ behind_items (drop (item_length s) s)) item ∙ ap (λ (xs : List ℕ). s ∷ behind_items xs) behind
 
 -- the bytes of such a line are those of its digits
-pub long_bytes : (s bytes : List ℕ) → 512 < length s → bytes_of s ≡ Some bytes → alone_bytes s ≡ Some bytes
+long_bytes : (s bytes : List ℕ) → 512 < length s → bytes_of s ≡ Some bytes → alone_bytes s ≡ Some bytes
 long_bytes s bytes long some =
     let all = digits_known s bytes some in
     let other : length s ≢ 8 = λ eight. omega (arith, long, eight) in
@@ -52,7 +53,18 @@ not_wide s all long =
     rw (some, unmarked s all, other) refl
 
 -- it is read as bytes in their order
-pub long_reading : (s bytes : List ℕ) → 512 < length s → bytes_of s ≡ Some bytes → alone_reading (slice_split is_gap s) ≡ Bytes
+long_reading : (s bytes : List ℕ) → 512 < length s → bytes_of s ≡ Some bytes → alone_reading (slice_split is_gap s) ≡ Bytes
 long_reading s bytes long some =
     let all = digits_known s bytes some in
     ap alone_reading (one_split s all) ∙ rw (not_behind s all, not_wide s all long) refl
+
+-- the same of the bytes that were found
+pub found_bytes : {A E : Type 0} → (items : A → List ℕ) (r : Result (Option A) E) (s : List ℕ) → 512 < length s → IfOk r (λ found. option_map items found ≡ bytes_of s) → IfOk r (λ found. IfSome found (λ b. alone_bytes s ≡ Some (items b)))
+found_bytes items (Err e) s long is = tt
+found_bytes items (Ok None) s long is = tt
+found_bytes items (Ok (Some b)) s long is = long_bytes s (items b) long (sym is)
+
+pub found_reading : {A E : Type 0} → (items : A → List ℕ) (r : Result (Option A) E) (s : List ℕ) → 512 < length s → IfOk r (λ found. option_map items found ≡ bytes_of s) → IfOk r (λ found. IfSome found (λ b. alone_reading (slice_split is_gap s) ≡ Bytes))
+found_reading items (Err e) s long is = tt
+found_reading items (Ok None) s long is = tt
+found_reading items (Ok (Some b)) s long is = long_reading s (items b) long (sym is)

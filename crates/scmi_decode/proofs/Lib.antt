@@ -3,6 +3,7 @@ mod Digits
 mod Forms
 mod Items
 mod Messages
+mod Offsets
 mod OneDump
 mod Pairs
 mod Rows

@@ -1,7 +1,5 @@
 -- The bytes of digits, pair after pair.
-use Rattle.std.proofs.Common.{◌≡◌, ℕ, ◌+◌, ◌*◌, ◌%◌, ◌<◌, ◌≤◌, true, false, List, [], ◌∷◌, ◌++◌, length, take, drop, reverse, slice_index, slice_set, Option, None, Some, unwrap_or, Result, Ok, Err, inl, inr, sym, ◌∙◌, ap, refl, arith, append_assoc, append-nil, length-append, Bool, nat_lt, ◌-◌}
-use Rattle.std.specs.Prelude.{◌==◌}
-use Rattle.std.proofs.lemmas.Bool.{cases_Bool, cases_eq}
+use Rattle.std.proofs.Common.{◌≡◌, ℕ, ◌+◌, ◌*◌, ◌%◌, ◌<◌, ◌≤◌, true, false, List, [], ◌∷◌, ◌++◌, length, take, drop, reverse, slice_index, slice_set, Option, None, Some, unwrap_or, Result, Ok, Err, sym, ◌∙◌, ap, refl, arith, append-nil, nat_lt, ◌-◌}
 use Rattle.std.specs.Option.{option_map}
 use Rattle.std.specs.Result.{result_ok}
 use Rattle.hex.specs.Hex.{decode_of, decode_pairs, digit_or_error, hex_digit_value, pair_value, ◌>>=◌}
@@ -188,78 +186,11 @@ too_long row s long = no_room row (bytes_of s) (λ bytes is. omega (arith, twice
 pub no_digits : (s : List ℕ) → length s ≡ 0 → bytes_of s ≡ Some []
 no_digits s none = ap bytes_of (list_of_none s none) ∙ bytes_of-none
 
--- whether digits have bytes does not depend on where they are
-pairs_anywhere : (i j : ℕ) (s : List ℕ) → result_ok (decode_pairs i s) ≡ result_ok (decode_pairs j s)
-unfolding decode_pairs
-pairs_anywhere i j [] = refl
-pairs_anywhere i j (a ∷ []) = refl
-pairs_anywhere i j (a ∷ b ∷ s) = one_pair a b i s ∙ ap (before (pair_byte a b)) (pairs_anywhere (i + 2) (j + 2) s) ∙ sym (one_pair a b j s)
-
-odd_pairs : (i : ℕ) (s : List ℕ) → length s % 2 ≡ 1 → result_ok (decode_pairs i s) ≡ None
-unfolding decode_pairs
-odd_pairs i [] odd = absurd (omega arith)
-odd_pairs i (a ∷ []) odd = refl
-odd_pairs i (a ∷ b ∷ s) odd = one_pair a b i s ∙ ap (before (pair_byte a b)) (odd_pairs (i + 2) s (omega arith)) ∙ none_before (pair_byte a b)
-  where
-    none_before : (o : Option ℕ) → before o None ≡ None
-    none_before None = refl
-    none_before (Some x) = refl
-
--- the bytes of digits are those of their pairs
-by_pairs : (s : List ℕ) → bytes_of s ≡ result_ok (decode_pairs 0 s)
-by_pairs s =
-    elim (cases_eq (length s % 2) 1) [
-      | inl odd ↦ odd_digits s odd ∙ sym (odd_pairs 0 s odd)
-      | inr other ↦ ap result_ok (decode_of-even s (omega arith))
-    ]
-
--- they are the byte of the first pair and those of the rest
-pub one_byte_more : (s : List ℕ) → 2 ≤ length s → bytes_of s ≡ before (pair_byte (slice_index s 0) (slice_index s 1)) (bytes_of (drop 2 s))
-one_byte_more [] two = absurd (omega arith)
-one_byte_more (a ∷ []) two = absurd (omega arith)
-one_byte_more (a ∷ b ∷ s) two = by_pairs (a ∷ b ∷ s) ∙ one_pair a b 0 s ∙ ap (before (pair_byte a b)) (pairs_anywhere 2 0 s ∙ sym (by_pairs s))
-
--- fewer than two digits have bytes only if there are none
-pub last_digits : (s : List ℕ) (row : List ℕ) → length row ≤ ROW_BYTES → length s < 2 → Adds (fitting row (bytes_of s)) (length s == 0) row row
-last_digits [] row room few =
+-- no digits add nothing
+pub nothing_added : (s row : List ℕ) → length s ≡ 0 → length row ≤ ROW_BYTES → Adds (fitting row (bytes_of s)) true row row
+nothing_added s row none room =
     let fits : nat_lt (length row + length {A = ℕ} []) (ROW_BYTES + 1) ≡ true = grind (arith, nat_tests) in
-    rw (bytes_of-none, fits) (refl, sym (append-nil row))
-last_digits (a ∷ []) row room few = refl
-last_digits (a ∷ b ∷ s) row room few = absurd (omega arith)
-
--- the first two are no pair
-pub bad_pair : (s row new : List ℕ) → 2 ≤ length s → pair_byte (slice_index s 0) (slice_index s 1) ≡ None → Adds (fitting row (bytes_of s)) false row new
-bad_pair s row new two none = rw (one_byte_more s two ∙ ap (λ o. before o (bytes_of (drop 2 s))) none) refl
-
-full_row : (row : List ℕ) (x : ℕ) (o : Option (List ℕ)) → length row ≡ ROW_BYTES → fitting row (before (Some x) o) ≡ None
-full_row row x None full = refl
-full_row row x (Some bytes) full = grind (arith, nat_tests)
-
--- the row has no room for the first byte
-pub no_room_for_pair : (s row new : List ℕ) (x : ℕ) → 2 ≤ length s → pair_byte (slice_index s 0) (slice_index s 1) ≡ Some x → length row ≡ ROW_BYTES → Adds (fitting row (bytes_of s)) false row new
-no_room_for_pair s row new x two some full = adds_nothing (fitting row (bytes_of s)) row new (ap (fitting row) (one_byte_more s two ∙ ap (λ o. before o (bytes_of (drop 2 s))) some) ∙ full_row row x (bytes_of (drop 2 s)) full)
-
-add_behind : (row new : List ℕ) (x : ℕ) (o : Option (List ℕ)) (added : Bool) → Adds (fitting (row ++ x ∷ []) o) added (row ++ x ∷ []) new → Adds (fitting row (before (Some x) o)) added row new
-add_behind row new x None added adds = adds
-add_behind row new x (Some bytes) added adds =
-    let size : length (row ++ x ∷ []) ≡ length row + 1 = length-append row (x ∷ []) in
-    let same : (row ++ x ∷ []) ++ bytes ≡ row ++ x ∷ bytes = append_assoc row (x ∷ []) bytes in
-    elim (cases_Bool (nat_lt (length (row ++ x ∷ []) + length bytes) (ROW_BYTES + 1))) [
-      | inl fits ↦
-          let fits_here : nat_lt (length row + length (x ∷ bytes)) (ROW_BYTES + 1) ≡ true = grind (arith, nat_tests) in
-          let all : Adds (Some bytes) added (row ++ x ∷ []) new = rw fits at adds in
-          rw fits_here (all.0, all.1 ∙ same)
-      | inr full ↦
-          let full_here : nat_lt (length row + length (x ∷ bytes)) (ROW_BYTES + 1) ≡ false = grind (arith, nat_tests) in
-          let none : added ≡ false = rw full at adds in
-          rw full_here none
-    ]
-
--- the first byte is added, and then the rest
-pub pair_added : (s row new : List ℕ) (x : ℕ) (added : Bool) → 2 ≤ length s → pair_byte (slice_index s 0) (slice_index s 1) ≡ Some x → Adds (fitting (row ++ x ∷ []) (bytes_of (drop 2 s))) added (row ++ x ∷ []) new → Adds (fitting row (bytes_of s)) added row new
-pair_added s row new x added two some adds =
-    let is : bytes_of s ≡ before (Some x) (bytes_of (drop 2 s)) = one_byte_more s two ∙ ap (λ o. before o (bytes_of (drop 2 s))) some in
-    rw is (add_behind row new x (bytes_of (drop 2 s)) added adds)
+    rw (no_digits s none, fits) (refl, sym (append-nil row))
 
 -- what a slice pattern names the rest
 pub rest_of : (n : ℕ) (xs : List ℕ) → take (length xs - n) (drop n xs) ≡ drop n xs

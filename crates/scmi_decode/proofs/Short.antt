@@ -1,7 +1,7 @@
 -- Short items of digits at the beginning of a text.
-use Rattle.std.proofs.Common.{◌≡◌, ◌≢◌, ℕ, zero, suc, ◌+◌, ◌-◌, ◌*◌, ◌<◌, ◌≤◌, Bool, true, false, List, [], ◌∷◌, ◌++◌, length, take, drop, get_or, slice_index, reverse, Option, None, Some, Result, Ok, Err, unwrap_or, inl, inr, sym, ◌∙◌, ap, subst, refl, arith}
+use Rattle.std.proofs.Common.{◌≡◌, ◌≢◌, ℕ, zero, suc, ◌+◌, ◌-◌, ◌*◌, ◌<◌, ◌≤◌, Bool, true, false, List, [], ◌∷◌, ◌++◌, length, take, drop, slice_index, reverse, Option, None, Some, Result, Ok, Err, unwrap_or, sym, ◌∙◌, ap, subst, refl, arith}
 use Rattle.std.specs.Prelude.{◌==◌, ◌&&◌, ◌||◌, nat_lt, not, if◌then◌else◌, IfSome}
-use Rattle.std.specs.List.{list_all, slice_split}
+use Rattle.std.specs.List.{list_all}
 use Rattle.std.specs.Option.{option_map}
 use Rattle.std.specs.Result.{result_ok}
 use Rattle.std.proofs.lemmas.Bool.{and_parts}
@@ -11,7 +11,7 @@ use Rattle.std.proofs.lemmas.List.Sums.{list_all-from_AllPass}
 use Rattle.hex.specs.Hex.{decode_of, is_hex_digit}
 use Rattle.hex.specs.declared.error.FromHexError.{FromHexError}
 use Rattle.hex.proofs.HexLemmas.{decode_of-ok}
-use Rattle.scmi_decode.specs.Dump.{Adds, both_bytes, bytes_of, fitting, has_mark, is_gap, item_bytes, items_bytes, line_bytes, number_bytes}
+use Rattle.scmi_decode.specs.Dump.{Adds, both_bytes, bytes_of, fitting, has_mark, is_gap, item_bytes, line_bytes, number_bytes}
 use Rattle.scmi_decode.specs.Row.{ContinuesAs, EndsAt, RowParts, RowView, address_of, after_gap, after_item, bar_length, begins_with_space, column_length, data_of, ends_in_colon, first_item, gap_length, is_offset, is_pair, is_symbol, item_length, parts_of, parts_row, row_if, row_of, row_with}
 use Rattle.scmi_decode.specs.declared.row.TheConstants.{ROW_BYTES}
 use Rattle.scmi_decode.specs.declared.form.Form.{Form}

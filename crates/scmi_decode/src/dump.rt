@@ -66,18 +66,19 @@ pub(crate) fn add_bytes(row: &mut ArrayVec<u8, ROW_BYTES>, digits: &[u8]) -> boo
     ensures { Adds (fitting row.old.items (bytes_of digits.now)) result row.old.items
         row.new.items }
 {
-    let full = row.is_full();
-    let [high, low, rest @ ..] = digits else {
-        return digits.is_empty();
-    };
-    let Some(byte) = pair_byte(*high, *low) else {
-        return false;
-    };
-    if full {
+    let _full = row.is_full();
+    if digits.is_empty() {
+        return true;
+    }
+    if digits.len() > 2 * ROW_BYTES {
         return false;
     }
-    row.push(byte);
-    add_bytes(row, rest)
+    let mut buffer = [0; ROW_BYTES];
+    let found = &mut buffer[..digits.len() / 2];
+    if !decode_digits(digits, found) {
+        return false;
+    }
+    row.try_extend_from_slice(found).is_ok()
 }
 
 /// Adds the bytes of an item of two, four or eight digits, if they have room, or else nothing.

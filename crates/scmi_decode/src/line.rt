@@ -84,10 +84,7 @@ fn digits_bytes(alloc: Global, line: &[u8]) -> Result<Option<Vec<u8>>, AllocErro
     if line.len() <= ROW_LINE_BYTES {
         return Ok(None);
     }
-    match bytes_of(alloc, line)? {
-        Some(bytes) => Ok(Some(bytes)),
-        None => Ok(None),
-    }
+    bytes_of(alloc, line)
 }
 
 /// Writes the text of a line, after its number, and gives whether it is an area.

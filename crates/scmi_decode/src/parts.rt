@@ -1,10 +1,11 @@
 //! The parts of a row.
-ghost use Rattle.std.specs.Prelude.{◌≡◌};
-ghost use Rattle.scmi_decode.specs.Row.{ends_in_colon, without_last, is_symbol, is_pair, is_offset, parts_of, marked_parts, data_of};
+ghost use Rattle.std.specs.Prelude.{◌≡◌, ◌==◌, false, take};
+ghost use Rattle.scmi_decode.specs.Row.{ends_in_colon, without_last, is_symbol, is_pair, is_offset, item_length, parts_of, marked_parts, data_of};
 
 use crate::dump::has_mark;
 use crate::form::Form;
-use crate::scan::{after_gap, bar_length, column_length, item_and_rest};
+use crate::lines::is_gap;
+use crate::scan::{after_gap, bar_length, column_length, item_and_rest, item_length};
 
 /// The form of a row, the digits of its address, and the text behind it: its bytes and the column.
 #[derive(Drop)]
@@ -25,14 +26,17 @@ pub(crate) fn parts_of(line: &[u8]) -> Parts<'_>
     if ends_in_colon(first) {
         return marked_parts(without_last(first), behind);
     }
-    let (second, rest) = item_and_rest(behind);
-    if is_symbol(second) {
-        return marked_parts(first, rest);
+    let next = after_gap(behind);
+    if has_mark(first) || begins_symbol(next) {
+        let (second, rest) = item_and_rest(behind);
+        if is_symbol(second) {
+            return marked_parts(first, rest);
+        }
+        if is_pair(first, second, rest) {
+            return marked_parts(first, behind);
+        }
     }
-    if is_pair(first, second, rest) {
-        return marked_parts(first, behind);
-    }
-    if is_offset(first, second) {
+    if is_offset(first, next) {
         return Parts {
             form: Form::Offset,
             digits: first,
@@ -101,13 +105,32 @@ fn is_pair(first: &[u8], second: &[u8], behind: &[u8]) -> bool
     has_mark(first) && has_mark(second) && after_gap(behind).is_empty()
 }
 
-/// Whether an item is an address before items of two or of eight digits: six to eight digits, and not
-/// as many as the next has.
-fn is_offset(first: &[u8], second: &[u8]) -> bool
-    ensures { result ≡ is_offset first.now second.now }
+/// Whether a text begins as the name of the place of an address.
+fn begins_symbol(text: &[u8]) -> bool
+    ensures { result ≡ false → is_symbol (take (item_length text.now) text.now) ≡ false }
 {
-    first.len() > 5
-        && first.len() < 9
-        && (second.len() == 2 || second.len() == 8)
-        && first.len() != second.len()
+    !text.is_empty() && text[0] == b'<'
+}
+
+/// Whether an item is an address before items of two or of eight digits: six to eight digits, and not
+/// as many as the next has, with which a text begins.
+fn is_offset(first: &[u8], next: &[u8]) -> bool
+    ensures { result ≡ is_offset first.now (take (item_length next.now) next.now) }
+{
+    match first.len() {
+        6 | 7 => has_two(next) || item_length(next) == 8,
+        8 => has_two(next),
+        _ => false,
+    }
+}
+
+/// Whether the item with which a text begins has two bytes.
+fn has_two(text: &[u8]) -> bool
+    ensures { result ≡ (item_length text.now == 2) }
+{
+    match text {
+        [first, second, third, ..] => { is_gap(*third) && !is_gap(*first) && !is_gap(*second) }
+        [first, second] => !is_gap(*first) && !is_gap(*second),
+        _ => false,
+    }
 }

@@ -77,6 +77,10 @@ fn digits_row(line: &[u8]) -> Option<Row>
     if line.len() % 2 != 0 || line.len() > 2 * ROW_BYTES || line.len() == 8 {
         return None;
     }
+    // Most other lines begin with a space, or with an address of seven digits.
+    if line.len() > 8 && (line[0] == b' ' || line[7] == b' ') {
+        return None;
+    }
     let mut bytes = ArrayVec::new();
     if !add_bytes(&mut bytes, line) {
         return None;

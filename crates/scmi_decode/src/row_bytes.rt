@@ -11,7 +11,7 @@ use crate::row::ROW_BYTES;
 use arrayvec::ArrayVec;
 
 /// The bytes of a row of this form, of the text behind its address. Its items mostly have the same
-/// length.
+/// length, with one space behind each; `hexdump -C` has two in the middle and behind the last.
 pub(crate) fn row_bytes(form: Form, text: &[u8]) -> Option<ArrayVec<u8, ROW_BYTES>>
     ensures { option_map (λ bytes. bytes.items) result ≡
         fitting [] (line_bytes (data_of form text.now)) }
@@ -21,17 +21,21 @@ pub(crate) fn row_bytes(form: Form, text: &[u8]) -> Option<ArrayVec<u8, ROW_BYTE
     'bytes: while let Some(behind) = take_item(&mut all, form, rest, 2) {
         rest = behind;
     }
+    rest = after_space(form, rest);
+    'others: while let Some(behind) = take_item(&mut all, form, rest, 2) {
+        rest = behind;
+    }
     'pairs: while let Some(behind) = take_item(&mut all, form, rest, 4) {
         rest = behind;
     }
     'words: while let Some(behind) = take_item(&mut all, form, rest, 8) {
         rest = behind;
     }
-    line_bytes(all, data_of(form, rest))
+    line_bytes(all, data_of(form, after_space(form, rest)))
 }
 
 /// Adds the bytes of the first item, if it has so many digits, and gives what follows it and the
-/// spaces behind it.
+/// space behind it.
 #[inline(always)]
 fn take_item<'a>(
     row: &mut ArrayVec<u8, ROW_BYTES>,
@@ -46,7 +50,7 @@ fn take_item<'a>(
     ensures none { IfNone result (row.new ≡ row.old) }
 {
     if stops_at(text, count) && add_digits(row, &text[..count]) {
-        Some(after_spaces(form, &text[count..]))
+        Some(after_space(form, &text[count..]))
     } else {
         None
     }

@@ -1,12 +1,10 @@
-use Rattle.std.proofs.Common.{◌∙◌, ap, sym}
-use Rattle.std.specs.Option.{option_map}
-use Rattle.scmi_decode.proofs.Alone.{long_bytes, long_reading}
+use Rattle.scmi_decode.proofs.Alone.{found_bytes, found_reading}
 use Rattle.scmi_decode.proofs.line.digits_bytes.Goals as goal
 
-pub returns-in-Some-clause-bytes : goal.returns-in-Some-clause-bytes
-returns-in-Some-clause-bytes c =
-    long_bytes _ _ c.if-line-le-ROW_LINE_BYTES.false (sym c.in_ok-bytes.ensures ∙ ap (option_map (λ bytes. bytes.items)) c.in-Some.is)
+pub returns-clause-bytes : goal.returns-clause-bytes
+returns-clause-bytes c =
+    found_bytes (λ bytes. bytes.items) c.bytes_of.result c.args.line.now c.if-line-le-ROW_LINE_BYTES.false c.bytes_of.ensures
 
-pub returns-in-Some-clause-reading : goal.returns-in-Some-clause-reading
-returns-in-Some-clause-reading c =
-    long_reading _ _ c.if-line-le-ROW_LINE_BYTES.false (sym c.in_ok-bytes.ensures ∙ ap (option_map (λ bytes. bytes.items)) c.in-Some.is)
+pub returns-clause-reading : goal.returns-clause-reading
+returns-clause-reading c =
+    found_reading (λ bytes. bytes.items) c.bytes_of.result c.args.line.now c.if-line-le-ROW_LINE_BYTES.false c.bytes_of.ensures

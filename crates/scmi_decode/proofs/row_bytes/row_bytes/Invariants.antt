@@ -10,6 +10,12 @@ invariant-bytes l = IsRowOf (line_bytes (data_of l.form l.text)) l.all.items (da
 abbrev pub decreases-bytes : goal.decreases-bytes
 decreases-bytes l = length l.rest
 
+abbrev pub invariant-others : goal.invariant-others
+invariant-others l = IsRowOf (line_bytes (data_of l.form l.text)) l.all.items (data_of l.form l.rest)
+
+abbrev pub decreases-others : goal.decreases-others
+decreases-others l = length l.rest
+
 abbrev pub invariant-pairs : goal.invariant-pairs
 invariant-pairs l = IsRowOf (line_bytes (data_of l.form l.text)) l.all.items (data_of l.form l.rest)
 
