@@ -128,8 +128,12 @@ fn pairs_of(digits: &[u8]) -> Option<[u8; 2]>
     requires four { length digits.now ≡ 4 }
     ensures { result ≡ bytes_of digits.now }
 {
-    let first = pair_byte(digits[0], digits[1])?;
-    let second = pair_byte(digits[2], digits[3])?;
+    let Some(first) = pair_byte(digits[0], digits[1]) else {
+        return None;
+    };
+    let Some(second) = pair_byte(digits[2], digits[3]) else {
+        return None;
+    };
     Some([first, second])
 }
 
@@ -139,10 +143,18 @@ fn word_of(digits: &[u8]) -> Option<[u8; 4]>
     requires eight { length digits.now ≡ 8 }
     ensures { result ≡ number_bytes digits.now }
 {
-    let highest = pair_byte(digits[0], digits[1])?;
-    let higher = pair_byte(digits[2], digits[3])?;
-    let lower = pair_byte(digits[4], digits[5])?;
-    let lowest = pair_byte(digits[6], digits[7])?;
+    let Some(highest) = pair_byte(digits[0], digits[1]) else {
+        return None;
+    };
+    let Some(higher) = pair_byte(digits[2], digits[3]) else {
+        return None;
+    };
+    let Some(lower) = pair_byte(digits[4], digits[5]) else {
+        return None;
+    };
+    let Some(lowest) = pair_byte(digits[6], digits[7]) else {
+        return None;
+    };
     Some([lowest, lower, higher, highest])
 }
 

@@ -73,13 +73,15 @@ pub(crate) fn pair_byte(high: u8, low: u8) -> Option<u8>
 pub(crate) fn number_from(base: u64, before: u64, digits: &[u8]) -> Option<u64>
     ensures { result ≡ number_from base before digits.now }
 {
-    let [digit, digits @ ..] = digits else {
-        return Some(before);
-    };
-    let value = digit_value(*digit);
-    if value >= base {
-        return None;
+    let mut number = before;
+    let mut rest = digits;
+    'digits: while let [digit, behind @ ..] = rest {
+        let value = digit_value(*digit);
+        if value >= base {
+            return None;
+        }
+        number = number.checked_mul(base)?.checked_add(value)?;
+        rest = behind;
     }
-    let number = before.checked_mul(base)?.checked_add(value)?;
-    number_from(base, number, digits)
+    Some(number)
 }
