@@ -7,6 +7,7 @@ mod Offsets
 mod OneDump
 mod Pairs
 mod Rows
+mod Several
 mod Short
 mod UnderWay
 pub mod Words

@@ -1,9 +1,10 @@
 //! A dump over several lines.
-ghost use Rattle.std.specs.Prelude.{◌≡◌, ◌+◌, ◌%◌, ◌^◌, length, OnOk, IfOk};
+ghost use Rattle.std.specs.Prelude.{◌≡◌, ◌+◌, ◌%◌, ◌^◌, ◌<◌, length, false, true, OnOk, IfOk};
 ghost use Rattle.std.specs.Option.{is_some};
 ghost use Rattle.scmi_decode.specs.OpenDump.{no_dump, is_open, is_area, same_form, reaches, is_even, goes_on, copies, rows_before, last_row, filled, extended, added, begun, closed, beside, repeated, has_one_item, is_star, line_is_star, end_at};
 
 use crate::form::Form;
+use crate::lines::is_gap;
 use crate::reading::Reading;
 use crate::readings::{Readings, Unsaid};
 use crate::row::{Row, address_of};
@@ -293,11 +294,25 @@ fn is_star(line: &[u8]) -> bool
     }
 }
 
-/// Whether a line has one item.
+/// Whether a line has one item. Most lines with an address have bytes after its seven or eight digits.
 fn has_one_item(line: &[u8]) -> bool
     ensures { result ≡ has_one_item line.now }
 {
+    if goes_on_behind(line, 7) || goes_on_behind(line, 8) {
+        return false;
+    }
     after_gap(after_item(line)).is_empty()
+}
+
+/// Whether a line begins with an item that ends at a place or before it, and ends with another.
+fn goes_on_behind(line: &[u8], place: usize) -> bool
+    requires inside { place < 2 ^ 32 }
+    ensures { result ≡ true → has_one_item line.now ≡ false }
+{
+    if place + 1 >= line.len() || !is_gap(line[place]) || is_gap(line[0]) {
+        return false;
+    }
+    !is_gap(line[line.len() - 1])
 }
 
 /// Copies of bytes, as many as the number.
