@@ -50,7 +50,7 @@ fn take_item<'a>(
     ensures none { IfNone result (row.new ≡ row.old) }
 {
     if stops_at(text, count) && add_digits(row, &text[..count]) {
-        Some(after_space(form, &text[count..]))
+        Some(behind_item(form, &text[count..]))
     } else {
         None
     }
@@ -67,6 +67,29 @@ fn stops_at(text: &[u8], count: usize) -> bool
     } else {
         text.len() == count
     }
+}
+
+/// What follows the space at the beginning, unless the column of text begins there.
+#[inline(always)]
+fn behind_item(form: Form, text: &[u8]) -> &[u8]
+    requires space { 1 < length text.now → slice_index text.now 0 ≡ 32 }
+    ensures same { (row : List ℕ) → ContinuesAs form row text.now row result.now }
+    ensures bound { length result.now ≤ length text.now }
+{
+    if goes_on(form, text) {
+        &text[1..]
+    } else {
+        text
+    }
+}
+
+/// Whether a byte comes behind a space at the beginning, and the column of text does not begin there.
+#[inline(always)]
+fn goes_on(form: Form, text: &[u8]) -> bool
+    requires space { 1 < length text.now → slice_index text.now 0 ≡ 32 }
+    ensures { result ≡ true → EndsAt form text.now 0 }
+{
+    text.len() > 1 && (form != Form::Marked || text[1] != b' ')
 }
 
 /// What follows the first space, or the first two: such a space is an item with no bytes.

@@ -14,4 +14,4 @@ returns-then-add_digits-clause-some c =
     let sure = c.if-add_digits.true in
     let item = goes_on f text row new count (c.stops_at.ensures.space c.if-stops_at.true) (c.add_digits.ensures.digits sure) (c.add_digits.ensures.some sure) in
     let added : ContinuesAs f row text new (take (length text - count) (drop count text)) = subst (λ (xs : List ℕ). ContinuesAs f row text new xs) (sym (rest_of count text)) item in
-    added ∙ c.after_space.ensures.same new
+    added ∙ c.behind_item.ensures.same new
