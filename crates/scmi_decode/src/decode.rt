@@ -10,6 +10,7 @@ use crate::decode_error::DecodeError;
 use crate::open_dump::OpenDump;
 use crate::readings::Readings;
 use crate::step::{close_and_say, take_and_say};
+use scmi_fault::write_fault;
 use scmi_input::{CountedRead, CountedReader, Input};
 use std::alloc::Global;
 use std::io::{Read, Write};
@@ -48,10 +49,7 @@ pub fn run_counted<R: CountedRead + Drop, W: Write, N: Readings>(
         Ok(()) => 0,
         Err(DecodeError::Write) => DecodeError::Write.status(),
         Err(DecodeError::NoArea) => DecodeError::NoArea.status(),
-        Err(fault) => match writeln!(writer, "fault {fault}") {
-            Ok(()) => fault.status(),
-            Err(_) => DecodeError::Write.status(),
-        },
+        Err(fault) => write_fault(writer, &fault, fault.status()),
     }
 }
 

@@ -1,5 +1,5 @@
 //! Why an input is not decoded.
-ghost use Rattle.std.specs.Prelude.{◌≡◌};
+ghost use Rattle.std.specs.Prelude.{◌≡◌, ◌≢◌};
 ghost use Rattle.scmi_decode.specs.DecodeError.{fault_of_input, status_of};
 ghost use Rattle.scmi_decode.specs.declared.decode_error.DecodeError.TheVariants.{Memory};
 
@@ -31,7 +31,8 @@ impl DecodeError {
     /// The exit status of a run that ends so: 1 for a failed output, 2 for a refused input, 4 when
     /// out of memory.
     pub fn status(&self) -> u8
-        ensures { result ≡ status_of self.now }
+        ensures status { result ≡ status_of self.now }
+        ensures not_done { result ≢ 0 }
     {
         match self {
             DecodeError::Write => 1,
