@@ -1,9 +1,10 @@
 -- What makes a message the reply to a command.
-use Rattle.std.proofs.Common.{◌≡◌, ℕ, ◌%◌, List, Ok, sym, ap, ◌∙◌}
+use Rattle.std.proofs.Common.{◌≡◌, ℕ, ◌%◌, List, Bool, true, false, not, Ok, refl, sym, ap, ◌∙◌}
 use Rattle.scmi_codec.specs.Area.{status_at, frame_of}
-use Rattle.scmi_codec.specs.Header.{HeaderFields}
+use Rattle.scmi_codec.specs.Header.{HeaderFields, is_same_header}
 use Rattle.scmi_codec.specs.declared.frame.Frame.TheVariants.{Good}
 use Rattle.scmi_codec.specs.declared.message.Message.{Message}
+use Rattle.scmi_codec.proofs.HeaderLemmas.{header_decides}
 use Rattle.scmi_agent.specs.Agent.{IsReplyOf}
 use Rattle.scmi_agent.specs.Reply.{reply_of}
 use Rattle.scmi_agent.specs.declared.reply.Reply.{Reply}
@@ -16,3 +17,10 @@ is_reply h area m words reply free frame same listed says = record {
   message = frame ∙ ap (λ (x : HeaderFields). Good (record { header = x; payload = m.payload })) same;
   says = sym (says ∙ ap (λ (w : List ℕ). reply_of h w) listed);
 }
+
+-- two headers of which `!=` does not hold are the same
+pub same_unless : (a b : HeaderFields) (differ : Bool) → differ ≡ not (is_same_header a b) → differ ≡ false → a ≡ b
+same_unless a b differ is never = (header_decides a b).0 (holds (is_same_header a b) (sym is ∙ never)) where
+  holds : (same : Bool) → not same ≡ false → same ≡ true
+  holds true e = refl
+  holds false e = sym e
