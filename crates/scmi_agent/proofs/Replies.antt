@@ -1,5 +1,6 @@
 -- What makes a message the reply to a command.
-use Rattle.std.proofs.Common.{◌≡◌, ℕ, ◌%◌, List, Bool, true, false, not, Ok, refl, sym, ap, ◌∙◌}
+use Rattle.std.proofs.Common.{◌≡◌, ℕ, ◌%◌, List, Bool, false, not, Ok, sym, ap, ◌∙◌}
+use Rattle.std.proofs.lemmas.Bool.{not-false}
 use Rattle.scmi_codec.specs.Area.{status_at, frame_of}
 use Rattle.scmi_codec.specs.Header.{HeaderFields, is_same_header}
 use Rattle.scmi_codec.specs.declared.frame.Frame.TheVariants.{Good}
@@ -20,7 +21,4 @@ is_reply h area m words reply free frame same listed says = record {
 
 -- two headers of which `!=` does not hold are the same
 pub same_unless : (a b : HeaderFields) (differ : Bool) → differ ≡ not (is_same_header a b) → differ ≡ false → a ≡ b
-same_unless a b differ is never = (header_decides a b).0 (holds (is_same_header a b) (sym is ∙ never)) where
-  holds : (same : Bool) → not same ≡ false → same ≡ true
-  holds true e = refl
-  holds false e = sym e
+same_unless a b differ is never = (header_decides a b).0 (not-false (is_same_header a b) (sym is ∙ never))

@@ -1,5 +1,5 @@
 //! An agent: its next token, and the command that it posted.
-ghost use Rattle.std.specs.Prelude.{◌≡◌, ◌≢◌, ◌↔◌, ◌%◌, Some, None, Ok, Err, OnOk, OnErr, IfOk, IfErr, IfSome, IsSomeAnd, IsTrue};
+ghost use Rattle.std.specs.Prelude.{◌≡◌, ◌≢◌, ◌↔◌, ◌%◌, Some, None, Ok, Err, OnOk, OnErr, IfOk, IfErr, IfSome, IsSomeAnd};
 ghost use Rattle.scmi_codec.specs.Area.{area_after_post, frame_waiting};
 ghost use Rattle.scmi_codec.specs.Command.{command_of};
 ghost use Rattle.scmi_codec.specs.declared.frame.Frame.TheVariants.{Good};
