@@ -3,15 +3,7 @@ use Rattle.std.proofs.Common.{◌≡◌, ◌==◌, ◌∙◌, ℕ, ◌+◌, ◌*
 use Rattle.std.proofs.lemmas.Nat.{or_shifted}
 use Rattle.std.specs.Bool.{Decides}
 use Rattle.std.proofs.lemmas.Bool.Decides.{Decides-and, Decides-eqb, Decides-like, same_from_decides}
-use Rattle.scmi_codec.specs.Header.{HeaderFields, field, header_of, header_word, is_same_header}
-
--- each field within its width
-pub record FitsWidths (h : HeaderFields) : Type 0 where
-  pub reserved : h.reserved < 2 ^ 4
-  pub token : h.token < 2 ^ 10
-  pub protocol : h.protocol < 2 ^ 8
-  pub kind : h.kind < 2 ^ 2
-  pub id : h.id < 2 ^ 8
+use Rattle.scmi_codec.specs.Header.{HeaderFields, FitsWidths, field, header_of, header_word, is_same_header}
 
 -- two neighbouring fields, the upper one shifted
 joined : (a b k : ℕ) → b < 2 ^ k → bit_or (a * 2 ^ k) b ≡ a * 2 ^ k + b

@@ -15,56 +15,47 @@ pub const DELAYED_RESPONSE: u8 = 2;
 /// The type of a notification (DEN0056B, message header).
 pub const NOTIFICATION: u8 = 3;
 
-/// A message header (DEN0056B, message header), as its word. Its fields, by their width in bits:
+/// The fields of a message header (DEN0056B, message header), each within its width in bits:
 /// reserved 4, token 10, protocol 8, kind (the message type) 2, id 8.
 ///
 /// The type is 0 for a command and its response, 2 for a delayed response, 3 for a notification.
-#[derive(Clone, Copy, Debug)]
+#[derive(Clone, Copy, PartialEq, Eq, Debug)]
 pub struct Header {
-    word: u32,
+    pub reserved: u8,
+    pub token: u16,
+    pub protocol: u8,
+    pub kind: u8,
+    pub id: u8,
 }
 
 impl Model for Header {
-    ghost use Rattle.std.specs.Prelude.{◌≡◌, ◌<◌, ◌^◌};
-    ghost use Rattle.std.proofs.Common.{arith};
-    ghost use Rattle.scmi_codec.specs.Header.{HeaderFields, header_of, header_word};
+    ghost use Rattle.scmi_codec.specs.Header.{HeaderFields, FitsWidths};
 
     ghost Value = { HeaderFields };
 
-    ghost view = { λ h. header_of h.word };
+    ghost view = { λ h. record {
+      reserved = h.reserved;
+      token = h.token;
+      protocol = h.protocol;
+      kind = h.kind;
+      id = h.id;
+    } };
 
-    ghost invariant = { λ h. h.word < 2 ^ 32 };
+    ghost invariant = { λ h. FitsWidths (record {
+      reserved = h.reserved;
+      token = h.token;
+      protocol = h.protocol;
+      kind = h.kind;
+      id = h.id;
+    }) };
 
-    ghost inverse = { λ fields. record { word = header_word fields } };
-
-    ghost inverse_ok = { λ h small i.
-        let back : header_word (header_of h.word) ≡ h.word = omega (arith, small) in
-        record { word = back i } };
-}
-
-impl PartialEq for Header {
-    ghost use Rattle.std.specs.Cmp.{partial_equiv_from_equiv};
-    ghost use Rattle.scmi_codec.specs.Header.{is_same_header, same_header_equiv};
-
-    ghost eq = { is_same_header };
-
-    ghost laws = { partial_equiv_from_equiv same_header_equiv };
-
-    fn eq(&self, other: &Header) -> bool {
-        self.word == other.word
-    }
-}
-
-impl Eq for Header {
-    ghost use Rattle.scmi_codec.specs.Header.{same_header_equiv};
-
-    ghost laws = { same_header_equiv };
+    ghost inverse = { λ h. record { reserved = h.reserved; token = h.token; protocol = h.protocol; kind = h.kind; id = h.id } };
 }
 
 // What a place without a message contains.
 impl Default for Header {
     fn default() -> Header {
-        Header { word: 0 }
+        Header::unpack(0)
     }
 }
 
@@ -114,11 +105,11 @@ impl Header {
         }) }
     {
         Header {
-            word: (u32::from(reserved) << 28)
-                | (u32::from(token) << 18)
-                | (u32::from(protocol) << 10)
-                | (u32::from(kind) << 8)
-                | u32::from(id),
+            reserved,
+            token,
+            protocol,
+            kind,
+            id,
         }
     }
 
@@ -127,7 +118,13 @@ impl Header {
         ensures fields { result ≡ header_of word }
         ensures back { header_word result ≡ word }
     {
-        Header { word }
+        Header {
+            reserved: (word >> 28) as u8,
+            token: ((word >> 18) & 0x3ff) as u16,
+            protocol: ((word >> 10) & 0xff) as u8,
+            kind: ((word >> 8) & 0x3) as u8,
+            id: (word & 0xff) as u8,
+        }
     }
 
     /// The header word of the fields.
@@ -135,41 +132,45 @@ impl Header {
         ensures word { result ≡ header_word self.now }
         ensures back { header_of result ≡ self.now }
     {
-        self.word
+        (u32::from(self.reserved) << 28)
+            | (u32::from(self.token) << 18)
+            | (u32::from(self.protocol) << 10)
+            | (u32::from(self.kind) << 8)
+            | u32::from(self.id)
     }
 
     /// The reserved bits.
     pub fn reserved(&self) -> u8
         ensures { result ≡ self.now.reserved }
     {
-        (self.word >> 28) as u8
+        self.reserved
     }
 
     /// The token.
     pub fn token(&self) -> u16
         ensures { result ≡ self.now.token }
     {
-        ((self.word >> 18) & 0x3ff) as u16
+        self.token
     }
 
     /// The protocol.
     pub fn protocol(&self) -> u8
         ensures { result ≡ self.now.protocol }
     {
-        ((self.word >> 10) & 0xff) as u8
+        self.protocol
     }
 
     /// The message type.
     pub fn kind(&self) -> u8
         ensures { result ≡ self.now.kind }
     {
-        ((self.word >> 8) & 0x3) as u8
+        self.kind
     }
 
     /// The message id.
     pub fn id(&self) -> u8
         ensures { result ≡ self.now.id }
     {
-        (self.word & 0xff) as u8
+        self.id
     }
 }
