@@ -28,8 +28,8 @@ use Rattle.scmi_link.specs.declared.close_error.CloseError.{CloseError}
 use Rattle.scmi_svg.specs.declared.chart.Chart.{Chart}
 use Rattle.scmi_draw.specs.Run.{ShowsRun, may_be_full, shows_close}
 use Rattle.scmi_draw.specs.Threads.{HasScripts, ShowsOutcome, ShowsScripts, ShowsThreads}
-use Rattle.scmi_draw.specs.declared.kind.Kind.{Kind}
-use Rattle.scmi_draw.specs.declared.draw_error.DrawError.{DrawError}
+use Rattle.scmi_modes.specs.declared.kind.Kind.{Kind}
+use Rattle.scmi_modes.specs.declared.run_error.RunError.{RunError}
 use Rattle.scmi_draw.specs.History.{call_of, closes_from, closing_steps, command_steps, malformed_steps, receivers, refusal_steps, steps_after, steps_of_event, steps_of_run, taken_by, taking_steps}
 
 -- the steps so far, with those of an event more
@@ -112,7 +112,7 @@ module _ (board : Board) where
       (closes_of_board 1 logs (omega arith) (omega (arith, few)))
 
 -- a chart of the steps of what a run left shows that
-pub shows_outcome : (full : Bool) (Shows : CallerView → Result Closing CloseError → Type 0) (plan again board : Board) (scripts : List Script) (outcome : Outcome) (logs : List AgentLog) (steps drawn : List Step) (r : Result Chart DrawError) → plan ≡ board → again ≡ board → IsLegal plan outcome.trace.events → vec_len outcome.logs ≡ length plan.agents → AllFrom (λ a log. IsScriptLog full (orders_of scripts a) log) 1 outcome.logs.items → AllFrom (λ a log. LogHeadline plan outcome.trace.events a log) 1 outcome.logs.items → logs ≡ outcome.logs.items → steps ≡ steps_of_run outcome.trace.events logs → drawn ≡ steps → length steps ≤ 2000 → IfOk r (ShowsRun full Shows again drawn) → IfOk r (ShowsScripts full Shows board scripts)
+pub shows_outcome : (full : Bool) (Shows : CallerView → Result Closing CloseError → Type 0) (plan again board : Board) (scripts : List Script) (outcome : Outcome) (logs : List AgentLog) (steps drawn : List Step) (r : Result Chart RunError) → plan ≡ board → again ≡ board → IsLegal plan outcome.trace.events → vec_len outcome.logs ≡ length plan.agents → AllFrom (λ a log. IsScriptLog full (orders_of scripts a) log) 1 outcome.logs.items → AllFrom (λ a log. LogHeadline plan outcome.trace.events a log) 1 outcome.logs.items → logs ≡ outcome.logs.items → steps ≡ steps_of_run outcome.trace.events logs → drawn ≡ steps → length steps ≤ 2000 → IfOk r (ShowsRun full Shows again drawn) → IfOk r (ShowsScripts full Shows board scripts)
 shows_outcome full Shows plan again board scripts outcome logs steps drawn (Err e) same twice legal count follow headline are made passed few shown = tt
 shows_outcome full Shows plan again board scripts outcome logs steps drawn (Ok chart) same twice legal count follow headline are made passed few shown =
     let whole : drawn ≡ steps_of_run outcome.trace.events outcome.logs.items = passed ∙ made ∙ ap (λ ls. steps_of_run outcome.trace.events ls) are in
@@ -127,7 +127,7 @@ shows_outcome full Shows plan again board scripts outcome logs steps drawn (Ok c
     (outcome, shows)
 
 -- a chart of what a run of the scripts of an input left is one of the input
-pub shows_threads : (kind : Kind) (input : List ℕ) (board : Board) (scripts given : List Script) (r : Result Chart DrawError) → HasScripts input board scripts → given ≡ scripts → IfOk r (ShowsScripts (may_be_full kind) (shows_close kind) board given) → IfOk r (ShowsThreads kind input)
+pub shows_threads : (kind : Kind) (input : List ℕ) (board : Board) (scripts given : List Script) (r : Result Chart RunError) → HasScripts input board scripts → given ≡ scripts → IfOk r (ShowsScripts (may_be_full kind) (shows_close kind) board given) → IfOk r (ShowsThreads kind input)
 shows_threads kind input board scripts given (Err e) has same shown = tt
 shows_threads kind input board scripts given (Ok chart) has same shown = record {
   board = board;

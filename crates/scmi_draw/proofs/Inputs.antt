@@ -7,7 +7,7 @@ use Rattle.scmi_input.specs.declared.input.TheConstants.{KEPT_BYTES}
 use Rattle.scmi_draw.specs.AnyMode.{any_line_of}
 use Rattle.scmi_draw.specs.declared.any_mode.AnyMode.{AnyMode}
 use Rattle.scmi_draw.specs.declared.any_mode.AnyMode.TheVariants.{Script, Threads}
-use Rattle.scmi_draw.specs.declared.kind.Kind.TheVariants.{Rings, Words}
+use Rattle.scmi_modes.specs.declared.kind.Kind.TheVariants.{Rings, Words}
 use Rattle.scmi_draw.specs.declared.mode.Mode.TheVariants.{Steps, Hardware}
 
 -- the lines of an input that no one has read yet

@@ -3,8 +3,8 @@ use Rattle.std.specs.Prelude.{ℕ, List}
 use Rattle.scmi_draw.specs.Mode.{line_of}
 use Rattle.scmi_draw.specs.declared.any_mode.AnyMode.{AnyMode}
 use Rattle.scmi_draw.specs.declared.any_mode.AnyMode.TheVariants.{Script, Threads}
-use Rattle.scmi_draw.specs.declared.kind.Kind.{Kind}
-use Rattle.scmi_draw.specs.declared.kind.Kind.TheVariants.{Rings, Words}
+use Rattle.scmi_modes.specs.declared.kind.Kind.{Kind}
+use Rattle.scmi_modes.specs.declared.kind.Kind.TheVariants.{Rings, Words}
 use Rattle.scmi_modes.specs.declared.mode_lines.TheConstants.{THREADS_RINGS, THREADS_WORDS}
 
 -- the text of a mode whose agents run in threads

@@ -1,7 +1,7 @@
 -- The modes of a run that is drawn.
 use Rattle.std.specs.Prelude.{ℕ, List}
-use Rattle.scmi_draw.specs.declared.kind.Kind.{Kind}
-use Rattle.scmi_draw.specs.declared.kind.Kind.TheVariants.{Rings, Words}
+use Rattle.scmi_modes.specs.declared.kind.Kind.{Kind}
+use Rattle.scmi_modes.specs.declared.kind.Kind.TheVariants.{Rings, Words}
 use Rattle.scmi_draw.specs.declared.mode.Mode.{Mode}
 use Rattle.scmi_draw.specs.declared.mode.Mode.TheVariants.{Steps, Hardware}
 use Rattle.scmi_modes.specs.declared.mode_lines.TheConstants.{HARDWARE_RINGS, HARDWARE_WORDS, STEPS_RINGS, STEPS_WORDS}

@@ -20,8 +20,8 @@ use Rattle.scmi_svg.specs.declared.chart.Chart.{Chart}
 use Rattle.scmi_chart.specs.Signs.{sign_of}
 use Rattle.scmi_chart.specs.Shown.{run_signs, none_later, head_of, heads_from}
 use Rattle.scmi_draw.specs.Mode.{kind_of}
-use Rattle.scmi_draw.specs.declared.kind.Kind.{Kind}
-use Rattle.scmi_draw.specs.declared.kind.Kind.TheVariants.{Rings, Words}
+use Rattle.scmi_modes.specs.declared.kind.Kind.{Kind}
+use Rattle.scmi_modes.specs.declared.kind.Kind.TheVariants.{Rings, Words}
 use Rattle.scmi_draw.specs.declared.mode.Mode.{Mode}
 use Rattle.scmi_draw.specs.declared.mode.Mode.TheVariants.{Steps, Hardware}
 

@@ -17,7 +17,7 @@ use Rattle.scmi_threads.specs.declared.script.Script.{Script}
 use Rattle.scmi_svg.specs.declared.chart.Chart.{Chart}
 use Rattle.scmi_draw.specs.History.{steps_of_run}
 use Rattle.scmi_draw.specs.Run.{ShowsRun, may_be_full, shows_close}
-use Rattle.scmi_draw.specs.declared.kind.Kind.{Kind}
+use Rattle.scmi_modes.specs.declared.kind.Kind.{Kind}
 
 -- what follows the first line of an input is this board and these scripts of its agents
 pub record HasScripts (input : List ℕ) (board : Board) (scripts : List Script) : Type 0 where

@@ -2,9 +2,9 @@
 ghost use Rattle.std.specs.Prelude.{◌≡◌, ◌≢◌, IfSome, IfNone};
 ghost use Rattle.scmi_draw.specs.AnyMode.{any_line_of, threads_line};
 ghost use Rattle.scmi_draw.specs.declared.any_mode.AnyMode.{AnyMode};
-ghost use Rattle.scmi_draw.specs.declared.kind.Kind.{Kind as KindOf};
+ghost use Rattle.scmi_modes.specs.declared.kind.Kind.{Kind as KindOf};
 
-use crate::kind::Kind;
+use scmi_modes::Kind;
 use crate::mode::Mode;
 use scmi_modes::{THREADS_RINGS, THREADS_WORDS};
 

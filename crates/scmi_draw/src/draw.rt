@@ -1,11 +1,11 @@
 //! A run from its input to its exit status.
 ghost use Rattle.std.specs.Prelude.{◌≡◌, ◌≢◌, ◌≤◌, ◌+◌, ◌*◌, IfErr, IfOk, OnOk};
 ghost use Rattle.scmi_input.specs.declared.input.TheConstants.{INPUT_BYTES};
-ghost use Rattle.scmi_draw.specs.Reads.{StopsAtFailure};
+ghost use Rattle.scmi_modes.specs.Reads.{StopsAtFailure};
 ghost use Rattle.scmi_draw.specs.Picture.{IsPicture, ShowsInput};
 
 use crate::any_mode::AnyMode;
-use crate::draw_error::DrawError;
+use scmi_modes::RunError;
 use crate::run::chart_of;
 use crate::threads::chart_of_threads;
 use scmi_fault::write_fault;
@@ -49,7 +49,7 @@ pub fn draw_input<T: Threads + Wait + Sync, G: Gate, R: CountedRead + Drop, W: W
 {
     match draw(rt, alloc, gate, input, writer) {
         Ok(()) => 0,
-        Err(DrawError::Write) => DrawError::Write.status(),
+        Err(RunError::Write) => RunError::Write.status(),
         Err(fault) => write_fault(writer, &fault, fault.status()),
     }
 }
@@ -64,20 +64,20 @@ pub fn draw<T: Threads + Wait + Sync, G: Gate, R: CountedRead + Drop, W: Write>(
     gate: &G,
     input: &mut Input<R>,
     writer: &mut W,
-) -> Result<(), DrawError>
+) -> Result<(), RunError>
     ensures picture { OnOk result
         (IsPicture input.old.left (W.contents writer.old) (W.contents writer.new)) }
-    ensures kept { IfErr result (λ e. e ≢ DrawError.Write → writer.new ≡ writer.old) }
+    ensures kept { IfErr result (λ e. e ≢ RunError.Write → writer.new ≡ writer.old) }
     ensures reads { input.new.reads ≤ input.old.reads + 2 * (INPUT_BYTES + 1) }
     ensures stops { StopsAtFailure result input.old.since_failure input.new.since_failure }
 {
     let line = input.read_first_line()?;
-    let mode = AnyMode::of_first_line(&line).ok_or(DrawError::Mode)?;
+    let mode = AnyMode::of_first_line(&line).ok_or(RunError::Mode)?;
     let bytes = read_rest(alloc, input)?;
     let chart = chart_in(rt, alloc, gate, mode, &bytes)?;
     match write_chart(writer, &chart) {
         Ok(()) => Ok(()),
-        Err(_) => Err(DrawError::Write),
+        Err(_) => Err(RunError::Write),
     }
 }
 
@@ -88,7 +88,7 @@ fn chart_in<T: Threads + Wait + Sync, G: Gate>(
     gate: &G,
     mode: AnyMode,
     bytes: &[u8],
-) -> Result<Chart, DrawError>
+) -> Result<Chart, RunError>
     ensures shown { IfOk result (ShowsInput mode bytes.now) }
 {
     match mode {

@@ -8,9 +8,7 @@
 
 mod any_mode;
 mod draw;
-mod draw_error;
 mod history;
-mod kind;
 mod mode;
 mod run;
 mod step_text;
@@ -18,8 +16,6 @@ mod threads;
 
 pub use any_mode::AnyMode;
 pub use draw::{draw_input, run_draw};
-pub use draw_error::DrawError;
-pub use kind::Kind;
 pub use mode::Mode;
 pub use run::{STEPS, chart_of};
 pub use threads::chart_of_threads;

@@ -6,11 +6,11 @@ ghost use Rattle.scmi_plan.specs.RawPlan.{asked_board};
 ghost use Rattle.scmi_board.specs.Lines.{lines_left};
 ghost use Rattle.scmi_text.specs.Step.{IsStepOf};
 ghost use Rattle.scmi_text.specs.TextLines.{GivesScript};
-ghost use Rattle.scmi_draw.specs.DrawError.{fault_of_plan, status_of};
+ghost use Rattle.scmi_modes.specs.RunError.{fault_of_plan, status_of};
 ghost use Rattle.scmi_draw.specs.Run.{MayHave, ShowsRun, ShowsScript, StandsFor, script_of_lines};
 
-use crate::draw_error::DrawError;
-use crate::kind::Kind;
+use scmi_modes::RunError;
+use scmi_modes::Kind;
 use crate::mode::Mode;
 use scmi_board::{Lines, TextError, TextLine, read_board};
 use scmi_chart::Recorder;
@@ -28,12 +28,12 @@ pub const STEPS: usize = 2_000;
 
 /// The chart of the run of a board and a script in this mode. `Board`, `Script`, `Size` and `Plan`,
 /// in this order, if the input is rejected; `Memory` if out of memory.
-pub fn chart_of(alloc: Global, mode: Mode, bytes: &[u8]) -> Result<Chart, DrawError>
+pub fn chart_of(alloc: Global, mode: Mode, bytes: &[u8]) -> Result<Chart, RunError>
     ensures shown { IfOk result (ShowsScript mode bytes.now) }
 {
     let (board, steps) = read_input(alloc, mode, bytes)?;
     if steps.len() > STEPS {
-        return Err(DrawError::Size);
+        return Err(RunError::Size);
     }
     let plan = Plan::check(alloc, &board)?;
     let mut lines = behind_board(bytes);
@@ -48,7 +48,7 @@ pub fn chart_of(alloc: Global, mode: Mode, bytes: &[u8]) -> Result<Chart, DrawEr
 }
 
 /// The board and the steps after the first line, in a script of this mode.
-fn read_input(alloc: Global, mode: Mode, bytes: &[u8]) -> Result<(RawPlan, StepList), DrawError>
+fn read_input(alloc: Global, mode: Mode, bytes: &[u8]) -> Result<(RawPlan, StepList), RunError>
     ensures agents { IfOk result (λ read.
         All (IsStepOf (length (asked_board read.0).agents)) read.1) }
     ensures kinds { IfOk result (λ read. All (MayHave mode) read.1) }
@@ -97,7 +97,7 @@ fn step_through<C: Channel>(
     board: &RawPlan,
     steps: &StepList,
     lines: &mut Lines<'_>,
-) -> Result<Chart, DrawError>
+) -> Result<Chart, RunError>
     requires agents { All (IsStepOf (length plan.agents)) steps.now }
     requires board { asked_board board.now ≡ plan }
     ensures { IfOk result (ShowsRun C.FULL (ShowsClose C.caller_view C.close_shows) plan

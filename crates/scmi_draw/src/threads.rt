@@ -9,9 +9,9 @@ ghost use Rattle.scmi_draw.specs.Run.{ShowsRun};
 ghost use Rattle.scmi_draw.specs.Threads.{HasScripts, ShowsScripts, ShowsThreads};
 
 use crate::any_mode::threads_line;
-use crate::draw_error::DrawError;
+use scmi_modes::RunError;
 use crate::history::steps_of_run;
-use crate::kind::Kind;
+use scmi_modes::Kind;
 use crate::run::{STEPS, plural, record_dropped, title_of};
 use crate::step_text::StepText;
 use scmi_board::{Lines, TextLine, read_board};
@@ -37,7 +37,7 @@ pub fn chart_of_threads<T: Threads + Wait + Sync, G: Gate>(
     gate: &G,
     kind: Kind,
     bytes: &[u8],
-) -> Result<Chart, DrawError>
+) -> Result<Chart, RunError>
     ensures shown { IfOk result (ShowsThreads kind bytes.now) }
 {
     let (board, scripts) = read_agents(alloc, bytes)?;
@@ -48,7 +48,7 @@ pub fn chart_of_threads<T: Threads + Wait + Sync, G: Gate>(
 }
 
 /// The board and the scripts that follow the first line.
-fn read_agents(alloc: Global, bytes: &[u8]) -> Result<(RawPlan, Vec<Script>), DrawError>
+fn read_agents(alloc: Global, bytes: &[u8]) -> Result<(RawPlan, Vec<Script>), RunError>
     ensures scripts { IfOk result (λ read.
         AreScriptsOf (length (asked_board read.0).agents) read.1.items) }
     ensures input { IfOk result (λ read.
@@ -68,7 +68,7 @@ fn draw_agents<C: Channel, T: Threads + Wait + Sync, G: Gate>(
     kind: Kind,
     board: &RawPlan,
     scripts: &[Script],
-) -> Result<Chart, DrawError>
+) -> Result<Chart, RunError>
     requires scripts { AreScriptsOf (length (asked_board board.now).agents) scripts.now }
     ensures { IfOk result (ShowsScripts C.FULL (ShowsClose C.caller_view C.close_shows)
         (asked_board board.now) scripts.now) }
@@ -76,11 +76,11 @@ fn draw_agents<C: Channel, T: Threads + Wait + Sync, G: Gate>(
     let plan = Plan::check(alloc, board)?;
     let outcome = run_agents::<C, G, T>(rt, alloc, gate, plan, scripts)?;
     if lacked_memory(&outcome) {
-        return Err(DrawError::Memory);
+        return Err(RunError::Memory);
     }
     let steps = steps_of_run(alloc, &outcome.trace, &outcome.logs)?;
     if steps.len() > STEPS {
-        return Err(DrawError::Size);
+        return Err(RunError::Size);
     }
     let subtitle = subtitle_of(alloc, kind, outcome.trace.len())?;
     draw_steps::<C>(alloc, Plan::check(alloc, board)?, board, &steps, subtitle)
@@ -119,7 +119,7 @@ fn draw_steps<C: Channel>(
     board: &RawPlan,
     steps: &[Step],
     subtitle: Vec<u8>,
-) -> Result<Chart, DrawError>
+) -> Result<Chart, RunError>
     requires agents { All (IsStepOf (length plan.agents)) steps.now }
     requires board { asked_board board.now ≡ plan }
     ensures { IfOk result (ShowsRun C.FULL (ShowsClose C.caller_view C.close_shows) plan

@@ -1,103 +1,140 @@
 //! The columns of states.
-ghost use Rattle.std.specs.Prelude.{◌≡◌, OnOk};
-ghost use Rattle.std.specs.Io.KnownBytes.{Appends};
-ghost use Rattle.scmi_svg.specs.Column.{columns_text, column_text, heading_text, kind_name, spans_text, span_text};
 
-use crate::chart::{Column, Kind, Span};
-use crate::class;
-use crate::dropped::write_drops;
-use crate::layout::{Layout, state_y};
-use crate::shape::{Point, write_words};
-use crate::state::write_state;
+use crate::chart::{Column, Dropped, Kind, Span, State};
+use crate::escape::write_escaped;
+use crate::place::Place;
+use crate::rate::write_rate;
+use crate::shape::{Point, write_box, write_words};
 use std::io;
 use std::io::Write;
 
-/// What the column of a domain shows.
-const DOMAIN: &[u8] = b"domain";
-/// What that of a clock shows.
-const CLOCK: &[u8] = b"clock";
-/// What that of an outbox shows.
-const OUTBOX: &[u8] = b"outbox";
-
-/// Writes columns.
 pub(crate) fn write_columns<W: Write>(
     writer: &mut W,
-    layout: &Layout,
+    place: Place<'_>,
     columns: &[Column],
-) -> io::Result<()>
-    ensures { OnOk result (Appends (W.contents writer.old) (W.contents writer.new)
-        (columns_text layout.now columns.now)) }
-{
-    'columns: for column in columns {
-        write_column(writer, layout, column)?;
+) -> io::Result<()> {
+    for column in columns {
+        write_column(writer, place, column)?;
     }
     Ok(())
 }
 
-#[tactic(auto, unfolding(crate::specs::Column::column_text))]
-fn write_column<W: Write>(writer: &mut W, layout: &Layout, column: &Column) -> io::Result<()>
-    ensures { OnOk result (Appends (W.contents writer.old) (W.contents writer.new)
-        (column_text layout.now column.now)) }
-{
-    let x = layout.column_x(column.place);
-    write_heading(writer, x, column)?;
-    write_spans(writer, x, column.kind, &column.spans)?;
-    write_drops(writer, x, &column.drops)
-}
-
-/// Writes what a column shows.
-#[tactic(auto, unfolding(crate::specs::Column::heading_text))]
-fn write_heading<W: Write>(writer: &mut W, x: u32, column: &Column) -> io::Result<()>
-    ensures { OnOk result (Appends (W.contents writer.old) (W.contents writer.new)
-        (heading_text x column.now)) }
-{
-    let x = x.saturating_sub(6);
-    write_words(
-        writer,
-        class::TRACK,
-        Point { x, y: 103 },
-        0,
-        0,
-        &column.name,
-    )?;
-    write_words(
-        writer,
-        class::KIND,
-        Point { x, y: 119 },
-        0,
-        0,
-        kind_name(column.kind),
-    )
-}
-
-fn kind_name(kind: Kind) -> &'static [u8]
-    ensures { result.now ≡ kind_name kind }
-{
-    match kind {
-        Kind::Domain => DOMAIN,
-        Kind::Clock => CLOCK,
-        Kind::Outbox(_) => OUTBOX,
+fn write_column<W: Write>(writer: &mut W, place: Place<'_>, column: &Column) -> io::Result<()> {
+    let x = place.column_x(column.place);
+    let kind: &[u8] = match column.kind {
+        Kind::Domain => b"domain",
+        Kind::Clock => b"clock",
+        Kind::Outbox(_) => b"outbox",
+    };
+    let left = x.saturating_sub(6);
+    write_words(writer, "track", Point { x: left, y: 103 }, &column.name)?;
+    write_words(writer, "kind", Point { x: left, y: 119 }, kind)?;
+    for span in &column.spans {
+        write_span(writer, place, column, span)?;
     }
-}
-
-/// Writes the states of a column, in order.
-fn write_spans<W: Write>(writer: &mut W, x: u32, kind: Kind, spans: &[Span]) -> io::Result<()>
-    ensures { OnOk result (Appends (W.contents writer.old) (W.contents writer.new)
-        (spans_text x kind spans.now)) }
-{
-    'spans: for span in spans {
-        write_span(writer, x, kind, span)?;
+    for dropped in &column.drops {
+        write_dropped(
+            writer,
+            Point {
+                x,
+                y: place.state_y(dropped.time),
+            },
+            dropped,
+        )?;
     }
     Ok(())
 }
 
 /// Writes a state along the time that it lasted.
-#[tactic(auto, unfolding(crate::specs::Column::span_text))]
-fn write_span<W: Write>(writer: &mut W, x: u32, kind: Kind, span: &Span) -> io::Result<()>
-    ensures { OnOk result (Appends (W.contents writer.old) (W.contents writer.new)
-        (span_text x kind span.now)) }
-{
-    let y = state_y(span.since);
-    let height = state_y(span.until).saturating_sub(y);
-    write_state(writer, kind, span.state, Point { x, y }, height)
+fn write_span<W: Write>(
+    writer: &mut W,
+    place: Place<'_>,
+    column: &Column,
+    span: &Span,
+) -> io::Result<()> {
+    let x = place.column_x(column.place);
+    let y = place.state_y(span.since);
+    let height = place.state_y(span.until).saturating_sub(y);
+    let words = Point {
+        x: x + 10,
+        y: y + 12,
+    };
+    match span.state {
+        State::On => {
+            write_box(writer, "on", left_of(x, y, 5), 10, height)?;
+            write_words(writer, "on value", words, b"ON")
+        }
+        State::Off => {
+            write_box(writer, "off", left_of(x, y, 1), 2, height)?;
+            write_words(writer, "value", words, b"OFF")
+        }
+        State::Pending => write_box(writer, "held", left_of(x, y, 13), 6, height),
+        State::Waiting(0) => write_box(writer, "none", left_of(x, y, 1), 2, height),
+        State::Waiting(count) => write_waiting(
+            writer,
+            left_of(x, y, 1),
+            height,
+            column.kind,
+            count,
+        ),
+        State::Rate { hertz, is_enabled } => {
+            let class = if is_enabled { "rate" } else { "rate idle" };
+            write_box(writer, class, left_of(x, y, 4), 8, height)?;
+            write_hertz(writer, words, hertz)
+        }
+    }
+}
+
+/// The corner of a bar that begins this far to the left of a point.
+fn left_of(x: u32, y: u32, distance: u32) -> Point {
+    Point {
+        x: x.saturating_sub(distance),
+        y,
+    }
+}
+
+/// Writes an outbox, as wide as it is long, in the colour of its agent.
+fn write_waiting<W: Write>(
+    writer: &mut W,
+    corner: Point,
+    height: u32,
+    kind: Kind,
+    count: u8,
+) -> io::Result<()> {
+    let agent = match kind {
+        Kind::Outbox(agent) => agent,
+        Kind::Domain | Kind::Clock => 0,
+    };
+    let width = 2 + 3 * u32::from(count);
+    let (x, y) = (corner.x, corner.y);
+    let right = width + 7;
+    write!(
+        writer,
+        "<rect class=\"a{agent} queue\" x=\"{x}\" y=\"{y}\" width=\"{width}\" height=\"{height}\"/>\n<text class=\"a{agent} count\" x=\"{x}\" y=\"{y}\" dx=\"{right}\" dy=\"12\">{count}</text>\n"
+    )
+}
+
+/// Writes a rate beside a point.
+fn write_hertz<W: Write>(writer: &mut W, at: Point, hertz: u64) -> io::Result<()> {
+    let (x, y) = (at.x, at.y);
+    write!(writer, "<text class=\"hertz\" x=\"{x}\" y=\"{y}\">")?;
+    write_rate(writer, hertz)?;
+    writer.write_all(b"</text>\n")
+}
+
+/// Writes notifications that were dropped at one time, beside the widest bar: a cross, how many they
+/// are, and for a reader who points at it which.
+fn write_dropped<W: Write>(writer: &mut W, at: Point, dropped: &Dropped) -> io::Result<()> {
+    let (x, y) = (at.x, at.y);
+    writer.write_all(b"<g class=\"dropped\">\n<title>")?;
+    write_escaped(writer, &dropped.detail)?;
+    write!(
+        writer,
+        "</title>\n<path class=\"lost\" d=\"M{x} {y}m57 -9l10 10m0 -10l-10 10\"/>\n<text x=\"{x}\" y=\"{y}\" dx=\"72\">"
+    )?;
+    if dropped.count != 1 {
+        let count = dropped.count;
+        write!(writer, "{count} ")?;
+    }
+    writer.write_all(b"dropped</text>\n</g>\n")
 }

@@ -1,92 +1,122 @@
-//! Executions and advances, on the platform's lifeline.
-ghost use Rattle.std.specs.Prelude.{◌≡◌, OnOk};
-ghost use Rattle.std.specs.Io.KnownBytes.{Appends};
-ghost use Rattle.scmi_svg.specs.Event.{execution_text, advance_text, pill_width, pill_text, sign_text};
+//! What is no message: executions, advances, closes, faults, and other words beside a lifeline.
 
-use crate::class;
-use crate::layout::{Layout, line_y};
+use crate::escape::write_escaped;
+use crate::mark::Side;
 use crate::measure::width_in;
-use crate::shape::{Point, write_box};
-use crate::value::Value;
-use scmi_template::write_filled;
+use crate::place::Place;
+use crate::shape::{Point, write_box, write_cross, write_line, write_ring, write_words};
 use std::io;
 use std::io::Write;
 
-/// The words of an advance: a point, and the text after its name.
-const SIGN: &str = "\
-<text class=\"sign\" x=\"%\" y=\"%\">\
-<tspan class=\"name\">advance</tspan>\
-<tspan class=\"object\" dx=\"6\">%</tspan></text>\n";
-
 /// Writes how long the platform executes.
-#[tactic(auto, unfolding(crate::specs::Event::execution_text))]
 pub(crate) fn write_execution<W: Write>(
     writer: &mut W,
-    layout: &Layout,
+    place: Place<'_>,
     slot: u16,
     until: u16,
-) -> io::Result<()>
-    ensures { OnOk result (Appends (W.contents writer.old) (W.contents writer.new)
-        (execution_text layout.now slot until)) }
-{
+) -> io::Result<()> {
     let corner = Point {
-        x: layout.platform_x().saturating_sub(4),
-        y: line_y(slot).saturating_sub(4),
+        x: place.platform_x().saturating_sub(4),
+        y: place.line_y(slot) - 4,
     };
-    let height = line_y(until).saturating_sub(line_y(slot)) + 8;
-    write_box(writer, class::RUN, corner, 8, height)
+    let height = place.line_y(until).saturating_sub(place.line_y(slot)) + 8;
+    write_box(writer, "run", corner, 8, height)
+}
+
+/// Writes a ring where the platform posts a message.
+pub(crate) fn write_post<W: Write>(writer: &mut W, place: Place<'_>, slot: u16) -> io::Result<()> {
+    let center = Point {
+        x: place.platform_x(),
+        y: place.line_y(slot),
+    };
+    write_ring(writer, "post", center, 4)
 }
 
 /// Writes an advance, as a pill on the platform's lifeline.
-#[tactic(auto, unfolding(crate::specs::Event::advance_text))]
 pub(crate) fn write_advance<W: Write>(
     writer: &mut W,
-    layout: &Layout,
+    place: Place<'_>,
     slot: u16,
     text: &[u8],
-) -> io::Result<()>
-    ensures { OnOk result (Appends (W.contents writer.old) (W.contents writer.new)
-        (advance_text layout.now slot text.now)) }
-{
-    let center = Point {
-        x: layout.platform_x(),
-        y: line_y(slot),
-    };
-    write_pill(writer, center, pill_width(text))?;
-    write_sign(writer, center, text)
-}
-
-#[tactic(auto, unfolding(crate::specs::Event::pill_text))]
-fn write_pill<W: Write>(writer: &mut W, center: Point, width: u32) -> io::Result<()>
-    ensures { OnOk result (Appends (W.contents writer.old) (W.contents writer.new)
-        (pill_text center width)) }
-{
+) -> io::Result<()> {
+    let width = 76 + width_in(text, 11);
+    let (x, y) = (place.platform_x(), place.line_y(slot));
     let corner = Point {
-        x: center.x.saturating_sub(width / 2),
-        y: center.y.saturating_sub(16),
+        x: x.saturating_sub(width / 2),
+        y: y - 16,
     };
-    write_box(writer, class::PILL, corner, width, 23)
-}
-
-#[tactic(auto, unfolding(crate::specs::Event::sign_text))]
-fn write_sign<W: Write>(writer: &mut W, center: Point, text: &[u8]) -> io::Result<()>
-    ensures { OnOk result (Appends (W.contents writer.old) (W.contents writer.new)
-        (sign_text center text.now)) }
-{
-    write_filled(
+    write_box(writer, "pill", corner, width, 23)?;
+    write!(
         writer,
-        SIGN,
-        &[
-            Value::Number(center.x),
-            Value::Number(center.y),
-            Value::Outside(text),
-        ],
-    )
+        "<text class=\"sign\" x=\"{x}\" y=\"{y}\"><tspan class=\"name\">advance</tspan><tspan class=\"object\" dx=\"6\">"
+    )?;
+    write_escaped(writer, text)?;
+    writer.write_all(b"</tspan></text>\n")
 }
 
-/// The width of a pill with these words after its own.
-fn pill_width(text: &[u8]) -> u32
-    ensures { result ≡ pill_width text.now }
-{
-    76 + width_in(text, 11)
+/// Writes a close, on the lifeline of the endpoint that closes.
+pub(crate) fn write_closed<W: Write>(
+    writer: &mut W,
+    place: Place<'_>,
+    agent: u8,
+    slot: u16,
+    by: Side,
+    text: &[u8],
+) -> io::Result<()> {
+    let x = match by {
+        Side::Agent => place.agent_x(agent),
+        Side::Platform => place.platform_x(),
+    };
+    let y = place.line_y(slot) - 4;
+    write_cross(writer, "shut", Point { x, y })?;
+    write_remark(writer, place, agent, slot, by, text)
+}
+
+/// Writes words beside a lifeline, towards the other one. Those of an agent that is not beside the
+/// platform have a line to it, since they are where all words of its side are.
+pub(crate) fn write_remark<W: Write>(
+    writer: &mut W,
+    place: Place<'_>,
+    agent: u8,
+    slot: u16,
+    beside: Side,
+    text: &[u8],
+) -> io::Result<()> {
+    let y = place.line_y(slot);
+    let (x, is_from_left) = match beside {
+        Side::Agent => (place.inner_x(agent, 30), place.is_left(agent)),
+        Side::Platform => (place.beside_platform(agent, 52), !place.is_left(agent)),
+    };
+    if let Side::Agent = beside {
+        let from = Point {
+            x: place.beside_agent(agent, 12),
+            y: y - 4,
+        };
+        let to = Point {
+            x: place.inner_x(agent, 24),
+            y: y - 4,
+        };
+        write_line(writer, "lead", from, to)?;
+    }
+    let class = if is_from_left { "note" } else { "note end" };
+    write_words(writer, class, Point { x, y }, text)
+}
+
+/// Writes that the hardware refused what an agent's command was to change, beside the platform's
+/// lifeline and away from the agent's, where the command has no arrow.
+pub(crate) fn write_fault<W: Write>(
+    writer: &mut W,
+    place: Place<'_>,
+    agent: u8,
+    slot: u16,
+    text: &[u8],
+) -> io::Result<()> {
+    let (x, y) = (place.platform_x(), place.line_y(slot));
+    let (cross, words, class) = if place.is_left(agent) {
+        (x + 52, x + 66, "note")
+    } else {
+        (x.saturating_sub(52), x.saturating_sub(66), "note end")
+    };
+    write_cross(writer, "lost", Point { x: cross, y: y - 4 })?;
+    write_words(writer, class, Point { x: words, y }, text)
 }

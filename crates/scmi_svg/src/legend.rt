@@ -1,92 +1,142 @@
 //! What the lines and signs of a chart mean, as far as it has them.
-ghost use Rattle.std.specs.Prelude.{◌≡◌, ◌≤◌, ◌+◌, ◌*◌, OnOk, length, map};
-ghost use Rattle.std.specs.Io.KnownBytes.{Appends};
-ghost use Rattle.scmi_svg.specs.Legend.{all_entries, entries_width, legend_width, entries_text, entry_text, said};
 
-use crate::chart::Chart;
-use crate::entry::{ENTRIES, HeldEntry};
-use crate::used::is_used;
-use crate::value::Value;
-use scmi_template::write_filled;
+use crate::chart::{Chart, Column, Span, State};
+use crate::mark::Mark;
+use crate::marks::class_of;
 use std::io;
 use std::io::Write;
 
-/// An explanation: classes, left edge, the line or sign, where its words begin, and the words.
-const ENTRY: &str = "\
-<svg class=\"mark %\" x=\"%\">\n\
-%<text x=\"%\" y=\"16\">%</text>\n\
-</svg>\n";
-
-/// All lines and signs.
-#[tactic(auto, unfolding(crate::specs::Legend::all_entries))]
-pub(crate) fn all_entries() -> &'static [HeldEntry]
-    ensures value { map said result.now ≡ all_entries }
-    ensures few { length result.now ≤ 13 }
-{
-    &ENTRIES
+/// Where a chart has a line or a sign.
+#[derive(Clone, Copy)]
+enum Where {
+    /// In the marks of this class.
+    Mark(&'static str),
+    Token,
+    Lost,
+    Held,
+    Dropped,
 }
 
-/// The width of these explanations, as far as the chart has them.
-fn entries_width(chart: &Chart, entries: &[HeldEntry]) -> u32
-    requires { length entries.now ≤ 13 }
-    ensures value { result ≡ entries_width chart.now (map said entries.now) }
-    ensures bound { result ≤ 255 * length entries.now }
-{
-    let [row, rest @ ..] = entries else {
-        return 0;
+/// An explanation: where the chart has it, the classes of the line or sign and what draws it, its
+/// width with its words, where these begin, and the words.
+#[derive(Clone, Copy)]
+struct Entry {
+    place: Where,
+    class: &'static str,
+    sign: &'static str,
+    width: u32,
+    x: u32,
+    words: &'static str,
+}
+
+const ARROW: &str = "<line class=\"head\" x1=\"0\" y1=\"12\" x2=\"26\" y2=\"12\"/>";
+
+const CROSS: &str = "<path class=\"lost\" d=\"M5 7l10 10m0 -10l-10 10\"/>";
+
+const SHUT: &str = "<path class=\"shut\" d=\"M5 7l10 10m0 -10l-10 10\"/>";
+
+const RING: &str = "<circle class=\"post\" cx=\"5\" cy=\"12\" r=\"4\"/>";
+
+const TOKEN: &str = "<circle class=\"token\" cx=\"10\" cy=\"12\" r=\"8\"/>\
+<text class=\"number\" x=\"7\" y=\"15\">0</text>";
+
+const HELD: &str = "<rect class=\"held\" x=\"5\" y=\"5\" width=\"6\" height=\"14\"/>";
+
+macro_rules! entries {
+    ($($place:expr, $width:literal $class:literal $sign:ident $x:literal $words:literal;)*) => {
+        [$(Entry {
+            place: $place,
+            class: $class,
+            sign: $sign,
+            width: $width,
+            x: $x,
+            words: $words,
+        }),*]
     };
-    let width = if is_used(chart, row.entry) {
-        u32::from(row.width)
-    } else {
-        0
-    };
-    width + entries_width(chart, rest)
+}
+
+/// All lines and signs, in order.
+const ENTRIES: [Entry; 13] = entries![
+    Where::Mark("command"), 103 "command" ARROW 34 "command";
+    Where::Lost, 108 "sign" CROSS 22 "not executed";
+    Where::Mark("reply"), 91 "reply" ARROW 34 "reply";
+    Where::Mark("reply pending"), 128 "reply pending" ARROW 34 "set accepted";
+    Where::Mark("reply refusal"), 103 "reply refusal" ARROW 34 "refusal";
+    Where::Mark("delayed"), 159 "delayed" ARROW 34 "delayed response";
+    Where::Mark("notification"), 130 "notification" ARROW 34 "notification";
+    Where::Token, 74 "sign" TOKEN 24 "token";
+    Where::Mark("posted"), 146 "sign" RING 15 "posted to the agent";
+    Where::Mark("fault"), 126 "sign" CROSS 22 "hardware refused";
+    Where::Mark("closed"), 122 "sign" SHUT 22 "channels closed";
+    Where::Held, 96 "sign" HELD 17 "set pending";
+    Where::Dropped, 150 "sign" CROSS 22 "notification dropped";
+];
+
+/// Writes the explanations of what the chart has, from left to right.
+pub(crate) fn write_legend<W: Write>(writer: &mut W, chart: &Chart, y: u32) -> io::Result<()> {
+    write!(writer, "<svg class=\"legend\" x=\"24\" y=\"{y}\">\n")?;
+    let mut x = 0u32;
+    for entry in &ENTRIES {
+        if is_used(chart, entry.place) {
+            write_entry(writer, x, entry)?;
+            x = x.saturating_add(entry.width);
+        }
+    }
+    writer.write_all(b"</svg>\n")
+}
+
+fn write_entry<W: Write>(writer: &mut W, x: u32, entry: &Entry) -> io::Result<()> {
+    let (class, sign) = (entry.class, entry.sign);
+    let (words_x, words) = (entry.x, entry.words);
+    write!(
+        writer,
+        "<svg class=\"mark {class}\" x=\"{x}\">{sign}<text x=\"{words_x}\" y=\"16\">{words}</text></svg>\n"
+    )
 }
 
 /// The width of a chart's legend.
-pub(crate) fn legend_width(chart: &Chart) -> u32
-    ensures value { result ≡ legend_width chart.now }
-    ensures bound { result ≤ 3315 }
-{
-    entries_width(chart, all_entries())
-}
-
-/// Writes these explanations, as far as the chart has them, from here to the right.
-pub(crate) fn write_entries<W: Write>(
-    writer: &mut W,
-    chart: &Chart,
-    x: u32,
-    entries: &[HeldEntry],
-) -> io::Result<()>
-    requires { x + 255 * length entries.now ≤ 4096 }
-    ensures { OnOk result (Appends (W.contents writer.old) (W.contents writer.new)
-        (entries_text chart.now x (map said entries.now))) }
-{
-    let [row, rest @ ..] = entries else {
-        return Ok(());
-    };
-    if !is_used(chart, row.entry) {
-        return write_entries(writer, chart, x, rest);
+pub(crate) fn legend_width(chart: &Chart) -> u32 {
+    let mut width = 0u32;
+    for entry in &ENTRIES {
+        if is_used(chart, entry.place) {
+            width = width.saturating_add(entry.width);
+        }
     }
-    write_entry(writer, x, row)?;
-    write_entries(writer, chart, x + u32::from(row.width), rest)
+    width
 }
 
-/// Writes an explanation, from here to the right.
-#[tactic(auto, unfolding(crate::specs::Legend::entry_text))]
-fn write_entry<W: Write>(writer: &mut W, x: u32, row: &HeldEntry) -> io::Result<()>
-    ensures { OnOk result (Appends (W.contents writer.old) (W.contents writer.new)
-        (entry_text x (said row.now))) }
-{
-    write_filled(
-        writer,
-        ENTRY,
-        &[
-            Value::Own(row.class.as_bytes()),
-            Value::Number(x),
-            Value::Own(row.sign.as_bytes()),
-            Value::Number(u32::from(row.x)),
-            Value::Own(row.words.as_bytes()),
-        ],
+fn is_used(chart: &Chart, place: Where) -> bool {
+    match place {
+        Where::Mark(class) => chart
+            .marks
+            .iter()
+            .any(|mark: &Mark| class_of(mark) == class),
+        Where::Token => chart.marks.iter().any(has_token),
+        Where::Lost => chart.marks.iter().any(is_lost),
+        Where::Held => chart.columns.iter().any(has_pending),
+        Where::Dropped => chart
+            .columns
+            .iter()
+            .any(|column: &Column| !column.drops.is_empty()),
+    }
+}
+
+fn has_token(mark: &Mark) -> bool {
+    matches!(
+        mark,
+        Mark::Command { token: Some(_), .. }
+            | Mark::Withdrawn { token: Some(_), .. }
+            | Mark::Delayed { .. }
     )
+}
+
+fn is_lost(mark: &Mark) -> bool {
+    matches!(mark, Mark::Withdrawn { .. } | Mark::Refused { .. })
+}
+
+fn has_pending(column: &Column) -> bool {
+    column
+        .spans
+        .iter()
+        .any(|span: &Span| span.state == State::Pending)
 }

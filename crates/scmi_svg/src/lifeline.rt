@@ -1,141 +1,139 @@
-//! The heads of lifelines, and the lifelines.
-ghost use Rattle.std.specs.Prelude.{OnOk};
-ghost use Rattle.std.specs.Io.KnownBytes.{Appends};
-ghost use Rattle.scmi_svg.specs.Lifeline.{lifelines_text, lifeline_text, life_text, ended_text, stroke_text, head_text};
+//! The lifelines of agents and platform, and their names.
 
-use crate::chart::Lifeline;
-use crate::class;
-use crate::layout::{Layout, line_y};
-use crate::shape::{Point, write_words};
-use crate::value::Value;
-use scmi_template::write_filled;
+use crate::chart::{Chart, Lifeline};
+use crate::escape::write_escaped;
+use crate::place::{Place, STRETCH};
+use crate::shape::{Point, write_box, write_words};
 use std::io;
 use std::io::Write;
 
-/// A part of a lifeline: agent, class, and two ends.
-const STROKE: &str = "<line class=\"a% %\" x1=\"%\" y1=\"%\" x2=\"%\" y2=\"%\"/>\n";
-/// The box of an agent's name: agent, width and left edge.
-const AGENT_BOX: &str = "\
-<rect class=\"a% box\" y=\"84\" width=\"%\" height=\"44\" rx=\"8\" x=\"%\"/>\n";
-/// The number of an agent below its name.
-const AGENT_NUMBER: &str = "<text class=\"what\" y=\"119\" x=\"%\">agent %</text>\n";
+/// The upper edge of the boxes of names, and their height.
+const HEAD_Y: u32 = 84;
 
-/// Writes the lifelines of agents.
+const HEAD: u32 = 44;
+
+/// Writes the lifelines and the boxes of their names.
 pub(crate) fn write_lifelines<W: Write>(
     writer: &mut W,
-    layout: &Layout,
+    place: Place<'_>,
     lifelines: &[Lifeline],
-) -> io::Result<()>
-    ensures { OnOk result (Appends (W.contents writer.old) (W.contents writer.new)
-        (lifelines_text layout.now lifelines.now)) }
-{
-    'lifelines: for lifeline in lifelines {
-        write_lifeline(writer, layout, lifeline)?;
+) -> io::Result<()> {
+    for lifeline in lifelines {
+        write_lifeline(writer, place, lifeline)?;
     }
-    Ok(())
+    write_platform(writer, place)
 }
 
-#[tactic(auto, unfolding(crate::specs::Lifeline::lifeline_text))]
-fn write_lifeline<W: Write>(writer: &mut W, layout: &Layout, lifeline: &Lifeline) -> io::Result<()>
-    ensures { OnOk result (Appends (W.contents writer.old) (W.contents writer.new)
-        (lifeline_text layout.now lifeline.now)) }
-{
-    let x = layout.agent_x(lifeline.agent);
-    write_life(writer, layout, lifeline, x)?;
-    write_head(writer, layout, lifeline, x)
-}
-
-/// Writes the line itself: dotted once the agent has closed its channels.
-fn write_life<W: Write>(
+fn write_lifeline<W: Write>(
     writer: &mut W,
-    layout: &Layout,
+    place: Place<'_>,
     lifeline: &Lifeline,
-    x: u32,
-) -> io::Result<()>
-    ensures { OnOk result (Appends (W.contents writer.old) (W.contents writer.new)
-        (life_text layout.now lifeline.now x)) }
-{
-    let top = Point { x, y: 128 };
-    let bottom = layout.bottom();
-    match lifeline.closed {
-        None => write_stroke(writer, class::LIFE, lifeline.agent, top, bottom),
-        Some(slot) => {
-            let end = line_y(slot).saturating_sub(4);
-            write_ended(writer, lifeline.agent, Point { x, y: end }, bottom)
-        }
+) -> io::Result<()> {
+    let x = place.agent_x(lifeline.agent);
+    let end = match lifeline.closed {
+        Some(slot) => place.line_y(slot) - 4,
+        None => place.bottom(),
+    };
+    write_stroke(
+        writer,
+        "life",
+        lifeline.agent,
+        Point {
+            x,
+            y: HEAD_Y + HEAD,
+        },
+        end,
+    )?;
+    if lifeline.closed.is_some() {
+        write_stroke(
+            writer,
+            "gone",
+            lifeline.agent,
+            Point { x, y: end },
+            place.bottom(),
+        )?;
     }
+    let agent = lifeline.agent;
+    let (width, left) = (place.head(), x.saturating_sub(place.head() / 2));
+    write!(
+        writer,
+        "<rect class=\"a{agent} box\" x=\"{left}\" y=\"{HEAD_Y}\" width=\"{width}\" height=\"{HEAD}\" rx=\"8\"/>\n"
+    )?;
+    write_words(writer, "who", Point { x, y: 103 }, &lifeline.name)?;
+    write!(
+        writer,
+        "<text class=\"what\" x=\"{x}\" y=\"119\">agent {agent}</text>\n"
+    )
 }
 
-/// Writes a lifeline that ends at a point, and goes on dotted.
-#[tactic(auto, unfolding(crate::specs::Lifeline::ended_text))]
-fn write_ended<W: Write>(writer: &mut W, agent: u8, end: Point, bottom: u32) -> io::Result<()>
-    ensures { OnOk result (Appends (W.contents writer.old) (W.contents writer.new)
-        (ended_text agent end bottom)) }
-{
-    let top = Point { x: end.x, y: 128 };
-    write_stroke(writer, class::LIFE, agent, top, end.y)?;
-    write_stroke(writer, class::GONE, agent, end, bottom)
-}
-
-/// Writes a part of a lifeline, from a point down.
-#[tactic(auto, unfolding(crate::specs::Lifeline::stroke_text))]
+/// Writes a part of an agent's lifeline, from a point down.
 fn write_stroke<W: Write>(
     writer: &mut W,
     class: &str,
     agent: u8,
     from: Point,
-    to: u32,
-) -> io::Result<()>
-    ensures { OnOk result (Appends (W.contents writer.old) (W.contents writer.new)
-        (stroke_text class.now agent from to)) }
-{
-    write_filled(
+    end: u32,
+) -> io::Result<()> {
+    let (x, y) = (from.x, from.y);
+    write!(
         writer,
-        STROKE,
-        &[
-            Value::Number(u32::from(agent)),
-            Value::Own(class.as_bytes()),
-            Value::Number(from.x),
-            Value::Number(from.y),
-            Value::Number(from.x),
-            Value::Number(to),
-        ],
+        "<line class=\"a{agent} {class}\" x1=\"{x}\" y1=\"{y}\" x2=\"{x}\" y2=\"{end}\"/>\n"
     )
 }
 
-/// Writes the head of an agent's lifeline.
-#[tactic(auto, unfolding(crate::specs::Lifeline::head_text))]
-fn write_head<W: Write>(
+fn write_platform<W: Write>(writer: &mut W, place: Place<'_>) -> io::Result<()> {
+    let x = place.platform_x();
+    let rail = Point {
+        x: x.saturating_sub(4),
+        y: HEAD_Y + HEAD,
+    };
+    write_box(
+        writer,
+        "platform",
+        rail,
+        8,
+        place.bottom() - (HEAD_Y + HEAD),
+    )?;
+    let left = x.saturating_sub(66);
+    write!(
+        writer,
+        "<rect class=\"box\" x=\"{left}\" y=\"{HEAD_Y}\" width=\"132\" height=\"{HEAD}\" rx=\"8\"/>\n"
+    )?;
+    write_words(writer, "who", Point { x, y: 103 }, b"platform")?;
+    write_words(writer, "what", Point { x, y: 119 }, b"SCMI controller")
+}
+
+/// Writes the names of lifelines and columns in a row of their own above each twentieth step, for a
+/// reader who has scrolled.
+pub(crate) fn write_rows<W: Write>(
     writer: &mut W,
-    layout: &Layout,
-    lifeline: &Lifeline,
-    x: u32,
-) -> io::Result<()>
-    ensures { OnOk result (Appends (W.contents writer.old) (W.contents writer.new)
-        (head_text layout.now lifeline.now x)) }
-{
-    let number = u32::from(lifeline.agent);
-    let width = u32::from(layout.head);
-    write_filled(
-        writer,
-        AGENT_BOX,
-        &[
-            Value::Number(number),
-            Value::Number(width),
-            Value::Number(x.saturating_sub(width / 2)),
-        ],
-    )?;
-    write_words(
-        writer,
-        class::WHO,
-        Point { x, y: 103 },
-        0,
-        0,
-        &lifeline.name,
-    )?;
-    write_filled(
-        writer,
-        AGENT_NUMBER,
-        &[Value::Number(x), Value::Number(number)],
-    )
+    place: Place<'_>,
+    chart: &Chart,
+) -> io::Result<()> {
+    for step in &chart.steps {
+        if step.number > 0 && step.number % STRETCH == 0 {
+            write_row(writer, place, chart, place.slot_y(step.slot) - 8)?;
+        }
+    }
+    Ok(())
+}
+
+fn write_row<W: Write>(writer: &mut W, place: Place<'_>, chart: &Chart, y: u32) -> io::Result<()> {
+    for lifeline in &chart.lifelines {
+        let (agent, x) = (lifeline.agent, place.agent_x(lifeline.agent));
+        write!(
+            writer,
+            "<text class=\"a{agent} again\" x=\"{x}\" y=\"{y}\">"
+        )?;
+        write_escaped(writer, &lifeline.name)?;
+        writer.write_all(b"</text>\n")?;
+    }
+    let x = place.platform_x();
+    write_words(writer, "again", Point { x, y }, b"platform")?;
+    for column in &chart.columns {
+        // Beside the bar of the state, which it would cover.
+        let x = place.column_x(column.place) + 10;
+        write_words(writer, "again left", Point { x, y }, &column.name)?;
+    }
+    Ok(())
 }

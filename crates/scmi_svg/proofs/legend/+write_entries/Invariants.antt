@@ -1,5 +1,0 @@
-use Rattle.std.proofs.Common.{length}
-use Rattle.scmi_svg.proofs.legend.+write_entries.Given as goal
-
-abbrev pub decreases-write_entries : goal.decreases-write_entries
-decreases-write_entries g l = length l.entries.now

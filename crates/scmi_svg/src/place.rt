@@ -1,0 +1,225 @@
+//! Where things are, in pixels.
+//!
+//! The words of all messages are in the two gaps beside the platform's lifeline, so only these are
+//! wide. At most one message leaves in a slot, and its words are above its line: no label lies over
+//! another. Slots, agents and columns are numbered by `u16` and `u8`, so no sum of these can wrap.
+ghost use Rattle.std.specs.Prelude.{◌<◌, ◌≤◌, ◌^◌};
+
+use crate::chart::{Chart, Step};
+use crate::needs::{column_of, gap_of, script_of, side_of};
+
+/// The most agents of a chart.
+const AGENTS: usize = 8;
+/// The height of a slot, and the upper edge of the first.
+pub(crate) const SLOT: u32 = 32;
+
+const TOP: u32 = 150;
+/// After how many steps the names are written again, and the height of that row.
+pub(crate) const STRETCH: u16 = 20;
+
+const AGAIN: u32 = 24;
+/// The part of a gap beside the platform that has no words: messages wait there.
+pub(crate) const MARGIN: u32 = 104;
+
+/// Where the lifelines and columns of a chart are, and how far down they go.
+#[derive(Clone, Copy)]
+pub(crate) struct Place<'a> {
+    steps: &'a [Step],
+    slots: u16,
+    agents: u8,
+    columns: u8,
+    /// The first lifeline.
+    left: u16,
+    /// The distance between two agents on one side of the platform.
+    side: u16,
+    /// The distance between the platform and the nearest agent.
+    gap: u16,
+    /// The width of a column.
+    column: u16,
+}
+
+impl<'a> Place<'a> {
+    pub fn of(chart: &'a Chart) -> Place<'a> {
+        let side = side_of(&chart.lifelines);
+        Place {
+            steps: &chart.steps,
+            slots: chart.slots,
+            agents: chart.lifelines.len().min(AGENTS) as u8,
+            columns: chart.columns.len().min(255) as u8,
+            left: script_of(&chart.steps) + side / 2,
+            side,
+            gap: gap_of(&chart.marks),
+            column: column_of(&chart.columns),
+        }
+    }
+
+    /// How many agents are to the left of the platform.
+    fn left_agents(self) -> u32
+        ensures bound { result < 2 ^ 8 }
+    {
+        (u32::from(self.agents) + 1) / 2
+    }
+
+    /// Whether an agent is to the left of the platform.
+    pub fn is_left(self, agent: u8) -> bool {
+        u32::from(agent) <= self.left_agents()
+    }
+
+    pub fn platform_x(self) -> u32
+        ensures bound { result < 2 ^ 25 }
+    {
+        let before = self.left_agents().saturating_sub(1);
+        u32::from(self.left) + u32::from(self.side) * before + u32::from(self.gap)
+    }
+
+    /// How many agents are between an agent and the platform.
+    fn rank(self, agent: u8) -> u32
+        ensures bound { result < 2 ^ 8 }
+    {
+        if self.is_left(agent) {
+            self.left_agents().saturating_sub(u32::from(agent))
+        } else {
+            u32::from(agent).saturating_sub(self.left_agents() + 1)
+        }
+    }
+
+    pub fn agent_x(self, agent: u8) -> u32
+        ensures bound { result < 2 ^ 26 }
+    {
+        let distance = u32::from(self.gap) + u32::from(self.side) * self.rank(agent);
+        if self.is_left(agent) {
+            self.platform_x().saturating_sub(distance)
+        } else {
+            self.platform_x() + distance
+        }
+    }
+
+    /// At this distance from the platform's lifeline, towards the agent's.
+    pub fn beside_platform(self, agent: u8, distance: u16) -> u32
+        ensures bound { result < 2 ^ 26 }
+    {
+        if self.is_left(agent) {
+            self.platform_x().saturating_sub(u32::from(distance))
+        } else {
+            self.platform_x() + u32::from(distance)
+        }
+    }
+
+    /// At this distance from the agent's lifeline, towards the platform's.
+    pub fn beside_agent(self, agent: u8, distance: u16) -> u32
+        ensures bound { result < 2 ^ 27 }
+    {
+        if self.is_left(agent) {
+            self.agent_x(agent) + u32::from(distance)
+        } else {
+            self.agent_x(agent).saturating_sub(u32::from(distance))
+        }
+    }
+
+    /// Where a command of this agent waits for the platform: each agent of a side has its own place.
+    pub fn waiting_x(self, agent: u8) -> u32
+        ensures bound { result < 2 ^ 26 }
+    {
+        self.beside_platform(agent, 18 + 8 * self.rank(agent).min(8) as u16)
+    }
+
+    /// The middle of the words between the platform and the agents of this agent's side.
+    pub fn words_x(self, agent: u8) -> u32 {
+        self.beside_platform(agent, self.gap / 2)
+    }
+
+    /// At this distance from the agent that is nearest to the platform, towards the platform.
+    pub fn inner_x(self, agent: u8, distance: u16) -> u32 {
+        self.beside_platform(agent, self.gap.saturating_sub(distance))
+    }
+
+    /// The room for these words.
+    pub fn room(self) -> u32
+        ensures bound { result < 2 ^ 16 }
+    {
+        u32::from(self.gap).saturating_sub(MARGIN)
+    }
+
+    /// The width of the box of an agent's name.
+    pub fn head(self) -> u32
+        ensures bound { result < 2 ^ 16 }
+    {
+        u32::from(self.side).saturating_sub(16)
+    }
+
+    /// The line between the lifelines and the columns.
+    pub fn border_x(self) -> u32
+        ensures bound { result < 2 ^ 27 }
+    {
+        let last = if self.is_left(self.agents) {
+            self.platform_x()
+        } else {
+            self.agent_x(self.agents)
+        };
+        last + u32::from(self.side).max(132) / 2 + 24
+    }
+
+    /// The width of this many columns.
+    fn columns_width(self, count: u8) -> u32
+        ensures bound { result < 2 ^ 24 }
+    {
+        let width = u32::from(self.column).saturating_mul(u32::from(count));
+        // 255 of the widest columns have less.
+        width.min(100_000)
+    }
+
+    pub fn column_x(self, place: u8) -> u32
+        ensures bound { result < 2 ^ 28 }
+    {
+        self.border_x() + 34 + self.columns_width(place)
+    }
+
+    pub fn width(self) -> u32
+        ensures bound { result < 2 ^ 28 }
+    {
+        self.column_x(self.columns)
+    }
+
+    /// Where the lifelines end.
+    pub fn bottom(self) -> u32
+        ensures bound { result < 2 ^ 23 }
+        ensures room { 128 ≤ result }
+    {
+        self.line_y(self.slots)
+    }
+
+    /// How many rows of names are above a slot.
+    fn rows(self, slot: u16) -> u16 {
+        let begun = self.steps.partition_point(|step: &Step| step.slot <= slot);
+        match self.steps[..begun].last() {
+            Some(step) => step.number / STRETCH,
+            None => 0,
+        }
+    }
+
+    /// The upper edge of a slot.
+    pub fn slot_y(self, slot: u16) -> u32
+        ensures bound { result < 2 ^ 22 }
+        ensures room { 150 ≤ result }
+    {
+        TOP + SLOT * u32::from(slot) + AGAIN * u32::from(self.rows(slot))
+    }
+
+    /// The line of a slot on which its mark is drawn.
+    pub fn line_y(self, slot: u16) -> u32
+        ensures bound { result < 2 ^ 23 }
+        ensures room { 150 ≤ result }
+    {
+        self.slot_y(slot) + 21
+    }
+
+    /// Where a state that begins or ends at this time does so.
+    pub fn state_y(self, time: u16) -> u32
+        ensures bound { result < 2 ^ 23 }
+    {
+        match time.checked_sub(1) {
+            Some(slot) => self.line_y(slot),
+            None => TOP - 11,
+        }
+    }
+}
