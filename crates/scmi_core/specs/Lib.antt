@@ -9,6 +9,7 @@ pub mod Outboxes
 pub mod Reply
 pub mod History
 pub mod Effect
+pub mod Asked
 pub mod Driven
 pub mod Plain
 pub mod Agents

@@ -3,10 +3,9 @@ ghost use Rattle.std.specs.Prelude.{◌≡◌, List, map, Option};
 ghost use Rattle.std.specs.List.{AllZip};
 ghost use Rattle.scmi_core.specs.Channels.{KeepsChannels};
 ghost use Rattle.scmi_core.specs.Bounds.{HasBounds, HasResponses};
-ghost use Rattle.scmi_core.specs.Driven.{HasMade};
+ghost use Rattle.scmi_core.specs.Driven.{asks};
 ghost use Rattle.scmi_core.specs.History.{deeds};
 ghost use Rattle.scmi_core.specs.Legal.{IsLegal};
-ghost use Rattle.scmi_core.specs.declared.effect.Effect.{Effect};
 ghost use Rattle.scmi_ends.specs.AgentView.{IsOfLink};
 ghost use Rattle.scmi_ends.specs.Links.{HasLinks, AreEndsOf};
 ghost use Rattle.scmi_ends.specs.Headline.{Headlines, AllGathered};
@@ -42,9 +41,7 @@ impl<C: Channel> Controller<C> {
         ensures headline { Headlines self.board result.events 1 agents.items self.callees
             self.callers }
         ensures shut { StayShut result.events self.callees self.closed_at }
-        ensures made { (before : List Effect) (applied : Option (List Effect))
-            → HasMade before self.board self.history applied
-            → HasMade before self.board result.events applied }
+        ensures made { asks self.board result.events ≡ asks self.board self.history }
     {
         self.gather_ends(links, agents).into_trace()
     }

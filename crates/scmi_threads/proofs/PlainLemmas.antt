@@ -5,7 +5,7 @@ use Rattle.std.specs.List.{All}
 use Rattle.std.proofs.lemmas.List.Elements.{All-nil, All-push}
 use Rattle.scmi_codec.specs.declared.frame.Frame.{Frame}
 use Rattle.scmi_core.specs.Driven.{HappensOn, IsCommandOf, IsEnd}
-use Rattle.scmi_core.specs.declared.effect.Effect.{Effect}
+use Rattle.scmi_core.specs.Asked.{Asked}
 use Rattle.scmi_core.specs.declared.event.Event.{Event}
 use Rattle.scmi_core.specs.declared.event.Event.TheVariants.{Advance, Sent}
 use Rattle.scmi_ends.specs.ControllerView.{ControllerView, callee_of}
@@ -33,13 +33,13 @@ end_no_restart e (inr is) = subst IsNoRestart (sym is) tt
 
 -- serving an agent
 
-one_served_no_restart : (board : Board) (a : ℕ) (h h' : List Event) (b b' : Option (List Effect)) (v w : CalleeView) (r : Served) → ServesOneOn board a h b v r h' b' w → All IsNoRestart h → All IsNoRestart h'
+one_served_no_restart : (board : Board) (a : ℕ) (h h' : List Event) (b b' : List Asked → Type 0) (v w : CalleeView) (r : Served) → ServesOneOn board a h b v r h' b' w → All IsNoRestart h → All IsNoRestart h'
 one_served_no_restart board a h h' b b' v w served.Nothing s all = subst (All IsNoRestart) (sym s.0) all
 one_served_no_restart board a h h' b b' v w served.Done s all =
     let happens = s.executes.happens in
     one_more_event IsNoRestart h h' happens.event happens.history (command_no_restart a s.frame happens.event happens.is_one) all
 
-pub served_no_restart : (a : ℕ) (c : ControllerView) (b : Option (List Effect)) (r : Served) (c' : ControllerView) (b' : Option (List Effect)) → ServesOn a c b r c' b' → All IsNoRestart c.history → All IsNoRestart c'.history
+pub served_no_restart : (a : ℕ) (c : ControllerView) (b : List Asked → Type 0) (r : Served) (c' : ControllerView) (b' : List Asked → Type 0) → ServesOn a c b r c' b' → All IsNoRestart c.history → All IsNoRestart c'.history
 served_no_restart a c b r c' b' s all = one_served_no_restart c.board a c.history c'.history b b' (callee_of c a) s.callee r s.step all
 
 one_served_plain : (board : Board) (a : ℕ) (h h' : List Event) (v w : CalleeView) (r : Served) → ServesOne board a h v r h' w → All IsPlain h → All IsPlain h'
@@ -51,7 +51,7 @@ served_plain a c r c' s all = one_served_plain c.board a c.history c'.history (c
 
 -- ending a pending set
 
-pub advanced_no_restart : (did : Bool) (board : Board) (h h' : List Event) (b b' : Option (List Effect)) → (IsTrue did → HappensOn board IsEnd h b h' b') → (¬ (IsTrue did) → h' ≡ h) → All IsNoRestart h → All IsNoRestart h'
+pub advanced_no_restart : (did : Bool) (board : Board) (h h' : List Event) (b b' : List Asked → Type 0) → (IsTrue did → HappensOn board IsEnd h b h' b') → (¬ (IsTrue did) → h' ≡ h) → All IsNoRestart h → All IsNoRestart h'
 advanced_no_restart true board h h' b b' happens same all =
     let one = happens refl in
     one_more_event IsNoRestart h h' one.event one.history (end_no_restart one.event one.is_one) all

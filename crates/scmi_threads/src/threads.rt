@@ -1,11 +1,11 @@
 //! The run: each agent in a thread of its own, and the controller in another.
 ghost use Rattle.std.specs.Prelude.{◌≡◌, ◌≤◌, [], false, true, List, length, vec_len, vec_capacity, IfOk, OnErr};
 ghost use Rattle.std.specs.List.{All};
+ghost use Rattle.scmi_core.specs.Asked.{Asked};
 ghost use Rattle.scmi_core.specs.Bounds.{HasBounds, HasResponses};
 ghost use Rattle.scmi_core.specs.Driven.{HasMade};
 ghost use Rattle.scmi_core.specs.History.{deeds};
 ghost use Rattle.scmi_core.specs.Legal.{IsLegal};
-ghost use Rattle.scmi_core.specs.declared.effect.Effect.{Effect};
 ghost use Rattle.scmi_ends.specs.Each.{AllFrom};
 ghost use Rattle.scmi_threads.specs.AfterClose.{EndsAtClose};
 ghost use Rattle.scmi_threads.specs.Logs.{LogHeadline};
@@ -112,9 +112,9 @@ pub fn run_agents_on<C: Channel, G: Gate, H: Hardware + Send + Drop, R: Threads 
         EndsAtClose C.FULL (orders_of scripts.now a) outcome.trace.events a log)
         1 outcome.logs.items) }
     ensures memory { IfOk result.0 (λ outcome. outcome.memory ≡ true → outcome.trace.room ≡ 0) }
-    ensures made { IfOk result.0 (λ outcome. (before : List Effect)
-        → HasMade before plan [] (H.applied hardware)
-        → HasMade before plan outcome.trace.events (H.applied result.1)) }
+    ensures made { IfOk result.0 (λ outcome. (before : List Asked)
+        → HasMade before plan [] (H.asked hardware)
+        → HasMade before plan outcome.trace.events (H.asked result.1)) }
     ensures unasked { OnErr result.0 (result.1 ≡ hardware) }
 {
     let agents = plan.agents() as usize;
