@@ -1,11 +1,12 @@
 -- A round, call by call.
-use Rattle.std.proofs.Common.{◌≡◌, ℕ, Bool, false, List, [], ◌∷◌, ◌++◌, Option, refl, sym, ap, subst, ◌∙◌}
+use Rattle.std.proofs.Common.{◌≡◌, ℕ, Bool, false, List, [], ◌∷◌, ◌++◌, refl, sym, ap, subst, ◌∙◌}
 use Rattle.std.specs.Prelude.{IsTrue}
 use Rattle.scmi_core.proofs.EffectsMade.{made-on}
 use Rattle.scmi_core.specs.Driven.{HappensOn, HasMade, IsEnd}
 use Rattle.scmi_core.specs.Asked.{Asked}
 use Rattle.scmi_core.specs.declared.event.Event.{Event}
 use Rattle.scmi_core.specs.declared.event.Event.TheVariants.{Advance, Sent}
+use Rattle.scmi_ends.proofs.PlainCalls.{flushed_all, served_plain}
 use Rattle.scmi_ends.specs.ControllerView.{ControllerView}
 use Rattle.scmi_ends.specs.Flush.{Flushes, FlushesOne}
 use Rattle.scmi_ends.specs.Links.{HasLinks}
@@ -20,7 +21,7 @@ use Rattle.scmi_plan.specs.Board.{Board}
 use Rattle.scmi_core.specs.Plain.{IsNoRestart, IsPlain}
 use Rattle.scmi_threads.specs.Rounds.{GoesOn}
 use Rattle.scmi_threads.proofs.Opened.{flushes_open, serves_on_open}
-use Rattle.scmi_threads.proofs.PlainLemmas.{advanced_no_restart, advanced_plain, flushed_all, served_no_restart, served_plain}
+use Rattle.scmi_threads.proofs.PlainLemmas.{advanced_no_restart, advanced_plain, served_no_restart}
 
 -- that a message was sent changes nothing of the hardware
 sent_made : (board : Board) (a : ℕ) (h : List Event) (asked : List Asked → Type 0) (before : List Asked) → HasMade before board h asked → HasMade before board (h ++ Sent a ∷ []) asked
