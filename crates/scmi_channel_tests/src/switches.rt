@@ -34,6 +34,7 @@ impl Hardware for Switches {
 
     ghost asked = { λ switches asks. made_of asks ≡ switches.made.items };
 
+    #[tactic(auto, using(crate::proofs::Switches::makes_more, crate::proofs::Switches::refuses_more))]
     fn apply(&mut self, effect: Effect) -> Result<(), Fault> {
         self.asked = self.asked.wrapping_add(1);
         if self.asked == self.refused || self.made.push(effect).is_err() {

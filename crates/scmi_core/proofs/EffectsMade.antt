@@ -17,7 +17,7 @@ use Rattle.scmi_core.specs.declared.effect.Effect.{Effect}
 use Rattle.scmi_core.specs.declared.event.Event.{Event}
 use Rattle.scmi_core.specs.declared.effect.Effect.TheVariants as effect
 use Rattle.scmi_core.specs.Deed.{fold_with_prefix, restarted_by, success_of}
-use Rattle.scmi_core.specs.Asked.{Asked, Made, Refused, and_asked, made_of}
+use Rattle.scmi_core.specs.Asked.{Asked, IsAsked, Made, Refused, and_asked, made_of}
 use Rattle.scmi_core.specs.Driven.{HappensOn, HappensThere, HasMade, IsDriven, ask_after, asks, asks_from}
 use Rattle.scmi_core.specs.Standing.{Standing}
 use Rattle.scmi_core.specs.Effect.{clock_effect, effect_after, effect_of, effects, state_effect}
@@ -85,10 +85,17 @@ driven-on IsOne p k asked asked' happens same driven =
           (subst asked' (asks-push p.board [] h happens.event) (happens.hardware h driven.1 (asks p.board h) driven.2)),
     )
 
-pub made_of-append : (xs ys : List Asked) → made_of (xs ++ ys) ≡ made_of xs ++ made_of ys
+made_of-append : (xs ys : List Asked) → made_of (xs ++ ys) ≡ made_of xs ++ made_of ys
 made_of-append [] ys = refl
 made_of-append (Made effect ∷ xs) ys = ap (λ zs. effect ∷ zs) (made_of-append xs ys)
 made_of-append (Refused effect ∷ xs) ys = made_of-append xs ys
+
+-- a driver that keeps a list of what it made, if it makes one more change, and if it refuses one
+pub makes-one : (effect : Effect) (old new : List Effect) → new ≡ old ++ effect ∷ [] → IsAsked (λ asks. made_of asks ≡ old) (Some (Made effect)) (λ asks. made_of asks ≡ new)
+makes-one effect old new is = λ asks has. made_of-append asks (Made effect ∷ []) ∙ ap (λ ys. ys ++ effect ∷ []) has ∙ sym is
+
+pub refuses-one : (effect : Effect) (old new : List Effect) → new ≡ old → IsAsked (λ asks. made_of asks ≡ old) (Some (Refused effect)) (λ asks. made_of asks ≡ new)
+refuses-one effect old new is = λ asks has. made_of-append asks (Refused effect ∷ []) ∙ append-nil (made_of asks) ∙ has ∙ sym is
 
 made : (o : Option Effect) → made_of (option_to_list (option_map Made o)) ≡ option_to_list o
 made None = refl

@@ -5,11 +5,12 @@ use Rattle.std.specs.Prelude.{◌↔◌, ◌≢◌, ℕ, IsTrue, option_map, sli
 use Rattle.std.specs.Option.{option_or}
 use Rattle.scmi_codec.specs.declared.frame.Frame.{Frame}
 use Rattle.scmi_plan.specs.Board.{Board}
+use Rattle.scmi_core.proofs.EffectsMade.{refuses-one}
 use Rattle.scmi_core.specs.declared.effect.Effect.{Effect}
 use Rattle.scmi_core.specs.declared.event.Event.{Event}
 use Rattle.scmi_core.specs.declared.event.Event.TheVariants.{Advance, AdvanceFailed, Command, CommandFailed}
 use Rattle.scmi_core.specs.declared.pending_set.PendingSet.{PendingSet}
-use Rattle.scmi_core.specs.Asked.{IsAllRefused, IsAsked, Made}
+use Rattle.scmi_core.specs.Asked.{IsAllRefused, IsAsked, Made, Refused}
 use Rattle.scmi_core.specs.Driven.{HappensOn, IsEnd, ask_after}
 use Rattle.scmi_core.specs.Effect.{effect_of, effect_after}
 use Rattle.scmi_core.specs.History.{deeds}
@@ -21,6 +22,10 @@ use Rattle.scmi_ends.specs.ServeOn.{ServesOn, ServesOneOn}
 use Rattle.scmi_ends.specs.declared.served.Served.{Served}
 use Rattle.scmi_ends.specs.declared.served.Served.TheVariants.{Nothing, Done}
 use Rattle.scmi_session.specs.Steps.{AdvancesRefused, ServesRefused}
+
+-- hardware that refuses each change refuses one more
+pub refuses_more : (effect : Effect) → IsAsked IsAllRefused (Some (Refused effect)) IsAllRefused
+refuses_more effect = refuses-one effect [] [] refl
 
 -- hardware that refuses each change, and has made one if there was one, was to change nothing
 pub made_none : (change : Option Effect) → IsAsked IsAllRefused (option_map Made change) IsAllRefused → change ≡ None

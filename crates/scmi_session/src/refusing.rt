@@ -13,6 +13,7 @@ impl Hardware for Refusing {
 
     ghost asked = { λ hardware. IsAllRefused };
 
+    #[tactic(auto, using(crate::proofs::Refused::refuses_more))]
     fn apply(&mut self, _effect: Effect) -> Result<(), Fault> {
         Err(Fault)
     }
