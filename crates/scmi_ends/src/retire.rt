@@ -27,8 +27,9 @@ impl<C: Channel> Controller<C> {
     /// platform has closed the agent's A2P channel, what it had executed then is all that was
     /// executed; and the messages that the agent took are those delivered to it, at most the last
     /// left out. With its outbox they are all that was made for it, but for what a restart of it
-    /// dropped; no other delayed response is lost. What the hardware was given beside the calls
-    /// (`serve_on`, `advance_on`) is exactly what the history changes, in order, each once.
+    /// dropped; no other delayed response is lost. What the hardware was asked for beside the calls
+    /// (`serve_on`, `advance_on`) is exactly what belongs to the history, in order, each change
+    /// once.
     pub fn retire(self, links: Vec<Link<C>>, agents: Vec<AgentEnd<C>>) -> Trace
         requires links { HasLinks C.identity links.items self }
         requires ends { AreEndsOf C.identity links.items agents.items }

@@ -13,8 +13,9 @@ abbrev pub IsOpenToAll : ControllerView → Type 0
 IsOpenToAll platform = All (λ callee. callee.closed ≡ false) platform.callees
 
 -- what rounds leave as it was: the links whose endpoints the platform has, the board, and that the
--- endpoints are open; hardware that keeps a list goes on having made what the history changes; no
--- agent is restarted; and beside hardware that never refuses the history goes on with plain events
+-- endpoints are open; hardware that keeps a list goes on having been asked for what belongs to the
+-- history; no agent is restarted; and beside hardware that never refuses the history goes on with plain
+-- events
 pub record GoesOn {C Caller Callee Rest : Type 0} (refuses : Bool) (identity : C → List ℕ) (links : List (Link C Caller Callee Rest)) (old : ControllerView) (asked : List Asked → Type 0) (new : ControllerView) (asked' : List Asked → Type 0) : Type 0 where
   pub has_links : HasLinks identity links new
   pub board : new.board ≡ old.board

@@ -82,8 +82,9 @@ pub fn run_agents<C: Channel, G: Gate, R: Threads + Wait + Sync>(
 /// ends as failed.
 ///
 /// No agent is restarted, and beside hardware that never refuses no event is a failed one. Hardware
-/// that keeps a list has made exactly what the trace changes, in order, each once, after what it had
-/// made before. After a refusal it comes back as it was.
+/// that keeps a list was asked for exactly what belongs to the trace, in order, each change once,
+/// after what it was asked for before: it has made what the trace changes, and refused what failed.
+/// After an error it comes back as it was.
 pub fn run_agents_on<C: Channel, G: Gate, H: Hardware + Send + Drop, R: Threads + Wait + Sync>(
     rt: &R,
     alloc: Global,
