@@ -13,8 +13,8 @@ mod lines;
 mod mode;
 mod mode_lines;
 mod once;
+mod program;
 mod reference_board;
-mod run;
 mod run_error;
 mod script_kind;
 mod steps;
@@ -27,8 +27,8 @@ pub use mode::Mode;
 pub use mode_lines::{
     HARDWARE_RINGS, HARDWARE_WORDS, ONCE, STEPS_RINGS, STEPS_WORDS, THREADS_RINGS, THREADS_WORDS,
 };
-pub use once::run_once;
-pub use run::{run_input, run_program};
+pub use once::run_once_counted;
+pub use program::{run_input, run_program};
 pub use run_error::RunError;
-pub use steps::{run_hardware, run_steps};
-pub use threads::run_threads;
+pub use steps::{run_hardware_counted, run_steps_counted};
+pub use threads::run_threads_counted;

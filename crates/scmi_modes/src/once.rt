@@ -19,7 +19,7 @@ use std::io::Write;
 /// `INPUT_BYTES`, `Read` at a read that fails, `Area` if the input is not one line of an area's
 /// digits, `Memory` when out of memory: after each of these nothing is written. `Write` if the
 /// output fails.
-pub fn run_once<R: CountedRead, W: Write>(
+pub fn run_once_counted<R: CountedRead, W: Write>(
     alloc: Global,
     reader: &mut R,
     writer: &mut W,

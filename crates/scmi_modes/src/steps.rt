@@ -31,7 +31,7 @@ use std::io::Write;
 /// the length of the history. `Size`, `Read`, `Board`, `Script` and `Plan` if the input is
 /// rejected; after each of these nothing is written. `Memory` when out of memory, and `Write` if
 /// the output fails: after these the lines of the steps before are written, one for each of them.
-pub fn run_steps<R: CountedRead, W: Write>(
+pub fn run_steps_counted<R: CountedRead, W: Write>(
     alloc: Global,
     reader: &mut R,
     writer: &mut W,
@@ -54,7 +54,7 @@ pub fn run_steps<R: CountedRead, W: Write>(
 }
 
 /// The same of a script that may have steps beside hardware that refuses.
-pub fn run_hardware<R: CountedRead, W: Write>(
+pub fn run_hardware_counted<R: CountedRead, W: Write>(
     alloc: Global,
     reader: &mut R,
     writer: &mut W,

@@ -30,7 +30,7 @@ use std::thread::Threads;
 /// after each of these nothing is written. `Limit` if a script met a limit, and `Memory`, which
 /// goes before it, when out of memory: after these the lines so far are written. `Write` if the
 /// output fails.
-pub fn run_threads<T: Threads + Wait + Sync, G: Gate, R: CountedRead, W: Write>(
+pub fn run_threads_counted<T: Threads + Wait + Sync, G: Gate, R: CountedRead, W: Write>(
     rt: &T,
     alloc: Global,
     gate: &G,

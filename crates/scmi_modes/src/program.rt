@@ -12,10 +12,10 @@ ghost use Rattle.scmi_modes.specs.declared.kind.Kind.{Kind as KindOf};
 
 use crate::any_mode::{AnyMode, Modes};
 use crate::mode::Mode;
-use crate::once::run_once;
+use crate::once::run_once_counted;
 use crate::run_error::RunError;
-use crate::steps::{run_hardware, run_steps};
-use crate::threads::run_threads;
+use crate::steps::{run_hardware_counted, run_steps_counted};
+use crate::threads::run_threads_counted;
 use scmi_fault::write_fault;
 use scmi_input::{CountedRead, CountedReader, Input};
 use scmi_threads::Gate;
@@ -137,9 +137,11 @@ fn run_in<T: Threads + Wait + Sync, G: Gate, R: CountedRead, W: Write>(
         (R.since_failure reader.new) }
 {
     match mode {
-        AnyMode::Plain(Mode::Once) => run_once(alloc, reader, writer),
-        AnyMode::Plain(Mode::Steps(kind)) => run_steps(alloc, reader, writer, kind),
-        AnyMode::Plain(Mode::Threads(kind)) => run_threads(rt, alloc, gate, reader, writer, kind),
-        AnyMode::Hardware(kind) => run_hardware(alloc, reader, writer, kind),
+        AnyMode::Plain(Mode::Once) => run_once_counted(alloc, reader, writer),
+        AnyMode::Plain(Mode::Steps(kind)) => run_steps_counted(alloc, reader, writer, kind),
+        AnyMode::Plain(Mode::Threads(kind)) => run_threads_counted(
+            rt, alloc, gate, reader, writer, kind,
+        ),
+        AnyMode::Hardware(kind) => run_hardware_counted(alloc, reader, writer, kind),
     }
 }

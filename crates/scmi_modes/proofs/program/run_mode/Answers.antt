@@ -4,7 +4,7 @@ use Rattle.std.proofs.lemmas.Result.{err_from_is_err_and}
 use Rattle.scmi_input.specs.declared.input_error.InputError.{InputError}
 use Rattle.scmi_modes.proofs.Faults.{in_mode, not_read}
 use Rattle.scmi_modes.proofs.FirstLine.{where_hardware, where_plain, where_steps, where_threads}
-use Rattle.scmi_modes.proofs.run.run_mode.Goals as goal
+use Rattle.scmi_modes.proofs.program.run_mode.Goals as goal
 
 pub returns-clause-text : goal.returns-clause-text
 returns-clause-text g c =
