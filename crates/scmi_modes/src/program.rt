@@ -2,7 +2,7 @@
 ghost use Rattle.std.specs.Prelude.{◌≡◌, ◌≢◌, ◌≤◌, ◌+◌, ◌*◌, IfErr, IfSome, OnOk};
 ghost use Rattle.scmi_input.specs.declared.input.TheConstants.{INPUT_BYTES};
 ghost use Rattle.scmi_modes.specs.Once.{IsAnswerTo};
-ghost use Rattle.scmi_modes.specs.Program.{AnswersOnce, NamesNoHardware, RunsHardware, RunsSteps, RunsThreads};
+ghost use Rattle.scmi_modes.specs.Program.{AnswersOnce, NamesMode, NamesNoHardware, RunsHardware, RunsSteps, RunsThreads};
 ghost use Rattle.scmi_modes.specs.Reads.{StopsAtFailure};
 ghost use Rattle.scmi_modes.specs.Fault.{EndsWithFault, IsFaultIn, IsFaultOfRun};
 ghost use Rattle.scmi_modes.specs.RunError.{status_of};
@@ -24,8 +24,30 @@ use std::io::{Read, Write};
 use std::sync::Wait;
 use std::thread::Threads;
 
-/// Runs an input in the mode among these that its first line names, and gives the exit status: 0, or that of
-/// the fault, whose text is written as the last line. A fault that can't be written gives status 1.
+/// Runs an input in the mode that its first line names, one of the five of `Mode`, and gives the
+/// exit status: 0, or that of the fault, whose text is written as the last line. A fault that can't
+/// be written gives status 1. How often the reader is read is a promise of `run_input`.
+pub fn run<T: Threads + Wait + Sync, G: Gate, R: Read, W: Write>(
+    rt: &T,
+    alloc: Global,
+    gate: &G,
+    reader: &mut R,
+    writer: &mut W,
+) -> u8
+    ensures named { result ≡ 0 → NamesMode Modes.Plain (R.remaining reader.old) }
+    ensures answer { result ≡ 0 →
+        AnswersOnce (R.remaining reader.old) (W.contents writer.old) (W.contents writer.new) }
+    ensures text { result ≡ 0 →
+        RunsThreads (R.remaining reader.old) (W.contents writer.old) (W.contents writer.new) }
+    ensures steps { result ≡ 0 →
+        RunsSteps (R.remaining reader.old) (W.contents writer.old) (W.contents writer.new) }
+    ensures fault { result ≢ 0 → result ≢ 1 → EndsWithFault Modes.Plain (R.remaining reader.old)
+        result (W.contents writer.old) (W.contents writer.new) }
+{
+    run_program(rt, alloc, gate, Modes::Plain, reader, writer)
+}
+
+/// As `run`, in a mode among these.
 pub fn run_program<T: Threads + Wait + Sync, G: Gate, R: Read, W: Write>(
     rt: &T,
     alloc: Global,
@@ -34,6 +56,7 @@ pub fn run_program<T: Threads + Wait + Sync, G: Gate, R: Read, W: Write>(
     reader: &mut R,
     writer: &mut W,
 ) -> u8
+    ensures named { result ≡ 0 → NamesMode modes (R.remaining reader.old) }
     ensures answer { result ≡ 0 →
         AnswersOnce (R.remaining reader.old) (W.contents writer.old) (W.contents writer.new) }
     ensures text { result ≡ 0 →
@@ -60,6 +83,7 @@ pub fn run_input<T: Threads + Wait + Sync, G: Gate, R: CountedRead + Drop, W: Wr
     input: &mut Input<R>,
     writer: &mut W,
 ) -> u8
+    ensures named { result ≡ 0 → NamesMode modes input.old.left }
     ensures answer { result ≡ 0 →
         AnswersOnce input.old.left (W.contents writer.old) (W.contents writer.new) }
     ensures text { result ≡ 0 →
@@ -89,6 +113,7 @@ fn run_mode<T: Threads + Wait + Sync, G: Gate, R: CountedRead + Drop, W: Write>(
     input: &mut Input<R>,
     writer: &mut W,
 ) -> Result<(), RunError>
+    ensures named { OnOk result (NamesMode modes input.old.left) }
     ensures answer { OnOk result
         (AnswersOnce input.old.left (W.contents writer.old) (W.contents writer.new)) }
     ensures text { OnOk result
