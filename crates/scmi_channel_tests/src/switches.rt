@@ -1,5 +1,6 @@
 //! Hardware of the tests.
-ghost use Rattle.std.specs.Prelude.{Some, true};
+ghost use Rattle.std.specs.Prelude.{◌≡◌, true};
+ghost use Rattle.scmi_core.specs.Asked.{made_of};
 
 use scmi_core::{Effect, Fault, Hardware};
 use std::alloc::Global;
@@ -31,8 +32,9 @@ impl Switches {
 impl Hardware for Switches {
     ghost REFUSES = { true };
 
-    ghost applied = { λ switches. Some switches.made.items };
+    ghost asked = { λ switches asks. made_of asks ≡ switches.made.items };
 
+    #[tactic(auto, using(crate::proofs::Switches::makes_more, crate::proofs::Switches::refuses_more))]
     fn apply(&mut self, effect: Effect) -> Result<(), Fault> {
         self.asked = self.asked.wrapping_add(1);
         if self.asked == self.refused || self.made.push(effect).is_err() {
