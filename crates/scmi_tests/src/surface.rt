@@ -1,0 +1,8 @@
+//! Every public name of the platform's ten crates, as a caller writes it.
+
+mod codec;
+mod core;
+mod ends;
+mod link;
+mod plan;
+mod words;
