@@ -10,6 +10,7 @@ pub mod Reply
 pub mod History
 pub mod Effect
 pub mod Driven
+pub mod Plain
 pub mod Agents
 pub mod Legal
 pub mod Bounds

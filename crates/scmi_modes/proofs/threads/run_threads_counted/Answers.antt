@@ -4,7 +4,7 @@ use Rattle.scmi_input.specs.declared.input_error.InputError.{InputError}
 use Rattle.scmi_modes.proofs.Inputs.{known_length, known_or_limit, known_run, known_stands, known_text}
 use Rattle.scmi_modes.proofs.RunLemmas.{either_way, on_ok}
 use Rattle.scmi_modes.specs.Input.{scripts_of_input}
-use Rattle.scmi_modes.proofs.threads.run_threads.Goals as goal
+use Rattle.scmi_modes.proofs.threads.run_threads_counted.Goals as goal
 
 pub returns-in_err-bytes-clause-faults : goal.returns-in_err-bytes-clause-faults
 returns-in_err-bytes-clause-faults g c =

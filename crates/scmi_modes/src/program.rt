@@ -2,7 +2,7 @@
 ghost use Rattle.std.specs.Prelude.{◌≡◌, ◌≢◌, ◌≤◌, ◌+◌, ◌*◌, IfErr, IfSome, OnOk};
 ghost use Rattle.scmi_input.specs.declared.input.TheConstants.{INPUT_BYTES};
 ghost use Rattle.scmi_modes.specs.Once.{IsAnswerTo};
-ghost use Rattle.scmi_modes.specs.Program.{AnswersOnce, NamesNoHardware, RunsHardware, RunsSteps, RunsThreads};
+ghost use Rattle.scmi_modes.specs.Program.{AnswersOnce, NamesMode, NamesNoHardware, RunsHardware, RunsSteps, RunsThreads};
 ghost use Rattle.scmi_modes.specs.Reads.{StopsAtFailure};
 ghost use Rattle.scmi_modes.specs.Fault.{EndsWithFault, IsFaultIn, IsFaultOfRun};
 ghost use Rattle.scmi_modes.specs.RunError.{status_of};
@@ -12,10 +12,10 @@ ghost use Rattle.scmi_modes.specs.declared.kind.Kind.{Kind as KindOf};
 
 use crate::any_mode::{AnyMode, Modes};
 use crate::mode::Mode;
-use crate::once::run_once;
+use crate::once::run_once_counted;
 use crate::run_error::RunError;
-use crate::steps::{run_hardware, run_steps};
-use crate::threads::run_threads;
+use crate::steps::{run_hardware_counted, run_steps_counted};
+use crate::threads::run_threads_counted;
 use scmi_fault::write_fault;
 use scmi_input::{CountedRead, CountedReader, Input};
 use scmi_threads::Gate;
@@ -24,8 +24,30 @@ use std::io::{Read, Write};
 use std::sync::Wait;
 use std::thread::Threads;
 
-/// Runs an input in the mode among these that its first line names, and gives the exit status: 0, or that of
-/// the fault, whose text is written as the last line. A fault that can't be written gives status 1.
+/// Runs an input in the mode that its first line names, one of the five of `Mode`, and gives the
+/// exit status: 0, or that of the fault, whose text is written as the last line. A fault that can't
+/// be written gives status 1. How often the reader is read is a promise of `run_input`.
+pub fn run<T: Threads + Wait + Sync, G: Gate, R: Read, W: Write>(
+    rt: &T,
+    alloc: Global,
+    gate: &G,
+    reader: &mut R,
+    writer: &mut W,
+) -> u8
+    ensures named { result ≡ 0 → NamesMode Modes.Plain (R.remaining reader.old) }
+    ensures answer { result ≡ 0 →
+        AnswersOnce (R.remaining reader.old) (W.contents writer.old) (W.contents writer.new) }
+    ensures text { result ≡ 0 →
+        RunsThreads (R.remaining reader.old) (W.contents writer.old) (W.contents writer.new) }
+    ensures steps { result ≡ 0 →
+        RunsSteps (R.remaining reader.old) (W.contents writer.old) (W.contents writer.new) }
+    ensures fault { result ≢ 0 → result ≢ 1 → EndsWithFault Modes.Plain (R.remaining reader.old)
+        result (W.contents writer.old) (W.contents writer.new) }
+{
+    run_program(rt, alloc, gate, Modes::Plain, reader, writer)
+}
+
+/// As `run`, in a mode among these.
 pub fn run_program<T: Threads + Wait + Sync, G: Gate, R: Read, W: Write>(
     rt: &T,
     alloc: Global,
@@ -34,6 +56,7 @@ pub fn run_program<T: Threads + Wait + Sync, G: Gate, R: Read, W: Write>(
     reader: &mut R,
     writer: &mut W,
 ) -> u8
+    ensures named { result ≡ 0 → NamesMode modes (R.remaining reader.old) }
     ensures answer { result ≡ 0 →
         AnswersOnce (R.remaining reader.old) (W.contents writer.old) (W.contents writer.new) }
     ensures text { result ≡ 0 →
@@ -60,6 +83,7 @@ pub fn run_input<T: Threads + Wait + Sync, G: Gate, R: CountedRead + Drop, W: Wr
     input: &mut Input<R>,
     writer: &mut W,
 ) -> u8
+    ensures named { result ≡ 0 → NamesMode modes input.old.left }
     ensures answer { result ≡ 0 →
         AnswersOnce input.old.left (W.contents writer.old) (W.contents writer.new) }
     ensures text { result ≡ 0 →
@@ -89,6 +113,7 @@ fn run_mode<T: Threads + Wait + Sync, G: Gate, R: CountedRead + Drop, W: Write>(
     input: &mut Input<R>,
     writer: &mut W,
 ) -> Result<(), RunError>
+    ensures named { OnOk result (NamesMode modes input.old.left) }
     ensures answer { OnOk result
         (AnswersOnce input.old.left (W.contents writer.old) (W.contents writer.new)) }
     ensures text { OnOk result
@@ -137,9 +162,11 @@ fn run_in<T: Threads + Wait + Sync, G: Gate, R: CountedRead, W: Write>(
         (R.since_failure reader.new) }
 {
     match mode {
-        AnyMode::Plain(Mode::Once) => run_once(alloc, reader, writer),
-        AnyMode::Plain(Mode::Steps(kind)) => run_steps(alloc, reader, writer, kind),
-        AnyMode::Plain(Mode::Threads(kind)) => run_threads(rt, alloc, gate, reader, writer, kind),
-        AnyMode::Hardware(kind) => run_hardware(alloc, reader, writer, kind),
+        AnyMode::Plain(Mode::Once) => run_once_counted(alloc, reader, writer),
+        AnyMode::Plain(Mode::Steps(kind)) => run_steps_counted(alloc, reader, writer, kind),
+        AnyMode::Plain(Mode::Threads(kind)) => run_threads_counted(
+            rt, alloc, gate, reader, writer, kind,
+        ),
+        AnyMode::Hardware(kind) => run_hardware_counted(alloc, reader, writer, kind),
     }
 }

@@ -2,9 +2,15 @@ use Rattle.std.proofs.Common.{◌≡◌, Err, ap, rules}
 use Rattle.scmi_modes.specs.AnyMode.{Takes, any_text_of}
 use Rattle.std.proofs.lemmas.Result.{err_from_is_err_and}
 use Rattle.scmi_input.specs.declared.input_error.InputError.{InputError}
-use Rattle.scmi_modes.proofs.Faults.{in_mode, not_read}
+use Rattle.scmi_modes.proofs.Faults.{in_mode, not_read, where_named}
 use Rattle.scmi_modes.proofs.FirstLine.{where_hardware, where_plain, where_steps, where_threads}
-use Rattle.scmi_modes.proofs.run.run_mode.Goals as goal
+use Rattle.scmi_modes.proofs.program.run_mode.Goals as goal
+
+pub returns-clause-named : goal.returns-clause-named
+returns-clause-named g c =
+    let named : c.in_ok-line.line.items ≡ any_text_of c.in_ok-mode.mode = search rules in
+    let taken : Takes c.args.modes c.in_ok-mode.mode = search rules in
+    where_named c.args.modes _ _ _ _ c.in_ok-line.ensures.line named taken
 
 pub returns-clause-text : goal.returns-clause-text
 returns-clause-text g c =
