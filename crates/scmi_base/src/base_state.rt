@@ -55,7 +55,7 @@ impl BaseState {
     /// besides bit 0, then DENIED if a caller that is not trusted would change permissions or reset
     /// an agent (own). A command that is refused changes nothing.
     #[tactic(auto, unfolding(crate::specs::BaseReply::base_reply))]
-    pub fn execute(
+    pub fn execute_into(
         &mut self,
         plan: &Plan,
         caller: u32,

@@ -96,7 +96,7 @@ impl ClockState {
     /// set rounds its rate to a supported one. A synchronous set and a configuration take effect at
     /// once; an asynchronous set changes nothing. A command that is refused changes nothing.
     #[tactic(auto, unfolding(crate::specs::ClockReply::clock_reply))]
-    pub fn execute(
+    pub fn execute_into(
         &mut self,
         plan: &Plan,
         base: &BaseState,

@@ -6,7 +6,7 @@ use scmi_base::BaseState;
 use scmi_clock::ClockState;
 use scmi_codec::{Command, Header, Payload, payload_of};
 use scmi_plan::{Load, Plan};
-use scmi_power::{PowerDone, PowerState};
+use scmi_power::{PowerEffect, PowerState};
 use std::alloc::Global;
 use std::process::Abort;
 use std::test::Fail;
@@ -137,12 +137,14 @@ fn run(
         return Left::NoCommand;
     }
     match command {
-        Some(Command::Base(command)) => left_by_base(base.execute(plan, agent, command, reply)),
+        Some(Command::Base(command)) => left_by_base(base.execute_into(
+            plan, agent, command, reply,
+        )),
         Some(Command::Power(command)) => {
-            left_by_power(power.execute(plan, base, agent, command, load, reply))
+            left_by_power(power.execute_into(plan, base, agent, command, load, reply))
         }
         Some(Command::Clock(command)) => {
-            left_by_clock(clocks.execute(plan, base, agent, command, load, reply))
+            left_by_clock(clocks.execute_into(plan, base, agent, command, load, reply))
         }
         None => Left::NoCommand,
     }
@@ -155,7 +157,7 @@ fn left_by_base(reset: Option<u32>) -> Left {
     }
 }
 
-fn left_by_power(done: PowerDone) -> Left {
+fn left_by_power(done: PowerEffect) -> Left {
     match (done.changed, done.later) {
         (Some((domain, state)), None) => Left::State(domain, state),
         (None, Some((domain, state))) => Left::StateLater(domain, state),

@@ -12,7 +12,7 @@ ghost use Rattle.scmi_codec.specs.Payload.{if_success};
 use crate::checks::{check_domain, check_notify, check_set};
 use crate::discovery::{attributes, domain_attributes, message_attributes, version};
 use crate::domain_state::starting_state;
-use crate::power_done::{NOTHING, PowerDone};
+use crate::power_effect::{NOTHING, PowerEffect};
 use crate::subscribers::with_subscriber;
 use scmi_base::BaseState;
 use scmi_codec::{Payload, PowerCommand, SUCCESS, set_payload, set_refusal};
@@ -65,7 +65,7 @@ impl PowerState {
     /// nothing. A synchronous set takes effect here; an asynchronous one is only named, for
     /// `complete`.
     #[tactic(auto, unfolding(crate::specs::PowerReply::power_reply))]
-    pub fn execute(
+    pub fn execute_into(
         &mut self,
         plan: &Plan,
         base: &BaseState,
@@ -73,7 +73,7 @@ impl PowerState {
         command: PowerCommand,
         load: Load,
         reply: &mut Payload,
-    ) -> PowerDone
+    ) -> PowerEffect
         requires caller { IsAgent (length plan.now.agents) caller }
         ensures reply { reply.new.items
             ≡ power_reply plan.now (view_of plan.now base.now self.old load caller) command }
@@ -194,7 +194,7 @@ impl PowerState {
         state: u32,
         load: Load,
         reply: &mut Payload,
-    ) -> PowerDone
+    ) -> PowerEffect
         requires caller { IsAgent (length plan.now.agents) caller }
         ensures reply { reply.new.items
             ≡ set_words plan.now base.now caller load flags domain state }
@@ -214,7 +214,7 @@ impl PowerState {
         match check_set(plan, base, caller, flags, domain, state, load) {
             Ok(true) => {
                 set_payload(reply, &[SUCCESS]);
-                PowerDone {
+                PowerEffect {
                     changed: None,
                     differs: false,
                     later: Some((domain, state)),
@@ -223,7 +223,7 @@ impl PowerState {
             Ok(false) => {
                 let differs = self.complete(domain, state);
                 set_payload(reply, &[SUCCESS]);
-                PowerDone {
+                PowerEffect {
                     changed: Some((domain, state)),
                     differs,
                     later: None,

@@ -4,14 +4,14 @@
 /// before differs; and the domain and state that it accepted for later. A command that is refused
 /// has neither.
 #[derive(Clone, Copy)]
-pub struct PowerDone {
+pub struct PowerEffect {
     pub changed: Option<(u32, u32)>,
     pub differs: bool,
     pub later: Option<(u32, u32)>,
 }
 
 /// A command set nothing.
-pub(crate) const NOTHING: PowerDone = PowerDone {
+pub(crate) const NOTHING: PowerEffect = PowerEffect {
     changed: None,
     differs: false,
     later: None,
