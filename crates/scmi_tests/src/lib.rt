@@ -12,6 +12,8 @@ mod eleven;
 #[cfg(test)]
 mod example;
 #[cfg(test)]
+mod meeting;
+#[cfg(test)]
 mod messages;
 #[cfg(test)]
 mod pair;

@@ -5,4 +5,5 @@ mod core;
 mod ends;
 mod link;
 mod plan;
+mod run;
 mod words;
