@@ -23,6 +23,7 @@ impl Channel for Eleven {
     ghost use Rattle.scmi_link.specs.RingChannel.{ring_identity};
     ghost use Rattle.scmi_link.specs.RingCaller.{ring_caller_view, ring_caller_identity, ring_close_shows, ring_caller_steps};
     ghost use Rattle.scmi_link.specs.RingCallee.{ring_callee_view, ring_callee_identity, ring_callee_steps};
+    ghost use Rattle.std.specs.Prelude.{true};
 
     ghost FULL = { true };
 
