@@ -48,7 +48,7 @@ static inline uint32_t scmi_platform_new_in(scmi_platform *platform, void *block
     return scmi_platform_new(platform, board, length);
 }
 
-/* The same of a platform that keeps its history, which grows in this block; once that is full calls give SCMI_MEMORY. */
+/* The same of a platform that keeps its history, which grows in this block; if that is full, calls give SCMI_MEMORY. */
 static inline uint32_t scmi_platform_new_recorded_in(scmi_platform *platform, void *block, size_t bytes,
                                                      const uint8_t *board, size_t length)
 {
