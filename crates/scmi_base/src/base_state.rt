@@ -9,13 +9,14 @@ ghost use Rattle.scmi_base.specs.declared.scope.Scope.{Scope};
 ghost use Rattle.scmi_codec.specs.declared.base_command.BaseCommand.TheVariants.{Permit, PermitProtocol, ResetAgent};
 ghost use Rattle.scmi_plan.specs.declared.limits.TheConstants.{AGENTS, DEVICES};
 
+use crate::base_done::BaseDone;
 use crate::checks::{check_permit, check_permit_protocol, check_reset};
 use crate::discovery::{
     agent_of, attributes, implementation, message_attributes, protocols, set_name, version,
 };
 use crate::permission_table::PermissionTable;
 use crate::scope::Scope;
-use scmi_codec::{BaseCommand, Payload, SUCCESS, set_payload, set_refusal};
+use scmi_codec::{BaseCommand, Payload, SUCCESS, payload_of, set_payload, set_refusal};
 use scmi_plan::{Plan, Resource};
 use std::marker::Model;
 
@@ -48,14 +49,28 @@ impl BaseState {
         }
     }
 
-    /// Executes a command of a caller (DEN0056B, base protocol), writes the reply, and names the
-    /// agent that it reset, whose notification requests end. The reply begins with a status:
-    /// NOT_FOUND for an unknown message, agent, device or protocol, then INVALID_PARAMETERS for a
-    /// skip past the protocols, for a protocol's word with more than its id, or for flag bits
-    /// besides bit 0, then DENIED if a caller that is not trusted would change permissions or reset
-    /// an agent (own). A command that is refused changes nothing.
+    /// Executes a command of a caller (DEN0056B, base protocol), and gives the reply and the agent
+    /// that it reset, whose notification requests end. The reply begins with a status: NOT_FOUND
+    /// for an unknown message, agent, device or protocol, then INVALID_PARAMETERS for a skip past
+    /// the protocols, for a protocol's word with more than its id, or for flag bits besides bit 0,
+    /// then DENIED if a caller that is not trusted would change permissions or reset an agent
+    /// (own). A command that is refused changes nothing.
+    pub fn execute(&mut self, plan: &Plan, caller: u32, command: BaseCommand) -> BaseDone
+        ensures reply { result.reply.items ≡ base_reply plan.now caller command }
+        ensures allowed { HasPermitted (base_reply plan.now caller command) command
+            self.old self.new }
+        ensures reset { result.reset
+            ≡ reset_after (base_reply plan.now caller command) command }
+        ensures known { IfSome result.reset (IsAgent AGENTS) }
+    {
+        let mut reply = payload_of(&[]);
+        let reset = self.execute_into(plan, caller, command, &mut reply);
+        BaseDone { reply, reset }
+    }
+
+    /// As `execute`, with the reply written into `reply`: returns the agent that was reset.
     #[tactic(auto, unfolding(crate::specs::BaseReply::base_reply))]
-    pub fn execute(
+    pub fn execute_into(
         &mut self,
         plan: &Plan,
         caller: u32,

@@ -7,11 +7,13 @@
 //! returns whether an agent may change a resource.
 #![tactic(auto)]
 
+mod base_done;
 mod base_state;
 mod checks;
 mod discovery;
 mod permission_table;
 mod scope;
 
+pub use base_done::BaseDone;
 pub use base_state::BaseState;
 pub use scope::Scope;

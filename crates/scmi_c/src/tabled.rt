@@ -38,7 +38,7 @@ fn name_text(alloc: Global, name: &[u8]) -> Result<String, AllocError>
 }
 
 /// How many bytes a name has before its zero.
-fn name_length(name: &[u8]) -> usize
+pub(crate) fn name_length(name: &[u8]) -> usize
     ensures length { result ≡ position_or_len is_zero name.now }
     ensures within { result ≤ length name.now }
 {

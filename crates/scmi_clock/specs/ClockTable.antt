@@ -1,5 +1,5 @@
 -- The tables of clocks, and what a command leaves of them.
-use Rattle.std.specs.Prelude.{◌≡◌, ℕ, ◌<◌, ◌==◌, Bool, true, false, if◌then◌else◌, List, [], ◌∷◌, length, get_or, Option, Some, None, unwrap_or}
+use Rattle.std.specs.Prelude.{◌≡◌, ℕ, ◌<◌, ◌==◌, Bool, true, false, if◌then◌else◌, List, [], ◌∷◌, length, get_or, Option, Some, None, unwrap_or, IfSome}
 use Rattle.std.specs.Int.{bit_at}
 use Rattle.scmi_codec.specs.declared.clock_command.ClockCommand.{ClockCommand}
 use Rattle.scmi_codec.specs.declared.clock_command.ClockCommand.TheVariants as clock
@@ -9,7 +9,7 @@ use Rattle.scmi_plan.specs.declared.limits.TheConstants.{CLOCKS}
 use Rattle.scmi_plan.specs.declared.load.Load.{Load}
 use Rattle.scmi_plan.specs.declared.resource.Resource.TheVariants as resource
 use Rattle.scmi_base.specs.Permission.{Permissions, may, is_allowed}
-use Rattle.scmi_clock.specs.ClockReply.{ClockView, rounded_rate, set_checks, config_checks}
+use Rattle.scmi_clock.specs.ClockReply.{ClockView, clock_reply, rounded_rate, set_checks, config_checks}
 use Rattle.scmi_clock.specs.SetFlags.{is_asynchronous, is_response_wanted}
 
 -- the rate of each clock in Hz, and whether it is enabled
@@ -49,6 +49,10 @@ view_of board permissions table load caller =
       room = load.room;
       channel = channel_of board caller;
     }
+
+-- the reply to a caller's command, by the permissions, the table, and what pending sets leave free
+abbrev pub reply_to : Board → Permissions → ClockTables → Load → ℕ → ClockCommand → List ℕ
+reply_to board permissions table load caller command = clock_reply board (view_of board permissions table load caller) command
 
 -- the supported rate that a set asks for
 abbrev pub set_rate : Board → ℕ → ℕ → ℕ → ℕ
@@ -103,3 +107,15 @@ HasSet set table after = (c : ℕ) → c < CLOCKS → rate_at after c ≡ set_to
 -- which clocks of a table are enabled after one was configured, if one was
 abbrev pub HasConfigured : Option (ℕ × Bool) → ClockTables → ClockTables → Type 0
 HasConfigured set table after = (c : ℕ) → c < CLOCKS → enabled_at after c ≡ enabled_to set c (enabled_at table c)
+
+-- the clock that was set, if one was, is the board's
+abbrev pub IsKnown : {A : Type 0} → Board → Option (ℕ × A) → Type 0
+IsKnown board set = IfSome set (λ set. set.0 < length board.clocks)
+
+-- the clock of a set for later, if there is one, is the board's
+abbrev pub IsKnownLater : Board → Option (ℕ × ℕ × Bool) → Type 0
+IsKnownLater board set = IfSome set (λ set. set.0 < length board.clocks)
+
+-- a set for later, if there is one, has room
+abbrev pub HasRoom : Load → Option (ℕ × ℕ × Bool) → Type 0
+HasRoom load set = IfSome set (λ set. load.room ≡ true)

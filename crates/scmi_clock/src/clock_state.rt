@@ -4,16 +4,16 @@ ghost use Rattle.scmi_codec.specs.declared.clock_command.ClockCommand.TheVariant
 ghost use Rattle.scmi_plan.specs.Agent.{IsAgent};
 ghost use Rattle.scmi_plan.specs.Board.{clock_at};
 ghost use Rattle.scmi_plan.specs.declared.limits.TheConstants.{CLOCKS};
-ghost use Rattle.scmi_clock.specs.ClockReply.{clock_reply};
-ghost use Rattle.scmi_clock.specs.ClockTable.{view_of, rate_at, enabled_at, rate_now, rate_later, enabled_now, set_words, config_words, HasSet, HasConfigured};
+ghost use Rattle.scmi_clock.specs.ClockTable.{reply_to, rate_at, enabled_at, rate_now, rate_later, enabled_now, set_words, config_words, HasSet, HasConfigured, IsKnown, IsKnownLater, HasRoom};
 ghost use Rattle.scmi_codec.specs.Payload.{if_success};
 
 use crate::checks::{RateSet, check_config, check_set};
+use crate::clock_done::ClockDone;
 use crate::discovery::{
     attributes, clock_attributes, current_rate, describe, message_attributes, version,
 };
 use scmi_base::BaseState;
-use scmi_codec::{ClockCommand, Payload, SUCCESS, set_payload, set_refusal};
+use scmi_codec::{ClockCommand, Payload, SUCCESS, payload_of, set_payload, set_refusal};
 use scmi_plan::{CLOCKS, Load, Plan};
 use std::marker::Model;
 
@@ -86,17 +86,47 @@ impl ClockState {
         self.enabled[clock as usize] = enabled;
     }
 
-    /// Executes a command of a caller, writes the reply, and names the set that it accepted for
-    /// later: clock, rate in Hz, and whether a delayed response is wanted. The reply begins with a
-    /// status: NOT_FOUND for an unknown clock or message id; then OUT_OF_RANGE for an index past a
-    /// list of rates, INVALID_PARAMETERS for unknown flags or attributes or if no rate lies in the
+    /// Executes a command of a caller, and gives the reply and the set that it accepted for later:
+    /// clock, rate in Hz, and whether a delayed response is wanted. The reply begins with a status:
+    /// NOT_FOUND for an unknown clock or message id; then OUT_OF_RANGE for an index past a list of
+    /// rates, INVALID_PARAMETERS for unknown flags or attributes or if no rate lies in the
     /// requested direction; then NOT_SUPPORTED for an asynchronous set of a caller that the
     /// platform can't send to (own); then DENIED if the caller may not change the clock; then BUSY
     /// for a set while the clock has a pending one, or for an asynchronous set that has no room. A
     /// set rounds its rate to a supported one. A synchronous set and a configuration take effect at
     /// once; an asynchronous set changes nothing. A command that is refused changes nothing.
-    #[tactic(auto, unfolding(crate::specs::ClockReply::clock_reply))]
     pub fn execute(
+        &mut self,
+        plan: &Plan,
+        base: &BaseState,
+        caller: u32,
+        command: ClockCommand,
+        load: Load,
+    ) -> ClockDone
+        requires caller { IsAgent (length plan.now.agents) caller }
+        ensures reply { result.reply.items
+            ≡ reply_to plan.now base.now self.old load caller command }
+        ensures later { result.later ≡ if_success result.reply.items (rate_later plan.now command) }
+        ensures rates { HasSet (if_success result.reply.items (rate_now plan.now command))
+            self.old self.new }
+        ensures enabled { HasConfigured (if_success result.reply.items (enabled_now command))
+            self.old self.new }
+        ensures room { HasRoom load result.later }
+        ensures known_later { IsKnownLater plan.now result.later }
+        ensures known_now { IsKnown plan.now
+            (if_success result.reply.items (rate_now plan.now command)) }
+        ensures known_enabled { IsKnown plan.now
+            (if_success result.reply.items (enabled_now command)) }
+    {
+        let mut reply = payload_of(&[]);
+        let later = self.execute_into(plan, base, caller, command, load, &mut reply);
+        ClockDone { reply, later }
+    }
+
+    /// As `execute`, with the reply written into `reply`: returns the set that was accepted for
+    /// later.
+    #[tactic(auto, unfolding(crate::specs::ClockReply::clock_reply))]
+    pub fn execute_into(
         &mut self,
         plan: &Plan,
         base: &BaseState,
@@ -107,18 +137,18 @@ impl ClockState {
     ) -> Option<(u32, u64, bool)>
         requires caller { IsAgent (length plan.now.agents) caller }
         ensures reply { reply.new.items
-            ≡ clock_reply plan.now (view_of plan.now base.now self.old load caller) command }
+            ≡ reply_to plan.now base.now self.old load caller command }
         ensures later { result ≡ if_success reply.new.items (rate_later plan.now command) }
         ensures rates { HasSet (if_success reply.new.items (rate_now plan.now command))
             self.old self.new }
         ensures enabled { HasConfigured (if_success reply.new.items (enabled_now command))
             self.old self.new }
-        ensures room { IfSome result (λ set. load.room ≡ true) }
-        ensures known_later { IfSome result (λ set. set.0 < length plan.now.clocks) }
-        ensures known_now { IfSome (if_success reply.new.items (rate_now plan.now command))
-            (λ set. set.0 < length plan.now.clocks) }
-        ensures known_enabled { IfSome (if_success reply.new.items (enabled_now command))
-            (λ set. set.0 < length plan.now.clocks) }
+        ensures room { HasRoom load result }
+        ensures known_later { IsKnownLater plan.now result }
+        ensures known_now { IsKnown plan.now
+            (if_success reply.new.items (rate_now plan.now command)) }
+        ensures known_enabled { IsKnown plan.now
+            (if_success reply.new.items (enabled_now command)) }
     {
         match command {
             ClockCommand::Version => version(reply),
@@ -151,8 +181,7 @@ impl ClockState {
         load: Load,
     ) -> Option<(u32, u64)>
         requires caller { IsAgent (length plan.now.agents) caller }
-        ensures { result ≡ if_success
-            (clock_reply plan.now (view_of plan.now base.now self.now load caller) command)
+        ensures { result ≡ if_success (reply_to plan.now base.now self.now load caller command)
             (rate_now plan.now command) }
     {
         match command {
@@ -178,8 +207,7 @@ impl ClockState {
         load: Load,
     ) -> Option<(u32, bool)>
         requires caller { IsAgent (length plan.now.agents) caller }
-        ensures { result ≡ if_success
-            (clock_reply plan.now (view_of plan.now base.now self.now load caller) command)
+        ensures { result ≡ if_success (reply_to plan.now base.now self.now load caller command)
             (enabled_now command) }
     {
         match command {
@@ -214,11 +242,10 @@ impl ClockState {
             (if_success reply.new.items (rate_now plan.now (SetRate flags clock rate)))
             self.old self.new }
         ensures enabled { self.new.enabled ≡ self.old.enabled }
-        ensures room { IfSome result (λ set. load.room ≡ true) }
-        ensures known_later { IfSome result (λ set. set.0 < length plan.now.clocks) }
-        ensures known_now { IfSome
-            (if_success reply.new.items (rate_now plan.now (SetRate flags clock rate)))
-            (λ set. set.0 < length plan.now.clocks) }
+        ensures room { HasRoom load result }
+        ensures known_later { IsKnownLater plan.now result }
+        ensures known_now { IsKnown plan.now
+            (if_success reply.new.items (rate_now plan.now (SetRate flags clock rate))) }
     {
         match check_set(plan, base, caller, flags, clock, rate, load) {
             Ok(set) => {
@@ -264,8 +291,8 @@ impl ClockState {
         ensures enabled { HasConfigured
             (if_success reply.new.items (enabled_now (Config clock attributes)))
             self.old self.new }
-        ensures known { IfSome (if_success reply.new.items (enabled_now (Config clock attributes)))
-            (λ set. set.0 < length plan.now.clocks) }
+        ensures known { IsKnown plan.now
+            (if_success reply.new.items (enabled_now (Config clock attributes))) }
     {
         match check_config(plan, base, caller, clock, attributes) {
             Ok(enable) => {

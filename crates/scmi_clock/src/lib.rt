@@ -8,11 +8,13 @@
 #![tactic(auto)]
 
 mod checks;
+mod clock_done;
 mod clock_state;
 mod discovery;
 mod rounding;
 mod set_flags;
 
+pub use clock_done::ClockDone;
 pub use clock_state::ClockState;
 pub use discovery::PENDING_SETS;
 pub use rounding::{Rounding, round};

@@ -2,7 +2,7 @@
 use Rattle.std.proofs.Common.{◌≡◌, ◌==◌, ◌∙◌, ℕ, ◌+◌, ◌*◌, ◌%◌, ◌^◌, ◌<◌, bit_or, ap, sym, arith}
 use Rattle.std.proofs.lemmas.Nat.{or_shifted}
 use Rattle.std.specs.Bool.{Decides}
-use Rattle.std.proofs.lemmas.Bool.Decides.{Decides-and, Decides-eqb, Decides-like, same_from_decides}
+use Rattle.std.proofs.lemmas.Bool.Decides.{Decides-and, Decides-eqb, Decides-like}
 use Rattle.scmi_codec.specs.Header.{HeaderFields, FitsWidths, field, header_of, header_word, is_same_header}
 
 -- two neighbouring fields, the upper one shifted
@@ -67,11 +67,3 @@ header_decides a b =
     Decides-like (is_same_header a b) (fields_to_header a b) (header_to_fields a b)
     (Decides-and _ _ (Decides-and _ _ (Decides-and _ _ (Decides-and _ _ (Decides-eqb a.reserved b.reserved) (Decides-eqb a.token b.token))
     (Decides-eqb a.protocol b.protocol)) (Decides-eqb a.kind b.kind)) (Decides-eqb a.id b.id))
-
--- words of as many bits are equal if and only if they have the same fields
-pub same_words : (v w : ℕ) → v < 2 ^ 32 → w < 2 ^ 32 → (v == w) ≡ is_same_header (header_of v) (header_of w)
-same_words v w hv hw =
-    let same : header_of v ≡ header_of w → v ≡ w =
-    λ e. sym (header_word-header_of v hv) ∙ ap header_word e ∙ header_word-header_of w hw in
-    same_from_decides (v == w) (is_same_header (header_of v) (header_of w)) (Decides-eqb v w)
-    (Decides-like _ same (ap header_of) (header_decides (header_of v) (header_of w)))

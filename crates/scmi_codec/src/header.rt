@@ -65,7 +65,7 @@ impl Header {
         requires token { token < TOKENS }
         ensures fields { result ≡ protocol_header protocol token id }
     {
-        Header::of(0, token, protocol, 0, id)
+        Header::new(0, protocol, token, id)
     }
 
     /// The header of a message of this type, with reserved bits 0.
@@ -74,7 +74,13 @@ impl Header {
         requires token { token < TOKENS }
         ensures fields { result ≡ (record (protocol_header protocol token id) { kind = kind }) }
     {
-        Header::of(0, token, protocol, kind, id)
+        Header {
+            reserved: 0,
+            token,
+            protocol,
+            kind,
+            id,
+        }
     }
 
     /// The same header with another token.
@@ -82,35 +88,7 @@ impl Header {
         requires token { token < TOKENS }
         ensures fields { result ≡ record self { token = token } }
     {
-        Header::of(
-            self.reserved(),
-            token,
-            self.protocol(),
-            self.kind(),
-            self.id(),
-        )
-    }
-
-    /// The header of these fields.
-    fn of(reserved: u8, token: u16, protocol: u8, kind: u8, id: u8) -> Header
-        requires reserved { reserved < 2 ^ 4 }
-        requires token { token < 2 ^ 10 }
-        requires kind { kind < 2 ^ 2 }
-        ensures { result ≡ (record {
-          reserved = reserved;
-          token = token;
-          protocol = protocol;
-          kind = kind;
-          id = id;
-        }) }
-    {
-        Header {
-            reserved,
-            token,
-            protocol,
-            kind,
-            id,
-        }
+        Header { token, ..self }
     }
 
     /// The header of this word.

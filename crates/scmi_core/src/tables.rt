@@ -158,7 +158,7 @@ impl Tables {
         ensures stepped { HasExecuted plan.now agent header (Ok (Base command))
             reply.new.items self.old self.new }
     {
-        let reset = self.base.execute(plan, agent, command, reply);
+        let reset = self.base.execute_into(plan, agent, command, reply);
         self.end_requests(reset);
     }
 
@@ -182,7 +182,7 @@ impl Tables {
         let load = self.power_load(agent, command);
         let done = self
             .power
-            .execute(plan, &self.base, agent, command, load, reply);
+            .execute_into(plan, &self.base, agent, command, load, reply);
         self.accept_state(agent, header, done.later);
         self.announce(agents, agent, done.changed, done.differs);
     }
@@ -206,7 +206,7 @@ impl Tables {
         let load = self.clock_load(agent, command);
         let later = self
             .clocks
-            .execute(plan, &self.base, agent, command, load, reply);
+            .execute_into(plan, &self.base, agent, command, load, reply);
         self.accept_rate(agent, header, later);
     }
 

@@ -15,7 +15,7 @@ use crate::collected::Collected;
 use crate::link_error::LinkError;
 use crate::looked::Looked;
 use crate::post_error::PostError;
-use scmi_codec::{Answer, Frame, Header, Message, Payload};
+use scmi_codec::{Answer, Frame, Header, Message, Payload, payload_of};
 use std::alloc::Global;
 
 /// A channel of one place between a caller and a callee (own).
@@ -28,6 +28,10 @@ use std::alloc::Global;
 /// whether it has closed, whether it was notified that the other endpoint has, and how often it
 /// posted or polled. If the endpoints share words, the loads, stores and exchanges that one call
 /// makes are counted.
+///
+/// An implementation writes the methods that have no body here. `post_parts`, `collect_into`,
+/// `take_into` and `reply` have one that calls these; an implementation that reads and writes in
+/// place replaces it.
 pub trait Channel: Sync + Drop {
     /// The endpoint that posts frames and collects their answers.
     type Caller: Send + Drop;
@@ -88,10 +92,7 @@ pub trait Channel: Sync + Drop {
         ensures identity { caller_identity caller.new ≡ caller_identity caller.old }
         ensures posts { Posts FULL (caller_view caller.old) (Good message.now) result
             (caller_view caller.new) }
-        ensures steps { caller_steps caller.old (call_post (Good message.now) result) caller.new }
-    {
-        self.post_parts(caller, message.header, &message.payload)
-    }
+        ensures steps { caller_steps caller.old (call_post (Good message.now) result) caller.new };
 
     /// Posts a message of this header and payload, as `post`.
     fn post_parts(
@@ -105,7 +106,11 @@ pub trait Channel: Sync + Drop {
         ensures posts { let message : Message = record { header = header; payload = payload.now } in
             Posts FULL (caller_view caller.old) (Good message) result (caller_view caller.new) }
         ensures steps { let message : Message = record { header = header; payload = payload.now } in
-            caller_steps caller.old (call_post (Good message) result) caller.new };
+            caller_steps caller.old (call_post (Good message) result) caller.new }
+    {
+        let payload = payload_of(payload.as_slice());
+        self.post(caller, &Message { header, payload })
+    }
 
     /// Posts a frame whose length in bytes is not well formed.
     ///
@@ -144,15 +149,7 @@ pub trait Channel: Sync + Drop {
         ensures collects { Collects (caller_view caller.old) result (caller_view caller.new) }
         ensures known { knows_close (caller_view caller.old) ≡ true →
             ¬ IsOutstanding (caller_view caller.old) → result ≡ Collected.Closed }
-        ensures steps { caller_steps caller.old (call_collect result) caller.new }
-    {
-        let mut answer = Answer::Released;
-        match self.collect_into(caller, &mut answer) {
-            Looked::Nothing => Collected::Nothing,
-            Looked::Got => Collected::Got(answer),
-            Looked::Closed => Collected::Closed,
-        }
-    }
+        ensures steps { caller_steps caller.old (call_collect result) caller.new };
 
     /// What the channel has for the caller, as `collect`, the answer read into `answer`. If it
     /// gives no answer, `answer` stays.
@@ -165,7 +162,17 @@ pub trait Channel: Sync + Drop {
         ensures known { knows_close (caller_view caller.old) ≡ true →
             ¬ IsOutstanding (caller_view caller.old) → result ≡ Looked.Closed }
         ensures steps { caller_steps caller.old (call_collect (collected_by result answer.new))
-            caller.new };
+            caller.new }
+    {
+        match self.collect(caller) {
+            Collected::Nothing => Looked::Nothing,
+            Collected::Got(got) => {
+                *answer = got;
+                Looked::Got
+            }
+            Collected::Closed => Looked::Closed,
+        }
+    }
 
     /// The frame that is posted. `None` if nothing is posted, an endpoint has closed, or the callee
     /// still owes an answer.
@@ -173,18 +180,7 @@ pub trait Channel: Sync + Drop {
         requires { callee_identity callee.old ≡ identity self.now }
         ensures identity { callee_identity callee.new ≡ callee_identity callee.old }
         ensures takes { Takes (callee_view callee.old) result (callee_view callee.new) }
-        ensures steps { callee_steps callee.old (call_take result) callee.new }
-    {
-        let mut frame = Frame::Malformed {
-            length: 0,
-            header: 0,
-        };
-        if self.take_into(callee, &mut frame) {
-            Some(frame)
-        } else {
-            None
-        }
-    }
+        ensures steps { callee_steps callee.old (call_take result) callee.new };
 
     /// Takes the frame that is posted, as `take`, into `frame`, and returns whether there was one.
     /// If there was none, `frame` stays.
@@ -194,7 +190,16 @@ pub trait Channel: Sync + Drop {
         ensures takes { Takes (callee_view callee.old) (frame_if result frame.new)
             (callee_view callee.new) }
         ensures stays { result ≡ false → frame.new ≡ frame.old }
-        ensures steps { callee_steps callee.old (call_take (frame_if result frame.new)) callee.new };
+        ensures steps { callee_steps callee.old (call_take (frame_if result frame.new)) callee.new }
+    {
+        match self.take(callee) {
+            Some(taken) => {
+                *frame = taken;
+                true
+            }
+            None => false,
+        }
+    }
 
     /// Whether the last frame that was taken has no answer yet.
     fn owes(callee: &Self::Callee) -> bool

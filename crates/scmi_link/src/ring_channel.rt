@@ -6,6 +6,7 @@ use crate::caller_rings::CallerRings;
 use crate::channel::Channel;
 use crate::close_error::CloseError;
 use crate::closing::Closing;
+use crate::collected::Collected;
 use crate::envelope::Envelope;
 use crate::link_error::LinkError;
 use crate::looked::Looked;
@@ -114,6 +115,10 @@ impl Channel for RingChannel {
         Ok((channel, caller, callee))
     }
 
+    fn post(&self, caller: &mut RingCaller, message: &Message) -> Result<(), PostError> {
+        self.post_parts(caller, message.header, &message.payload)
+    }
+
     fn post_parts(
         &self,
         caller: &mut RingCaller,
@@ -139,8 +144,22 @@ impl Channel for RingChannel {
         caller.rings.waiting
     }
 
+    fn collect(&self, caller: &mut RingCaller) -> Collected {
+        let mut answer = Answer::Released;
+        let looked = self.collect_into(caller, &mut answer);
+        Collected::of(looked, answer)
+    }
+
     fn collect_into(&self, caller: &mut RingCaller, answer: &mut Answer) -> Looked {
         caller.rings.collect_into(answer)
+    }
+
+    fn take(&self, callee: &mut RingCallee) -> Option<Frame> {
+        let mut frame = Frame::Malformed {
+            length: 0,
+            header: 0,
+        };
+        self.take_into(callee, &mut frame).then_some(frame)
     }
 
     fn take_into(&self, callee: &mut RingCallee, frame: &mut Frame) -> bool {

@@ -1,5 +1,5 @@
 -- The fault that a run of a known input ends with.
-use Rattle.std.proofs.Common.{◌≡◌, ◌≢◌, ℕ, ◌<◌, ◌≤◌, ◌⊎◌, inl, inr, List, take, length, Option, None, Some, IfSome, IfErr, IsErrOf, Result, Ok, Err, refl, sym, ap, ◌∙◌, subst, arith}
+use Rattle.std.proofs.Common.{◌≡◌, ◌≢◌, ℕ, ◌<◌, ◌≤◌, ◌⊎◌, inl, inr, List, take, length, Option, None, Some, IfSome, IfErr, IsErrOf, Result, Ok, Err, OnOk, refl, sym, ap, ◌∙◌, subst, arith}
 use Rattle.std.proofs.lemmas.List.{length-take, take_all}
 use Rattle.scmi_input.specs.Lines.{after_line, first_line}
 use Rattle.scmi_input.specs.declared.input.TheConstants.{INPUT_BYTES, KEPT_BYTES}
@@ -8,6 +8,7 @@ use Rattle.scmi_input.specs.declared.input_error.InputError.TheVariants as input
 use Rattle.scmi_modes.specs.AnyMode.{Takes, any_text_of}
 use Rattle.scmi_modes.specs.Fault.{IsFaultBehind, IsFaultIn, IsFaultOfOnce, IsFaultOfRun}
 use Rattle.scmi_modes.specs.Once.{area_of}
+use Rattle.scmi_modes.specs.Program.{NamesMode}
 use Rattle.scmi_modes.specs.RunError.{fault_of_input}
 use Rattle.scmi_modes.specs.declared.any_mode.AnyMode.{AnyMode}
 use Rattle.scmi_modes.specs.declared.any_mode.AnyMode.TheVariants as any
@@ -79,6 +80,12 @@ module _ (modes : Modes) where
   in_mode (Err e) (Some bytes) rest m kept first behind is takes fault =
       let there : IfSome (Some (after_line bytes)) (λ bs. IsFaultIn m bs e) = subst (λ (o : Option (List ℕ)). IfSome o (λ bs. IsFaultIn m bs e)) behind fault in
       behind_first bytes e (record { mode = m; takes = takes; named = named_is m kept (first_line bytes) first is; fault_in = there })
+
+  -- the first line names the mode that is run
+  pub where_named : {T : Type 0} (r : Result T RunError) (known : Option (List ℕ)) (m : AnyMode) (kept : List ℕ) → IfSome known (λ bytes. kept ≡ take KEPT_BYTES (first_line bytes)) → kept ≡ any_text_of m → Takes modes m → OnOk r (NamesMode modes known)
+  where_named (Err e) known m kept first is takes = tt
+  where_named (Ok x) None m kept first is takes = tt
+  where_named (Ok x) (Some bytes) m kept first is takes = (m, takes, named_is m kept (first_line bytes) first is)
 
   -- a first line that names no mode
   pub no_mode : (known : Option (List ℕ)) (kept : List ℕ) → IfSome known (λ bytes. kept ≡ take KEPT_BYTES (first_line bytes)) → ((m : AnyMode) → Takes modes m → kept ≢ any_text_of m) → IfSome known (λ bytes. IsFaultOfRun modes bytes Mode)

@@ -3,11 +3,13 @@ use Rattle.std.proofs.Common.{◌≡◌, ℕ, Bool, ◌+◌, ◌<◌, ◌≤◌,
 use Rattle.std.specs.List.{All, flat_map}
 use Rattle.std.specs.Prelude.{OnOk}
 use Rattle.std.specs.Io.KnownBytes.{Appends}
+use Rattle.std.proofs.lemmas.List.Elements.{All-take}
 use Rattle.std.proofs.lemmas.List.{append-nil, take_more, take_all, length-take, take-append-drop}
 use Rattle.scmi_threads.specs.declared.agent_log.AgentLog.{AgentLog}
 use Rattle.scmi_threads.specs.declared.stop.Stop.{Stop}
 use Rattle.scmi_threads.specs.declared.stop.Stop.TheVariants as stop
 use Rattle.scmi_text.specs.ScriptLine.{lines_text}
+use Rattle.scmi_text.specs.Step.{IsWithoutHardware}
 use Rattle.scmi_text.specs.StepLine.{step_text}
 use Rattle.scmi_text.specs.declared.step.Step.{Step}
 use Rattle.scmi_text.specs.declared.step_line.StepLine.{StepLine}
@@ -17,6 +19,7 @@ use Rattle.scmi_link.specs.View.{CallerView}
 use Rattle.scmi_link.specs.declared.closing.Closing.{Closing}
 use Rattle.scmi_link.specs.declared.close_error.CloseError.{CloseError}
 use Rattle.scmi_plan.specs.Board.{Board}
+use Rattle.scmi_session.proofs.Plain.{runs_plain}
 use Rattle.scmi_session.proofs.Runs.{runs_none, runs_more}
 use Rattle.scmi_session.specs.SessionView.{SessionView}
 use Rattle.scmi_session.specs.Steps.{Steps}
@@ -97,15 +100,18 @@ module _ (full : Bool) (Shows : CallerView → Result Closing CloseError → Typ
     lines = so_far.lines;
     last = session;
     made = so_far.made;
+    plain = λ without. runs_plain full Shows board (take i steps) so_far.lines session so_far.made (All-take IsWithoutHardware i steps without);
     text = so_far.text;
   }
 
   pub all_steps : {E : Type 0} (r : Result Unit E) (steps : List Step) (i : ℕ) (session : SessionView) (a b c : Option (List ℕ)) (events : ℕ) → length steps ≤ i → SoFar (take i steps) session a b → IsGathered session → events ≡ length session.platform.history → OnOk r (Appends b c (step_text (Trace events))) → OnOk r (IsTextOfSteps full Shows board steps a c)
   all_steps (Err e) steps i session a b c events all so_far gathered is last = tt
-  all_steps (Ok x) steps i session a b c events all so_far gathered is last = record {
-    lines = so_far.lines;
-    last = session;
-    made = subst (λ ts. Runs full Shows board ts so_far.lines session) (take_all i steps all) so_far.made;
-    gathered = gathered;
-    text = written_then a b c (flat_map step_text so_far.lines) (step_text (Trace (length session.platform.history))) so_far.text (subst (λ n. Appends b c (step_text (Trace n))) is last);
-  }
+  all_steps (Ok x) steps i session a b c events all so_far gathered is last =
+      let made = subst (λ ts. Runs full Shows board ts so_far.lines session) (take_all i steps all) so_far.made in record {
+        lines = so_far.lines;
+        last = session;
+        made = made;
+        plain = runs_plain full Shows board steps so_far.lines session made;
+        gathered = gathered;
+        text = written_then a b c (flat_map step_text so_far.lines) (step_text (Trace (length session.platform.history))) so_far.text (subst (λ n. Appends b c (step_text (Trace n))) is last);
+      }

@@ -6,6 +6,7 @@ use Rattle.scmi_plan.specs.Board.{Board}
 use Rattle.scmi_core.specs.Legal.{IsLegal}
 use Rattle.scmi_ends.specs.Each.{AllFrom}
 use Rattle.scmi_threads.specs.Logs.{LogHeadline}
+use Rattle.scmi_core.specs.Plain.{IsPlain}
 use Rattle.scmi_threads.specs.ScriptLogs.{IsScriptLog, orders_of}
 use Rattle.scmi_threads.specs.Scripts.{AreScriptsOf}
 use Rattle.scmi_threads.specs.declared.agent_log.AgentLog.{AgentLog}
@@ -28,10 +29,11 @@ logs_text n [] = []
 logs_text n (log ∷ logs) = lines_text n log.lines.items ++ logs_text (n + 1) logs
 
 module _ (full : Bool) (board : Board) (scripts : List Script) where
-  -- what is written is the text of what a run of these scripts left: its logs follow the scripts, and agree with one legal history of the board
+  -- what is written is the text of what a run of these scripts left: its logs follow the scripts, and agree with one legal history of the board, of plain events alone
   pub record IsTextOfOutcome (outcome : Outcome) (old new : Option (List ℕ)) : Type 0 where
     pub of_agents : AreScriptsOf (length board.agents) scripts
     pub legal : IsLegal board outcome.trace.events
+    pub plain : All IsPlain outcome.trace.events
     pub count : vec_len outcome.logs ≡ length board.agents
     pub follow : AllFrom (λ a log. IsScriptLog full (orders_of scripts a) log) 1 outcome.logs.items
     pub headline : AllFrom (λ a log. LogHeadline board outcome.trace.events a log) 1 outcome.logs.items

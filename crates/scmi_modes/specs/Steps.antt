@@ -7,6 +7,7 @@ use Rattle.scmi_link.specs.RingCaller.{ring_caller_view, ring_close_shows}
 use Rattle.scmi_link.specs.declared.closing.Closing.{Closing}
 use Rattle.scmi_link.specs.declared.close_error.CloseError.{CloseError}
 use Rattle.scmi_words.specs.WordCaller.{word_caller_view, CloseShows}
+use Rattle.scmi_core.specs.Plain.{IsPlain}
 use Rattle.scmi_plan.specs.Board.{Board}
 use Rattle.scmi_ends.specs.Shut.{ShowsClose}
 use Rattle.scmi_text.specs.Step.{IsWithoutHardware}
@@ -28,6 +29,10 @@ abbrev pub shows_close : Kind → CallerView → Result Closing CloseError → T
 shows_close Rings = ShowsClose ring_caller_view ring_close_shows
 shows_close Words = ShowsClose word_caller_view CloseShows
 
+-- if none of these steps is beside hardware, the history that they leave has commands, advances and postings alone
+abbrev pub IsPlainWithoutHardware : List Step → SessionView → Type 0
+IsPlainWithoutHardware steps last = All IsWithoutHardware steps → All IsPlain last.platform.history
+
 module _ (full : Bool) (Shows : CallerView → Result Closing CloseError → Type 0) where
   -- what is written is the lines that the first of these steps give, as far as they came
   pub record AreStepLines (board : Board) (steps : List Step) (old new : Option (List ℕ)) : Type 0 where
@@ -37,6 +42,7 @@ module _ (full : Bool) (Shows : CallerView → Result Closing CloseError → Typ
     pub lines : List StepLine
     pub last : SessionView
     pub made : Runs full Shows board done lines last
+    pub plain : IsPlainWithoutHardware steps last
     pub text : Appends old new (flat_map step_text lines)
 
   -- what is written is the lines that all of these steps give, and then the length of the history that they leave
@@ -44,6 +50,7 @@ module _ (full : Bool) (Shows : CallerView → Result Closing CloseError → Typ
     pub lines : List StepLine
     pub last : SessionView
     pub made : Runs full Shows board steps lines last
+    pub plain : IsPlainWithoutHardware steps last
     pub gathered : IsGathered last
     pub text : Appends old new (flat_map step_text lines ++ step_text (Trace (length last.platform.history)))
 
@@ -69,7 +76,7 @@ WritesSteps known kind old new = WritesScript Plain known kind old new
 abbrev pub WritesHardware : Option (List ℕ) → Kind → Option (List ℕ) → Option (List ℕ) → Type 0
 WritesHardware known kind old new = WritesScript Hardware known kind old new
 
--- nothing is written, or the lines of the first steps that the input encodes, on its board
+-- nothing is written, or the lines of the first steps that the input encodes, on its board, in a script of this kind
 abbrev pub WritesFirstSteps : ScriptKind → Option (List ℕ) → Kind → Option (List ℕ) → Option (List ℕ) → Type 0
 WritesFirstSteps script known kind old new =
-    (new ≡ old) ⊎ ((board : Board) × (steps : List Step) × AreStepsOf script known board steps × AreStepLines (may_be_full kind) (shows_close kind) board steps old new)
+    (new ≡ old) ⊎ ((board : Board) × (steps : List Step) × AreStepsOf script known board steps × All (MayHave script) steps × AreStepLines (may_be_full kind) (shows_close kind) board steps old new)

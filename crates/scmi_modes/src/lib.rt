@@ -1,11 +1,17 @@
 //! The modes of a run: a platform controller and its agents, from bytes in to bytes out.
 //!
 //! The first line of the input names a mode. The main types are `Mode` and `Modes`, those that a
-//! program takes; the main theorem is the contract of `run_program`: if the status is 0, what was
-//! written is what the mode makes of the board and the scripts that the input encodes, or in the
-//! mode `once` of its area; else the line of a fault of this input, which has that status.
+//! program takes; the main theorem is the contract of `run`: if the status is 0, what was written
+//! is what the mode makes of the board and the scripts that the input encodes, or in the mode `once`
+//! of its area; else the line of a fault of this input, which has that status. `run_program` is the
+//! same in modes for people too.
+//!
+//! A function whose name ends in `_counted`, and `run_input`, promise how often their reader is
+//! read: it is one that counts. All that a run of agents is made of, such as `Script` and `Gate`, is
+//! here too.
 #![tactic(auto)]
 
+mod agents;
 mod answer;
 mod any_mode;
 mod kind;
@@ -13,13 +19,14 @@ mod lines;
 mod mode;
 mod mode_lines;
 mod once;
+mod program;
 mod reference_board;
-mod run;
 mod run_error;
 mod script_kind;
 mod steps;
 mod threads;
 
+pub use agents::run_agents;
 pub use answer::answer_area;
 pub use any_mode::{AnyMode, Modes};
 pub use kind::Kind;
@@ -27,8 +34,9 @@ pub use mode::Mode;
 pub use mode_lines::{
     HARDWARE_RINGS, HARDWARE_WORDS, ONCE, STEPS_RINGS, STEPS_WORDS, THREADS_RINGS, THREADS_WORDS,
 };
-pub use once::run_once;
-pub use run::{run_input, run_program};
+pub use once::{run_once, run_once_counted};
+pub use program::{run, run_input, run_program};
 pub use run_error::RunError;
-pub use steps::{run_hardware, run_steps};
-pub use threads::run_threads;
+pub use scmi_threads::{AgentLog, Gate, Line, OpenGate, Order, Outcome, Script, Stop};
+pub use steps::{run_hardware_counted, run_steps, run_steps_counted};
+pub use threads::{run_threads, run_threads_counted};

@@ -10,16 +10,40 @@ use crate::lines::only_line;
 use crate::run_error::RunError;
 use hex::FromHex;
 use scmi_codec::AREA_BYTES;
-use scmi_input::{CountedRead, read_rest};
+use scmi_input::{CountedRead, CountedReader, read_rest};
 use std::alloc::Global;
-use std::io::Write;
+use std::io::{Read, Write};
 
 /// Reads an area in hexadecimal digits, and writes it with the answer to agent 1's first command on
 /// a new platform, in lower-case digits and with a line feed. `Size` if the input is longer than
 /// `INPUT_BYTES`, `Read` at a read that fails, `Area` if the input is not one line of an area's
 /// digits, `Memory` when out of memory: after each of these nothing is written. `Write` if the
-/// output fails.
-pub fn run_once<R: CountedRead, W: Write>(
+/// output fails. What the input is to say is known of a reader that tells its bytes; how often it
+/// is read is a promise of `run_once_counted`.
+pub fn run_once<R: Read, W: Write>(
+    alloc: Global,
+    reader: &mut R,
+    writer: &mut W,
+) -> Result<(), RunError>
+    ensures answer { OnOk result (IfSome (R.remaining reader.old)
+        (λ input. IsAnswerTo input (W.contents writer.old) (W.contents writer.new))) }
+    ensures area { IsErrOf result RunError.Area →
+        IfSome (R.remaining reader.old) (λ input. area_of input ≡ None) }
+    ensures no_area { IfSome (R.remaining reader.old) (λ input. area_of input ≡ None →
+        IsErrOf result RunError.Area ⊎ IsErrOf result RunError.Size ⊎
+        IsErrOf result RunError.Read ⊎ IsErrOf result RunError.Memory) }
+    ensures size { IsErrOf result RunError.Size →
+        IfSome (R.remaining reader.old) (λ input. INPUT_BYTES < length input) }
+    ensures kept { IfErr result (λ e. e ≢ RunError.Write → writer.new ≡ writer.old) }
+    ensures errors { IfErr result (λ e. (e ≡ RunError.Size) ⊎ (e ≡ RunError.Read) ⊎
+        (e ≡ RunError.Area) ⊎ (e ≡ RunError.Memory) ⊎ (e ≡ RunError.Write)) }
+{
+    run_once_counted(alloc, &mut CountedReader::new(reader), writer)
+}
+
+/// The same of a reader that counts, by at most `INPUT_BYTES + 1` reads. A read that fails is the
+/// last.
+pub fn run_once_counted<R: CountedRead, W: Write>(
     alloc: Global,
     reader: &mut R,
     writer: &mut W,

@@ -18,20 +18,42 @@ use crate::kind::Kind;
 use crate::run_error::RunError;
 use crate::script_kind::ScriptKind;
 use scmi_board::{Lines, TextError, read_board};
-use scmi_input::{CountedRead, read_rest};
+use scmi_input::{CountedRead, CountedReader, read_rest};
 use scmi_link::{Channel, RingChannel};
 use scmi_plan::Plan;
 use scmi_session::Session;
 use scmi_text::{Step, StepLine, StepList, read_hardware_steps, read_steps, write_step_line};
 use scmi_words::WordChannel;
 use std::alloc::Global;
-use std::io::Write;
+use std::io::{Read, Write};
 
 /// Reads a board and a script, makes its steps one by one, and writes the line of each, and then
 /// the length of the history. `Size`, `Read`, `Board`, `Script` and `Plan` if the input is
 /// rejected; after each of these nothing is written. `Memory` when out of memory, and `Write` if
 /// the output fails: after these the lines of the steps before are written, one for each of them.
-pub fn run_steps<R: CountedRead, W: Write>(
+/// How often the reader is read is a promise of `run_steps_counted`.
+pub fn run_steps<R: Read, W: Write>(
+    alloc: Global,
+    reader: &mut R,
+    writer: &mut W,
+    kind: Kind,
+) -> Result<(), RunError>
+    ensures text { OnOk result
+        (WritesSteps (R.remaining reader.old) kind (W.contents writer.old)
+        (W.contents writer.new)) }
+    ensures memory { IsErrOf result RunError.Memory →
+        WritesFirstSteps ScriptKind.Plain (R.remaining reader.old) kind (W.contents writer.old)
+        (W.contents writer.new) }
+    ensures faults { IfErr result (λ e. IfSome (R.remaining reader.old)
+        (λ input. IsFaultOf input (steps_of_input ScriptKind.Plain input) e)) }
+    ensures kept { IfErr result (λ e. status_of e ≡ 2 → writer.new ≡ writer.old) }
+{
+    run_steps_counted(alloc, &mut CountedReader::new(reader), writer, kind)
+}
+
+/// The same of a reader that counts, by at most `INPUT_BYTES + 1` reads. A read that fails is the
+/// last.
+pub fn run_steps_counted<R: CountedRead, W: Write>(
     alloc: Global,
     reader: &mut R,
     writer: &mut W,
@@ -53,8 +75,8 @@ pub fn run_steps<R: CountedRead, W: Write>(
     run_script(alloc, reader, writer, kind, ScriptKind::Plain)
 }
 
-/// The same of a script that may have steps beside hardware that refuses.
-pub fn run_hardware<R: CountedRead, W: Write>(
+/// As `run_steps_counted`, of a script that may have steps beside hardware that refuses.
+pub fn run_hardware_counted<R: CountedRead, W: Write>(
     alloc: Global,
     reader: &mut R,
     writer: &mut W,

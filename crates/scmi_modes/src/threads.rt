@@ -11,17 +11,18 @@ ghost use Rattle.scmi_modes.specs.Input.{FailsInput, IsFaultOrLimit, scripts_of_
 ghost use Rattle.scmi_modes.specs.Runs.{IsTextOfAnyRun, IsTextOfEndedRun, IsTextOfRun, IsTextOfStoppedRun, logs_text, may_be_full};
 ghost use Rattle.scmi_input.specs.declared.input.TheConstants.{INPUT_BYTES};
 
+use crate::agents::run_agents;
 use crate::kind::Kind;
 use crate::run_error::RunError;
 use scmi_board::{Lines, read_board};
-use scmi_input::{CountedRead, read_rest};
+use scmi_input::{CountedRead, CountedReader, read_rest};
 use scmi_link::{Channel, RingChannel};
 use scmi_plan::Plan;
 use scmi_text::{read_scripts, write_script_lines};
-use scmi_threads::{AgentLog, Gate, Outcome, Script, Stop, run_agents};
+use scmi_threads::{AgentLog, Gate, Outcome, Script, Stop};
 use scmi_words::WordChannel;
 use std::alloc::Global;
-use std::io::Write;
+use std::io::{Read, Write};
 use std::sync::Wait;
 use std::thread::Threads;
 
@@ -29,8 +30,40 @@ use std::thread::Threads;
 /// agent, by rising number. `Size`, `Read`, `Board`, `Script` and `Plan` if the input is rejected;
 /// after each of these nothing is written. `Limit` if a script met a limit, and `Memory`, which
 /// goes before it, when out of memory: after these the lines so far are written. `Write` if the
-/// output fails.
-pub fn run_threads<T: Threads + Wait + Sync, G: Gate, R: CountedRead, W: Write>(
+/// output fails. How often the reader is read is a promise of `run_threads_counted`.
+pub fn run_threads<T: Threads + Wait + Sync, G: Gate, R: Read, W: Write>(
+    rt: &T,
+    alloc: Global,
+    gate: &G,
+    reader: &mut R,
+    writer: &mut W,
+    kind: Kind,
+) -> Result<(), RunError>
+    ensures text { OnOk result (IsTextOfRun (may_be_full kind) (R.remaining reader.old)
+        (W.contents writer.old) (W.contents writer.new)) }
+    ensures limit { IsErrOf result RunError.Limit →
+        IsTextOfStoppedRun (may_be_full kind) (R.remaining reader.old) (W.contents writer.old)
+        (W.contents writer.new) }
+    ensures memory { IsErrOf result RunError.Memory → (writer.new ≡ writer.old) ⊎
+        IsTextOfStoppedRun (may_be_full kind) (R.remaining reader.old) (W.contents writer.old)
+        (W.contents writer.new) }
+    ensures faults { IfErr result (λ e. IfSome (R.remaining reader.old)
+        (λ input. IsFaultOrLimit input (scripts_of_input input) e)) }
+    ensures kept { IfErr result (λ e. status_of e ≡ 2 → writer.new ≡ writer.old) }
+{
+    run_threads_counted(
+        rt,
+        alloc,
+        gate,
+        &mut CountedReader::new(reader),
+        writer,
+        kind,
+    )
+}
+
+/// The same of a reader that counts, by at most `INPUT_BYTES + 1` reads. A read that fails is the
+/// last.
+pub fn run_threads_counted<T: Threads + Wait + Sync, G: Gate, R: CountedRead, W: Write>(
     rt: &T,
     alloc: Global,
     gate: &G,
@@ -118,9 +151,7 @@ fn write_run<C: Channel, T: Threads + Wait + Sync, G: Gate, W: Write>(
     ensures errors { IfErr result (λ e. ¬ (status_of e ≡ 2)) }
 {
     let agents = plan.agents();
-    let Ok(outcome) = run_agents::<C, G, T>(rt, alloc, gate, plan, scripts) else {
-        return Err(RunError::Memory);
-    };
+    let outcome = run_agents::<C, G, T>(rt, alloc, gate, plan, scripts)?;
     write_logs(writer, agents, &outcome.logs)?;
     verdict(&outcome)
 }

@@ -1,12 +1,12 @@
 -- The table of power states and of requests for notifications, and what a command leaves of it.
-use Rattle.std.specs.Prelude.{◌≡◌, ℕ, ◌-◌, ◌<◌, ◌≤◌, ◌==◌, ◌&&◌, Bool, true, false, if◌then◌else◌, List, length, get_or, Option, Some, None, unwrap_or}
+use Rattle.std.specs.Prelude.{◌≡◌, ℕ, ◌-◌, ◌<◌, ◌≤◌, ◌==◌, ◌&&◌, Bool, true, false, if◌then◌else◌, List, length, get_or, Option, Some, None, unwrap_or, IfSome}
 use Rattle.std.specs.Int.{bit_at}
 use Rattle.scmi_codec.specs.Payload.{if_success}
 use Rattle.scmi_codec.specs.declared.power_command.PowerCommand.{PowerCommand}
 use Rattle.scmi_codec.specs.declared.power_command.PowerCommand.TheVariants as power
 use Rattle.scmi_plan.specs.Board.{Board, channel_of, domain_at}
 use Rattle.scmi_plan.specs.declared.domain.Domain.{Domain}
-use Rattle.scmi_power.specs.PowerReply.{PowerView, state_on, state_off, set_reply, notify_reply}
+use Rattle.scmi_power.specs.PowerReply.{PowerView, power_reply, state_on, state_off, set_reply, notify_reply}
 use Rattle.scmi_codec.specs.Reply.{bit_0}
 use Rattle.scmi_plan.specs.declared.limits.TheConstants.{AGENTS, DOMAINS}
 use Rattle.scmi_plan.specs.declared.load.Load.{Load}
@@ -58,6 +58,10 @@ view_of board permissions table load caller =
       channel = channel_of board caller;
     }
 
+-- the reply to a caller's command, by the permissions, the table, and what pending sets leave free
+abbrev pub reply_to : Board → Permissions → PowerTables → Load → ℕ → PowerCommand → List ℕ
+reply_to board permissions table load caller command = power_reply board (view_of board permissions table load caller) command
+
 -- the domain and state that a successful command sets at once
 abbrev pub set_now : PowerCommand → Option (ℕ × ℕ)
 set_now (power.Set flags d state) = if bit_0 flags then None else Some (d, state)
@@ -102,3 +106,11 @@ abbrev pub HasNotified : List ℕ → ℕ → PowerCommand → PowerTables → P
 HasNotified words caller command table after =
     (a d : ℕ) → 1 ≤ a → a ≤ AGENTS → d < DOMAINS
     → is_subscribed after a d ≡ unwrap_or (if_success words (notification a d caller command)) (is_subscribed table a d)
+
+-- the domain of a set, if there is one, is the board's
+abbrev pub IsKnown : Board → Option (ℕ × ℕ) → Type 0
+IsKnown board set = IfSome set (λ set. set.0 < length board.domains)
+
+-- a set for later, if there is one, has room
+abbrev pub HasRoom : Load → Option (ℕ × ℕ) → Type 0
+HasRoom load set = IfSome set (λ set. load.room ≡ true)

@@ -11,8 +11,10 @@ mod discovery;
 mod domain_attributes;
 mod domain_state;
 mod power_done;
+mod power_effect;
 mod power_state;
 mod subscribers;
 
 pub use power_done::PowerDone;
+pub use power_effect::PowerEffect;
 pub use power_state::PowerState;

@@ -1,18 +1,12 @@
-//! What a command of the power domain protocol set.
+//! What a command of the power domain protocol did, with its reply.
 
-/// The domain and state that a command set now, even to an equal state, and whether the state
-/// before differs; and the domain and state that it accepted for later. A command that is refused
-/// has neither.
-#[derive(Clone, Copy)]
+use scmi_codec::Payload;
+
+/// The reply to a command; the domain and state that it set now, even to an equal state; and the
+/// domain and state that it accepted for later. A command that is refused has neither.
+#[derive(Debug, Drop)]
 pub struct PowerDone {
+    pub reply: Payload,
     pub changed: Option<(u32, u32)>,
-    pub differs: bool,
     pub later: Option<(u32, u32)>,
 }
-
-/// A command set nothing.
-pub(crate) const NOTHING: PowerDone = PowerDone {
-    changed: None,
-    differs: false,
-    later: None,
-};

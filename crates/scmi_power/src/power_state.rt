@@ -5,17 +5,18 @@ ghost use Rattle.scmi_codec.specs.Payload.{begins_with_success};
 ghost use Rattle.scmi_codec.specs.declared.power_command.PowerCommand.TheVariants.{Set, Notify};
 ghost use Rattle.scmi_plan.specs.Agent.{IsAgent};
 ghost use Rattle.scmi_plan.specs.declared.limits.TheConstants.{AGENTS, DOMAINS};
-ghost use Rattle.scmi_power.specs.PowerReply.{power_reply, get_reply};
-ghost use Rattle.scmi_power.specs.PowerTable.{view_of, state_at, state_at_start, set_now, set_later, is_subscribed, only_reads, set_words, notify_words, HasSet, HasNotified};
+ghost use Rattle.scmi_power.specs.PowerReply.{get_reply};
+ghost use Rattle.scmi_power.specs.PowerTable.{reply_to, state_at, state_at_start, set_now, set_later, is_subscribed, only_reads, set_words, notify_words, HasSet, HasNotified, IsKnown, HasRoom};
 ghost use Rattle.scmi_codec.specs.Payload.{if_success};
 
 use crate::checks::{check_domain, check_notify, check_set};
 use crate::discovery::{attributes, domain_attributes, message_attributes, version};
 use crate::domain_state::starting_state;
-use crate::power_done::{NOTHING, PowerDone};
+use crate::power_done::PowerDone;
+use crate::power_effect::{NOTHING, PowerEffect};
 use crate::subscribers::with_subscriber;
 use scmi_base::BaseState;
-use scmi_codec::{Payload, PowerCommand, SUCCESS, set_payload, set_refusal};
+use scmi_codec::{Payload, PowerCommand, SUCCESS, payload_of, set_payload, set_refusal};
 use scmi_plan::{DOMAINS, Load, Plan};
 use std::marker::Model;
 
@@ -56,15 +57,14 @@ impl PowerState {
         }
     }
 
-    /// Executes a command of a caller and writes the reply, which begins with a status: NOT_FOUND
-    /// for an unknown domain or message id; then INVALID_PARAMETERS for flag bits besides bit 0 or
-    /// for a word that is not a state; then NOT_SUPPORTED for a kind of set, or notifications, that
-    /// the domain lacks, or that would send to a caller to which the platform can't (own); then
-    /// DENIED for a domain that the caller may not change; then BUSY for a set of a domain that has
-    /// a pending set, or for an asynchronous set without room. A command that is refused changes
-    /// nothing. A synchronous set takes effect here; an asynchronous one is only named, for
-    /// `complete`.
-    #[tactic(auto, unfolding(crate::specs::PowerReply::power_reply))]
+    /// Executes a command of a caller, and gives the reply and what it set. The reply begins with a
+    /// status: NOT_FOUND for an unknown domain or message id; then INVALID_PARAMETERS for flag bits
+    /// besides bit 0 or for a word that is not a state; then NOT_SUPPORTED for a kind of set, or
+    /// notifications, that the domain lacks, or that would send to a caller to which the platform
+    /// can't (own); then DENIED for a domain that the caller may not change; then BUSY for a set of
+    /// a domain that has a pending set, or for an asynchronous set without room. A command that is
+    /// refused changes nothing. A synchronous set takes effect here; an asynchronous one is only
+    /// named, for `complete`.
     pub fn execute(
         &mut self,
         plan: &Plan,
@@ -72,20 +72,53 @@ impl PowerState {
         caller: u32,
         command: PowerCommand,
         load: Load,
-        reply: &mut Payload,
     ) -> PowerDone
         requires caller { IsAgent (length plan.now.agents) caller }
+        ensures reply { result.reply.items
+            ≡ reply_to plan.now base.now self.old load caller command }
+        ensures changed { result.changed ≡ if_success result.reply.items (set_now command) }
+        ensures later { result.later ≡ if_success result.reply.items (set_later command) }
+        ensures states { HasSet result.changed self.old self.new }
+        ensures subscribed { HasNotified result.reply.items caller command self.old self.new }
+        ensures known_now { IsKnown plan.now result.changed }
+        ensures room { HasRoom load result.later }
+        ensures known_later { IsKnown plan.now result.later }
+        ensures refused { begins_with_success result.reply.items ≡ false → self.new ≡ self.old }
+        ensures read { only_reads command ≡ true → self.new ≡ self.old }
+    {
+        let mut reply = payload_of(&[]);
+        let effect = self.execute_into(plan, base, caller, command, load, &mut reply);
+        PowerDone {
+            reply,
+            changed: effect.changed,
+            later: effect.later,
+        }
+    }
+
+    /// As `execute`, with the reply written into `reply`. It also returns whether a state that was
+    /// set now differs from the one before.
+    #[tactic(auto, unfolding(crate::specs::PowerReply::power_reply))]
+    pub fn execute_into(
+        &mut self,
+        plan: &Plan,
+        base: &BaseState,
+        caller: u32,
+        command: PowerCommand,
+        load: Load,
+        reply: &mut Payload,
+    ) -> PowerEffect
+        requires caller { IsAgent (length plan.now.agents) caller }
         ensures reply { reply.new.items
-            ≡ power_reply plan.now (view_of plan.now base.now self.old load caller) command }
+            ≡ reply_to plan.now base.now self.old load caller command }
         ensures changed { result.changed ≡ if_success reply.new.items (set_now command) }
         ensures differs { IfSome result.changed (λ set.
             result.differs ≡ not (set.1 == state_at self.old set.0)) }
         ensures later { result.later ≡ if_success reply.new.items (set_later command) }
         ensures states { HasSet result.changed self.old self.new }
         ensures subscribed { HasNotified reply.new.items caller command self.old self.new }
-        ensures known_now { IfSome result.changed (λ set. set.0 < length plan.now.domains) }
-        ensures room { IfSome result.later (λ set. load.room ≡ true) }
-        ensures known_later { IfSome result.later (λ set. set.0 < length plan.now.domains) }
+        ensures known_now { IsKnown plan.now result.changed }
+        ensures room { HasRoom load result.later }
+        ensures known_later { IsKnown plan.now result.later }
         ensures refused { begins_with_success reply.new.items ≡ false → self.new ≡ self.old }
         ensures read { only_reads command ≡ true → self.new ≡ self.old }
     {
@@ -166,8 +199,7 @@ impl PowerState {
         load: Load,
     ) -> Option<(u32, u32)>
         requires caller { IsAgent (length plan.now.agents) caller }
-        ensures { result ≡ if_success
-            (power_reply plan.now (view_of plan.now base.now self.now load caller) command)
+        ensures { result ≡ if_success (reply_to plan.now base.now self.now load caller command)
             (set_now command) }
     {
         match command {
@@ -194,7 +226,7 @@ impl PowerState {
         state: u32,
         load: Load,
         reply: &mut Payload,
-    ) -> PowerDone
+    ) -> PowerEffect
         requires caller { IsAgent (length plan.now.agents) caller }
         ensures reply { reply.new.items
             ≡ set_words plan.now base.now caller load flags domain state }
@@ -206,15 +238,15 @@ impl PowerState {
             ≡ if_success reply.new.items (set_later (Set flags domain state)) }
         ensures states { HasSet result.changed self.old self.new }
         ensures subscribed { self.new.subscribers ≡ self.old.subscribers }
-        ensures known_now { IfSome result.changed (λ set. set.0 < length plan.now.domains) }
-        ensures room { IfSome result.later (λ set. load.room ≡ true) }
-        ensures known_later { IfSome result.later (λ set. set.0 < length plan.now.domains) }
+        ensures known_now { IsKnown plan.now result.changed }
+        ensures room { HasRoom load result.later }
+        ensures known_later { IsKnown plan.now result.later }
         ensures refused { begins_with_success reply.new.items ≡ false → self.new ≡ self.old }
     {
         match check_set(plan, base, caller, flags, domain, state, load) {
             Ok(true) => {
                 set_payload(reply, &[SUCCESS]);
-                PowerDone {
+                PowerEffect {
                     changed: None,
                     differs: false,
                     later: Some((domain, state)),
@@ -223,7 +255,7 @@ impl PowerState {
             Ok(false) => {
                 let differs = self.complete(domain, state);
                 set_payload(reply, &[SUCCESS]);
-                PowerDone {
+                PowerEffect {
                     changed: Some((domain, state)),
                     differs,
                     later: None,

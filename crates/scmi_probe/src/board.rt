@@ -1,83 +1,52 @@
-//! The board that all calls are made on.
+//! The board that all calls are made on, and its plan.
 
-use scmi_plan::{Device, RateList, Rates, RawClock, RawDomain, RawPlan};
-use std::alloc::{AllocError, Global};
+use crate::lines::Lines;
+use scmi_board::{TextError, read_board};
+use scmi_plan::{Plan, PlanError, RawPlan};
+use std::alloc::Global;
+use std::io::Write;
 
-/// The board of the mode `once`. The only error is running out of memory.
-pub fn raw_board(alloc: Global) -> Result<RawPlan, AllocError> {
-    Ok(RawPlan {
-        vendor: String::from_str(alloc, "Acme")?,
-        sub_vendor: String::from_str(alloc, "Lab")?,
-        version: 0x0001_0000,
-        trusted: 1,
-        agents: vec![in alloc;
-            String::from_str(alloc, "ap")?,
-            String::from_str(alloc, "modem")?,
-        ]?,
-        domains: vec![in alloc;
-            domain(alloc, "cpu", false, true, true, true)?,
-            domain(alloc, "gpu", true, true, false, false)?,
-            domain(alloc, "usb", false, false, true, true)?,
-        ]?,
-        clocks: clocks(alloc)?,
-        devices: vec![in alloc;
-            Device {
-                domains: 0b001,
-                clocks: 0b001
-            },
-            Device {
-                domains: 0b010,
-                clocks: 0b000
-            },
-        ]?,
-    })
-}
+/// The board of the mode `once`.
+const BOARD: &[u8] = b"board Acme Lab 0x00010000 1
+agent ap
+agent modem
+domain cpu off san
+domain gpu on s
+domain usb off an
+clock core on 100 list 100,200,300
+clock bus off 1000 steps 1000 4000 500
+clock pix on 1 list 1,2,3,4,5,6,7,8,9,10,11,12,13,14,15,16,17,18,19,20
+device 0 0
+device 1 -
+end
+";
 
-fn domain(
-    alloc: Global,
-    name: &str,
-    on: bool,
-    synchronous: bool,
-    asynchronous: bool,
-    notify: bool,
-) -> Result<RawDomain, AllocError> {
-    Ok(RawDomain {
-        name: String::from_str(alloc, name)?,
-        on,
-        synchronous,
-        asynchronous,
-        notify,
-    })
-}
-
-fn clocks(alloc: Global) -> Result<Vec<RawClock>, AllocError> {
-    let core = vec![in alloc; 100, 200, 300]?;
-    let pix = vec![in alloc;
-        1, 2, 3, 4, 5, 6, 7, 8, 9, 10, 11, 12, 13, 14, 15, 16, 17, 18, 19, 20,
-    ]?;
-    let steps = Rates::Steps {
-        low: 1000,
-        high: 4000,
-        step: 500,
+/// The plan of the board. If memory is refused it is made again.
+pub fn new_plan<W: Write>(alloc: Global, lines: &mut Lines<'_, W>) -> Option<Plan> {
+    let raw = match read(alloc) {
+        Ok(raw) => raw,
+        Err(_) => {
+            lines.answer("board", "memory");
+            read(alloc).ok()?
+        }
     };
-    Ok(vec![in alloc;
-        clock(alloc, "core", true, 100, Rates::List(RateList::new(core)))?,
-        clock(alloc, "bus", false, 1000, steps)?,
-        clock(alloc, "pix", true, 1, Rates::List(RateList::new(pix)))?,
-    ]?)
+    match check(alloc, lines, &raw) {
+        Some(plan) => Some(plan),
+        None => check(alloc, lines, &raw),
+    }
 }
 
-fn clock(
-    alloc: Global,
-    name: &str,
-    enabled: bool,
-    rate: u64,
-    rates: Rates,
-) -> Result<RawClock, AllocError> {
-    Ok(RawClock {
-        name: String::from_str(alloc, name)?,
-        enabled,
-        rate,
-        rates,
-    })
+fn read(alloc: Global) -> Result<RawPlan, TextError> {
+    read_board(alloc, &mut scmi_board::Lines::new(BOARD))
+}
+
+fn check<W: Write>(alloc: Global, lines: &mut Lines<'_, W>, raw: &RawPlan) -> Option<Plan> {
+    let checked = Plan::check(alloc, raw);
+    let answer = match &checked {
+        Ok(_) => "ok",
+        Err(PlanError::Memory) => "memory",
+        Err(_) => "fault",
+    };
+    lines.answer("check", answer);
+    checked.ok()
 }

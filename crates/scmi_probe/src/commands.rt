@@ -1,13 +1,12 @@
 //! One command of a platform again and again, for `./bench` to count what it takes.
 
+use crate::board::new_plan;
 use crate::lines::Lines;
-use crate::plans::new_plan;
 use crate::registers::Registers;
 use scmi_codec::{Frame, Header, Message, Payload};
 use scmi_core::{Core, Hardware, NoHardware, Platform};
 use scmi_plan::Plan;
-use std::alloc::{Alloc, Allocator, Global};
-use std::env::{self, Args, Env};
+use std::alloc::Global;
 use std::io::Write;
 
 /// What a command is executed beside.
@@ -30,19 +29,20 @@ pub struct Commands {
 }
 
 impl Commands {
-    /// What is asked for. `None` for other arguments, or if there was no memory to read them.
-    pub fn asked_for<R: Env + Alloc>(rt: &R) -> Option<Commands> {
-        let mut arguments = env::args(rt).ok()?;
-        let _program = arguments.next()?;
-        if arguments.next()?.as_str() != "command" {
+    /// What is asked for by the words of the command line. `None` for others.
+    pub fn asked_for(words: &[String]) -> Option<Commands> {
+        let [_program, task, keeper, count, protocol, id, payload @ ..] = words else {
+            return None;
+        };
+        if task.as_str() != "command" {
             return None;
         }
-        let (keeps_history, beside) = executed_by(arguments.next()?.as_str())?;
+        let (keeps_history, beside) = executed_by(keeper.as_str())?;
         Some(Commands {
             keeps_history,
             beside,
-            count: arguments.next()?.parse().ok()?,
-            frame: Frame::Good(message_of(arguments)?),
+            count: count.parse().ok()?,
+            frame: Frame::Good(message_of(protocol, id, payload)?),
         })
     }
 
@@ -126,15 +126,12 @@ fn executed_by(word: &str) -> Option<(bool, Beside)> {
     })
 }
 
-/// The message that arguments name: protocol, message and payload words.
-fn message_of<A: Allocator>(arguments: Args<A>) -> Option<Message> {
-    let mut arguments = arguments;
-    let protocol = arguments.next()?.parse().ok()?;
-    let id = arguments.next()?.parse().ok()?;
+/// The message of a protocol, a message id and payload words.
+fn message_of(protocol: &String, id: &String, words: &[String]) -> Option<Message> {
+    let header = Header::command(protocol.parse().ok()?, 0, id.parse().ok()?);
     let mut payload = Payload::new();
-    'words: for argument in arguments {
-        payload.try_push(argument.parse().ok()?).ok()?;
+    'words: for word in words {
+        payload.try_push(word.parse().ok()?).ok()?;
     }
-    let header = Header::command(protocol, 0, id);
     Some(Message { header, payload })
 }

@@ -3,10 +3,10 @@ ghost use Rattle.std.specs.Prelude.{◌<◌, ◌≤◌, length};
 ghost use Rattle.scmi_codec.specs.declared.header.TheConstants.{TOKENS};
 ghost use Rattle.scmi_codec.specs.declared.payload.TheConstants.{PAYLOAD_WORDS};
 
+use crate::board::new_plan;
 use crate::lines::Lines;
-use crate::plans::new_plan;
 use scmi_codec::{Frame, Header, Message, PAYLOAD_WORDS, POWER_PROTOCOL, payload_of};
-use scmi_core::{Core, CoreError};
+use scmi_core::Core;
 use std::alloc::Global;
 use std::io::Write;
 
@@ -40,6 +40,17 @@ const BEFORE: u16 = NOTIFY_EVENT + READS * GET_EVENT + 2 * SET_EVENT + 2 * OTHER
 
 const LATER_READS: u16 = (3 * LONGEST_EVENT - BEFORE) / GET_EVENT;
 
+/// A call of a core.
+#[derive(Clone, Copy)]
+enum Call<'a> {
+    /// A command of agent 1.
+    Command(&'a Frame),
+    /// The completion of a set.
+    Advance,
+    /// The posting of agent 1's next message.
+    Sent,
+}
+
 /// Commands of agent 1, completions of its sets, and the postings of its messages. The room of
 /// the history grows for commands, for the first completion, and for the last posting.
 pub fn call_core<W: Write>(alloc: Global, lines: &mut Lines<'_, W>) {
@@ -60,8 +71,8 @@ fn set_state<W: Write>(lines: &mut Lines<'_, W>, core: &mut Core, token: u16, st
     requires token { token < TOKENS }
 {
     execute(lines, core, token, STATE_SET, &[1, 0, state]);
-    complete(lines, core);
-    post(lines, core);
+    make(lines, core, Call::Advance);
+    make(lines, core, Call::Sent);
 }
 
 /// This many reads of a power domain's state.
@@ -78,61 +89,34 @@ fn execute<W: Write>(lines: &mut Lines<'_, W>, core: &mut Core, token: u16, id: 
     let header = Header::command(POWER_PROTOCOL, token, id);
     let payload = payload_of(words);
     let frame = Frame::Good(Message { header, payload });
-    if !is_executed(lines, core, &frame) {
-        is_executed(lines, core, &frame);
+    make(lines, core, Call::Command(&frame));
+}
+
+/// Makes a call, and again if memory is refused.
+fn make<W: Write>(lines: &mut Lines<'_, W>, core: &mut Core, call: Call<'_>) {
+    if !is_made(lines, core, call) {
+        is_made(lines, core, call);
     }
 }
 
-fn is_executed<W: Write>(lines: &mut Lines<'_, W>, core: &mut Core, frame: &Frame) -> bool {
+/// Makes a call, and returns whether it did what it does. What refuses it is memory alone.
+fn is_made<W: Write>(lines: &mut Lines<'_, W>, core: &mut Core, call: Call<'_>) -> bool {
     let mut reply = Message::default();
-    let answer = core.command_into(1, frame, &mut reply);
+    let (name, made, answer) = match call {
+        Call::Command(frame) => {
+            let made = core.command_into(1, frame, &mut reply).is_ok();
+            ("command", made, None)
+        }
+        Call::Advance => ("advance", core.advance() == Ok(true), Some("yes")),
+        Call::Sent => ("sent", core.sent(1).is_ok(), Some("ok")),
+    };
     match answer {
-        Ok(_) => lines.message("command", &reply),
-        Err(error) => write_refusal(lines, "command", error),
+        _ if !made => lines.answer(name, "memory"),
+        Some(answer) => lines.answer(name, answer),
+        None => lines.message(name, &reply),
     }
     write_state(lines, core);
-    answer.is_ok()
-}
-
-fn complete<W: Write>(lines: &mut Lines<'_, W>, core: &mut Core) {
-    if !is_completed(lines, core) {
-        is_completed(lines, core);
-    }
-}
-
-fn is_completed<W: Write>(lines: &mut Lines<'_, W>, core: &mut Core) -> bool {
-    let answer = core.advance();
-    match answer {
-        Ok(true) => lines.answer("advance", "yes"),
-        Ok(false) => lines.answer("advance", "no"),
-        Err(error) => write_refusal(lines, "advance", error),
-    }
-    write_state(lines, core);
-    answer.is_ok()
-}
-
-fn post<W: Write>(lines: &mut Lines<'_, W>, core: &mut Core) {
-    if !is_posted(lines, core) {
-        is_posted(lines, core);
-    }
-}
-
-fn is_posted<W: Write>(lines: &mut Lines<'_, W>, core: &mut Core) -> bool {
-    let answer = core.sent(1);
-    match answer {
-        Ok(()) => lines.answer("sent", "ok"),
-        Err(error) => write_refusal(lines, "sent", error),
-    }
-    write_state(lines, core);
-    answer.is_ok()
-}
-
-fn write_refusal<W: Write>(lines: &mut Lines<'_, W>, call: &str, error: CoreError) {
-    match error {
-        CoreError::Memory => lines.answer(call, "memory"),
-        CoreError::NoAgent => lines.answer(call, "no-agent"),
-        CoreError::Nothing => lines.answer(call, "nothing"),
-    }
+    made
 }
 
 /// The length of the history, and what is next to be posted to agent 1.

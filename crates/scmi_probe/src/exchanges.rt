@@ -5,8 +5,7 @@ use crate::lines::Lines;
 use scmi_codec::{Answer, PAYLOAD_WORDS, Payload, payload_of};
 use scmi_link::{Channel, RingChannel};
 use scmi_words::WordChannel;
-use std::alloc::{Alloc, Global};
-use std::env::{self, Env};
+use std::alloc::Global;
 use std::io::Write;
 
 /// What the arguments `exchange words COUNT WORDS` ask for; with `rings` it goes over rings.
@@ -18,17 +17,18 @@ pub struct Exchanges {
 }
 
 impl Exchanges {
-    /// What is asked for. `None` for other arguments, or if there was no memory to read them.
-    pub fn asked_for<R: Env + Alloc>(rt: &R) -> Option<Exchanges> {
-        let mut arguments = env::args(rt).ok()?;
-        let _program = arguments.next()?;
-        if arguments.next()?.as_str() != "exchange" {
+    /// What is asked for by the words of the command line. `None` for others.
+    pub fn asked_for(words: &[String]) -> Option<Exchanges> {
+        let [_program, task, kind, count, size] = words else {
+            return None;
+        };
+        if task.as_str() != "exchange" {
             return None;
         }
         Some(Exchanges {
-            over_rings: arguments.next()?.as_str() == "rings",
-            count: arguments.next()?.parse().ok()?,
-            words: arguments.next()?.parse().ok()?,
+            over_rings: kind.as_str() == "rings",
+            count: count.parse().ok()?,
+            words: size.parse().ok()?,
         })
     }
 
@@ -60,5 +60,5 @@ fn repeat<C: Channel, W: Write>(
     if let Answer::Reply(reply) = &answer {
         lines.message("reply", reply);
     }
-    session.retire(lines);
+    lines.number("trace", session.retire());
 }

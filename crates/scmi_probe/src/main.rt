@@ -12,11 +12,10 @@ mod commands;
 mod core_calls;
 mod exchanges;
 mod lines;
-mod plans;
 mod registers;
 mod session;
 
-use crate::channels::{make_channel, serve_again, withdraw};
+use crate::channels::{make_channel, make_command};
 use crate::commands::Commands;
 use crate::core_calls::call_core;
 use crate::exchanges::Exchanges;
@@ -24,6 +23,7 @@ use crate::lines::Lines;
 use scmi_link::RingChannel;
 use scmi_words::WordChannel;
 use std::alloc::Global;
+use std::env;
 use std::io::{self, Write};
 use std::process::ExitCode;
 
@@ -31,9 +31,10 @@ fn main(rt: HostRuntime) -> ExitCode {
     let alloc = rt.alloc();
     let mut writer = io::writer(&rt);
     let mut lines = Lines::new(&mut writer);
-    if let Some(exchanges) = Exchanges::asked_for(&rt) {
+    let words = words(&rt, alloc);
+    if let Some(exchanges) = Exchanges::asked_for(&words) {
         exchanges.make(alloc, &mut lines);
-    } else if let Some(commands) = Commands::asked_for(&rt) {
+    } else if let Some(commands) = Commands::asked_for(&words) {
         commands.make(alloc, &mut lines);
     } else {
         call_each(alloc, &mut lines);
@@ -41,11 +42,19 @@ fn main(rt: HostRuntime) -> ExitCode {
     ExitCode::from(u8::from(lines.has_failed()))
 }
 
+/// The words of the command line; none if there was no memory to read them.
+fn words(rt: &HostRuntime, alloc: Global) -> Vec<String> {
+    match env::args(rt) {
+        Ok(words) => words.collect(alloc).unwrap_or(Vec::new(alloc)),
+        Err(_) => Vec::new(alloc),
+    }
+}
+
 fn call_each<W: Write>(alloc: Global, lines: &mut Lines<'_, W>) {
     make_channel::<RingChannel, _>(alloc, lines);
     make_channel::<WordChannel, _>(alloc, lines);
     call_core(alloc, lines);
-    serve_again::<RingChannel, _>(alloc, lines);
-    serve_again::<WordChannel, _>(alloc, lines);
-    withdraw::<WordChannel, _>(alloc, lines);
+    make_command::<RingChannel, _>(alloc, lines, false);
+    make_command::<WordChannel, _>(alloc, lines, false);
+    make_command::<WordChannel, _>(alloc, lines, true);
 }

@@ -2,13 +2,11 @@
 ghost use Rattle.std.specs.Prelude.{◌≡◌};
 ghost use Rattle.scmi_ends.specs.AgentView.{IsOfLink, HasSameIdentities};
 
-use crate::lines::Lines;
 use scmi_codec::{Answer, BASE_PROTOCOL, Payload};
 use scmi_core::Core;
 use scmi_ends::{AgentEnd, Controller, Link, ServeError, Served, connect};
-use scmi_link::{Channel, CloseError, Closing, Collected, PostError};
+use scmi_link::{Channel, CloseError, Closing, PostError};
 use std::alloc::Global;
-use std::io::Write;
 use std::marker::Model;
 
 /// The controller of a board, its agents, and the channels between them. A contract sees how many
@@ -48,106 +46,58 @@ impl<C: Channel> Session<C> {
         })
     }
 
-    /// Agent 1 asks for the version of the base protocol.
-    pub fn call<W: Write>(&mut self, lines: &mut Lines<'_, W>)
-        requires { 1 ≤ self.old }
-        ensures { self.new ≡ self.old }
-    {
-        match self.ask(&Payload::new()) {
-            Ok(token) => lines.number("call", token as usize),
-            Err(_) => lines.answer("call", "refused"),
-        }
-    }
-
-    /// Serves agent 1, and returns whether there was memory for it.
-    pub fn serve<W: Write>(&mut self, lines: &mut Lines<'_, W>) -> bool
-        ensures { self.new ≡ self.old }
-    {
-        let answer = self.controller.serve(&self.links, 1);
-        match answer {
-            Ok(Served::Done) => lines.answer("serve", "done"),
-            Ok(Served::Nothing) => lines.answer("serve", "nothing"),
-            Err(ServeError::Memory) => lines.answer("serve", "memory"),
-            Err(ServeError::NoAgent) => lines.answer("serve", "no-agent"),
-        }
-        answer.is_ok()
-    }
-
-    /// Agent 1 polls for its reply.
-    pub fn collect<W: Write>(&mut self, lines: &mut Lines<'_, W>)
-        requires { 1 ≤ self.old }
-        ensures { self.new ≡ self.old }
-    {
-        match self.look() {
-            Collected::Got(Answer::Reply(reply)) => lines.message("collect", &reply),
-            _ => lines.answer("collect", "none"),
-        }
-    }
-
-    /// Agent 1 posts a command of the base protocol that asks for its version, with these payload
-    /// words; it is served, and its answer read into `answer`.
-    pub fn exchange(&mut self, payload: &Payload, answer: &mut Answer)
-        requires { 1 ≤ self.old }
-        ensures { self.new ≡ self.old }
-    {
-        let _ = self.ask(payload);
-        let _ = self.controller.serve(&self.links, 1);
-        self.look_into(answer);
-    }
-
-    /// Agent 1 closes its channels.
-    pub fn close<W: Write>(&mut self, lines: &mut Lines<'_, W>)
-        requires { 1 ≤ self.old }
-        ensures { self.new ≡ self.old }
-    {
-        match self.close_first() {
-            Ok(Closing::Withdrawn) => lines.answer("close", "withdrawn"),
-            Ok(Closing::Idle) => lines.answer("close", "idle"),
-            Err(_) => lines.answer("close", "refused"),
-        }
-    }
-
-    /// Gathers all endpoints. The line is the length of the history.
-    pub fn retire<W: Write>(self, lines: &mut Lines<'_, W>) {
-        let Session {
-            controller,
-            links,
-            agents,
-        } = self;
-        let trace = controller.retire(links, agents);
-        lines.number("trace", trace.len());
-    }
-
-    fn ask(&mut self, payload: &Payload) -> Result<u16, PostError>
+    /// Agent 1 asks for the version of the base protocol, with these payload words.
+    pub fn ask(&mut self, payload: &Payload) -> Result<u16, PostError>
         requires { 1 ≤ self.old }
         ensures { self.new ≡ self.old }
     {
         ask(&mut self.agents[0], &self.links[0], payload)
     }
 
-    fn look(&mut self) -> Collected
-        requires { 1 ≤ self.old }
+    /// Serves agent 1.
+    pub fn serve(&mut self) -> Result<Served, ServeError>
         ensures { self.new ≡ self.old }
     {
-        self.agents[0].collect(&self.links[0])
+        self.controller.serve(&self.links, 1)
     }
 
-    fn look_into(&mut self, answer: &mut Answer)
+    /// Agent 1 polls for its reply.
+    pub fn look(&mut self, answer: &mut Answer)
         requires { 1 ≤ self.old }
         ensures { self.new ≡ self.old }
     {
         let _ = self.agents[0].collect_into(&self.links[0], answer);
     }
 
-    fn close_first(&mut self) -> Result<Closing, CloseError>
+    /// Agent 1 asks, is served, and polls for its reply.
+    pub fn exchange(&mut self, payload: &Payload, answer: &mut Answer)
+        requires { 1 ≤ self.old }
+        ensures { self.new ≡ self.old }
+    {
+        let _ = self.ask(payload);
+        let _ = self.serve();
+        self.look(answer);
+    }
+
+    /// Agent 1 closes its channels.
+    pub fn close(&mut self) -> Result<Closing, CloseError>
         requires { 1 ≤ self.old }
         ensures { self.new ≡ self.old }
     {
         close(&mut self.agents[0], &self.links[0])
     }
+
+    /// Gathers all endpoints, and gives the length of the history.
+    pub fn retire(self) -> usize {
+        let Session {
+            controller,
+            links,
+            agents,
+        } = self;
+        controller.retire(links, agents).len()
+    }
 }
 
-/// Asks for the version of the base protocol, with these payload words.
 fn ask<C: Channel>(
     end: &mut AgentEnd<C>,
     link: &Link<C>,

@@ -1,4 +1,5 @@
 mod DroppedSince
 pub mod Lines
+pub mod Plain
 pub mod Refused
 pub mod Runs

@@ -32,8 +32,10 @@ impl<C: Channel> Model for Session<C> {
 
 impl<C: Channel> Session<C> {
     ghost use Rattle.std.specs.Prelude.{◌≡◌, length, IfOk, OnErr};
+    ghost use Rattle.std.specs.List.{All};
+    ghost use Rattle.scmi_core.specs.Plain.{IsPlain};
     ghost use Rattle.scmi_plan.specs.Agent.{IsAgent};
-    ghost use Rattle.scmi_text.specs.Step.{IsStepOf};
+    ghost use Rattle.scmi_text.specs.Step.{IsStepOf, IsWithoutHardware};
     ghost use Rattle.scmi_ends.specs.Shut.{ShowsClose};
     ghost use Rattle.scmi_session.specs.Run.{IsNewSession, IsGathered};
     ghost use Rattle.scmi_session.specs.StepLines.{IsLineOf};
@@ -63,7 +65,8 @@ impl<C: Channel> Session<C> {
     }
 
     /// Makes one step, and gives its line of output. After an error nothing was taken, executed or
-    /// posted by the call of the step that was refused.
+    /// posted by the call of the step that was refused. A step without hardware adds commands,
+    /// advances and postings alone to the history.
     pub fn step(&mut self, step: &Step) -> Result<StepLine, AllocError>
         requires { IsStepOf (length self.old.agents) step.now }
         ensures agents { length self.new.agents ≡ length self.old.agents }
@@ -71,6 +74,8 @@ impl<C: Channel> Session<C> {
         ensures steps { IfOk result (λ line.
             Steps C.FULL (ShowsClose C.caller_view C.close_shows) step.now line self.old self.new) }
         ensures stops { OnErr result (StopsFor step.now self.old self.new) }
+        ensures plain { IsWithoutHardware step.now → All IsPlain self.old.platform.history →
+            All IsPlain self.new.platform.history }
     {
         match step {
             Step::Agent { agent, step } => Ok(self.of_agent(*agent, step)),

@@ -12,6 +12,7 @@ pub mod Moves
 pub mod LogLemmas
 pub mod Ready
 pub mod Opened
+pub mod PlainLemmas
 pub mod RoundLemmas
 pub mod Undisturbed
 pub mod Started

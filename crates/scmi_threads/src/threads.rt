@@ -1,13 +1,15 @@
 //! The run: each agent in a thread of its own, and the controller in another.
-ghost use Rattle.std.specs.Prelude.{◌≡◌, ◌≤◌, [], true, List, length, vec_len, vec_capacity, IfOk, OnErr};
+ghost use Rattle.std.specs.Prelude.{◌≡◌, ◌≤◌, [], false, true, List, length, vec_len, vec_capacity, IfOk, OnErr};
+ghost use Rattle.std.specs.List.{All};
+ghost use Rattle.scmi_core.specs.Asked.{Asked};
 ghost use Rattle.scmi_core.specs.Bounds.{HasBounds, HasResponses};
 ghost use Rattle.scmi_core.specs.Driven.{HasMade};
 ghost use Rattle.scmi_core.specs.History.{deeds};
 ghost use Rattle.scmi_core.specs.Legal.{IsLegal};
-ghost use Rattle.scmi_core.specs.declared.effect.Effect.{Effect};
 ghost use Rattle.scmi_ends.specs.Each.{AllFrom};
 ghost use Rattle.scmi_threads.specs.AfterClose.{EndsAtClose};
 ghost use Rattle.scmi_threads.specs.Logs.{LogHeadline};
+ghost use Rattle.scmi_core.specs.Plain.{IsNoRestart, IsPlain};
 ghost use Rattle.scmi_threads.specs.ScriptLogs.{IsGatedLog, IsScriptLog, orders_of};
 ghost use Rattle.scmi_threads.specs.Scripts.{AreScriptsOf};
 
@@ -33,18 +35,18 @@ use std::thread::Threads;
 /// ended, or with the first that is refused memory.
 ///
 /// Condition: each script is of an agent of the plan, numbered from 1, and no two are of the same.
-/// The trace is a legal history of the plan. The logs are the agents', in order. Of each: the
-/// commands executed for it are those it posted, in order, each once, at most the last left out;
-/// each answer it read is the one at that command's place; after a close with nothing outstanding
-/// all were executed and read, and a command that was withdrawn was not executed; the messages it
-/// took are those delivered, at most the last left out, and with its outbox they are all that was
-/// made for it, in which no delayed response is lost; and its n-th command has token (n - 1) modulo
-/// 1,024. Each log follows its agent's script order by order, and to its end if it was not stopped,
-/// and before each line that was begun the gate was asked with that agent and line. A wait that ran
-/// out had `TURNS` polls, and one that was answered at least one and at most `TURNS`; a log counts
-/// them, modulo 2^64. After a close that succeeded no further command of the script is executed:
-/// its other orders post nothing, read no answer and take no message. Running out of memory before
-/// the scripts start is the only refusal.
+/// The trace is a legal history of the plan, of commands, advances and postings alone. The logs are
+/// the agents', in order. Of each: the commands executed for it are those it posted, in order, each
+/// once, at most the last left out; each answer it read is the one at that command's place; after a
+/// close with nothing outstanding all were executed and read, and a command that was withdrawn was
+/// not executed; the messages it took are those delivered, at most the last left out, and with its
+/// outbox they are all that was made for it, in which no delayed response is lost; and its n-th
+/// command has token (n - 1) modulo 1,024. Each log follows its agent's script order by order, and
+/// to its end if it was not stopped, and before each line that was begun the gate was asked with
+/// that agent and line. A wait that ran out had `TURNS` polls, and one that was answered at least
+/// one and at most `TURNS`; a log counts them, modulo 2^64. After a close that succeeded no further
+/// command of the script is executed: its other orders post nothing, read no answer and take no
+/// message. Running out of memory before the scripts start is the only refusal.
 pub fn run_agents<C: Channel, G: Gate, R: Threads + Wait + Sync>(
     rt: &R,
     alloc: Global,
@@ -54,6 +56,7 @@ pub fn run_agents<C: Channel, G: Gate, R: Threads + Wait + Sync>(
 ) -> Result<Outcome, AllocError>
     requires scripts { AreScriptsOf (length plan.agents) scripts.now }
     ensures legal { IfOk result (λ outcome. IsLegal plan outcome.trace.events) }
+    ensures plain { IfOk result (λ outcome. All IsPlain outcome.trace.events) }
     ensures bounds { IfOk result (λ outcome. HasBounds plan (deeds plan outcome.trace.events)) }
     ensures responses { IfOk result (λ outcome.
         HasResponses plan (deeds plan outcome.trace.events)) }
@@ -78,8 +81,10 @@ pub fn run_agents<C: Channel, G: Gate, R: Threads + Wait + Sync>(
 /// the command has failed, and its answer is HARDWARE_ERROR at its place in the history, or the set
 /// ends as failed.
 ///
-/// Hardware that keeps a list has made exactly what the trace changes, in order, each once, after
-/// what it had made before. After a refusal it comes back as it was.
+/// No agent is restarted, and beside hardware that never refuses no event is a failed one. Hardware
+/// that keeps a list was asked for exactly what belongs to the trace, in order, each change once,
+/// after what it was asked for before: it has made what the trace changes, and refused what failed.
+/// After an error it comes back as it was.
 pub fn run_agents_on<C: Channel, G: Gate, H: Hardware + Send + Drop, R: Threads + Wait + Sync>(
     rt: &R,
     alloc: Global,
@@ -90,6 +95,9 @@ pub fn run_agents_on<C: Channel, G: Gate, H: Hardware + Send + Drop, R: Threads 
 ) -> (Result<Outcome, AllocError>, H)
     requires scripts { AreScriptsOf (length plan.agents) scripts.now }
     ensures legal { IfOk result.0 (λ outcome. IsLegal plan outcome.trace.events) }
+    ensures no_restart { IfOk result.0 (λ outcome. All IsNoRestart outcome.trace.events) }
+    ensures plain { H.REFUSES ≡ false →
+        IfOk result.0 (λ outcome. All IsPlain outcome.trace.events) }
     ensures bounds { IfOk result.0 (λ outcome. HasBounds plan (deeds plan outcome.trace.events)) }
     ensures responses { IfOk result.0 (λ outcome.
         HasResponses plan (deeds plan outcome.trace.events)) }
@@ -105,9 +113,9 @@ pub fn run_agents_on<C: Channel, G: Gate, H: Hardware + Send + Drop, R: Threads 
         EndsAtClose C.FULL (orders_of scripts.now a) outcome.trace.events a log)
         1 outcome.logs.items) }
     ensures memory { IfOk result.0 (λ outcome. outcome.memory ≡ true → outcome.trace.room ≡ 0) }
-    ensures made { IfOk result.0 (λ outcome. (before : List Effect)
-        → HasMade before plan [] (H.applied hardware)
-        → HasMade before plan outcome.trace.events (H.applied result.1)) }
+    ensures made { IfOk result.0 (λ outcome. (before : List Asked)
+        → HasMade before plan [] (H.asked hardware)
+        → HasMade before plan outcome.trace.events (H.asked result.1)) }
     ensures unasked { OnErr result.0 (result.1 ≡ hardware) }
 {
     let agents = plan.agents() as usize;

@@ -14,7 +14,7 @@ use crate::word_callee::WordCallee;
 use crate::word_caller::WordCaller;
 use crate::word_image::{WordImage, words_of};
 use scmi_codec::{Answer, Frame, Header, Message, Payload, is_well_formed};
-use scmi_link::{Channel, CloseError, Closing, LinkError, Looked, PostError};
+use scmi_link::{Channel, CloseError, Closing, Collected, LinkError, Looked, PostError};
 use std::alloc::Global;
 
 /// A channel of shared words: the area of a mailbox (DEN0056B, shared memory transport), a word for
@@ -29,12 +29,17 @@ use std::alloc::Global;
 /// that finds nothing. What an endpoint knew before may refuse a call, which then makes none. A
 /// close makes 1, or 2 if it withdraws, and none once the endpoint has closed.
 ///
-/// Beyond what every channel promises (own): no post answers `Full`. A `collect_into` that gives
-/// `Nothing` has loaded the status, and so has a `take_into` that gives nothing while no answer is
-/// owed and no close is known. A `close_caller` that withdraws leaves the phase `Withdrawn`, for
-/// which the area has status 1 and the frame; one that is refused shows that the post was taken and
-/// not answered, or that it was answered. What `gather` leaves encodes the last answer, or the last
-/// frame if it was left untaken. `post`, `collect` and `take` are the trait's, by these calls.
+/// Beyond what every channel promises (own):
+///
+/// - No post answers `Full`.
+/// - A `collect` that gives `Nothing` has loaded the status, and saw no closed mark and, with a post
+///   outstanding, no free channel.
+/// - A `take` that gives `None` while no answer is owed and no close is known has tried its
+///   exchange, and saw another status than posted.
+/// - A `close_caller` that withdraws leaves the phase `Withdrawn`, for which the area has status 1
+///   and the frame; one that is refused shows that the post was taken and not answered, or that it
+///   was answered.
+/// - What `gather` leaves encodes the last answer, or the last frame if it was left untaken.
 #[derive(Drop)]
 pub struct WordChannel {
     pub(crate) table: SharedTable,
@@ -138,6 +143,22 @@ impl Channel for WordChannel {
         Ok((WordChannel { table }, caller, callee))
     }
 
+    fn post(&self, caller: &mut WordCaller, message: &Message) -> Result<(), PostError>
+        requires identity { word_caller_identity caller.old ≡ word_channel_identity self.now }
+        ensures identity { word_caller_identity caller.new ≡ word_caller_identity caller.old }
+        ensures posts { Posts false (word_caller_view caller.old) (Good message.now) result
+            (word_caller_view caller.new) }
+        ensures never_full { result ≢ Err PostError.Full }
+        ensures withdrawn_stays { IsWithdrawn caller.old → IsWithdrawn caller.new }
+        ensures draft { HasNoDraft caller.old →
+            (result ≡ Err PostError.Closed → knows_close (word_caller_view caller.old) ≡ true) →
+            HasNoDraft caller.new }
+        ensures steps { word_caller_steps caller.old (call_post (Good message.now) result)
+            caller.new }
+    {
+        self.post_parts(caller, message.header, &message.payload)
+    }
+
     fn post_parts(
         &self,
         caller: &mut WordCaller,
@@ -211,6 +232,23 @@ impl Channel for WordChannel {
         matches!(caller.phase, Phase::Waiting)
     }
 
+    fn collect(&self, caller: &mut WordCaller) -> Collected
+        requires identity { word_caller_identity caller.old ≡ word_channel_identity self.now }
+        ensures identity { word_caller_identity caller.new ≡ word_caller_identity caller.old }
+        ensures collects { Collects (word_caller_view caller.old) result
+            (word_caller_view caller.new) }
+        ensures known { knows_close (word_caller_view caller.old) ≡ true →
+            ¬ IsOutstanding (word_caller_view caller.old) → result ≡ Collected.Closed }
+        ensures nothing { WhyNothing caller.old result caller.new }
+        ensures withdrawn_stays { IsWithdrawn caller.old → IsWithdrawn caller.new }
+        ensures draft { HasNoDraft caller.old → HasNoDraft caller.new }
+        ensures steps { word_caller_steps caller.old (call_collect result) caller.new }
+    {
+        let mut answer = Answer::Released;
+        let looked = self.collect_into(caller, &mut answer);
+        Collected::of(looked, answer)
+    }
+
     fn collect_into(&self, caller: &mut WordCaller, answer: &mut Answer) -> Looked
         requires identity { word_caller_identity caller.old ≡ word_channel_identity self.now }
         ensures identity { word_caller_identity caller.new ≡ word_caller_identity caller.old }
@@ -251,6 +289,20 @@ impl Channel for WordChannel {
         } else {
             Looked::Nothing
         }
+    }
+
+    fn take(&self, callee: &mut WordCallee) -> Option<Frame>
+        requires identity { word_callee_identity callee.old ≡ word_channel_identity self.now }
+        ensures identity { word_callee_identity callee.new ≡ word_callee_identity callee.old }
+        ensures takes { Takes (word_callee_view callee.old) result (word_callee_view callee.new) }
+        ensures none { WhyNone callee.old result callee.new }
+        ensures steps { word_callee_steps callee.old (call_take result) callee.new }
+    {
+        let mut frame = Frame::Malformed {
+            length: 0,
+            header: 0,
+        };
+        self.take_into(callee, &mut frame).then_some(frame)
     }
 
     fn take_into(&self, callee: &mut WordCallee, frame: &mut Frame) -> bool

@@ -9,40 +9,43 @@ pub returns-clause-text : goal.returns-clause-text
 returns-clause-text g c =
     let old = g.W.Write.contents c.args.writer.now in
     let new = g.W.Write.contents c.write_logs.new.writer in
-    let told : IsTextOfOutcome g.C.Channel.FULL c.args.plan c.args.scripts.now c.in-Ok.outcome old new = record {
+    let told : IsTextOfOutcome g.C.Channel.FULL c.args.plan c.args.scripts.now c.in_ok-outcome.outcome old new = record {
       of_agents = c.requires.scripts;
-      legal = c.in-Ok.ensures.legal;
-      count = c.in-Ok.ensures.count;
-      follow = c.in-Ok.ensures.scripts;
-      headline = c.in-Ok.ensures.headline;
+      legal = c.in_ok-outcome.ensures.legal;
+      plain = c.in_ok-outcome.ensures.plain;
+      count = c.in_ok-outcome.ensures.count;
+      follow = c.in_ok-outcome.ensures.scripts;
+      headline = c.in_ok-outcome.ensures.headline;
       text = subst (λ logs. Appends old new (logs_text 1 logs)) c.deref.ensures.value c.in_ok-write_logs.ensures.text;
     } in
-    on_ok (All (λ log. log.stopped ≡ None) c.in-Ok.outcome.logs.items) (IsTextOfEndedRun g.C.Channel.FULL c.args.plan c.args.scripts.now old new) c.verdict.result c.verdict.ensures.ok (λ ended. record { outcome = c.in-Ok.outcome; not_stopped = ended; told = told })
+    on_ok (All (λ log. log.stopped ≡ None) c.in_ok-outcome.outcome.logs.items) (IsTextOfEndedRun g.C.Channel.FULL c.args.plan c.args.scripts.now old new) c.verdict.result c.verdict.ensures.ok (λ ended. record { outcome = c.in_ok-outcome.outcome; not_stopped = ended; told = told })
 
 pub returns-clause-limit : goal.returns-clause-limit
 returns-clause-limit g c =
     let old = g.W.Write.contents c.args.writer.now in
     let new = g.W.Write.contents c.write_logs.new.writer in
-    let told : IsTextOfOutcome g.C.Channel.FULL c.args.plan c.args.scripts.now c.in-Ok.outcome old new = record {
+    let told : IsTextOfOutcome g.C.Channel.FULL c.args.plan c.args.scripts.now c.in_ok-outcome.outcome old new = record {
       of_agents = c.requires.scripts;
-      legal = c.in-Ok.ensures.legal;
-      count = c.in-Ok.ensures.count;
-      follow = c.in-Ok.ensures.scripts;
-      headline = c.in-Ok.ensures.headline;
+      legal = c.in_ok-outcome.ensures.legal;
+      plain = c.in_ok-outcome.ensures.plain;
+      count = c.in_ok-outcome.ensures.count;
+      follow = c.in_ok-outcome.ensures.scripts;
+      headline = c.in_ok-outcome.ensures.headline;
       text = subst (λ logs. Appends old new (logs_text 1 logs)) c.deref.ensures.value c.in_ok-write_logs.ensures.text;
     } in
-    λ limit. record { outcome = c.in-Ok.outcome; told = told }
+    λ limit. record { outcome = c.in_ok-outcome.outcome; told = told }
 
 pub returns-clause-memory : goal.returns-clause-memory
 returns-clause-memory g c =
     let old = g.W.Write.contents c.args.writer.now in
     let new = g.W.Write.contents c.write_logs.new.writer in
-    let told : IsTextOfOutcome g.C.Channel.FULL c.args.plan c.args.scripts.now c.in-Ok.outcome old new = record {
+    let told : IsTextOfOutcome g.C.Channel.FULL c.args.plan c.args.scripts.now c.in_ok-outcome.outcome old new = record {
       of_agents = c.requires.scripts;
-      legal = c.in-Ok.ensures.legal;
-      count = c.in-Ok.ensures.count;
-      follow = c.in-Ok.ensures.scripts;
-      headline = c.in-Ok.ensures.headline;
+      legal = c.in_ok-outcome.ensures.legal;
+      plain = c.in_ok-outcome.ensures.plain;
+      count = c.in_ok-outcome.ensures.count;
+      follow = c.in_ok-outcome.ensures.scripts;
+      headline = c.in_ok-outcome.ensures.headline;
       text = subst (λ logs. Appends old new (logs_text 1 logs)) c.deref.ensures.value c.in_ok-write_logs.ensures.text;
     } in
-    λ memory. inr (record { outcome = c.in-Ok.outcome; told = told })
+    λ memory. inr (record { outcome = c.in_ok-outcome.outcome; told = told })

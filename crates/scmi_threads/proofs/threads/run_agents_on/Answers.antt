@@ -8,11 +8,13 @@ use Rattle.scmi_plan.specs.Plan.{IsValid}
 use Rattle.scmi_ends.specs.Each.{AllFrom}
 use Rattle.scmi_ends.specs.Links.{identities_of_a2p, identities_of_p2a}
 use Rattle.scmi_threads.specs.Orders.{IsUndisturbed}
+use Rattle.scmi_core.specs.Plain.{IsNoRestart, IsPlain}
 use Rattle.scmi_threads.specs.ScriptLogs.{IsGatedLog, IsScriptLog, orders_of}
 use Rattle.scmi_threads.specs.declared.agent_log.AgentLog.{AgentLog}
 use Rattle.scmi_threads.proofs.AfterCloseLemmas.{all_end_at_close}
 use Rattle.scmi_threads.proofs.Started.{all_follow, all_gated}
 use Rattle.scmi_threads.proofs.Moves.{zip_maps}
+use Rattle.scmi_threads.proofs.PlainLemmas.{all_of_run}
 use Rattle.scmi_threads.proofs.RoundLemmas.{made_of_run}
 use Rattle.scmi_threads.proofs.threads.run_agents_on.Goals as goal
 use Rattle.scmi_threads.proofs.threads.run_agents_on.Goals.{After-conclude, After-end_runs-ends}
@@ -72,5 +74,11 @@ pub returns-clause-closed : goal.returns-clause-closed
 returns-clause-closed g c = all_end_at_close g.C.Channel.FULL (orders_of c.args.scripts.now) _ _ 1 _ (all_gated _ _ (λ a log gated. gated.script) 1 _ (gated_logs g (goal.at.returns-clause-closed g c).After-conclude)) c.conclude.ensures.headline
 
 pub returns-clause-made : goal.returns-clause-made
-returns-clause-made g c = made_of_run c.args.plan c.in-Ok.controller.board c.run_beside-controller.result.0.0.board c.in-Ok.controller.history c.run_beside-controller.result.0.0.history c.conclude.result.trace.events (g.H.Hardware.applied c.args.hardware) (g.H.Hardware.applied c.run_beside-controller.result.0.2)
+returns-clause-made g c = made_of_run c.args.plan c.in-Ok.controller.board c.run_beside-controller.result.0.0.board c.in-Ok.controller.history c.run_beside-controller.result.0.0.history c.conclude.result.trace.events (g.H.Hardware.asked c.args.hardware) (g.H.Hardware.asked c.run_beside-controller.result.0.2)
     (c.in-Ok.ensures.controller.0 ∙ c.new-core.ensures.board) c.in-Ok.ensures.controller.1 c.run_beside-controller.ensures.goes_on.board c.conclude.ensures.history c.run_beside-controller.ensures.goes_on.made
+
+pub returns-clause-no_restart : goal.returns-clause-no_restart
+returns-clause-no_restart g c = all_of_run IsNoRestart c.in-Ok.controller.history c.run_beside-controller.result.0.0.history c.conclude.result.trace.events c.in-Ok.ensures.controller.1 c.conclude.ensures.history c.run_beside-controller.ensures.goes_on.no_restart
+
+pub returns-clause-plain : goal.returns-clause-plain
+returns-clause-plain g c = λ never. all_of_run IsPlain c.in-Ok.controller.history c.run_beside-controller.result.0.0.history c.conclude.result.trace.events c.in-Ok.ensures.controller.1 c.conclude.ensures.history (c.run_beside-controller.ensures.goes_on.plain never)

@@ -1,4 +1,4 @@
 use Rattle.scmi_probe.proofs.session.Session.serve.Goals as goal
 
-pub serve-answer-requires-after_bounds : goal.serve-answer-requires-after_bounds
-serve-answer-requires-after_bounds g c κs within = rw (c.deref.ensures.value) c.self.invariant.platform_ends
+pub serve-requires-after_bounds : goal.serve-requires-after_bounds
+serve-requires-after_bounds g c κs within = rw (c.deref.ensures.value) c.self.invariant.platform_ends

@@ -1,0 +1,34 @@
+//! Tests of the public surface, and of what no session shows, by public items alone.
+//!
+//! `surface` writes each public name as a caller does. These stand beside what a platform without
+//! hardware and restarts has, each with its reason in docs/DECISIONS.md:
+//!
+//! | name | has besides |
+//! |---|---|
+//! | `Event` | `CommandFailed`, `AdvanceFailed`, `Restarted` |
+//! | `AgentLog` | `reply_looks`, `message_looks` |
+//! | `Gate`, `Channel` | ghost members, by which contracts speak of them |
+//! | `Rates::List` | a `RateList` of the vector, which contracts see as a list |
+//! | the program | a library, `scmi_modes`, which has its names, and `scmi_threads` below it |
+#![tactic(auto)]
+
+#[cfg(test)]
+mod boards;
+#[cfg(test)]
+mod channels;
+#[cfg(test)]
+mod direct_calls;
+#[cfg(test)]
+mod eleven;
+#[cfg(test)]
+mod example;
+#[cfg(test)]
+mod meeting;
+#[cfg(test)]
+mod messages;
+#[cfg(test)]
+mod pair;
+#[cfg(test)]
+mod race;
+#[cfg(test)]
+mod surface;

@@ -1,0 +1,12 @@
+//! Every public name of the platform's ten crates, as a caller writes it.
+
+mod base;
+mod clock;
+mod codec;
+mod core;
+mod ends;
+mod link;
+mod plan;
+mod power;
+mod run;
+mod words;
