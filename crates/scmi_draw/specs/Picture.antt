@@ -2,7 +2,7 @@
 use Rattle.std.specs.Prelude.{◌≡◌, ℕ, List, Option, IfSome}
 use Rattle.std.specs.Io.KnownBytes.{Appends}
 use Rattle.scmi_input.specs.Lines.{after_line, first_line}
-use Rattle.scmi_svg.specs.Chart.{svg_text}
+use Rattle.scmi_svg.specs.Diagram.{diagram_text}
 use Rattle.scmi_svg.specs.declared.chart.Chart.{Chart}
 use Rattle.scmi_draw.specs.AnyMode.{any_line_of}
 use Rattle.scmi_draw.specs.Run.{ShowsScript}
@@ -15,12 +15,16 @@ abbrev pub ShowsInput : AnyMode → List ℕ → Chart → Type 0
 ShowsInput (Script mode) input chart = ShowsScript mode input chart
 ShowsInput (Threads kind) input chart = ShowsThreads kind input chart
 
--- what is written is the picture of the run of an input, which is this one if it is known
-pub record IsPicture (known old new : Option (List ℕ)) : Type 0 where
+-- a chart of the run of an input, which is this one if it is known
+pub record IsChartOf (known : Option (List ℕ)) (chart : Chart) : Type 0 where
   pub mode : AnyMode
   pub rest : List ℕ
-  pub chart : Chart
   pub named : IfSome known (λ input. first_line input ≡ any_line_of mode)
   pub behind : IfSome known (λ input. after_line input ≡ rest)
   pub shown : ShowsInput mode rest chart
-  pub text : Appends old new (svg_text chart)
+
+-- what is written is the diagram of such a chart
+pub record IsDiagram (known old new : Option (List ℕ)) : Type 0 where
+  pub chart : Chart
+  pub shown : IsChartOf known chart
+  pub text : Appends old new (diagram_text chart)

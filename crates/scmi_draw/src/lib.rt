@@ -1,13 +1,14 @@
-//! A script in, the sequence chart of its run out, as an SVG.
+//! A script in, the sequence chart of its run out, as an SVG or as a Mermaid diagram.
 //!
 //! The main type is `AnyMode`: a script on one thread, or a script for each agent, each in a thread
-//! of its own. The main theorem is the contract of `run_draw`: if the status is 0, what was written
-//! is the picture of a chart whose marks are those of the lines of the input's steps on its board,
-//! in order; for agents in threads, of the steps of the one history that their run left.
+//! of its own. The main theorem is the contract of `read_chart`: the marks of the chart are those of
+//! the lines of the input's steps on its board, in order; for agents in threads, of the steps of the
+//! one history that their run left. `run_draw` writes that chart.
 #![tactic(auto)]
 
 mod any_mode;
 mod draw;
+mod form;
 mod history;
 mod mode;
 mod run;
@@ -15,7 +16,8 @@ mod step_text;
 mod threads;
 
 pub use any_mode::AnyMode;
-pub use draw::{draw_input, run_draw};
+pub use draw::{draw, draw_input, read_chart, run_draw};
+pub use form::Form;
 pub use mode::Mode;
 pub use run::{STEPS, chart_of};
 pub use threads::chart_of_threads;
