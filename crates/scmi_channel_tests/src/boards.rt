@@ -1,6 +1,6 @@
 //! Boards of the tests, built from rows.
 
-use scmi_plan::{Device, Plan, RateList, Rates, RawClock, RawDomain, RawPlan};
+use scmi_plan::{Device, Plan, Rates, RawClock, RawDomain, RawPlan};
 use std::alloc::{AllocError, Global};
 use std::test::Fail;
 
@@ -93,7 +93,7 @@ fn add_domains(alloc: Global, raw: &mut RawPlan) -> Result<(), AllocError> {
 }
 
 fn add_clocks(alloc: Global, raw: &mut RawPlan) -> Result<(), AllocError> {
-    let core = RateList::new([100, 200, 300].to_vec(alloc)?);
+    let core = [100, 200, 300].to_vec(alloc)?;
     add_clock(alloc, raw, ("core", true, 100), Rates::List(core))?;
     let bus = Rates::Steps {
         low: 1000,

@@ -5,7 +5,7 @@ use crate::boards::{add_clock, reference_board, reference_plan};
 use crate::messages::message;
 use scmi_codec::{Answer, Frame, Message};
 use scmi_core::{Answered, Core, Platform};
-use scmi_plan::{AgentChannel, ChannelError, Plan, RateList, Rates};
+use scmi_plan::{AgentChannel, ChannelError, Plan, Rates};
 use std::alloc::Global;
 use std::process::Abort;
 use std::test::Fail;
@@ -117,10 +117,10 @@ const LONG: [Row<'static>; 3] = [
 /// The reference board with a clock `pix` more, whose agent 1 has channels of 32 words, and agent 2 one of 8 and none back.
 fn plan_of_short_channels(alloc: Global) -> Result<Plan, Fail> {
     let mut raw = reference_board(alloc)?;
-    let pix = RateList::new([
+    let pix = [
         1, 2, 3, 4, 5, 6, 7, 8, 9, 10, 11, 12, 13, 14, 15, 16, 17, 18, 19, 20,
     ]
-    .to_vec(alloc)?);
+    .to_vec(alloc)?;
     add_clock(alloc, &mut raw, ("pix", true, 1), Rates::List(pix))?;
     let mut plan = Plan::check(alloc, &raw)?;
     let first = plan.set_channel(

@@ -1,6 +1,6 @@
 //! Boards of the tests, built from rows.
 
-use scmi_plan::{Device, Plan, RateList, Rates, RawClock, RawDomain, RawPlan};
+use scmi_plan::{Device, Plan, Rates, RawClock, RawDomain, RawPlan};
 use std::alloc::{AllocError, Global};
 use std::test::Fail;
 
@@ -145,12 +145,8 @@ pub fn add_device(raw: &mut RawPlan, domains: u32, clocks: u32) -> Result<(), Al
     Ok(())
 }
 
-pub fn rate_list(alloc: Global, rates: &[u64]) -> Result<RateList, AllocError> {
-    Ok(RateList::new(rates.to_vec(alloc)?))
-}
-
 pub fn list(alloc: Global, rates: &[u64]) -> Result<Rates, AllocError> {
-    Ok(Rates::List(rate_list(alloc, rates)?))
+    Ok(Rates::List(rates.to_vec(alloc)?))
 }
 
 /// The list 1, 2 and so on up to `count`.
@@ -159,7 +155,7 @@ pub fn rates_up_to(alloc: Global, count: u64) -> Result<Rates, AllocError> {
     for rate in 0..count {
         rates.push(rate.wrapping_add(1))?;
     }
-    Ok(Rates::List(RateList::new(rates)))
+    Ok(Rates::List(rates))
 }
 
 pub fn steps(low: u64, high: u64, step: u64) -> Rates {

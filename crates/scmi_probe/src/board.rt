@@ -1,6 +1,6 @@
 //! The board that all calls are made on.
 
-use scmi_plan::{Device, RateList, Rates, RawClock, RawDomain, RawPlan};
+use scmi_plan::{Device, Rates, RawClock, RawDomain, RawPlan};
 use std::alloc::{AllocError, Global};
 
 /// The board of the mode `once`. The only error is running out of memory.
@@ -61,9 +61,9 @@ fn clocks(alloc: Global) -> Result<Vec<RawClock>, AllocError> {
         step: 500,
     };
     Ok(vec![in alloc;
-        clock(alloc, "core", true, 100, Rates::List(RateList::new(core)))?,
+        clock(alloc, "core", true, 100, Rates::List(core))?,
         clock(alloc, "bus", false, 1000, steps)?,
-        clock(alloc, "pix", true, 1, Rates::List(RateList::new(pix)))?,
+        clock(alloc, "pix", true, 1, Rates::List(pix))?,
     ]?)
 }
 
