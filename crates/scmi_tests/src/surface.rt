@@ -3,7 +3,7 @@
 mod base;
 mod clock;
 mod codec;
-mod core;
+mod platform_core;
 mod ends;
 mod link;
 mod plan;
