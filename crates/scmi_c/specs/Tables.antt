@@ -10,8 +10,8 @@ use Rattle.scmi_plan.specs.declared.clock.Clock.{Clock}
 use Rattle.scmi_plan.specs.declared.device.Device.{Device}
 use Rattle.scmi_plan.specs.declared.domain.Domain.{Domain}
 use Rattle.scmi_plan.specs.declared.limits.TheConstants.{AGENTS}
-use Rattle.scmi_plan.specs.declared.rates.Rates.{Rates}
-use Rattle.scmi_plan.specs.declared.rates.Rates.TheVariants as rates
+use Rattle.scmi_plan.specs.Rates.{SupportedRates}
+use Rattle.scmi_plan.specs.Rates as rates
 use Rattle.scmi_board.specs.declared.channel_line.ChannelLine.{ChannelLine}
 use Rattle.scmi_board.specs.Channels.{with_channels}
 use Rattle.scmi_c.specs.Board.{unless_fault}
@@ -89,8 +89,8 @@ domain_in row =
     record { name = name_in row.name; on = is_set row.on; synchronous = is_set row.synchronous; asynchronous = is_set row.asynchronous; notify = is_set row.notify }
 
 -- rows of the table of rates, or every step from the lowest to the highest
-abbrev pub rates_in : List ℕ → ClockRow → Rates
-rates_in table row = if row.count == 0 then rates.Steps row.low row.high row.step else rates.List (take row.count (drop row.first table))
+abbrev pub rates_in : List ℕ → ClockRow → SupportedRates
+rates_in table row = if row.count == 0 then rates.steps row.low row.high row.step else rates.list (take row.count (drop row.first table))
 
 -- the clock of a row
 abbrev pub clock_in : List ℕ → ClockRow → Clock

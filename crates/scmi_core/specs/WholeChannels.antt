@@ -10,7 +10,7 @@ use Rattle.scmi_codec.specs.declared.message.Message.{Message}
 use Rattle.scmi_codec.specs.declared.status.Status.TheVariants.{NotFound, InvalidParameters, NotSupported, Denied, Busy}
 use Rattle.scmi_plan.specs.Board.{Board, channel_of, clock_at, domain_at, whole_channel}
 use Rattle.scmi_plan.specs.declared.domain.Domain.{Domain}
-use Rattle.scmi_plan.specs.declared.rates.Rates.TheVariants as rates
+use Rattle.scmi_plan.specs.Rates as rates
 use Rattle.scmi_power.specs.PowerReply.{attributes, bit, is_state, no_domain, notify_reply, set_reply}
 use Rattle.scmi_clock.specs.ClockReply.{attributes_reply, no_clock, rates_word, rates_words, rounded_rate, set_checks}
 use Rattle.scmi_clock.specs.SetFlags.{has_unknown_flags, is_asynchronous}
@@ -20,7 +20,7 @@ use Rattle.scmi_core.specs.Situation.{Situation}
 -- a description has at most 31 rates
 abbrev pub DescribesRates : List ℕ → ℕ → Type 0
 DescribesRates list index =
-    rates_words whole_channel (rates.List list) index
+    rates_words whole_channel (rates.list list) index
     ≡ rates_word (length list - index - min 31 (length list - index)) (min 31 (length list - index)) ∷ flat_map rate_words (take (min 31 (length list - index)) (drop index list))
 
 -- 8 pending sets are announced
