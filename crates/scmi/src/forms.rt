@@ -1,10 +1,10 @@
 //! The table of the program's tasks.
 
-use crate::form::{Form, HeldForm, Operands};
+use crate::form::{Form, Operands};
 use crate::task::Task;
 
 /// How each task is asked for, in the order of the enum.
-pub const FORMS: [HeldForm; 6] = [
+pub const FORMS: [Form; 6] = [
     Form {
         task: Task::Run,
         word: "run",
@@ -33,15 +33,16 @@ lines of ftrace and of a session that show a message.",
     Form {
         task: Task::Chart,
         word: "chart",
-        operands: Operands::Input,
-        usage: "scmi chart [FILE]",
-        summary: "draws a session as a picture (SVG)",
+        operands: Operands::Drawn,
+        usage: "scmi chart [--mermaid] [FILE]",
+        summary: "draws a session as a picture (SVG), or as a Mermaid diagram",
         about: "Draws a session as a sequence chart.",
         details: "\
 The input is that of scmi run in the modes steps words, steps rings, hardware words,
 hardware rings, threads words and threads rings, at most 2,000 steps. A run of agents in
 threads is drawn in the order in which the platform executed it.
-The output is an SVG. docs/CHART.md has the signs.",
+The output is an SVG; docs/CHART.md has the signs. --mermaid writes a diagram as text, which
+GitHub and most editors draw.",
         example: "scmi chart examples/two_agents.in > run.svg",
     },
     Form {

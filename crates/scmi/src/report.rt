@@ -60,7 +60,7 @@ pub fn report_output<W: Write + Drop>(
 fn expected_of(request: Request) -> Expected {
     match request {
         Request::Do(Task::Decode) => Expected::Dumps,
-        Request::Do(Task::Chart) => Expected::Drawing,
+        Request::Do(Task::Chart) | Request::Diagram => Expected::Drawing,
         _ => Expected::Session,
     }
 }

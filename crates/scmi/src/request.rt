@@ -7,6 +7,8 @@ use crate::task::Task;
 pub enum Request {
     /// To do this.
     Do(Task),
+    /// To draw a session as a diagram.
+    Diagram,
     /// To show how it is used.
     Help,
     /// To show how this is asked for.

@@ -7,7 +7,7 @@ use crate::request::Request;
 use crate::task::Task;
 use crate::texts::write_text;
 use scmi_decode::{Readings, run_decode};
-use scmi_draw::run_draw;
+use scmi_draw::{Form, run_draw};
 use scmi_modes::{Modes, RunError, run_program};
 use scmi_table::run_table;
 use scmi_threads::OpenGate;
@@ -40,7 +40,8 @@ pub fn run_request<T: Threads + Wait + Sync, R: Read, W: Write, N: Readings>(
             writer,
         ),
         Request::Do(Task::Decode) => run_decode(alloc, reader, writer, readings),
-        Request::Do(Task::Chart) => run_draw(rt, alloc, &OpenGate, reader, writer),
+        Request::Do(Task::Chart) => run_draw(rt, alloc, &OpenGate, reader, writer, Form::Svg),
+        Request::Diagram => run_draw(rt, alloc, &OpenGate, reader, writer, Form::Mermaid),
         Request::Do(Task::Table) => run_table(alloc, reader, writer),
         // Their boards are read from files.
         Request::Do(Task::Session | Task::Check) => WRONG_ARGUMENT,

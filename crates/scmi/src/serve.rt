@@ -1,7 +1,7 @@
 //! Does what is asked for, with the files that are named.
 
 use crate::STANDARD_INPUT;
-use crate::asked::HeldAsked;
+use crate::asked::Asked;
 use crate::read_as::ReadAs;
 use crate::refusal::{lack_board, refuse_file};
 use crate::report::{report_input, report_output};
@@ -23,7 +23,7 @@ use std::thread::Threads;
 pub fn serve<T: Threads + Wait + Sync + Files + Print + Eprint + Input>(
     rt: &T,
     alloc: Global,
-    asked: HeldAsked<'_>,
+    asked: Asked<'_>,
 ) -> u8 {
     let Some(name) = asked.first else {
         return match asked.request {

@@ -1,30 +1,23 @@
 //! What the program shows of itself.
-ghost use Rattle.std.specs.Prelude.{OnOk, map};
-ghost use Rattle.std.specs.Io.KnownBytes.{Appends};
-ghost use Rattle.scmi.specs.Form.{said};
-ghost use Rattle.scmi.specs.Texts.{details_text, form_text, help_text, row_text, rows_text, text_of, usage_text};
 
-use crate::form::{HeldForm, form_of};
+use crate::form::{Form, form_of};
 use crate::forms::FORMS;
 use crate::request::Request;
 use std::io;
 use std::io::Write;
 
 /// The texts that belong to no task.
-///
-/// It is generic because a constant has a name in definitions only if its struct holds no reference
-/// of its own.
 #[derive(Clone, Copy)]
-pub struct Texts<T> {
+pub struct Texts {
     /// How the program is used, before its tasks.
-    pub head: T,
+    pub head: &'static str,
     /// The same, after them.
-    pub tail: T,
+    pub tail: &'static str,
     /// Which program this is.
-    pub version: T,
+    pub version: &'static str,
 }
 
-pub const TEXTS: Texts<&'static str> = Texts {
+pub const TEXTS: Texts = Texts {
     head: "\
 Both sides of Arm's System Control and Management Interface (SCMI, DEN0056B).
 
@@ -50,74 +43,52 @@ Example: scmi run examples/two_agents.in
 
 /// Writes the text that a request asks for; nothing if it asks for a task. The error is the
 /// writer's; some parts may then be written.
-pub fn write_text<W: Write>(writer: &mut W, request: Request) -> io::Result<()>
-    ensures { OnOk result (Appends (W.contents writer.old) (W.contents writer.new)
-        (text_of request)) }
-{
+pub fn write_text<W: Write>(writer: &mut W, request: Request) -> io::Result<()> {
     match request {
         Request::Help => write_help(writer),
         Request::HelpOn(task) => write_form(writer, &form_of(task)),
         Request::Version => write_fixed(writer, TEXTS.version),
-        Request::Do(_) => Ok(()),
+        Request::Do(_) | Request::Diagram => Ok(()),
     }
 }
 
-fn write_help<W: Write>(writer: &mut W) -> io::Result<()>
-    ensures { OnOk result (Appends (W.contents writer.old) (W.contents writer.new) help_text) }
-{
+fn write_help<W: Write>(writer: &mut W) -> io::Result<()> {
     write_fixed(writer, TEXTS.head)?;
     write_rows(writer, &FORMS)?;
     write_fixed(writer, TEXTS.tail)
 }
 
-fn write_fixed<W: Write>(writer: &mut W, text: &str) -> io::Result<()>
-    ensures { OnOk result (Appends (W.contents writer.old) (W.contents writer.new) text.now) }
-{
+fn write_fixed<W: Write>(writer: &mut W, text: &str) -> io::Result<()> {
     writer.write_all(text.as_bytes())
 }
 
 /// Writes how each task is asked for, and what it does.
-fn write_rows<W: Write>(writer: &mut W, rows: &[HeldForm]) -> io::Result<()>
-    ensures { OnOk result (Appends (W.contents writer.old) (W.contents writer.new)
-        (rows_text (map said rows.now))) }
-{
-    'each: for row in rows {
+fn write_rows<W: Write>(writer: &mut W, rows: &[Form]) -> io::Result<()> {
+    for row in rows {
         write_row(writer, row)?;
     }
     Ok(())
 }
 
-fn write_row<W: Write>(writer: &mut W, form: &HeldForm) -> io::Result<()>
-    ensures { OnOk result (Appends (W.contents writer.old) (W.contents writer.new)
-        (row_text (said form.now))) }
-{
+fn write_row<W: Write>(writer: &mut W, form: &Form) -> io::Result<()> {
     let usage = form.usage;
     let summary = form.summary;
     write!(writer, "  {usage}\n      {summary}\n")
 }
 
 /// Writes the help on a task.
-fn write_form<W: Write>(writer: &mut W, form: &HeldForm) -> io::Result<()>
-    ensures { OnOk result (Appends (W.contents writer.old) (W.contents writer.new)
-        (form_text (said form.now))) }
-{
+fn write_form<W: Write>(writer: &mut W, form: &Form) -> io::Result<()> {
     write_usage(writer, form)?;
     write_details(writer, form)
 }
 
-fn write_usage<W: Write>(writer: &mut W, form: &HeldForm) -> io::Result<()>
-    ensures { OnOk result (Appends (W.contents writer.old) (W.contents writer.new)
-        (usage_text (said form.now))) }
-{
+fn write_usage<W: Write>(writer: &mut W, form: &Form) -> io::Result<()> {
     let about = form.about;
     let usage = form.usage;
     write!(writer, "{about}\n\nUsage: {usage}\n\n")
 }
 
-fn write_details<W: Write>(writer: &mut W, form: &HeldForm) -> io::Result<()>
-    ensures { OnOk result (Appends (W.contents writer.old) (W.contents writer.new)
-        (details_text (said form.now))) }
-{
+fn write_details<W: Write>(writer: &mut W, form: &Form) -> io::Result<()> {
     let details = form.details;
     let example = form.example;
     write!(writer, "{details}\n\nExample: {example}\n")
