@@ -46,7 +46,8 @@ impl Core {
         ensures not_nothing { result ≢ Err CoreError.Nothing }
         ensures err { OnErr result (self.new ≡ self.old) }
         ensures kept { OnErr result (reply.new ≡ reply.old) }
-        ensures unasked { OnErr result (IsAsked (H.asked hardware.old) None (H.asked hardware.new)) }
+        ensures unasked { OnErr result
+            (IsAsked (H.asked hardware.old) None (H.asked hardware.new)) }
     {
         self.platform.check_agent(agent)?;
         self.trace.reserve()?;
@@ -107,7 +108,8 @@ impl Core {
             (e ≡ CoreError.Memory) × (self.old.room ≡ 0)
             × ¬ (IsIdle self.old.board self.old.history)) }
         ensures err { OnErr result (self.new ≡ self.old) }
-        ensures unasked { OnErr result (IsAsked (H.asked hardware.old) None (H.asked hardware.new)) }
+        ensures unasked { OnErr result
+            (IsAsked (H.asked hardware.old) None (H.asked hardware.new)) }
     {
         if self.platform.is_idle() {
             return Ok(false);

@@ -44,7 +44,8 @@ impl Platform {
         ensures errors { IfErr result (λ e. e ≡ CoreError.NoAgent) }
         ensures err { OnErr result (self.new ≡ self.old) }
         ensures kept { OnErr result (reply.new ≡ reply.old) }
-        ensures unasked { OnErr result (IsAsked (H.asked hardware.old) None (H.asked hardware.new)) }
+        ensures unasked { OnErr result
+            (IsAsked (H.asked hardware.old) None (H.asked hardware.new)) }
     {
         self.check_agent(agent)?;
         Ok(self.execute_on(hardware, agent, frame, reply))

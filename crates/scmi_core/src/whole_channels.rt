@@ -10,9 +10,10 @@ ghost use Rattle.scmi_plan.specs.declared.domain.Domain.{Domain};
 /// has unless its board says otherwise (`Plan::set_channel`): what they give if there are no other
 /// channels. It does nothing: its clauses are the laws.
 ///
-/// A description has at most 31 rates, and 8 pending sets are announced. What a set or a request for
-/// notifications is checked for is in the command and in its domain or clock alone, and a domain's
-/// attributes are its own. Each message gets the reply of its protocol, none a channel error.
+/// A description has at most 31 rates, and 8 pending sets are announced. What a set or a request
+/// for notifications is checked for is in the command and in its domain or clock alone, and a
+/// domain's attributes are its own. Each message gets the reply of its protocol, none a channel
+/// error.
 pub fn every_whole_channel()
     ensures describes { (list : List ℕ) (index : ℕ) → DescribesRates list index }
     ensures announces { (board : Board) → AnnouncesSets board }

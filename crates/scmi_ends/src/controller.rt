@@ -139,7 +139,8 @@ impl<C: Channel> Controller<C> {
             IsNoAgent (length self.old.board.agents) agent }
         ensures memory { result ≡ Err ServeError.Memory → self.old.room ≡ 0 }
         ensures err { OnErr result (self.new ≡ self.old) }
-        ensures unasked { OnErr result (IsAsked (H.asked hardware.old) None (H.asked hardware.new)) }
+        ensures unasked { OnErr result
+            (IsAsked (H.asked hardware.old) None (H.asked hardware.new)) }
     {
         reserve_for(&mut self.core, agent)?;
         let index = agent as usize - 1;
@@ -175,7 +176,8 @@ impl<C: Channel> Controller<C> {
             → HasMade before self.new.board self.new.history (H.asked hardware.new) }
         ensures same { IfOk result (λ did. ¬ (IsTrue did) → self.new ≡ self.old) }
         ensures err { OnErr result (self.new ≡ self.old) }
-        ensures unasked { OnErr result (IsAsked (H.asked hardware.old) None (H.asked hardware.new)) }
+        ensures unasked { OnErr result
+            (IsAsked (H.asked hardware.old) None (H.asked hardware.new)) }
         ensures memory { IfErr result (λ error.
             (error ≡ ServeError.Memory) × (self.old.room ≡ 0) ×
             (pending_sets self.old.board (deeds self.old.board self.old.history) ≢ [])) }

@@ -12,8 +12,8 @@ ghost use Rattle.scmi_ends.specs.declared.served.Served.{Served};
 /// commands, advances and postings alone. It does nothing: its clauses are the laws.
 ///
 /// `serve`, and `serve_on` if the hardware never refuses (`obeyed`), add a command or nothing, and
-/// `flush` a posting or nothing. `advance` adds an advance or nothing, and so does `advance_on` if the
-/// hardware never refuses. `restart` alone adds a restart.
+/// `flush` a posting or nothing. `advance`, and `advance_on` if the hardware never refuses, add an
+/// advance or nothing. `restart` alone adds a restart.
 pub fn every_plain_call()
     ensures serves { (a : ℕ) (old : ControllerView) (served : Served) (new : ControllerView)
         → Serves a old served new → All IsPlain old.history → All IsPlain new.history }

@@ -1,5 +1,5 @@
 //! How the endpoints of all channels are gathered.
-ghost use Rattle.std.specs.Prelude.{◌≡◌, List, map, Option};
+ghost use Rattle.std.specs.Prelude.{◌≡◌, map};
 ghost use Rattle.std.specs.List.{AllZip};
 ghost use Rattle.scmi_core.specs.Channels.{KeepsChannels};
 ghost use Rattle.scmi_core.specs.Bounds.{HasBounds, HasResponses};
