@@ -17,7 +17,9 @@
  * come from a signal handler or an interrupt while the lock is not taken.
  *
  * What this program must see to: that a handle is zero before its first use, and never copied or written;
- * that a pointer leads to as many bytes as its type says, which nobody else reads or writes during the call.
+ * that a pointer leads to as many bytes as its type says, which nobody else reads or writes during the call;
+ * that no two pointers of one call lead to the same bytes, except into tables and texts, which are only read, and none
+ * into the memory that a platform took.
  *
  * The library needs memcpy, memmove and memset, and three calls for memory: rattle_alloc, rattle_realloc and
  * rattle_dealloc: scmi_memory.c beside this header has them over blocks that the program gives, scmi_heap.c over
@@ -32,6 +34,13 @@
 
 #ifdef __cplusplus
 extern "C" {
+#endif
+
+/* No other pointer of the call leads to the same bytes. */
+#if !defined(__cplusplus) && defined(__STDC_VERSION__) && __STDC_VERSION__ >= 199901L
+#define SCMI_ALONE restrict
+#else
+#define SCMI_ALONE
 #endif
 
 /* The version of this header and of the library that came with it (scmi_version). */
@@ -73,6 +82,9 @@ typedef union scmi_area {
     };
 } scmi_area;
 
+/* What an area begins with to be free: one of zeros holds a malformed frame. */
+#define SCMI_FREE_AREA { { 0, 0, 0, 0, 1 } }
+
 enum {
     SCMI_DONE = 0,
     SCMI_NOTHING = 1,     /* no frame to answer, no command asked about, no set pending, or no message to post */
@@ -89,7 +101,7 @@ enum {
     SCMI_EFFECT = 13,     /* of scmi_ask: make this change, then scmi_commit or scmi_fail */
     SCMI_TABLE = 14,      /* the board's tables are not well formed */
     SCMI_RULE = 16,       /* + N, from 1 to 5: the first rule that the board breaks */
-    SCMI_LINE = 256       /* + L: line L of the board's text, from 1, has another form */
+    SCMI_LINE = 256       /* + L: line L of the board's text, from 1, has another form, or follows `end` */
 };
 
 /* A platform. {0} holds none. */
@@ -122,13 +134,14 @@ typedef struct scmi_channel_numbers {
  * Makes a platform of a board's text (docs/SCRIPTS.md, "Boards"), which is `length` bytes; lines `channel` may
  * give the channels of its agents, and if none does, they are whole, SCMI_AREA_BYTES, both ways. It keeps no history
  * and takes no memory from then on. SCMI_DONE, SCMI_IN_USE, SCMI_MEMORY, SCMI_RULE + N or SCMI_LINE + L; L is
- * the last line if `end` is missing, and 0 if there is no line. The rules: 1 counts, 2 names, 3 rates,
+ * the last line if `end` is missing, and 0 if there is no line. Only comments and empty lines may follow `end`; the
+ * zero that ends a string in C is such a line of another form. The rules: 1 counts, 2 names, 3 rates,
  * 4 devices, 5 the trusted agent.
  */
-uint32_t scmi_platform_new(scmi_platform *platform, const uint8_t *board, size_t length);
+uint32_t scmi_platform_new(scmi_platform *SCMI_ALONE platform, const uint8_t *board, size_t length);
 
 /* As scmi_platform_new, of a platform that keeps its history: it takes memory with its events. */
-uint32_t scmi_platform_new_recorded(scmi_platform *platform, const uint8_t *board, size_t length);
+uint32_t scmi_platform_new_recorded(scmi_platform *SCMI_ALONE platform, const uint8_t *board, size_t length);
 
 /*
  * A board as data: constant tables, which a person writes, or which `scmi table` makes of a board's text. A name has 1
@@ -197,7 +210,7 @@ typedef struct scmi_board {
 } scmi_board;
 
 /* As scmi_platform_new_of, of each table by itself; if a table has no rows, its pointer may be any but null. */
-uint32_t scmi_platform_new_of_tables(scmi_platform *platform, const scmi_board_heading *heading,
+uint32_t scmi_platform_new_of_tables(scmi_platform *SCMI_ALONE platform, const scmi_board_heading *heading,
                                      const scmi_board_agent *agents, size_t agent_count,
                                      const scmi_board_domain *domains, size_t domain_count,
                                      const scmi_board_clock *clocks, size_t clock_count,
@@ -207,8 +220,8 @@ uint32_t scmi_platform_new_of_tables(scmi_platform *platform, const scmi_board_h
 /*
  * As scmi_platform_new, of a board's tables: a program that calls no other making has no reader of texts in it. A table
  * without rows may be null. Nothing of the tables is needed once it has returned. SCMI_DONE, SCMI_IN_USE, SCMI_TABLE
- * (a name without its zero or with a byte that is not ASCII, a list of rates beyond the table, or a size that no channel
- * has), SCMI_MEMORY or SCMI_RULE + N.
+ * (a name without its zero, with a byte that is not ASCII, or with any but zeros after the first; a list of rates
+ * beyond the table; or a size that no channel has), SCMI_MEMORY or SCMI_RULE + N.
  */
 static inline uint32_t scmi_platform_new_of(scmi_platform *platform, const scmi_board *board)
 {
@@ -244,7 +257,7 @@ static inline size_t scmi_platform_bytes(const scmi_board *board)
  * status word 3 to a malformed frame. SCMI_DONE, SCMI_NO_PLATFORM, SCMI_ASKED, SCMI_NOTHING (the channel is free),
  * SCMI_NO_AGENT, or SCMI_MEMORY of a platform that keeps its history. Agents are numbered from 1.
  */
-uint32_t scmi_answer(scmi_platform *platform, uint32_t agent, uint8_t area[SCMI_AREA_BYTES]);
+uint32_t scmi_answer(scmi_platform *SCMI_ALONE platform, uint32_t agent, uint8_t area[SCMI_ALONE SCMI_AREA_BYTES]);
 
 /*
  * The same beside hardware, which is changed before the command is executed. A frame that changes none of it is
@@ -255,7 +268,8 @@ uint32_t scmi_answer(scmi_platform *platform, uint32_t agent, uint8_t area[SCMI_
  * channel is free), SCMI_NO_AGENT, or SCMI_MEMORY of a platform that keeps its history; after SCMI_EFFECT there is
  * room for the event.
  */
-uint32_t scmi_ask(scmi_platform *platform, uint32_t agent, uint8_t area[SCMI_AREA_BYTES], scmi_effect *effect);
+uint32_t scmi_ask(scmi_platform *SCMI_ALONE platform, uint32_t agent, uint8_t area[SCMI_ALONE SCMI_AREA_BYTES],
+                  scmi_effect *SCMI_ALONE effect);
 
 /*
  * The hardware has made what scmi_ask gave: the command is executed as it was kept, and its answer written into the
@@ -263,10 +277,10 @@ uint32_t scmi_ask(scmi_platform *platform, uint32_t agent, uint8_t area[SCMI_ARE
  * scmi_ask changes neither what is executed nor the answer. SCMI_DONE, SCMI_NO_PLATFORM, SCMI_NOTHING (no command was
  * asked about), or SCMI_WRONG_SIZE (it was in an area of another size), and never SCMI_MEMORY.
  */
-uint32_t scmi_commit(scmi_platform *platform, uint8_t area[SCMI_AREA_BYTES]);
+uint32_t scmi_commit(scmi_platform *SCMI_ALONE platform, uint8_t area[SCMI_ALONE SCMI_AREA_BYTES]);
 
 /* The same if the hardware refused: the answer is HARDWARE_ERROR, and every value stays as it was. */
-uint32_t scmi_fail(scmi_platform *platform, uint8_t area[SCMI_AREA_BYTES]);
+uint32_t scmi_fail(scmi_platform *SCMI_ALONE platform, uint8_t area[SCMI_ALONE SCMI_AREA_BYTES]);
 
 /*
  * The same in an area that has the size of the agent's channel, as scmi_channel gives it: `bytes` bytes. A frame
@@ -275,13 +289,14 @@ uint32_t scmi_fail(scmi_platform *platform, uint8_t area[SCMI_AREA_BYTES]);
  * the channel is whole, they do what the calls above do. A command that was asked about by scmi_ask_in is committed or
  * fails in as many bytes.
  */
-uint32_t scmi_answer_in(scmi_platform *platform, uint32_t agent, uint8_t *area, size_t bytes);
-uint32_t scmi_ask_in(scmi_platform *platform, uint32_t agent, uint8_t *area, size_t bytes, scmi_effect *effect);
-uint32_t scmi_commit_in(scmi_platform *platform, uint8_t *area, size_t bytes);
-uint32_t scmi_fail_in(scmi_platform *platform, uint8_t *area, size_t bytes);
+uint32_t scmi_answer_in(scmi_platform *SCMI_ALONE platform, uint32_t agent, uint8_t *SCMI_ALONE area, size_t bytes);
+uint32_t scmi_ask_in(scmi_platform *SCMI_ALONE platform, uint32_t agent, uint8_t *SCMI_ALONE area, size_t bytes,
+                     scmi_effect *SCMI_ALONE effect);
+uint32_t scmi_commit_in(scmi_platform *SCMI_ALONE platform, uint8_t *SCMI_ALONE area, size_t bytes);
+uint32_t scmi_fail_in(scmi_platform *SCMI_ALONE platform, uint8_t *SCMI_ALONE area, size_t bytes);
 
 /* Gives what an agent's channels are. SCMI_DONE, SCMI_NO_PLATFORM or SCMI_NO_AGENT. */
-uint32_t scmi_channel(scmi_platform *platform, uint32_t agent, scmi_channel_numbers *channel);
+uint32_t scmi_channel(scmi_platform *SCMI_ALONE platform, uint32_t agent, scmi_channel_numbers *SCMI_ALONE channel);
 
 /*
  * Completes the first pending set. SCMI_DONE, SCMI_NO_PLATFORM, SCMI_ASKED, SCMI_NOTHING (none is pending), or
@@ -294,7 +309,7 @@ uint32_t scmi_advance(scmi_platform *platform);
  * SCMI_DONE, SCMI_NO_PLATFORM or SCMI_NOTHING (none is pending). Nothing is kept of it: the first set stays the
  * first, whatever commands are answered, until scmi_advance or scmi_fail_advance takes it off.
  */
-uint32_t scmi_ask_advance(scmi_platform *platform, scmi_effect *effect);
+uint32_t scmi_ask_advance(scmi_platform *SCMI_ALONE platform, scmi_effect *SCMI_ALONE effect);
 
 /*
  * Takes the first pending set off, whose change the hardware refused: its delayed response, if one was asked for, is
@@ -308,10 +323,10 @@ uint32_t scmi_fail_advance(scmi_platform *platform);
  * status word 0; the platform stays as it was, and the message in the outbox. SCMI_DONE, SCMI_NO_PLATFORM,
  * SCMI_NO_AGENT, SCMI_NOTHING (the outbox is empty) or SCMI_NOT_FREE (the area holds a message).
  */
-uint32_t scmi_next(scmi_platform *platform, uint32_t agent, uint8_t area[SCMI_AREA_BYTES]);
+uint32_t scmi_next(scmi_platform *SCMI_ALONE platform, uint32_t agent, uint8_t area[SCMI_ALONE SCMI_AREA_BYTES]);
 
 /* The same into an area that has the size of the agent's channel; SCMI_WRONG_SIZE comes after SCMI_NO_AGENT. */
-uint32_t scmi_next_in(scmi_platform *platform, uint32_t agent, uint8_t *area, size_t bytes);
+uint32_t scmi_next_in(scmi_platform *SCMI_ALONE platform, uint32_t agent, uint8_t *SCMI_ALONE area, size_t bytes);
 
 /*
  * Takes the first message off an agent's outbox, as posted. SCMI_DONE, SCMI_NO_PLATFORM, SCMI_ASKED, SCMI_NO_AGENT,
@@ -322,9 +337,10 @@ uint32_t scmi_sent(scmi_platform *platform, uint32_t agent);
 /*
  * Ends what an agent asked for that restarted while the platform went on: its requests for notifications, the
  * messages in its outbox, and the delayed responses to its pending sets. Permissions, values and the pending sets
- * themselves stay; so does a message that is in its channel already, which the program makes free
- * (scmi_mailbox_start). SCMI_DONE, SCMI_NO_PLATFORM, SCMI_ASKED, SCMI_NO_AGENT, or SCMI_MEMORY of a platform that
- * keeps its history.
+ * themselves stay; so does what is in its channels already, which the program makes free. If a command of this agent is
+ * asked about, it is committed or failed first, and its answer dropped: it would be taken for that to the agent's first
+ * new command. scmi_mailbox_restart does all of this. SCMI_DONE, SCMI_NO_PLATFORM, SCMI_ASKED, SCMI_NO_AGENT, or
+ * SCMI_MEMORY of a platform that keeps its history.
  */
 uint32_t scmi_restart(scmi_platform *platform, uint32_t agent);
 
@@ -333,21 +349,23 @@ uint32_t scmi_restart(scmi_platform *platform, uint32_t agent);
  * domain's state is 0 ON or 0x40000000 OFF; a clock's rate is in Hz, by its lower and upper word; `enabled` is 1
  * or 0. SCMI_DONE, SCMI_NO_PLATFORM, or SCMI_NO_RESOURCE (the board has no such domain or clock).
  */
-uint32_t scmi_domain_state(scmi_platform *platform, uint32_t domain, uint32_t *state);
-uint32_t scmi_clock_rate(scmi_platform *platform, uint32_t clock, uint32_t *low, uint32_t *high);
-uint32_t scmi_clock_enabled(scmi_platform *platform, uint32_t clock, uint32_t *enabled);
+uint32_t scmi_domain_state(scmi_platform *SCMI_ALONE platform, uint32_t domain, uint32_t *SCMI_ALONE state);
+uint32_t scmi_clock_rate(scmi_platform *SCMI_ALONE platform, uint32_t clock, uint32_t *SCMI_ALONE low,
+                         uint32_t *SCMI_ALONE high);
+uint32_t scmi_clock_enabled(scmi_platform *SCMI_ALONE platform, uint32_t clock, uint32_t *SCMI_ALONE enabled);
 
 /*
  * Gives the pending set at a place, 0 that of the first, in the order in which they complete: its agent, and what
  * it is to change. SCMI_DONE, SCMI_NO_PLATFORM or SCMI_NOTHING (no more are pending).
  */
-uint32_t scmi_pending(scmi_platform *platform, uint32_t place, uint32_t *agent, scmi_effect *effect);
+uint32_t scmi_pending(scmi_platform *SCMI_ALONE platform, uint32_t place, uint32_t *SCMI_ALONE agent,
+                      scmi_effect *SCMI_ALONE effect);
 
 /* Gives how many messages wait in an agent's outbox. SCMI_DONE, SCMI_NO_PLATFORM or SCMI_NO_AGENT. */
-uint32_t scmi_outbox_length(scmi_platform *platform, uint32_t agent, uint64_t *messages);
+uint32_t scmi_outbox_length(scmi_platform *SCMI_ALONE platform, uint32_t agent, uint64_t *SCMI_ALONE messages);
 
 /* Gives the number of events of the history. SCMI_DONE, SCMI_NO_PLATFORM or SCMI_NO_HISTORY. */
-uint32_t scmi_history_length(scmi_platform *platform, uint64_t *events);
+uint32_t scmi_history_length(scmi_platform *SCMI_ALONE platform, uint64_t *SCMI_ALONE events);
 
 /* Frees a platform. The handle then holds none; if it held none, nothing is done. */
 void scmi_platform_free(scmi_platform *platform);

@@ -4,7 +4,7 @@
  *
  * An area has the 284 bytes that scmi.h describes. It is a private copy of the channel's shared memory, which the
  * program reads once, with acquire. The program stores back what a call wrote, the status word last, with release.
- * No call waits or keeps a pointer that it was given.
+ * No call waits or keeps a pointer that it was given. No two pointers of one call may lead to the same bytes.
  *
  * A call that posts returns one of these:
  *

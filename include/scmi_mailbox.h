@@ -145,7 +145,10 @@ static inline uint32_t scmi_mailbox_over(scmi_mailbox *box, void *at, size_t byt
     return SCMI_DONE;
 }
 
-/* Makes a channel free at the start; the side that sets up the memory calls it. */
+/*
+ * Makes a channel free and empty. The platform does this with all channels, A2P and P2A, before it lets their agent
+ * run, and again after a restart of the agent (scmi_mailbox_restart). The agent does it with none.
+ */
 static inline void scmi_mailbox_start(const scmi_mailbox *box)
 {
     scmi_shared_hand_over(box, SCMI_MAILBOX_FREE);
@@ -228,6 +231,35 @@ static inline uint32_t scmi_mailbox_tell(const scmi_mailbox *box, scmi_platform 
     return given;
 }
 
+/*
+ * For an agent that restarted while the platform goes on, before it posts again: ends what it had asked for, as
+ * scmi_restart does, and makes its channels free; p2a is null if it has none. If a command of this agent is asked
+ * about, `asked` is the copy that has it, and `made` whether the hardware has made the change: the command is committed
+ * or fails, and the copy then holds no answer, so the agent gets none of it. Else `asked` is null. SCMI_DONE;
+ * SCMI_ASKED if a command is asked about and `asked` is null: call again when it is answered. After the other numbers
+ * of scmi_commit and scmi_restart nothing has changed, except that after SCMI_MEMORY the command is no longer asked
+ * about: call again with null.
+ */
+static inline uint32_t scmi_mailbox_restart(const scmi_mailbox *a2p, const scmi_mailbox *p2a, scmi_platform *platform,
+                                            uint32_t agent, scmi_area *asked, int made)
+{
+    uint32_t given = SCMI_DONE;
+
+    if (asked) {
+        given = made ? scmi_commit(platform, asked->bytes) : scmi_fail(platform, asked->bytes);
+        if (given == SCMI_DONE)
+            asked->status = SCMI_MAILBOX_BUSY;
+    }
+    if (given == SCMI_DONE)
+        given = scmi_restart(platform, agent);
+    if (given == SCMI_DONE) {
+        scmi_mailbox_start(a2p);
+        if (p2a)
+            scmi_mailbox_start(p2a);
+    }
+    return given;
+}
+
 /* ---- The agent's side. */
 
 /*
@@ -250,7 +282,10 @@ static inline uint32_t scmi_mailbox_post(const scmi_mailbox *box, const scmi_are
  * Copies the reply to the posted command (A2P). Call it until there is one, and then no more; the header is the
  * command's, if the platform behaves. SCMI_DONE; SCMI_NOTHING if there is no answer yet; SCMI_MAILBOX_REFUSED if the
  * answer is a channel error; SCMI_MAILBOX_LENGTH if the length fits no channel of this size. After SCMI_NOTHING and
- * SCMI_MAILBOX_REFUSED the copy is as it was.
+ * SCMI_MAILBOX_REFUSED the copy is as it was: it holds the command, and is busy. An agent that gives the command up,
+ * after SCMI_MAILBOX_REFUSED or when it has waited for long enough, makes the copy free (scmi_mailbox_drop) before it
+ * writes the next command into it. After a wait the channel is still the platform's: scmi_mailbox_post gives
+ * SCMI_NOT_FREE until the command is answered.
  */
 static inline uint32_t scmi_mailbox_collect(const scmi_mailbox *box, scmi_area *area)
 {
@@ -261,6 +296,12 @@ static inline uint32_t scmi_mailbox_collect(const scmi_mailbox *box, scmi_area *
     if (status & SCMI_MAILBOX_ERROR_BIT)
         return SCMI_MAILBOX_REFUSED;
     return scmi_mailbox_copy(box, SCMI_MAILBOX_FREE, area);
+}
+
+/* Makes a copy free whose command the agent gives up (scmi_agent_forget). The channel stays as it is. */
+static inline void scmi_mailbox_drop(scmi_area *area)
+{
+    area->status = SCMI_MAILBOX_FREE;
 }
 
 /*

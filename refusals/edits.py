@@ -50,6 +50,13 @@ def unedited_of(edits):
     return [Edit(path, functions={path: it}, is_unedited=True) for path, it in functions.items()]
 
 
+def is_answered(unedited, folder):
+    """Whether a proof file answers goals of the function that an edit leaves as it is."""
+    (function,), homes = unedited.functions.values(), homes_of(folder)
+    proof = proof_of(function, function.file, homes)
+    return proof is not None and any((folder / "proofs" / proof).glob("*.antt"))
+
+
 def locate(edit, folder):
     """Notes the functions that an edit changes, or, if it changes none, whose clauses it names."""
     texts = {}
@@ -160,3 +167,9 @@ def batches_of(edits, folder):
         else:
             batch.append(edit)
     return batches
+
+
+def company_of(batch, edits, folder):
+    """The function that is tried unchanged in a batch which has none: one that a crate's edits change, but none here in place."""
+    others = [] if any(it.is_unedited for it in batch) else unedited_of(edits)
+    return next(([it] for it in others if joins(it, batch, folder)), [])

@@ -41,6 +41,7 @@ class Function:
     type: str = ""
     trait: str = ""
     is_public: bool = False
+    file: str = ""
     labels: list = field(default_factory=list)
 
     @property
@@ -79,7 +80,7 @@ def functions_of(file, text):
             end = end_of(text, item, bool(inside) and owners == [trait])
             of_type, of_trait = (owners[0], trait) if inside else ("", "")
             is_public = bool(item["public"] or of_trait)
-            found.append(Function(path, frozenset(names), item.start(), end, of_type, of_trait, is_public))
+            found.append(Function(path, frozenset(names), item.start(), end, of_type, of_trait, is_public, str(file)))
     for function, end in zip(found, [*(it.start for it in found[1:]), len(text)]):
         function.labels += [it or "result" for it in CLAUSE.findall(text, function.start, end)]
     return found

@@ -90,6 +90,14 @@ static void malformed(void)
     fill(1, 2, 3), unended(domains[1].name), is("a domain", SCMI_TABLE);
     fill(1, 2, 3), unended(clocks[1].name), is("a clock", SCMI_TABLE);
     fill(1, 2, 3), domains[0].name[1] = (char)0x80, is("a byte that is not ASCII", SCMI_TABLE);
+    fill(1, 2, 3), board.heading.vendor[2] = 0, is("a vendor with bytes behind its zero", SCMI_TABLE);
+    fill(1, 2, 3), board.heading.sub_vendor[13] = 0, is("a sub-vendor with one", SCMI_TABLE);
+    fill(2, 2, 3), agents[1].name[2] = 0, is("an agent with bytes behind its zero", SCMI_TABLE);
+    fill(1, 2, 3), memset(domains[0].name + 1, 0, 14), domains[0].name[15] = 'x';
+    is("a domain with one in the last place", SCMI_TABLE);
+    fill(1, 2, 3), clocks[1].name[2] = 0, is("a clock with bytes behind its zero", SCMI_TABLE);
+    fill(1, 2, 3), clocks[1].name[0] = 0, is("no byte before the zero, and bytes behind it", SCMI_TABLE);
+    fill(1, 2, 3), memset(clocks[1].name + 3, 0, 13), is("zeros behind the name", SCMI_DONE);
     fill(1, 2, 3), clocks[1].first = 4, is("a list that ends a rate behind the table", SCMI_TABLE);
     fill(1, 2, 3), clocks[1].first = 0xffffffff, is("a list that begins at the last number", SCMI_TABLE);
     fill(1, 2, 3), clocks[1].count = 0xffffffff, is("a list as long as the last number", SCMI_TABLE);
@@ -105,7 +113,7 @@ static void invalid(void)
     fill(0, 2, 3), is("no agent", SCMI_RULE + 1);
     fill(AGENTS, 2, 3), is("nine agents", SCMI_RULE + 1);
     fill(1, ROWS, 1), is("33 domains, clocks and devices", SCMI_RULE + 1);
-    fill(1, 2, 3), agents[0].name[0] = 0, is("a name of no byte", SCMI_RULE + 2);
+    fill(1, 2, 3), memset(agents[0].name, 0, 16), is("a name of no byte", SCMI_RULE + 2);
     fill(1, 2, 3), domains[1].name[0] = ' ', is("a name with a space", SCMI_RULE + 2);
     fill(1, 2, 3), rates[1] = rates[0], is("rates that do not rise", SCMI_RULE + 3);
     fill(1, 2, 0), clocks[0].step = 0, is("steps of 0", SCMI_RULE + 3);

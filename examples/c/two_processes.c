@@ -15,7 +15,7 @@
 #include "scmi_agent.h"
 #include "scmi_mailbox.h"
 
-enum { PLACE = 512, ENDED = 2 * PLACE, FILE_BYTES = 3 * PLACE, TURNS = 20000, OFF = 0x40000000 };
+enum { PLACE = 512, ENDED = 2 * PLACE, FILE_BYTES = 3 * PLACE, TURNS = 1000000, OFF = 0x40000000 };
 
 static const char board[] = "board Acme Lab 0x00010000 1\n"
                             "agent ap\n"

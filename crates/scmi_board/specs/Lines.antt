@@ -1,5 +1,5 @@
 -- The lines of an input.
-use Rattle.std.specs.Prelude.{ℕ, ◌+◌, ◌-◌, ◌^◌, ◌==◌, ◌&&◌, min, nat_lt, not, Bool, if◌then◌else◌, List, [], ◌∷◌, length, slice_index}
+use Rattle.std.specs.Prelude.{ℕ, ◌+◌, ◌-◌, ◌^◌, ◌==◌, ◌&&◌, min, nat_lt, not, Bool, if◌then◌else◌, List, [], ◌∷◌, length, slice_index, Option, Some, None}
 use Rattle.std.specs.List.{onto_first}
 use Rattle.scmi_board.specs.declared.lines.TextLine.{TextLine}
 
@@ -49,6 +49,11 @@ last_behind number (text ∷ texts) = last_behind (number_behind number) texts
 -- the lines that are left and count
 abbrev pub lines_left : LinesView → List Line
 lines_left lines = lines_behind lines.number (lines_of lines.rest)
+
+-- the number of the first of these lines, if there is one
+abbrev pub first_number_in : List Line → Option ℕ
+first_number_in [] = None
+first_number_in (line ∷ lines) = Some line.number
 
 -- the number of the last line of the input
 abbrev pub last_number : LinesView → ℕ

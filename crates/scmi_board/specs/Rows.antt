@@ -7,8 +7,8 @@ use Rattle.scmi_plan.specs.declared.limits.TheConstants.{AGENTS}
 use Rattle.scmi_plan.specs.declared.clock.Clock.{Clock}
 use Rattle.scmi_plan.specs.declared.device.Device.{Device}
 use Rattle.scmi_plan.specs.declared.domain.Domain.{Domain}
-use Rattle.scmi_plan.specs.declared.rates.Rates.{Rates}
-use Rattle.scmi_plan.specs.declared.rates.Rates.TheVariants as rates
+use Rattle.scmi_plan.specs.Rates.{SupportedRates}
+use Rattle.scmi_plan.specs.Rates as rates
 use Rattle.scmi_board.specs.Items.{◌>>=◌, ItemsView, first_item, first_number, items_left, no_item}
 use Rattle.scmi_board.specs.Number.{number_of}
 use Rattle.scmi_board.specs.declared.words.TheConstants.{BOARD, AGENT, DOMAIN, CLOCK, DEVICE, ON, OFF, LIST, STEPS, NONE}
@@ -71,22 +71,22 @@ with_rate list part = do
   Some (list ++ rate ∷ [])
 
 -- R,R,..
-unfoldable pub first_list : ItemsView → Option (Rates × ItemsView)
+unfoldable pub first_list : ItemsView → Option (SupportedRates × ItemsView)
 first_list view = do
   item ← first_item view
   list ← after_each with_rate [] (parts_of item.0)
-  Some (rates.List list, item.1)
+  Some (rates.list list, item.1)
 
 -- LOW HIGH STEP
-unfoldable pub first_steps : ItemsView → Option (Rates × ItemsView)
+unfoldable pub first_steps : ItemsView → Option (SupportedRates × ItemsView)
 first_steps view = do
   low ← first_number 64 view
   high ← first_number 64 low.1
   step ← first_number 64 high.1
-  Some (rates.Steps low.0 high.0 step.0, step.1)
+  Some (rates.steps low.0 high.0 step.0, step.1)
 
 -- list R,R,.. or steps LOW HIGH STEP
-unfoldable pub first_rates : ItemsView → Option (Rates × ItemsView)
+unfoldable pub first_rates : ItemsView → Option (SupportedRates × ItemsView)
 first_rates view = do
   word ← first_item view
   if bytes_eq word.0 LIST.now then first_list word.1 else if bytes_eq word.0 STEPS.now then first_steps word.1 else None

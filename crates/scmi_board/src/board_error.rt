@@ -1,7 +1,8 @@
 //! Why a text has no valid board.
 ghost use Rattle.std.specs.Prelude.{◌≡◌};
-ghost use Rattle.scmi_board.specs.ValidBoard.{error_of_rule, error_of_text};
+ghost use Rattle.scmi_board.specs.ValidBoard.{error_of_after, error_of_rule, error_of_text};
 
+use crate::line_after::LineAfter;
 use crate::text_error::TextError;
 use scmi_plan::PlanError;
 use thiserror::Error;
@@ -13,6 +14,9 @@ pub enum BoardError {
     /// last line.
     #[error("board {0}")]
     Line(u32),
+    /// The line of this number follows the board.
+    #[error("board {0}")]
+    After(u32),
     /// This is the first rule that the board breaks.
     #[error("{0}")]
     Rule(PlanError),
@@ -30,6 +34,14 @@ impl From<TextError> for BoardError {
             TextError::Board(line) | TextError::Script(line) => BoardError::Line(line),
             TextError::Memory => BoardError::Memory,
         }
+    }
+}
+
+impl From<LineAfter> for BoardError {
+    ghost from_gives = { λ after error. error ≡ error_of_after after };
+
+    fn from(after: LineAfter) -> BoardError {
+        BoardError::After(after.number)
     }
 }
 

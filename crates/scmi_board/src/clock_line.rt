@@ -1,5 +1,6 @@
 //! The line of a clock, as it is read.
 ghost use Rattle.std.specs.Prelude.{[]};
+ghost use Rattle.scmi_plan.specs.Rates.{rates_of};
 ghost use Rattle.scmi_plan.specs.RawPlan.{asked_clock};
 ghost use Rattle.scmi_board.specs.Items.{items_left};
 ghost use Rattle.scmi_board.specs.LineError.{GivesUnless};
@@ -10,7 +11,7 @@ use crate::items::Items;
 use crate::line_error::LineError;
 use crate::numbers::number;
 use crate::words::{LIST, STEPS};
-use scmi_plan::{RateList, Rates, RawClock};
+use scmi_plan::{Rates, RawClock};
 use std::alloc::{AllocError, Global};
 
 /// What follows `clock`: `NAME on|off RATE list R,R,..`, or `NAME on|off RATE steps LOW HIGH STEP`.
@@ -31,7 +32,7 @@ pub(crate) fn read_clock(alloc: Global, items: &mut Items<'_>) -> Result<RawCloc
 /// `list R,R,..` or `steps LOW HIGH STEP`.
 #[tactic(auto, unfolding(crate::specs::Rows::first_rates))]
 fn read_rates(alloc: Global, items: &mut Items<'_>) -> Result<Rates, LineError>
-    ensures { GivesUnless (λ rates. (rates, items_left items.new)) result
+    ensures { GivesUnless (λ rates. (rates_of rates, items_left items.new)) result
         (first_rates (items_left items.old)) }
 {
     let word = items.next_item()?;
@@ -47,7 +48,7 @@ fn read_rates(alloc: Global, items: &mut Items<'_>) -> Result<Rates, LineError>
 /// `R,R,..`.
 #[tactic(auto, unfolding(crate::specs::Rows::first_list))]
 fn read_list(alloc: Global, items: &mut Items<'_>) -> Result<Rates, LineError>
-    ensures { GivesUnless (λ rates. (rates, items_left items.new)) result
+    ensures { GivesUnless (λ rates. (rates_of rates, items_left items.new)) result
         (first_list (items_left items.old)) }
 {
     Ok(Rates::List(read_parts(alloc, items.next_item()?)?))
@@ -56,7 +57,7 @@ fn read_list(alloc: Global, items: &mut Items<'_>) -> Result<Rates, LineError>
 /// `LOW HIGH STEP`.
 #[tactic(auto, unfolding(crate::specs::Rows::first_steps))]
 fn read_steps(items: &mut Items<'_>) -> Result<Rates, LineError>
-    ensures { GivesUnless (λ rates. (rates, items_left items.new)) result
+    ensures { GivesUnless (λ rates. (rates_of rates, items_left items.new)) result
         (first_steps (items_left items.old)) }
 {
     Ok(Rates::Steps {
@@ -67,14 +68,14 @@ fn read_steps(items: &mut Items<'_>) -> Result<Rates, LineError>
 }
 
 /// Rates with single commas between them.
-fn read_parts(alloc: Global, text: &[u8]) -> Result<RateList, LineError>
-    ensures { GivesUnless (λ list. list) result (after_each with_rate [] (parts_of text.now)) }
+fn read_parts(alloc: Global, text: &[u8]) -> Result<Vec<u64>, LineError>
+    ensures { GivesUnless (λ rates. rates.items) result (after_each with_rate [] (parts_of text.now)) }
 {
     let mut rates = Vec::new(alloc);
     for part in text.split(|byte| *byte == b',') {
         add_rate(&mut rates, part)?;
     }
-    Ok(RateList::new(rates))
+    Ok(rates)
 }
 
 /// Adds a rate after others.

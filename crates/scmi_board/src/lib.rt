@@ -4,7 +4,7 @@
 //! main theorem is the contract of `read_board`: it gives the board that the lines encode, row by
 //! row, or else the number of the first invalid line, unless memory is refused.
 //! `read_board_with_channels` is the same of a text that contains what channels the agents have, and
-//! `read_valid_board` of one whose board keeps every rule.
+//! `read_valid_board` of one that has a board which keeps every rule, and nothing after it.
 #![tactic(auto)]
 
 mod board;
@@ -17,6 +17,7 @@ mod device_line;
 mod domain_line;
 mod fields;
 mod items;
+mod line_after;
 mod line_error;
 mod lines;
 mod numbers;
@@ -32,6 +33,7 @@ pub use board_with_channels::{BoardWithChannels, read_board_with_channels};
 pub use channel_line::ChannelLine;
 pub use channel_lines::set_channels;
 pub use items::Items;
+pub use line_after::LineAfter;
 pub use line_error::LineError;
 pub use lines::{Lines, TextLine, is_significant};
 pub use numbers::{byte, number, word};

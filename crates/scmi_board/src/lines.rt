@@ -1,7 +1,8 @@
 //! The lines of an input, with their numbers.
-ghost use Rattle.std.specs.Prelude.{◌≡◌, ◌<◌, ◌∷◌, length, OnSome, IfSome, MatchOption, ⊤, true, []};
-ghost use Rattle.scmi_board.specs.Lines.{is_significant, last_number, line_of, lines_left, lines_of, number_behind, whole};
+ghost use Rattle.std.specs.Prelude.{◌≡◌, ◌<◌, ◌∷◌, length, OnOk, IfErr, OnSome, IfSome, MatchOption, ⊤, true, [], Some, None};
+ghost use Rattle.scmi_board.specs.Lines.{first_number_in, is_significant, last_number, line_of, lines_left, lines_of, number_behind, whole};
 
+use crate::line_after::LineAfter;
 use crate::places::{behind_first, first_place};
 use std::marker::Model;
 
@@ -80,6 +81,20 @@ impl<'a> Lines<'a> {
             }
         }
         None
+    }
+
+    /// `LineAfter` if a line is left that is neither empty nor begins with `#`: the first of these.
+    pub fn finish(&mut self) -> Result<(), LineAfter>
+        ensures ok { OnOk result (first_number_in (lines_left self.old) ≡ None) }
+        ensures err { IfErr result (λ after.
+            first_number_in (lines_left self.old) ≡ Some after.number) }
+    {
+        match self.next_line() {
+            Some(line) => Err(LineAfter {
+                number: line.number,
+            }),
+            None => Ok(()),
+        }
     }
 
     /// The next line of any kind.

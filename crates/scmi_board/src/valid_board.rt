@@ -19,17 +19,20 @@ pub struct ValidBoard {
 }
 
 /// The board of a text from its line `board` to its line `end`, as `read_board_with_channels`, if it
-/// keeps every rule; what follows is ignored.
+/// keeps every rule and only empty lines and comments follow.
 ///
 /// `Line` gives the number of the first line of another form, from 1, or, if `end` is missing, of the
-/// last line of the text, which is 0 if there is none; `Rule` the first rule that the board breaks.
+/// last line of the text, which is 0 if there is none; `After` that of the first line that follows
+/// `end`; `Rule` the first rule that the board breaks.
 pub fn read_valid_board(alloc: Global, text: &[u8]) -> Result<ValidBoard, BoardError>
     ensures board { IfOk result (λ valid. IsBoardText text.now (described valid.described)) }
     ensures plan { IfOk result (λ valid. valid.plan
         ≡ with_its_channels (described valid.described)) }
     ensures fault { IfErr result (IsBoardFault text.now) }
 {
-    let said = read_board_with_channels(alloc, &mut Lines::of_text(text))?;
+    let mut lines = Lines::of_text(text);
+    let said = read_board_with_channels(alloc, &mut lines)?;
+    lines.finish()?;
     let mut plan = Plan::check(alloc, &said.board)?;
     set_channels(&mut plan, &said.channels);
     Ok(ValidBoard {

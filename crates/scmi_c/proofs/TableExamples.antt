@@ -1,7 +1,7 @@
 -- Worked examples of tables, computed from the definitions alone.
 use Rattle.std.proofs.Common.{◌≡◌, ℕ, ◌-◌, ◌+◌, true, false, List, [], ◌∷◌, ◌++◌, length, replicate, codes, Ok, Err, refl}
 use Rattle.scmi_plan.specs.Board.{whole_channel}
-use Rattle.scmi_plan.specs.declared.rates.Rates.TheVariants as rates
+use Rattle.scmi_plan.specs.Rates as rates
 use Rattle.scmi_c.specs.Tables.{BoardTables, board_of_tables, tables_given}
 use Rattle.scmi_c.specs.declared.code.TheConstants.{RULE, TABLE}
 use Rattle.scmi_c.specs.declared.rows.AgentRow.{AgentRow}
@@ -48,7 +48,7 @@ of-phone : board_of_tables (phone (100 ∷ 200 ∷ 400 ∷ [])) ≡ Ok (record {
   trusted = 1;
   agents = codes "ap" ∷ codes "modem" ∷ [];
   domains = record { name = codes "cpu"; on = true; synchronous = true; asynchronous = false; notify = true } ∷ [];
-  clocks = record { name = codes "uart"; enabled = true; rate = 200; rates = rates.List (200 ∷ 400 ∷ []) } ∷ record { name = codes "bus"; enabled = false; rate = 1000; rates = rates.Steps 1000 5000 1000 } ∷ [];
+  clocks = record { name = codes "uart"; enabled = true; rate = 200; rates = rates.list (200 ∷ 400 ∷ []) } ∷ record { name = codes "bus"; enabled = false; rate = 1000; rates = rates.steps 1000 5000 1000 } ∷ [];
   devices = record { domains = 1; clocks = 2 } ∷ [];
   channels = whole_channel ∷ record { words = 8; one_way = true } ∷ replicate 6 whole_channel;
 })

@@ -1,7 +1,7 @@
 -- Tables of a board, row by row.
-use Rattle.std.proofs.Common.{◌≡◌, ◌↔◌, ◌⊎◌, inl, inr, ◌<◌, ◌+◌, ℕ, zero, suc, nat_lt, true, Bool, List, [], ◌∷◌, ◌++◌, length, take, get_or, slice_index, Result, Ok, Err, OnOk, refl, sym, ap, ◌∙◌, arith, ◌&&◌}
+use Rattle.std.proofs.Common.{◌≡◌, ◌↔◌, ◌⊎◌, inl, inr, ◌<◌, ◌+◌, ℕ, zero, suc, nat_lt, true, Bool, List, [], ◌∷◌, ◌++◌, length, take, drop, get_or, slice_index, Result, Ok, Err, OnOk, refl, sym, ap, ◌∙◌, arith, ◌&&◌}
 use Rattle.std.specs.Prelude.{⊤}
-use Rattle.std.specs.List.{All, list_all, list_any}
+use Rattle.std.specs.List.{All, list_all, list_any, position_or_len}
 use Rattle.std.specs.Str.{IsUtf8}
 use Rattle.std.proofs.Math.Seq.{take-suc}
 use Rattle.std.proofs.lemmas.Bool.{and_parts, ltb-true}
@@ -31,7 +31,8 @@ below (byte ∷ bytes) (suc i) all = below bytes i (λ k d small. all (suc k) d 
 -- the beginning of a name is a text
 pub name_utf8 : (name : List ℕ) (n : ℕ) → is_named name ≡ true → IsUtf8 (take n name)
 name_utf8 name n is =
-    let low : list_all (λ byte. nat_lt byte 128) name ≡ true = (and_parts (list_any is_zero name) (list_all (λ byte. nat_lt byte 128) name) is).1 in
+    let both = (and_parts (list_any is_zero name && list_all (λ byte. nat_lt byte 128) name) (list_all is_zero (drop (position_or_len is_zero name) name)) is).0 in
+    let low : list_all (λ byte. nat_lt byte 128) name ≡ true = (and_parts (list_any is_zero name) (list_all (λ byte. nat_lt byte 128) name) both).1 in
     IsUtf8-from_ascii (take n name) (λ i. below (take n name) i (All-take (λ byte. nat_lt byte 128 ≡ true) n name (AllPass-from_list_all (λ byte. nat_lt byte 128) name low)))
 
 -- one more row adds the channels of one more agent

@@ -3,15 +3,15 @@ use Rattle.std.specs.Prelude.{◌≡◌, ℕ, ◌+◌, ◌-◌, ◌^◌, ◌<◌
 use Rattle.scmi_plan.specs.Board.{Board}
 use Rattle.scmi_plan.specs.PlanError.{first_fault, number}
 use Rattle.scmi_plan.specs.declared.plan_error.PlanError.{PlanError}
-use Rattle.scmi_board.specs.Channels.{Described, described_left, with_channels}
-use Rattle.scmi_board.specs.Lines.{Line, whole}
+use Rattle.scmi_board.specs.Channels.{Described, with_channels}
+use Rattle.scmi_board.specs.ValidBoard.{said_in}
 use Rattle.scmi_c.specs.declared.code.TheConstants.{MEMORY, RULE, LINE}
 
 -- out of memory, a rule of boards (1 to 5), or a line
 abbrev pub IsFault : ℕ → Type 0
 IsFault n = (n ≡ MEMORY) ⊎ ((RULE < n) × (n ≤ RULE + 5)) ⊎ (LINE ≤ n)
 
--- the number of a line of another form
+-- the number of a line of another form, or behind the board
 abbrev pub line_fault : ℕ → ℕ
 line_fault line = min (LINE + line) (2 ^ 32 - 1)
 
@@ -20,11 +20,11 @@ abbrev pub unless_fault : Option PlanError → Board → Result Board ℕ
 unless_fault None board = Ok board
 unless_fault (Some rule) board = Err (RULE + number rule)
 
--- what lines have said, as a board with its channels
-abbrev pub board_said : Result (Described × List Line) ℕ → Result Board ℕ
+-- what a text says, as a board with its channels
+abbrev pub board_said : Result Described ℕ → Result Board ℕ
 board_said (Err line) = Err (line_fault line)
-board_said (Ok said) = unless_fault (first_fault said.0.0) (with_channels said.0.0 said.0.1)
+board_said (Ok said) = unless_fault (first_fault said.0) (with_channels said.0 said.1)
 
 -- the board of a text with the channels of its agents, or the number of its first fault
 abbrev pub board_of_text : List ℕ → Result Board ℕ
-board_of_text text = board_said (described_left (whole text))
+board_of_text text = board_said (said_in text)

@@ -1,6 +1,6 @@
 -- The board that a program's tables encode, and the faults of tables as numbers for C.
 use Rattle.std.specs.Prelude.{◌≡◌, ◌<◌, ◌≤◌, ◌⊎◌, ℕ, ◌+◌, ◌==◌, ◌&&◌, ◌||◌, nat_le, nat_lt, suc, Bool, not, if◌then◌else◌, List, [], ◌∷◌, length, map, replicate, take, drop, Result, Ok, Err}
-use Rattle.std.specs.List.{before_first, list_all, list_any}
+use Rattle.std.specs.List.{before_first, list_all, list_any, position_or_len}
 use Rattle.scmi_codec.specs.ChannelArea.{channel_words, is_channel_size}
 use Rattle.scmi_codec.specs.declared.payload.TheConstants.{PAYLOAD_WORDS}
 use Rattle.scmi_plan.specs.Board.{Board, whole_channel}
@@ -10,8 +10,8 @@ use Rattle.scmi_plan.specs.declared.clock.Clock.{Clock}
 use Rattle.scmi_plan.specs.declared.device.Device.{Device}
 use Rattle.scmi_plan.specs.declared.domain.Domain.{Domain}
 use Rattle.scmi_plan.specs.declared.limits.TheConstants.{AGENTS}
-use Rattle.scmi_plan.specs.declared.rates.Rates.{Rates}
-use Rattle.scmi_plan.specs.declared.rates.Rates.TheVariants as rates
+use Rattle.scmi_plan.specs.Rates.{SupportedRates}
+use Rattle.scmi_plan.specs.Rates as rates
 use Rattle.scmi_board.specs.declared.channel_line.ChannelLine.{ChannelLine}
 use Rattle.scmi_board.specs.Channels.{with_channels}
 use Rattle.scmi_c.specs.Board.{unless_fault}
@@ -45,9 +45,9 @@ tables_of t = tables_given t.heading.now t.agents.now t.domains.now t.clocks.now
 abbrev pub is_zero : ℕ → Bool
 is_zero byte = byte == 0
 
--- whether a name is ended by a zero, and has bytes of ASCII alone
+-- whether a name is ended by a zero, has bytes of ASCII alone, and zeros behind the first
 abbrev pub is_named : List ℕ → Bool
-is_named name = list_any is_zero name && list_all (λ byte. nat_lt byte 128) name
+is_named name = list_any is_zero name && list_all (λ byte. nat_lt byte 128) name && list_all is_zero (drop (position_or_len is_zero name) name)
 
 -- the name: what comes before its zero
 abbrev pub name_in : List ℕ → List ℕ
@@ -89,8 +89,8 @@ domain_in row =
     record { name = name_in row.name; on = is_set row.on; synchronous = is_set row.synchronous; asynchronous = is_set row.asynchronous; notify = is_set row.notify }
 
 -- rows of the table of rates, or every step from the lowest to the highest
-abbrev pub rates_in : List ℕ → ClockRow → Rates
-rates_in table row = if row.count == 0 then rates.Steps row.low row.high row.step else rates.List (take row.count (drop row.first table))
+abbrev pub rates_in : List ℕ → ClockRow → SupportedRates
+rates_in table row = if row.count == 0 then rates.steps row.low row.high row.step else rates.list (take row.count (drop row.first table))
 
 -- the clock of a row
 abbrev pub clock_in : List ℕ → ClockRow → Clock

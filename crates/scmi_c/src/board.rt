@@ -14,7 +14,7 @@ use std::alloc::Global;
 
 /// The plan of a board's text, which may give the channels of its agents, or the number of its
 /// fault for C: `LINE` and the number of the first line of another form, from 1 (the last line if
-/// `end` is missing, 0 if there is no line); `RULE` and the number of the first rule that the board
+/// `end` is missing, 0 if there is no line), or of the first after `end`; `RULE` and the number of the first rule that the board
 /// breaks; `MEMORY` when out of memory.
 pub fn read_plan(alloc: Global, text: &[u8]) -> Result<Plan, u32>
     ensures board { IfOk result (λ plan. board_of_text text.now ≡ Ok plan) }
@@ -38,7 +38,7 @@ fn fault_code(error: BoardError) -> u32
     ensures faults { IsFault result }
 {
     match error {
-        BoardError::Line(line) => LINE.saturating_add(line),
+        BoardError::Line(line) | BoardError::After(line) => LINE.saturating_add(line),
         BoardError::Rule(rule) => rule_code(rule),
         BoardError::Memory => MEMORY,
     }

@@ -82,7 +82,8 @@ pub fn hold_endless(alloc: Global, platform: &mut Handle, plan: Plan) -> u32
     hold(alloc, platform, Held::Endless(Unrecorded::new(plan)))
 }
 
-/// As `hold_endless`, of a platform that keeps its history.
+/// As `hold_endless`, of a platform that keeps its history. It has room for an event, so that its
+/// memory grows from there on, and where it was made.
 #[inline(never)]
 fn hold_recorded(alloc: Global, platform: &mut Handle, plan: Plan) -> u32
     requires { platform.old.value ≡ None }
@@ -92,7 +93,11 @@ fn hold_recorded(alloc: Global, platform: &mut Handle, plan: Plan) -> u32
     ensures errors { (result ≡ DONE) ⊎ (result ≡ MEMORY) }
     ensures kept { result ≢ DONE → platform.new.value ≡ platform.old.value }
 {
-    hold(alloc, platform, Held::Recorded(Core::new(alloc, plan)))
+    let mut core = Core::new(alloc, plan);
+    if core.reserve().is_err() {
+        return MEMORY;
+    }
+    hold(alloc, platform, Held::Recorded(core))
 }
 
 /// Puts a platform into the heap and its handle.

@@ -1,12 +1,13 @@
 //! The board of tables that are well formed, written down.
 ghost use Rattle.std.specs.Prelude.{◌≡◌, ◌≤◌, IfOk, length, map, string_bytes, true};
 ghost use Rattle.std.specs.List.{All, position, position_or_len};
+ghost use Rattle.scmi_plan.specs.Rates.{rates_of};
 ghost use Rattle.scmi_plan.specs.RawPlan.{asked_board, asked_clock, asked_domain};
 ghost use Rattle.scmi_c.specs.Tables.{board_in, clock_in, device_in, domain_in, is_agent_row, is_clock_row, is_domain_row, is_named, is_well_formed, is_zero, name_in, rates_in, tables_of};
 
 use crate::rows::{AgentRow, ClockRow, DeviceRow, DomainRow};
 use crate::tables::Tables;
-use scmi_plan::{Device, RateList, Rates, RawClock, RawDomain, RawPlan};
+use scmi_plan::{Device, Rates, RawClock, RawDomain, RawPlan};
 use std::alloc::{AllocError, Global};
 use std::str::from_utf8_unchecked;
 
@@ -38,7 +39,7 @@ fn name_text(alloc: Global, name: &[u8]) -> Result<String, AllocError>
 }
 
 /// How many bytes a name has before its zero.
-fn name_length(name: &[u8]) -> usize
+pub(crate) fn name_length(name: &[u8]) -> usize
     ensures length { result ≡ position_or_len is_zero name.now }
     ensures within { result ≤ length name.now }
 {
@@ -113,7 +114,7 @@ fn raw_clock(alloc: Global, row: &ClockRow, rates: &[u64]) -> Result<RawClock, A
 
 fn clock_rates(alloc: Global, row: &ClockRow, rates: &[u64]) -> Result<Rates, AllocError>
     requires row { is_clock_row (length rates.now) row.now ≡ true }
-    ensures { IfOk result (λ these. these ≡ rates_in rates.now row.now) }
+    ensures { IfOk result (λ these. rates_of these ≡ rates_in rates.now row.now) }
 {
     if row.count == 0 {
         return Ok(Rates::Steps {
@@ -124,7 +125,7 @@ fn clock_rates(alloc: Global, row: &ClockRow, rates: &[u64]) -> Result<Rates, Al
     }
     let first = row.first as usize;
     let list = Vec::from_slice(alloc, &rates[first..first + row.count as usize])?;
-    Ok(Rates::List(RateList::new(list)))
+    Ok(Rates::List(list))
 }
 
 fn devices(alloc: Global, rows: &[DeviceRow]) -> Result<Vec<Device>, AllocError>

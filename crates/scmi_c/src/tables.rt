@@ -4,6 +4,7 @@ ghost use Rattle.std.specs.List.{list_all, list_any};
 ghost use Rattle.scmi_c.specs.Tables.{ends_within, is_agent_row, is_channel_row, is_clock_row, is_domain_row, is_named, is_well_formed, is_zero, tables_of};
 
 use crate::rows::{AgentRow, ClockRow, DeviceRow, DomainRow, HeadingRow};
+use crate::tabled::name_length;
 use scmi_codec::is_channel_size;
 
 /// The tables of a board, as a program in C gives them.
@@ -17,7 +18,7 @@ pub struct Tables<'a> {
     pub devices: &'a [DeviceRow],
 }
 
-/// Whether each name is ended by a zero and has bytes of ASCII alone, each list of rates lies in the
+/// Whether each name is ended by a zero, has bytes of ASCII alone and zeros behind it, each list of rates lies in the
 /// table of rates, and each size is that of a channel.
 pub fn is_well_formed(tables: &Tables<'_>) -> bool
     ensures { result ≡ is_well_formed (tables_of tables.now) }
@@ -64,17 +65,23 @@ fn is_channel_row(row: &AgentRow) -> bool
     row.bytes == 0 || is_channel_size(row.bytes as usize)
 }
 
-/// Whether a name is ended by a zero, and has bytes of ASCII alone.
+/// Whether a name is ended by a zero, has bytes of ASCII alone, and zeros behind the first.
 fn is_named(name: &[u8]) -> bool
     ensures { result ≡ is_named name.now }
 {
-    has_zero(name) && is_ascii(name)
+    has_zero(name) && is_ascii(name) && are_zeros(&name[name_length(name)..])
 }
 
 fn has_zero(name: &[u8]) -> bool
     ensures { result ≡ list_any is_zero name.now }
 {
     name.iter().any(|byte| *byte == 0)
+}
+
+fn are_zeros(bytes: &[u8]) -> bool
+    ensures { result ≡ list_all is_zero bytes.now }
+{
+    bytes.iter().all(|byte| *byte == 0)
 }
 
 fn is_ascii(name: &[u8]) -> bool

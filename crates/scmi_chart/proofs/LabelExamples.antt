@@ -6,7 +6,7 @@ use Rattle.std.specs.Fmt.{digits}
 use Rattle.scmi_codec.specs.Listing.{rows_of}
 use Rattle.scmi_codec.specs.declared.frame.Answer.TheVariants.{Reply}
 use Rattle.scmi_plan.specs.Board.{Board}
-use Rattle.scmi_plan.specs.declared.rates.Rates.TheVariants as rates
+use Rattle.scmi_plan.specs.Rates as rates
 use Rattle.scmi_svg.specs.Rate.{scaled_text}
 use Rattle.scmi_svg.specs.declared.mark.Outcome.TheVariants as outcome
 use Rattle.scmi_template.specs.Filled.{filled}
@@ -26,7 +26,7 @@ board =
       trusted = 1;
       agents = codes "boot" ∷ codes "ap" ∷ [];
       domains = record { name = codes "gpu"; on = true; synchronous = true; asynchronous = true; notify = true } ∷ [];
-      clocks = record { name = codes "uart"; enabled = true; rate = 24000000; rates = rates.List [] } ∷ [];
+      clocks = record { name = codes "uart"; enabled = true; rate = 24000000; rates = rates.list [] } ∷ [];
       devices = [];
       channels = [];
     }

@@ -3,7 +3,7 @@ use Rattle.std.specs.Prelude.{◌≡◌, ◌↔◌, ◌⊎◌, ℕ, ◌<◌, ⊤
 use Rattle.std.specs.Io.KnownBytes.{Appends}
 use Rattle.scmi_board.specs.Channels.{Described}
 use Rattle.scmi_board.specs.Lines.{whole}
-use Rattle.scmi_board.specs.ValidBoard.{IsBoardFault, IsBoardText, with_its_channels}
+use Rattle.scmi_board.specs.ValidBoard.{IsBoardFault, IsBoardText, said_in, with_its_channels}
 use Rattle.scmi_board.specs.declared.board_error.BoardError.TheVariants as board
 use Rattle.scmi_fault.specs.FaultLine.{fault_line}
 use Rattle.scmi_input.specs.declared.input.TheConstants.{INPUT_BYTES}
@@ -21,7 +21,7 @@ use Rattle.scmi_check.specs.declared.check_error.CheckError.TheVariants.{Size, R
 use Rattle.scmi_check.specs.declared.placed.Placed.{Placed}
 use Rattle.scmi_check.specs.declared.style.Style.{Style}
 
--- a text begins with a board that keeps every rule, and lines `channel` that give its agents these channels
+-- a text is a board that keeps every rule, and lines `channel` that give its agents these channels
 pub record IsPlanText (text : List ℕ) (board : Board) : Type 0 where
   pub said : Described
   pub of_text : IsBoardText text said
@@ -47,10 +47,10 @@ pub record IsChecked (style : Style) (board_known record_known : Option (List �
   pub report : WritesReport style board_known record_known differ old new
   pub zero : (status ≡ 0) ↔ (differ ≡ 0)
 
--- a fault of a board's text: its length, its first line that is not one of a board, or the first rule that the board breaks. A failed read, or out of memory, shows nothing of it
+-- a fault of a board's text: its length, its first line that is not one of a board or follows it, or the first rule that the board breaks. A failed read, or out of memory, shows nothing of it
 abbrev pub IsFaultOfBoard : List ℕ → CheckError → Type 0
 IsFaultOfBoard text Size = INPUT_BYTES < length text
-IsFaultOfBoard text (BoardLine line) = IsBoardFault text (board.Line line)
+IsFaultOfBoard text (BoardLine line) = said_in text ≡ Err line
 IsFaultOfBoard text (PlanRule rule) = (broken : PlanError) × IsBoardFault text (board.Rule broken) × (rule ≡ number broken)
 IsFaultOfBoard text Read = ⊤
 IsFaultOfBoard text Memory = ⊤

@@ -42,5 +42,6 @@ error_of_text text.Memory = Memory
 -- a text without a valid board: by the number of its line, or of the rule that the board breaks
 abbrev pub error_of_board : BoardError → CheckError
 error_of_board (board.Line line) = Board line
+error_of_board (board.After line) = Board line
 error_of_board (board.Rule rule) = Plan (number rule)
 error_of_board board.Memory = Memory

@@ -18,7 +18,7 @@ pub enum CheckError {
     Size,
     /// A read failed, or reads were interrupted too often.
     Read,
-    /// This line of the board's text is not a line of a board.
+    /// This line of the board's text is not a line of a board, or follows it.
     Board(u32),
     /// The board breaks this rule.
     Plan(u8),
@@ -94,7 +94,7 @@ impl From<BoardError> for CheckError {
 
     fn from(error: BoardError) -> CheckError {
         match error {
-            BoardError::Line(line) => CheckError::Board(line),
+            BoardError::Line(line) | BoardError::After(line) => CheckError::Board(line),
             BoardError::Rule(rule) => CheckError::Plan(rule.number()),
             BoardError::Memory => CheckError::Memory,
         }

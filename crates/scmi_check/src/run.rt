@@ -17,7 +17,8 @@ pub const DIFFERS: u8 = 5;
 /// except by rules of the profile's own, `DIFFERS` if one does, else that of the error, whose text
 /// is written as the last line. A fault that can't be written gives status 1.
 ///
-/// The board's text is that from its line `board` to its line `end`; what follows is ignored.
+/// The board's text is that from its line `board` to its line `end`; only empty lines and comments
+/// may follow.
 pub fn run_check<B: Read, R: Read, W: Write>(
     alloc: Global,
     board: &mut B,

@@ -8,9 +8,8 @@ use Rattle.std.proofs.lemmas.List.{get_or_default}
 use Rattle.std.proofs.lemmas.List.Elements.{Contains-get_or}
 use Rattle.std.proofs.lemmas.List.FromFn.{length-map-range_with_len, get_or-map-range_with_len}
 use Rattle.std.proofs.lemmas.List.Kept.{AllPairs-from_increasing}
-use Rattle.scmi_plan.specs.declared.rates.Rates.{Rates}
-use Rattle.scmi_plan.specs.declared.rates.Rates.TheVariants as rates
-use Rattle.scmi_plan.specs.Rates.{members, HasValidRates, IsSupported}
+use Rattle.scmi_plan.specs.Rates as rates
+use Rattle.scmi_plan.specs.Rates.{SupportedRates, members, HasValidRates, IsSupported}
 use Rattle.scmi_clock.specs.Rounding.{IsRoundedDown, IsRoundedUp, IsNearest, rate_below, rate_above, nearer}
 use Rattle.scmi_clock.proofs.Passing.{PassesNowhere, IsLast, IsFirst, last_cases, first_cases}
 
@@ -23,30 +22,30 @@ pub record IsLadder (xs : List ℕ) : Type 0 where
 pub step_at : (low step n k : ℕ) → k < n → get_or (map (λ k. low + k * step) (range_with_len 0 n)) k 0 ≡ low + k * step
 step_at low step n k h = get_or-map-range_with_len (λ k. low + k * step) 0 n k k 0 h (omega arith)
 
-pub ladder : (r : Rates) → HasValidRates r → IsLadder (members r)
-ladder (rates.List list) valid = record { some = valid.0; rises = by } where
+pub ladder : (r : SupportedRates) → HasValidRates r → IsLadder (members r)
+ladder (rates.list list) valid = record { some = valid.0; rises = by } where
   by : (i j : ℕ) → i ≤ j → j < length list → get_or list i 0 ≤ get_or list j 0
   by i j upto within = pick (cases_order i j) where
     pick : ((i ≡ j) ⊎ ((i < j) ⊎ (j < i))) → get_or list i 0 ≤ get_or list j 0
     pick (inl e) = let e' : get_or list i 0 ≡ get_or list j 0 = ap (λ k. get_or list k 0) e in omega arith
     pick (inr (inl h)) = let up : get_or list i 0 < get_or list j 0 = AllPairs-from_increasing list valid.2 i j 0 h within in omega arith
     pick (inr (inr h)) = absurd (omega arith)
-ladder (rates.Steps low high step) valid = record { some = by_some; rises = by } where
-  count : length (members (rates.Steps low high step)) ≡ (high - low) / step + 1
+ladder (rates.steps low high step) valid = record { some = by_some; rises = by } where
+  count : length (members (rates.steps low high step)) ≡ (high - low) / step + 1
   count = length-map-range_with_len (λ k. low + k * step) 0 ((high - low) / step + 1)
 
-  by_some : 0 < length (members (rates.Steps low high step))
+  by_some : 0 < length (members (rates.steps low high step))
   by_some = omega (arith, count)
 
-  by : (i j : ℕ) → i ≤ j → j < length (members (rates.Steps low high step)) → get_or (members (rates.Steps low high step)) i 0 ≤ get_or (members (rates.Steps low high step)) j 0
+  by : (i j : ℕ) → i ≤ j → j < length (members (rates.steps low high step)) → get_or (members (rates.steps low high step)) i 0 ≤ get_or (members (rates.steps low high step)) j 0
   by i j upto within =
       let wide : j < (high - low) / step + 1 = omega (arith, count) in
-      let at_i : get_or (members (rates.Steps low high step)) i 0 ≡ low + i * step = step_at low step ((high - low) / step + 1) i (omega arith) in
-      let at_j : get_or (members (rates.Steps low high step)) j 0 ≡ low + j * step = step_at low step ((high - low) / step + 1) j wide in
+      let at_i : get_or (members (rates.steps low high step)) i 0 ≡ low + i * step = step_at low step ((high - low) / step + 1) i (omega arith) in
+      let at_j : get_or (members (rates.steps low high step)) j 0 ≡ low + j * step = step_at low step ((high - low) / step + 1) j wide in
       let up : i * step ≤ j * step = mul-le-mul_right step upto in
       omega arith
 
-module _ (r : Rates) (valid : HasValidRates r) (asked : ℕ) where
+module _ (r : SupportedRates) (valid : HasValidRates r) (asked : ℕ) where
   -- a supported rate, at its place
   place : (m : ℕ) (s : IsSupported r m) → get_or (members r) s.0 0 ≡ m
   place m s = get_or_default (members r) s.0 0 m s.1 ∙ s.2

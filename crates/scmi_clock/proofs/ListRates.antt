@@ -5,25 +5,25 @@ use Rattle.std.specs.Option.{option_copied}
 use Rattle.std.specs.Slice.{IsItemAt}
 use Rattle.std.proofs.lemmas.Bool.{le-leb, ltb-true, ltb-false}
 use Rattle.std.proofs.lemmas.List.{get_or_default}
-use Rattle.scmi_plan.specs.declared.rates.Rates.TheVariants as rates
+use Rattle.scmi_plan.specs.Rates as rates
 use Rattle.scmi_plan.specs.Rates.{HasValidRates}
 use Rattle.scmi_clock.specs.Rounding.{rate_below, rate_above}
 use Rattle.scmi_clock.proofs.Passing.{no_last, no_first, last_is, first_is}
 use Rattle.scmi_clock.proofs.Closest.{ladder}
 use Rattle.scmi_clock.proofs.StepRates.{above_fails}
 
-pub rising : (xs : List ℕ) → HasValidRates (rates.List xs) → IsNonDecreasingBy (λ x. x) xs
+pub rising : (xs : List ℕ) → HasValidRates (rates.list xs) → IsNonDecreasingBy (λ x. x) xs
 rising xs valid i j d upto within =
     let at_i = get_or_default xs i d 0 (omega arith) in
     let at_j = get_or_default xs j d 0 within in
-    let up = (ladder (rates.List xs) valid).rises i j upto within in omega arith
+    let up = (ladder (rates.list xs) valid).rises i j upto within in omega arith
 
 module _ (xs : List ℕ) (asked count : ℕ) where
-  pub below_start : IsPartitionPoint (λ y. nat_le y asked ≡ true) (λ y. nat_le y asked ≡ false) xs count → count ≡ 0 → None ≡ rate_below (rates.List xs) asked
+  pub below_start : IsPartitionPoint (λ y. nat_le y asked ≡ true) (λ y. nat_le y asked ≡ false) xs count → count ≡ 0 → None ≡ rate_below (rates.list xs) asked
   below_start point none = sym (no_last (λ r. nat_le r asked) xs (record { fails = λ k h. point.1 k 0 (omega arith) h }))
 
   pub below_inside : IsPartitionPoint (λ y. nat_le y asked ≡ true) (λ y. nat_le y asked ≡ false) xs count → 0 < count → count ≤ length xs
-      → Some (get_or xs (count - 1) 0) ≡ rate_below (rates.List xs) asked
+      → Some (get_or xs (count - 1) 0) ≡ rate_below (rates.list xs) asked
   below_inside point some few = sym (last_is (λ r. nat_le r asked) xs (get_or xs (count - 1) 0) (record {
     place = count - 1;
     within = omega arith;
@@ -33,7 +33,7 @@ module _ (xs : List ℕ) (asked count : ℕ) where
   }))
 
   pub above_item : IsPartitionPoint (λ y. nat_lt y asked ≡ true) (λ y. nat_lt y asked ≡ false) xs count
-      → (r : Option (Bor ℕ)) → IsItemAt xs count r → option_copied r ≡ rate_above (rates.List xs) asked
+      → (r : Option (Bor ℕ)) → IsItemAt xs count r → option_copied r ≡ rate_above (rates.list xs) asked
   above_item point None item = sym (no_first (λ r. nat_le asked r) xs (record {
     fails = λ k h.
         let past : length xs ≤ count = item.3 in

@@ -1,15 +1,15 @@
 -- Worked examples of rounding: steps of 500 Hz from 1,000 to 4,000, and the widest step there is.
 use Rattle.std.proofs.Common.{◌≡◌, Some, None, refl}
-use Rattle.scmi_plan.specs.declared.rates.Rates.{Rates}
-use Rattle.scmi_plan.specs.declared.rates.Rates.TheVariants as rates
+use Rattle.scmi_plan.specs.Rates.{SupportedRates}
+use Rattle.scmi_plan.specs.Rates as rates
 use Rattle.scmi_clock.specs.Rounding.{round_to}
 use Rattle.scmi_clock.specs.declared.rounding.Rounding.TheVariants as rounding
 
-abbrev even_steps : Rates
-even_steps = rates.Steps 1000 4000 500
+abbrev even_steps : SupportedRates
+even_steps = rates.steps 1000 4000 500
 
-abbrev widest_step : Rates
-widest_step = rates.Steps 0 18446744073709551615 18446744073709551615
+abbrev widest_step : SupportedRates
+widest_step = rates.steps 0 18446744073709551615 18446744073709551615
 
 even_steps-tie : round_to rounding.Nearest even_steps 1250 ≡ Some 1000
 even_steps-tie = refl

@@ -5,7 +5,7 @@ use Rattle.std.proofs.lemmas.Bool.{le-leb}
 use Rattle.std.proofs.lemmas.Bool.Decides.{leb_tells}
 use Rattle.std.proofs.lemmas.Nat.{div-add-mod', le-div, div_below}
 use Rattle.std.proofs.lemmas.List.FromFn.{length-map-range_with_len}
-use Rattle.scmi_plan.specs.declared.rates.Rates.TheVariants as rates
+use Rattle.scmi_plan.specs.Rates as rates
 use Rattle.scmi_plan.specs.Rates.{members, HasValidRates}
 use Rattle.scmi_clock.specs.Rounding.{rate_below, rate_above}
 use Rattle.scmi_clock.proofs.Passing.{no_last, no_first, last_is, first_is}
@@ -17,7 +17,7 @@ above_fails asked x h = pick (leb_tells x asked) where
   pick (inl t) = let small = t.1 in absurd (omega arith)
   pick (inr t) = t.0
 
-module _ (low high step asked : ℕ) (valid : HasValidRates (rates.Steps low high step)) where
+module _ (low high step asked : ℕ) (valid : HasValidRates (rates.steps low high step)) where
   total : ℕ
   total = (high - low) / step
 
@@ -25,11 +25,11 @@ module _ (low high step asked : ℕ) (valid : HasValidRates (rates.Steps low hig
   unfolding total
   at_end = omega (arith, valid.0, valid.1, valid.2, div-add-mod' (high - low) step)
 
-  count : length (members (rates.Steps low high step)) ≡ total + 1
+  count : length (members (rates.steps low high step)) ≡ total + 1
   unfolding total
   count = length-map-range_with_len (λ k. low + k * step) 0 ((high - low) / step + 1)
 
-  at : (k : ℕ) → k < total + 1 → get_or (members (rates.Steps low high step)) k 0 ≡ low + k * step
+  at : (k : ℕ) → k < total + 1 → get_or (members (rates.steps low high step)) k 0 ≡ low + k * step
   unfolding total
   at k h = step_at low step ((high - low) / step + 1) k h
 
@@ -38,8 +38,8 @@ module _ (low high step asked : ℕ) (valid : HasValidRates (rates.Steps low hig
 
   -- the greatest step at most the asked rate, where the next is above it or there is none
   below_at : (q : ℕ) → q < total + 1 → low + q * step ≤ asked → ((k : ℕ) → q < k → k < total + 1 → asked < low + k * step)
-      → rate_below (rates.Steps low high step) asked ≡ Some (low + q * step)
-  below_at q within lo hi = last_is (λ r. nat_le r asked) (members (rates.Steps low high step)) (low + q * step) (record {
+      → rate_below (rates.steps low high step) asked ≡ Some (low + q * step)
+  below_at q within lo hi = last_is (λ r. nat_le r asked) (members (rates.steps low high step)) (low + q * step) (record {
     place = q;
     within = omega (arith, count);
     is = at q within;
@@ -49,8 +49,8 @@ module _ (low high step asked : ℕ) (valid : HasValidRates (rates.Steps low hig
   })
 
   above_at : (q : ℕ) → q < total + 1 → asked ≤ low + q * step → ((k : ℕ) → k < q → low + k * step < asked)
-      → rate_above (rates.Steps low high step) asked ≡ Some (low + q * step)
-  above_at q within hi lo = first_is (λ r. nat_le asked r) (members (rates.Steps low high step)) (low + q * step) (record {
+      → rate_above (rates.steps low high step) asked ≡ Some (low + q * step)
+  above_at q within hi lo = first_is (λ r. nat_le asked r) (members (rates.steps low high step)) (low + q * step) (record {
     place = q;
     within = omega (arith, count);
     is = at q within;
@@ -58,24 +58,24 @@ module _ (low high step asked : ℕ) (valid : HasValidRates (rates.Steps low hig
     before = λ k less. above_fails _ asked (subst (λ x. x < asked) (sym (at k (omega arith))) (lo k less));
   })
 
-  pub below_none : asked < low → None ≡ rate_below (rates.Steps low high step) asked
-  below_none h = sym (no_last (λ r. nat_le r asked) (members (rates.Steps low high step)) (record {
+  pub below_none : asked < low → None ≡ rate_below (rates.steps low high step) asked
+  below_none h = sym (no_last (λ r. nat_le r asked) (members (rates.steps low high step)) (record {
     fails = λ k inside.
         let wide : k < total + 1 = omega (arith, count) in
         above_fails asked _ (subst (λ x. asked < x) (sym (at k wide)) (omega arith));
   }))
 
-  pub above_none : high < asked → None ≡ rate_above (rates.Steps low high step) asked
-  above_none h = sym (no_first (λ r. nat_le asked r) (members (rates.Steps low high step)) (record {
+  pub above_none : high < asked → None ≡ rate_above (rates.steps low high step) asked
+  above_none h = sym (no_first (λ r. nat_le asked r) (members (rates.steps low high step)) (record {
     fails = λ k inside.
         let wide : k < total + 1 = omega (arith, count) in
         above_fails _ asked (subst (λ x. x < asked) (sym (at k wide)) (omega (arith, top k wide, at_end)));
   }))
 
-  pub below_high : high ≤ asked → Some high ≡ rate_below (rates.Steps low high step) asked
+  pub below_high : high ≤ asked → Some high ≡ rate_below (rates.steps low high step) asked
   below_high h = sym (below_at total (omega arith) (omega (arith, at_end)) (λ k less inside. absurd (omega arith)) ∙ ap Some at_end)
 
-  pub above_low : asked ≤ low → Some low ≡ rate_above (rates.Steps low high step) asked
+  pub above_low : asked ≤ low → Some low ≡ rate_above (rates.steps low high step) asked
   above_low h = let start : low + 0 * step ≡ low = omega arith in sym (above_at 0 (omega arith) (omega arith) (λ k less. absurd (omega arith)) ∙ ap Some start)
 
   past : ℕ
@@ -96,12 +96,12 @@ module _ (low high step asked : ℕ) (valid : HasValidRates (rates.Steps low hig
   onward : (q k : ℕ) → q < k → q * step + step ≤ k * step
   onward q k less = let up : suc q * step ≤ k * step = mul-le-mul_right step less in let one : suc q * step ≡ q * step + step = omega arith in omega arith
 
-  pub below_between : low ≤ asked → asked < high → Some (asked - (asked - low) % step) ≡ rate_below (rates.Steps low high step) asked
+  pub below_between : low ≤ asked → asked < high → Some (asked - (asked - low) % step) ≡ rate_below (rates.steps low high step) asked
   below_between lo hi =
       let is : low + past * step ≡ asked - (asked - low) % step = omega (arith, near) in
       sym (below_at past (reached (omega arith) lo) (omega (arith, near)) (λ k less inside. omega (arith, near, under, onward past k less)) ∙ ap Some is)
 
-  pub above_exact : low < asked → asked ≤ high → (asked - low) % step ≡ 0 → Some asked ≡ rate_above (rates.Steps low high step) asked
+  pub above_exact : low < asked → asked ≤ high → (asked - low) % step ≡ 0 → Some asked ≡ rate_above (rates.steps low high step) asked
   above_exact lo hi exact =
       let is : low + past * step ≡ asked = omega (arith, near) in
       sym (above_at past (reached hi (omega arith)) (omega (arith, near)) (λ k less. omega (arith, near, valid.0, onward k past less)) ∙ ap Some is)
@@ -109,7 +109,7 @@ module _ (low high step asked : ℕ) (valid : HasValidRates (rates.Steps low hig
   less : past * step < total * step → past < total
   less h = subst (λ q. q < total) (mul-div_left past valid.0) (div_below (past * step) step total valid.0 h)
 
-  pub above_next : low < asked → asked ≤ high → 0 < (asked - low) % step → Some (asked - (asked - low) % step + step) ≡ rate_above (rates.Steps low high step) asked
+  pub above_next : low < asked → asked ≤ high → 0 < (asked - low) % step → Some (asked - (asked - low) % step + step) ≡ rate_above (rates.steps low high step) asked
   above_next lo hi between =
       let is : low + suc past * step ≡ asked - (asked - low) % step + step = omega (arith, near) in
       let room : past * step < total * step = omega (arith, near, at_end) in

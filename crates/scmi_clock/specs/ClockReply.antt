@@ -7,8 +7,8 @@ use Rattle.scmi_codec.specs.declared.clock_command.ClockCommand.TheVariants as c
 use Rattle.scmi_codec.specs.declared.status.Status.TheVariants.{NotFound, InvalidParameters, NotSupported, OutOfRange, Denied, Busy}
 use Rattle.scmi_plan.specs.Board.{Board, clock_at}
 use Rattle.scmi_plan.specs.declared.agent_channel.AgentChannel.{AgentChannel}
-use Rattle.scmi_plan.specs.declared.rates.Rates.{Rates}
-use Rattle.scmi_plan.specs.declared.rates.Rates.TheVariants as rates
+use Rattle.scmi_plan.specs.Rates.{SupportedRates}
+use Rattle.scmi_plan.specs.Rates as rates
 use Rattle.scmi_codec.specs.Name.{name_words}
 use Rattle.scmi_codec.specs.Rate.{rate_words}
 use Rattle.scmi_codec.specs.Reply.{Check, reply_unless, other_bits}
@@ -32,13 +32,13 @@ abbrev pub no_clock : Board → ℕ → Bool
 no_clock board c = nat_le (length board.clocks) c
 
 -- the supported rate that a set's flags ask for, if there is one
-abbrev pub rounded_rate : Rates → ℕ → ℕ → Option ℕ
+abbrev pub rounded_rate : SupportedRates → ℕ → ℕ → Option ℕ
 rounded_rate rates flags asked = round_to (rounding_of flags) rates asked
 
 -- the index is past the end of a list of rates; a triplet is described whatever the index (own)
-abbrev pub past_end : Rates → ℕ → Bool
-past_end (rates.List list) index = nat_le (length list) index
-past_end (rates.Steps low high step) index = false
+abbrev pub past_end : SupportedRates → ℕ → Bool
+past_end (rates.list list) index = nat_le (length list) index
+past_end (rates.steps low high step) index = false
 
 -- the most rates of one reply on a channel: two words each, after the status and the flags word
 abbrev pub most_rates : AgentChannel → ℕ
@@ -54,12 +54,12 @@ triplet_word = 2 ^ 12 + 3
 
 -- the flags word of a description, and its rates in Hz: those of a list from an index on that a channel has room for,
 -- or the lowest, the highest and the step
-abbrev pub rates_words : AgentChannel → Rates → ℕ → List ℕ
-rates_words channel (rates.List list) index =
+abbrev pub rates_words : AgentChannel → SupportedRates → ℕ → List ℕ
+rates_words channel (rates.list list) index =
     let left = length list - index in
     let count = min (most_rates channel) left in
     rates_word (left - count) count ∷ flat_map rate_words (take count (drop index list))
-rates_words channel (rates.Steps low high step) index = triplet_word ∷ flat_map rate_words (low ∷ high ∷ step ∷ [])
+rates_words channel (rates.steps low high step) index = triplet_word ∷ flat_map rate_words (low ∷ high ∷ step ∷ [])
 
 -- the most pending sets that an agent learns of: none where the platform can't send to it (own)
 abbrev pub pending_announced : AgentChannel → ℕ

@@ -4,7 +4,7 @@ ghost use Rattle.scmi_codec.specs.Reply.{bit_0, AreDecided};
 ghost use Rattle.scmi_codec.specs.declared.status.Status.TheVariants.{NotFound, InvalidParameters, NotSupported, Denied, Busy, OutOfRange};
 ghost use Rattle.scmi_plan.specs.Agent.{IsAgent};
 ghost use Rattle.scmi_plan.specs.Board.{channel_of};
-ghost use Rattle.scmi_plan.specs.Rates.{HasValidRates};
+ghost use Rattle.scmi_plan.specs.Rates.{HasValidRates, rates_of};
 ghost use Rattle.scmi_plan.specs.declared.limits.TheConstants.{CLOCKS};
 ghost use Rattle.scmi_clock.specs.ClockReply.{no_clock, past_end, rounded_rate};
 ghost use Rattle.scmi_clock.specs.ClockTable.{set_rate, may_change, is_pending, set_words, config_words};
@@ -58,14 +58,16 @@ pub(crate) fn check_set(
 /// lies in the requested direction.
 #[inline(always)]
 fn rounded_set(rates: &Rates, flags: u32, rate: u64) -> Result<RateSet, Status>
-    requires { HasValidRates rates.now }
+    requires { HasValidRates (rates_of rates.now) }
     ensures known { OnOk result (has_unknown_flags flags ≡ false) }
-    ensures rate { IfOk result (λ set. rounded_rate rates.now flags rate ≡ Some set.rate) }
+    ensures rate { IfOk result (λ set.
+        rounded_rate (rates_of rates.now) flags rate ≡ Some set.rate) }
     ensures asynchronous { IfOk result (λ set. set.asynchronous ≡ is_asynchronous flags) }
     ensures response_wanted { IfOk result (λ set. set.response_wanted ≡ is_response_wanted flags) }
     ensures status { IfErr result (λ status. status ≡ InvalidParameters) }
     ensures refused { IfErr result (λ status.
-        (has_unknown_flags flags || is_none (rounded_rate rates.now flags rate)) ≡ true) }
+        (has_unknown_flags flags
+        || is_none (rounded_rate (rates_of rates.now) flags rate)) ≡ true) }
 {
     let flags = SetFlags::read(flags)?;
     let rate = round(rates, rate, flags.rounding).ok_or(Status::InvalidParameters)?;
@@ -109,10 +111,10 @@ pub(crate) fn check_clock(plan: &Plan, clock: u32) -> Result<(), Status>
 
 /// OUT_OF_RANGE if an index is past the end of a list of rates.
 pub(crate) fn check_index(rates: &Rates, index: u32) -> Result<(), Status>
-    ensures { result ≡ (if past_end rates.now index then Err OutOfRange else Ok tt) }
+    ensures { result ≡ (if past_end (rates_of rates.now) index then Err OutOfRange else Ok tt) }
 {
     match rates {
-        Rates::List(list) if index as usize >= list.as_slice().len() => Err(Status::OutOfRange),
+        Rates::List(list) if index as usize >= list.len() => Err(Status::OutOfRange),
         _ => Ok(()),
     }
 }

@@ -1,9 +1,9 @@
 //! The replies to the commands that change nothing.
 ghost use Rattle.std.specs.Prelude.{◌≡◌, ◌<◌, ◌≤◌, ◌^◌, ◌+◌, ◌*◌, ◌∷◌, [], length, false};
 ghost use Rattle.scmi_plan.specs.Board.{IsChannel, whole_channel};
-ghost use Rattle.scmi_plan.specs.Rates.{HasValidRates};
+ghost use Rattle.scmi_plan.specs.Rates.{HasValidRates, rates_of};
+ghost use Rattle.scmi_plan.specs.Rates as supported;
 ghost use Rattle.scmi_plan.specs.declared.limits.TheConstants.{RATES};
-ghost use Rattle.scmi_plan.specs.declared.rates.Rates.TheVariants.{List, Steps};
 ghost use Rattle.scmi_clock.specs.ClockReply.{attributes_reply, most_rates, message_reply, clock_attributes_reply, describe_reply, rate_reply, past_end, rates_words, rates_word};
 ghost use Rattle.scmi_clock.specs.ClockTable.{rate_at, enabled_at};
 
@@ -108,9 +108,9 @@ pub(crate) fn current_rate(plan: &Plan, state: &ClockState, clock: u32, reply: &
 
 fn set_rates(channel: AgentChannel, rates: &Rates, index: u32, reply: &mut Payload)
     requires channel { IsChannel channel }
-    requires valid { HasValidRates rates.now }
-    requires index { past_end rates.now index ≡ false }
-    ensures { reply.new.items ≡ 0 ∷ rates_words channel rates.now index }
+    requires valid { HasValidRates (rates_of rates.now) }
+    requires index { past_end (rates_of rates.now) index ≡ false }
+    ensures { reply.new.items ≡ 0 ∷ rates_words channel (rates_of rates.now) index }
 {
     match rates {
         Rates::List(list) => set_rate_list(channel, list.as_slice(), index as usize, reply),
@@ -123,7 +123,7 @@ fn set_rate_list(channel: AgentChannel, list: &[u64], index: usize, reply: &mut 
     requires channel { IsChannel channel }
     requires few { length list.now ≤ RATES }
     requires index { index < length list.now }
-    ensures { reply.new.items ≡ 0 ∷ rates_words channel (List list.now) index }
+    ensures { reply.new.items ≡ 0 ∷ rates_words channel (supported.list list.now) index }
 {
     let left = list.len() - index;
     let count = left.min(most_rates(channel));
@@ -160,7 +160,7 @@ fn rates_word(remaining: usize, returned: usize) -> u32
 }
 
 fn set_triplet(low: u64, high: u64, step: u64, reply: &mut Payload)
-    ensures { reply.new.items ≡ 0 ∷ rates_words whole_channel (Steps low high step) 0 }
+    ensures { reply.new.items ≡ 0 ∷ rates_words whole_channel (supported.steps low high step) 0 }
 {
     let [a, b] = rate_words(low);
     let [c, d] = rate_words(high);

@@ -1,7 +1,7 @@
 //! Rounding to a supported rate.
 ghost use Rattle.std.specs.Prelude.{◌≡◌, ◌≤◌, ◌↔◌, IfSome, IsNone};
-ghost use Rattle.scmi_plan.specs.Rates.{HasValidRates};
-ghost use Rattle.scmi_plan.specs.declared.rates.Rates.TheVariants.{List, Steps};
+ghost use Rattle.scmi_plan.specs.Rates.{HasValidRates, rates_of};
+ghost use Rattle.scmi_plan.specs.Rates as supported;
 ghost use Rattle.scmi_clock.specs.Rounding.{IsRounded, HasNoRate, rate_below, rate_above, round_to, nearer};
 
 use scmi_plan::Rates;
@@ -24,10 +24,10 @@ pub enum Rounding {
 #[tactic(auto, using(crate::proofs::Rounds::rounded_is, crate::proofs::Rounds::rounded_none))]
 #[inline(always)]
 pub fn round(rates: &Rates, asked: u64, rounding: Rounding) -> Option<u64>
-    requires { HasValidRates rates.now }
-    ensures rounded { IfSome result (λ rate. IsRounded rounding rates.now asked rate) }
-    ensures none { IsNone result ↔ HasNoRate rounding rates.now asked }
-    ensures computed { result ≡ round_to rounding rates.now asked }
+    requires { HasValidRates (rates_of rates.now) }
+    ensures rounded { IfSome result (λ rate. IsRounded rounding (rates_of rates.now) asked rate) }
+    ensures none { IsNone result ↔ HasNoRate rounding (rates_of rates.now) asked }
+    ensures computed { result ≡ round_to rounding (rates_of rates.now) asked }
 {
     match rounding {
         Rounding::Down => below(rates, asked),
@@ -37,8 +37,8 @@ pub fn round(rates: &Rates, asked: u64, rounding: Rounding) -> Option<u64>
 }
 
 fn below(rates: &Rates, asked: u64) -> Option<u64>
-    requires { HasValidRates rates.now }
-    ensures { result ≡ rate_below rates.now asked }
+    requires { HasValidRates (rates_of rates.now) }
+    ensures { result ≡ rate_below (rates_of rates.now) asked }
 {
     match rates {
         Rates::List(list) => list_below(list.as_slice(), asked),
@@ -47,8 +47,8 @@ fn below(rates: &Rates, asked: u64) -> Option<u64>
 }
 
 fn above(rates: &Rates, asked: u64) -> Option<u64>
-    requires { HasValidRates rates.now }
-    ensures { result ≡ rate_above rates.now asked }
+    requires { HasValidRates (rates_of rates.now) }
+    ensures { result ≡ rate_above (rates_of rates.now) asked }
 {
     match rates {
         Rates::List(list) => list_above(list.as_slice(), asked),
@@ -59,8 +59,8 @@ fn above(rates: &Rates, asked: u64) -> Option<u64>
 #[tactic(auto, using(crate::proofs::Rounds::below_low, crate::proofs::Rounds::above_high))]
 #[inline(always)]
 fn nearest(rates: &Rates, asked: u64) -> Option<u64>
-    requires { HasValidRates rates.now }
-    ensures { result ≡ nearer asked (rate_below rates.now asked) (rate_above rates.now asked) }
+    requires { HasValidRates (rates_of rates.now) }
+    ensures { result ≡ nearer asked (rate_below (rates_of rates.now) asked) (rate_above (rates_of rates.now) asked) }
 {
     match (below(rates, asked), above(rates, asked)) {
         (None, up) => up,
@@ -79,8 +79,8 @@ fn nearer(asked: u64, down: u64, up: u64) -> u64
 }
 
 fn list_below(list: &[u64], asked: u64) -> Option<u64>
-    requires { HasValidRates (List list.now) }
-    ensures { result ≡ rate_below (List list.now) asked }
+    requires { HasValidRates (supported.list list.now) }
+    ensures { result ≡ rate_below (supported.list list.now) asked }
 {
     match list.partition_point(|rate| *rate <= asked) {
         0 => None,
@@ -89,8 +89,8 @@ fn list_below(list: &[u64], asked: u64) -> Option<u64>
 }
 
 fn list_above(list: &[u64], asked: u64) -> Option<u64>
-    requires { HasValidRates (List list.now) }
-    ensures { result ≡ rate_above (List list.now) asked }
+    requires { HasValidRates (supported.list list.now) }
+    ensures { result ≡ rate_above (supported.list list.now) asked }
 {
     let count = list.partition_point(|rate| *rate < asked);
     list.get(count).copied()
@@ -98,8 +98,8 @@ fn list_above(list: &[u64], asked: u64) -> Option<u64>
 
 #[tactic(auto, using(crate::proofs::StepRates::below_none, crate::proofs::StepRates::below_high, crate::proofs::StepRates::below_between))]
 fn step_below(low: u64, high: u64, step: u64, asked: u64) -> Option<u64>
-    requires { HasValidRates (Steps low high step) }
-    ensures { result ≡ rate_below (Steps low high step) asked }
+    requires { HasValidRates (supported.steps low high step) }
+    ensures { result ≡ rate_below (supported.steps low high step) asked }
 {
     if asked < low {
         return None;
@@ -112,8 +112,8 @@ fn step_below(low: u64, high: u64, step: u64, asked: u64) -> Option<u64>
 
 #[tactic(auto, using(crate::proofs::StepRates::above_none, crate::proofs::StepRates::above_low, crate::proofs::StepRates::above_exact, crate::proofs::StepRates::above_next))]
 fn step_above(low: u64, high: u64, step: u64, asked: u64) -> Option<u64>
-    requires { HasValidRates (Steps low high step) }
-    ensures { result ≡ rate_above (Steps low high step) asked }
+    requires { HasValidRates (supported.steps low high step) }
+    ensures { result ≡ rate_above (supported.steps low high step) asked }
 {
     if asked > high {
         return None;

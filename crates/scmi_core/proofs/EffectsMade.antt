@@ -1,11 +1,11 @@
--- The effects of one more event.
-use Rattle.std.proofs.Common.{◌≡◌, ◌<◌, ◌==◌, ℕ, Bool, true, false, List, [], ◌∷◌, ◌++◌, length, map, option_map, slice_get, Option, Some, None, IfSome, Ok, refl, sym, ap, subst, ◌∙◌}
+-- The effects of one more event, and what hardware is asked for at it.
+use Rattle.std.proofs.Common.{◌≡◌, ◌<◌, ◌==◌, ℕ, Bool, true, false, List, [], ◌∷◌, ◌++◌, length, map, option_map, slice_get, Option, Some, None, Ok, refl, sym, ap, subst, ◌∙◌}
 use Rattle.std.specs.Option.{option_and_then, option_or, option_to_list}
 use Rattle.std.proofs.lemmas.List.{append_assoc, append-nil, map-append}
 use Rattle.scmi_codec.specs.Header.{HeaderFields}
 use Rattle.scmi_codec.specs.declared.frame.Frame.{Frame}
 use Rattle.scmi_codec.specs.declared.frame.Frame.TheVariants.{Good, Malformed}
-use Rattle.scmi_core.specs.declared.event.Event.TheVariants.{Advance, CommandFailed}
+use Rattle.scmi_core.specs.declared.event.Event.TheVariants.{Advance, AdvanceFailed, Command, CommandFailed, Restarted, Sent}
 use Rattle.scmi_codec.specs.Payload.{if_success}
 use Rattle.scmi_codec.specs.declared.command.Command.TheVariants.{Power, Clock}
 use Rattle.scmi_codec.specs.declared.power_command.PowerCommand.{PowerCommand}
@@ -16,8 +16,9 @@ use Rattle.scmi_clock.specs.ClockTable.{rate_now, enabled_now}
 use Rattle.scmi_core.specs.declared.effect.Effect.{Effect}
 use Rattle.scmi_core.specs.declared.event.Event.{Event}
 use Rattle.scmi_core.specs.declared.effect.Effect.TheVariants as effect
-use Rattle.scmi_core.specs.Deed.{restarted_by, success_of}
-use Rattle.scmi_core.specs.Driven.{HappensOn, HappensThere, HasMade, IsDriven, and_made}
+use Rattle.scmi_core.specs.Deed.{fold_with_prefix, restarted_by, success_of}
+use Rattle.scmi_core.specs.Asked.{Asked, IsAsked, Made, Refused, and_asked, made_of}
+use Rattle.scmi_core.specs.Driven.{HappensOn, HappensThere, HasMade, IsDriven, ask_after, asks, asks_from}
 use Rattle.scmi_core.specs.Standing.{Standing}
 use Rattle.scmi_core.specs.Effect.{clock_effect, effect_after, effect_of, effects, state_effect}
 use Rattle.scmi_core.specs.History.{deeds, deed_after}
@@ -44,39 +45,99 @@ effects-push board h e =
     ∙ map-append effect_of (changes board (deeds board h)) (option_to_list change)
     ∙ ap (λ ys. map effect_of (changes board (deeds board h)) ++ ys) (map_one change)
 
--- a list of what was made grows by what one event changes
-grows : (xs ys : List Effect) (o : Option Effect) (applied : Option (List Effect)) → ys ≡ xs ++ option_to_list o
-    → IfSome applied (λ made. made ≡ xs) → IfSome (and_made applied o) (λ made. made ≡ ys)
-grows xs ys None None is made = tt
-grows xs ys None (Some list) is made = made ∙ sym (append-nil xs) ∙ sym is
-grows xs ys (Some effect) None is made = tt
-grows xs ys (Some effect) (Some list) is made = ap (λ made. made ++ effect ∷ []) made ∙ sym is
+and_asked-append : (asks : List Asked) (ask : Option Asked) → and_asked asks ask ≡ asks ++ option_to_list ask
+and_asked-append asks None = sym (append-nil asks)
+and_asked-append asks (Some ask) = refl
 
--- so hardware that has made the effects of a history goes on having made them
-pub made-on : (board : Board) (IsOne : Event → Type 0) (h h' : List Event) (applied applied' : Option (List Effect)) (before : List Effect) → HappensOn board IsOne h applied h' applied'
-    → HasMade before board h applied → HasMade before board h' applied'
-made-on board IsOne h h' applied applied' before happens made =
-    let effect = effect_after board h happens.event in
-    let longer : before ++ effects board h' ≡ (before ++ effects board h) ++ option_to_list effect =
-    ap (λ k. before ++ effects board k) happens.history
-    ∙ ap (λ ys. before ++ ys) (effects-push board h happens.event)
-    ∙ sym (append_assoc before (effects board h) (option_to_list effect)) in
-    subst (λ applied. HasMade before board h' applied) (sym happens.hardware)
-    (grows (before ++ effects board h) (before ++ effects board h') effect applied longer made)
+asks_from-push : (board : Board) (before h : List Event) (e : Event) → asks_from board before (h ++ e ∷ []) ≡ asks_from board before h ++ option_to_list (ask_after board (before ++ h) e)
+asks_from-push board before [] e = append-nil (option_to_list (ask_after board before e)) ∙ ap (λ h. option_to_list (ask_after board h e)) (sym (append-nil before))
+asks_from-push board before (x ∷ h) e =
+    let first = option_to_list (ask_after board before x) in
+    let rest = asks_from board (before ++ x ∷ []) h in
+    ap (λ ys. first ++ ys) (asks_from-push board (before ++ x ∷ []) h e)
+    ∙ sym (append_assoc first rest (option_to_list (ask_after board ((before ++ x ∷ []) ++ h) e)))
+    ∙ ap (λ k. (first ++ rest) ++ option_to_list (ask_after board k e)) (append_assoc before (x ∷ []) h)
+
+-- one more event adds what hardware is asked for at it, if that is anything
+pub asks-push : (board : Board) (before : List Asked) (h : List Event) (e : Event) → and_asked (before ++ asks board h) (ask_after board h e) ≡ before ++ asks board (h ++ e ∷ [])
+unfolding asks
+asks-push board before h e =
+    and_asked-append (before ++ asks_from board [] h) (ask_after board h e)
+    ∙ append_assoc before (asks_from board [] h) (option_to_list (ask_after board h e))
+    ∙ ap (λ ys. before ++ ys) (sym (asks_from-push board [] h e))
+
+-- so hardware that was asked for what belongs to a history goes on having been asked for it
+pub made-on : (board : Board) (IsOne : Event → Type 0) (h h' : List Event) (asked asked' : List Asked → Type 0) (before : List Asked) → HappensOn board IsOne h asked h' asked'
+    → HasMade before board h asked → HasMade before board h' asked'
+made-on board IsOne h h' asked asked' before happens made =
+    subst (λ k. HasMade before board k asked') (sym happens.history)
+    (subst asked' (asks-push board before h happens.event) (happens.hardware (before ++ asks board h) made))
 
 -- and so of a platform without its history
-pub driven-on : (IsOne : Event → Type 0) (p k : Standing) (applied applied' : Option (List Effect)) → HappensThere IsOne p applied k applied' → k.board ≡ p.board
-    → IsDriven p applied → IsDriven k applied'
-driven-on IsOne p k applied applied' happens same driven =
+pub driven-on : (IsOne : Event → Type 0) (p k : Standing) (asked asked' : List Asked → Type 0) → HappensThere IsOne p asked k asked' → k.board ≡ p.board
+    → IsDriven p asked → IsDriven k asked'
+driven-on IsOne p k asked asked' happens same driven =
     let h = driven.0 in
-    let h' = h ++ happens.event ∷ [] in
-    let longer : effects k.board h' ≡ effects p.board h ++ option_to_list (effect_after p.board h happens.event) =
-    ap (λ board. effects board h') same ∙ effects-push p.board h happens.event in (
+    let h' = h ++ happens.event ∷ [] in (
       h',
       happens.moves h driven.1,
-      subst (λ applied. IfSome applied (λ made. made ≡ effects k.board h')) (sym (happens.hardware h driven.1))
-          (grows (effects p.board h) (effects k.board h') (effect_after p.board h happens.event) applied longer driven.2),
+      subst (λ board. asked' (asks board h')) (sym same)
+          (subst asked' (asks-push p.board [] h happens.event) (happens.hardware h driven.1 (asks p.board h) driven.2)),
     )
+
+made_of-append : (xs ys : List Asked) → made_of (xs ++ ys) ≡ made_of xs ++ made_of ys
+made_of-append [] ys = refl
+made_of-append (Made effect ∷ xs) ys = ap (λ zs. effect ∷ zs) (made_of-append xs ys)
+made_of-append (Refused effect ∷ xs) ys = made_of-append xs ys
+
+-- a driver that keeps a list of what it made, if it makes one more change, and if it refuses one
+pub makes-one : (effect : Effect) (old new : List Effect) → new ≡ old ++ effect ∷ [] → IsAsked (λ asks. made_of asks ≡ old) (Some (Made effect)) (λ asks. made_of asks ≡ new)
+makes-one effect old new is = λ asks has. made_of-append asks (Made effect ∷ []) ∙ ap (λ ys. ys ++ effect ∷ []) has ∙ sym is
+
+pub refuses-one : (effect : Effect) (old new : List Effect) → new ≡ old → IsAsked (λ asks. made_of asks ≡ old) (Some (Refused effect)) (λ asks. made_of asks ≡ new)
+refuses-one effect old new is = λ asks has. made_of-append asks (Refused effect ∷ []) ∙ append-nil (made_of asks) ∙ has ∙ sym is
+
+made : (o : Option Effect) → made_of (option_to_list (option_map Made o)) ≡ option_to_list o
+made None = refl
+made (Some effect) = refl
+
+refused : (o : Option Effect) → made_of (option_to_list (option_map Refused o)) ≡ []
+refused None = refl
+refused (Some effect) = refl
+
+-- a command that failed changes nothing
+failed-none : (board : Board) (h : List Event) (a : ℕ) (frame : Frame) → effect_after board h (CommandFailed a frame) ≡ None
+failed-none board h a (Good m) = refl
+failed-none board h a (Malformed len header) = refl
+
+-- what is made at an event is what the event changes
+made_after : (board : Board) (h : List Event) (e : Event) → made_of (option_to_list (ask_after board h e)) ≡ option_to_list (effect_after board h e)
+made_after board h (Command a frame) = made (effect_after board h (Command a frame))
+made_after board h Advance = made (effect_after board h Advance)
+made_after board h (Sent a) = refl
+made_after board h (CommandFailed a frame) = refused (effect_after board h (Command a frame)) ∙ sym (ap option_to_list (failed-none board h a frame))
+made_after board h AdvanceFailed = refused (effect_after board h Advance)
+made_after board h (Restarted a) = refl
+
+made_from : (board : Board) (before h : List Event) → effects board before ++ made_of (asks_from board before h) ≡ effects board (before ++ h)
+made_from board before [] = append-nil (effects board before) ∙ ap (effects board) (sym (append-nil before))
+made_from board before (e ∷ h) =
+    let ask = option_to_list (ask_after board before e) in
+    let rest = asks_from board (before ++ e ∷ []) h in
+    ap (λ ys. effects board before ++ ys) (made_of-append ask rest ∙ ap (λ ys. ys ++ made_of rest) (made_after board before e))
+    ∙ sym (append_assoc (effects board before) (option_to_list (effect_after board before e)) (made_of rest))
+    ∙ ap (λ ys. ys ++ made_of rest) (sym (effects-push board before e))
+    ∙ made_from board (before ++ e ∷ []) h
+    ∙ ap (effects board) (append_assoc before (e ∷ []) h)
+
+none_at_start : (board : Board) → effects board [] ≡ []
+unfolding effects deeds fold_with_prefix
+none_at_start board = refl
+
+-- what hardware has made in a history is what the history changes
+pub made-effects : (board : Board) (h : List Event) → made_of (asks board h) ≡ effects board h
+unfolding asks
+made-effects board h = ap (λ xs. xs ++ made_of (asks_from board [] h)) (sym (none_at_start board)) ∙ made_from board [] h
 
 -- what a command of each protocol changes
 pub power-effect : (board : Board) (a : ℕ) (header : HeaderFields) (c : PowerCommand) (reply : List ℕ)
@@ -98,11 +159,6 @@ clock-effect board a header c reply =
       mapped None None = refl
       mapped None (Some set) = ap (λ b. Some (effect.Enabled set.0 b)) (bit_back set.1)
       mapped (Some set) enabled = refl
-
--- a command that failed changes nothing
-pub failed-none : (board : Board) (h : List Event) (a : ℕ) (frame : Frame) → effect_after board h (CommandFailed a frame) ≡ None
-failed-none board h a (Good m) = refl
-failed-none board h a (Malformed len header) = refl
 
 -- the first of some sets stays the first, and a restart leaves what it is to change
 first-kept : (restarted : Option ℕ) (xs ys : List PendingSet) → 0 < length xs → option_map completion (slice_get (pending_left restarted xs ++ ys) 0) ≡ option_map completion (slice_get xs 0)

@@ -21,8 +21,8 @@ use Rattle.scmi_codec.specs.declared.clock_command.ClockCommand.TheVariants as c
 use Rattle.scmi_plan.specs.Board.{Board, IsChannel, channel_of, clock_at, domain_at, whole_channel}
 use Rattle.scmi_plan.specs.Plan.{IsValid}
 use Rattle.scmi_plan.specs.declared.agent_channel.AgentChannel.{AgentChannel}
-use Rattle.scmi_plan.specs.declared.rates.Rates.{Rates}
-use Rattle.scmi_plan.specs.declared.rates.Rates.TheVariants as rates
+use Rattle.scmi_plan.specs.Rates.{SupportedRates}
+use Rattle.scmi_plan.specs.Rates as rates
 use Rattle.scmi_base.specs.BaseReply.{agent_name, asked_for, base_reply, packed_words, permit_checks, permit_protocol_checks, protocols, reset_checks}
 use Rattle.scmi_power.specs.PowerReply.{PowerView, attributes, has_kind, has_notifications, is_state, no_domain, power_reply}
 use Rattle.scmi_clock.specs.ClockReply.{ClockView, clock_reply, config_checks, most_rates, no_clock, past_end, rates_words, set_checks}
@@ -106,8 +106,8 @@ module _ (n : ℕ) (eight : 8 ≤ n) where
 most-within : (words : ℕ) → 8 ≤ words → 2 + 2 * ((words - 2) / 2) ≤ words
 most-within words eight = let pairs = mul-div-le (words - 2) 2 in omega (arith, eight, pairs)
 
-rates-within : (channel : AgentChannel) → IsChannel channel → (r : Rates) (index : ℕ) → 1 + length (rates_words channel r index) ≤ channel.words
-rates-within channel law (rates.List list) index =
+rates-within : (channel : AgentChannel) → IsChannel channel → (r : SupportedRates) (index : ℕ) → 1 + length (rates_words channel r index) ≤ channel.words
+rates-within channel law (rates.list list) index =
     let count = min (most_rates channel) (length list - index) in
     let pairs : length (flat_map rate_words (take count (drop index list))) ≡ 2 * length (take count (drop index list)) = length-rates (take count (drop index list)) in
     let taken : length (take count (drop index list)) ≡ min count (length (drop index list)) = length-take count (drop index list) in
@@ -118,7 +118,7 @@ rates-within channel law (rates.List list) index =
   where
     short : (rates taken least count most words : ℕ) → rates ≡ 2 * taken → taken ≡ least → least ≤ count → count ≤ most → 2 + 2 * most ≤ words → 1 + suc rates ≤ words
     short rates taken least count most words pairs is few upto room = omega (arith, pairs, is, few, upto, room)
-rates-within channel law (rates.Steps low high step) index = law.0
+rates-within channel law (rates.steps low high step) index = law.0
 
 clock-within : (board : Board) (v : ClockView) → IsChannel v.channel → (c : ClockCommand) → length (clock_reply board v c) ≤ v.channel.words
 unfolding clock_reply

@@ -2,7 +2,7 @@
 use Rattle.std.specs.Prelude.{true, false, [], ◌∷◌, codes, replicate}
 use Rattle.scmi_plan.specs.Board.{Board, whole_channel}
 use Rattle.scmi_plan.specs.declared.limits.TheConstants.{AGENTS}
-use Rattle.scmi_plan.specs.declared.rates.Rates.TheVariants as rates
+use Rattle.scmi_plan.specs.Rates as rates
 
 -- two agents, of which the first is trusted; a device of the first domain and the first clock, and a device of the second domain
 abbrev pub board_b : Board
@@ -18,9 +18,9 @@ board_b =
           ∷ record { name = codes "gpu"; on = true; synchronous = true; asynchronous = false; notify = false }
           ∷ record { name = codes "usb"; on = false; synchronous = false; asynchronous = true; notify = true } ∷ [];
       clocks =
-          record { name = codes "core"; enabled = true; rate = 100; rates = rates.List (100 ∷ 200 ∷ 300 ∷ []) }
-          ∷ record { name = codes "bus"; enabled = false; rate = 1000; rates = rates.Steps 1000 4000 500 }
-          ∷ record { name = codes "pix"; enabled = true; rate = 1; rates = rates.List (1 ∷ 2 ∷ 3 ∷ 4 ∷ 5 ∷ 6 ∷ 7 ∷ 8 ∷ 9 ∷ 10 ∷ 11 ∷ 12 ∷ 13 ∷ 14 ∷ 15 ∷ 16 ∷ 17 ∷ 18 ∷ 19 ∷ 20 ∷ []) } ∷ [];
+          record { name = codes "core"; enabled = true; rate = 100; rates = rates.list (100 ∷ 200 ∷ 300 ∷ []) }
+          ∷ record { name = codes "bus"; enabled = false; rate = 1000; rates = rates.steps 1000 4000 500 }
+          ∷ record { name = codes "pix"; enabled = true; rate = 1; rates = rates.list (1 ∷ 2 ∷ 3 ∷ 4 ∷ 5 ∷ 6 ∷ 7 ∷ 8 ∷ 9 ∷ 10 ∷ 11 ∷ 12 ∷ 13 ∷ 14 ∷ 15 ∷ 16 ∷ 17 ∷ 18 ∷ 19 ∷ 20 ∷ []) } ∷ [];
       devices = record { domains = 1; clocks = 1 } ∷ record { domains = 2; clocks = 0 } ∷ [];
       channels = replicate AGENTS whole_channel;
     }

@@ -1,7 +1,7 @@
 -- Board B with channels that are not whole, for worked examples.
 use Rattle.std.specs.Prelude.{true, false, [], ◌∷◌, codes, replicate}
 use Rattle.scmi_plan.specs.Board.{Board, whole_channel}
-use Rattle.scmi_plan.specs.declared.rates.Rates.TheVariants as rates
+use Rattle.scmi_plan.specs.Rates as rates
 use Rattle.scmi_core.specs.BoardB.{board_b}
 
 -- the channels of the first agent have room for 32 words of payload, and those of the second for 8, and the platform
@@ -10,6 +10,6 @@ abbrev pub board_d : Board
 board_d =
     record board_b {
       clocks =
-          record { name = codes "core"; enabled = true; rate = 100; rates = rates.List (100 ∷ 200 ∷ 300 ∷ 400 ∷ 500 ∷ 600 ∷ 700 ∷ 800 ∷ 900 ∷ 1000 ∷ 1100 ∷ 1200 ∷ 1300 ∷ 1400 ∷ 1500 ∷ 1600 ∷ []) } ∷ [];
+          record { name = codes "core"; enabled = true; rate = 100; rates = rates.list (100 ∷ 200 ∷ 300 ∷ 400 ∷ 500 ∷ 600 ∷ 700 ∷ 800 ∷ 900 ∷ 1000 ∷ 1100 ∷ 1200 ∷ 1300 ∷ 1400 ∷ 1500 ∷ 1600 ∷ []) } ∷ [];
       channels = record { words = 32; one_way = false } ∷ record { words = 8; one_way = true } ∷ replicate 6 whole_channel;
     }

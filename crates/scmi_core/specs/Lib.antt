@@ -9,13 +9,14 @@ pub mod Outboxes
 pub mod Reply
 pub mod History
 pub mod Effect
+pub mod Asked
 pub mod Driven
-pub mod Plain
 pub mod Agents
 pub mod Legal
 pub mod Bounds
 pub mod Laws
 pub mod Channels
+pub mod WholeChannels
 pub mod Mark
 pub mod Trace
 pub mod Platform
@@ -24,6 +25,7 @@ pub mod Tables
 pub mod Step
 pub mod Agreement
 pub mod Standing
+pub mod Plain
 pub mod BoardB
 pub mod BoardC
 pub mod BoardD

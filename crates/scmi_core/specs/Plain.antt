@@ -1,4 +1,7 @@
--- Which events a run can have: beside hardware that never refuses, those of the specification alone; and never a restart.
+-- Which events a history has without the hardware's refusals and without restarts.
+use Rattle.std.specs.Prelude.{List}
+use Rattle.std.specs.List.{All}
+use Rattle.scmi_core.specs.Standing.{Standing, StandsAfter}
 use Rattle.scmi_core.specs.declared.event.Event.{Event}
 use Rattle.scmi_core.specs.declared.event.Event.TheVariants.{Command, Advance, Sent, CommandFailed, AdvanceFailed, Restarted}
 
@@ -15,3 +18,7 @@ IsPlain (Restarted a) = ⊥
 abbrev pub IsNoRestart : Event → Type 0
 IsNoRestart (Restarted a) = ⊥
 IsNoRestart _ = Unit {0}
+
+-- a platform is as a history of plain events leaves it
+abbrev pub HasPlainHistory : Standing → Type 0
+HasPlainHistory p = (h : List Event) × StandsAfter p h × All IsPlain h

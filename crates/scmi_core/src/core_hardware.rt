@@ -2,12 +2,12 @@
 ghost use Rattle.std.specs.Prelude.{◌≡◌, ◌≢◌, ◌<◌, ◌++◌, ◌∷◌, [], ◌↔◌, List, length, true, false, None, Some, IfOk, OnErr, IfErr, Err};
 ghost use Rattle.scmi_codec.specs.declared.frame.Answer.TheVariants.{Reply};
 ghost use Rattle.scmi_plan.specs.Agent.{IsAgent, IsNoAgent};
+ghost use Rattle.scmi_core.specs.Asked.{Asked, IsAsked};
 ghost use Rattle.scmi_core.specs.Driven.{ExecutesOn, HappensOn, HasMade, IsEnd, IsExecuted};
 ghost use Rattle.scmi_core.specs.Effect.{effect_after};
 ghost use Rattle.scmi_core.specs.History.{IsIdle, answer_to, answer_with};
 ghost use Rattle.scmi_core.specs.Legal.{IsLegal};
 ghost use Rattle.scmi_core.specs.Reply.{failed_answer};
-ghost use Rattle.scmi_core.specs.declared.effect.Effect.{Effect};
 ghost use Rattle.scmi_core.specs.declared.event.Event.TheVariants.{Command as Called, Advance, CommandFailed};
 
 use crate::answered::Answered;
@@ -31,13 +31,13 @@ impl Core {
     ) -> Result<Answered, CoreError>
         ensures executes { IfOk result (λ x.
             ExecutesOn self.old.board agent frame.now (answer_with x reply.new)
-            self.old.history (H.applied hardware.old) self.new.history (H.applied hardware.new)) }
+            self.old.history (H.asked hardware.old) self.new.history (H.asked hardware.new)) }
         ensures obeyed { H.REFUSES ≡ false → IfOk result (λ x.
             IsExecuted self.old.board agent frame.now (answer_with x reply.new)
             self.old.history self.new.history) }
-        ensures made { (before : List Effect)
-            → HasMade before self.old.board self.old.history (H.applied hardware.old)
-            → HasMade before self.new.board self.new.history (H.applied hardware.new) }
+        ensures made { (before : List Asked)
+            → HasMade before self.old.board self.old.history (H.asked hardware.old)
+            → HasMade before self.new.board self.new.history (H.asked hardware.new) }
         ensures board { self.new.board ≡ self.old.board }
         ensures legal { IsLegal self.new.board self.new.history }
         ensures no_agent { (result ≡ Err CoreError.NoAgent)
@@ -46,7 +46,7 @@ impl Core {
         ensures not_nothing { result ≢ Err CoreError.Nothing }
         ensures err { OnErr result (self.new ≡ self.old) }
         ensures kept { OnErr result (reply.new ≡ reply.old) }
-        ensures unasked { OnErr result (H.applied hardware.new ≡ H.applied hardware.old) }
+        ensures unasked { OnErr result (IsAsked (H.asked hardware.old) None (H.asked hardware.new)) }
     {
         self.platform.check_agent(agent)?;
         self.trace.reserve()?;
@@ -65,13 +65,13 @@ impl Core {
         requires agent { IsAgent (length self.old.board.agents) agent }
         requires room { 0 < self.old.room }
         ensures executes { ExecutesOn self.old.board agent frame.now (answer_with result reply.new)
-            self.old.history (H.applied hardware.old) self.new.history (H.applied hardware.new) }
+            self.old.history (H.asked hardware.old) self.new.history (H.asked hardware.new) }
         ensures obeyed { H.REFUSES ≡ false
             → IsExecuted self.old.board agent frame.now (answer_with result reply.new)
             self.old.history self.new.history }
-        ensures made { (before : List Effect)
-            → HasMade before self.old.board self.old.history (H.applied hardware.old)
-            → HasMade before self.new.board self.new.history (H.applied hardware.new) }
+        ensures made { (before : List Asked)
+            → HasMade before self.old.board self.old.history (H.asked hardware.old)
+            → HasMade before self.new.board self.new.history (H.asked hardware.new) }
         ensures board { self.new.board ≡ self.old.board }
         ensures legal { IsLegal self.new.board self.new.history }
     {
@@ -94,12 +94,12 @@ impl Core {
             (did ≡ false) ↔ IsIdle self.old.board self.old.history) }
         ensures happens { IfOk result (λ did.
             did ≡ true → HappensOn self.old.board IsEnd
-            self.old.history (H.applied hardware.old) self.new.history (H.applied hardware.new)) }
+            self.old.history (H.asked hardware.old) self.new.history (H.asked hardware.new)) }
         ensures obeyed { H.REFUSES ≡ false → IfOk result (λ did.
             did ≡ true → self.new.history ≡ self.old.history ++ Advance ∷ []) }
-        ensures made { (before : List Effect)
-            → HasMade before self.old.board self.old.history (H.applied hardware.old)
-            → HasMade before self.new.board self.new.history (H.applied hardware.new) }
+        ensures made { (before : List Asked)
+            → HasMade before self.old.board self.old.history (H.asked hardware.old)
+            → HasMade before self.new.board self.new.history (H.asked hardware.new) }
         ensures same { IfOk result (λ did. did ≡ false → self.new ≡ self.old) }
         ensures board { self.new.board ≡ self.old.board }
         ensures legal { IsLegal self.new.board self.new.history }
@@ -107,7 +107,7 @@ impl Core {
             (e ≡ CoreError.Memory) × (self.old.room ≡ 0)
             × ¬ (IsIdle self.old.board self.old.history)) }
         ensures err { OnErr result (self.new ≡ self.old) }
-        ensures unasked { OnErr result (H.applied hardware.new ≡ H.applied hardware.old) }
+        ensures unasked { OnErr result (IsAsked (H.asked hardware.old) None (H.asked hardware.new)) }
     {
         if self.platform.is_idle() {
             return Ok(false);
@@ -122,7 +122,7 @@ impl Core {
         requires waiting { ¬ (IsIdle self.old.board self.old.history) }
         requires room { 0 < self.old.room }
         ensures happens { HappensOn self.old.board IsEnd
-            self.old.history (H.applied hardware.old) self.new.history (H.applied hardware.new) }
+            self.old.history (H.asked hardware.old) self.new.history (H.asked hardware.new) }
         ensures obeyed { H.REFUSES ≡ false
             → self.new.history ≡ self.old.history ++ Advance ∷ [] }
         ensures board { self.new.board ≡ self.old.board }

@@ -2,9 +2,11 @@
 ghost use Rattle.std.specs.Prelude.{◌≡◌, ◌++◌, ◌∷◌, [], ℕ, List, true};
 ghost use Rattle.std.specs.Option.{option_to_list};
 ghost use Rattle.scmi_plan.specs.Board.{Board};
+ghost use Rattle.scmi_core.specs.Asked.{made_of};
 ghost use Rattle.scmi_core.specs.Bounds.{HasBounds, HasResponses};
 ghost use Rattle.scmi_plan.specs.Plan.{IsValid};
 ghost use Rattle.scmi_core.specs.Channels.{KeepsChannels};
+ghost use Rattle.scmi_core.specs.Driven.{asks};
 ghost use Rattle.scmi_core.specs.Effect.{effect_after, effects};
 ghost use Rattle.scmi_core.specs.History.{deeds};
 ghost use Rattle.scmi_core.specs.Laws.{AreAlikeBut, HasIntegrity, HasIsolation, HasTrustedPermissions, is_refused};
@@ -59,6 +61,7 @@ pub fn every_legal_history()
         → HasTrustedPermissions board h }
     ensures channels { (board : Board) (h : List Event) → IsValid board → IsLegal board h
         → KeepsChannels board h }
+    ensures made { (board : Board) (h : List Event) → made_of (asks board h) ≡ effects board h }
     ensures effects { (board : Board) (h : List Event) (event : Event)
         → effects board (h ++ event ∷ [])
         ≡ effects board h ++ option_to_list (effect_after board h event) }

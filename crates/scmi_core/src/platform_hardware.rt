@@ -3,6 +3,7 @@ ghost use Rattle.std.specs.Prelude.{◌≡◌, ◌≢◌, ◌<◌, ◌↔◌, Li
 ghost use Rattle.scmi_codec.specs.declared.frame.Answer.TheVariants.{Reply};
 ghost use Rattle.scmi_plan.specs.Agent.{IsAgent, IsNoAgent};
 ghost use Rattle.scmi_plan.specs.Plan.{IsValid};
+ghost use Rattle.scmi_core.specs.Asked.{IsAsked};
 ghost use Rattle.scmi_core.specs.Driven.{ExecutesThere, HappensThere, IsDriven, IsEnd, IsExecutedThere};
 ghost use Rattle.scmi_core.specs.Effect.{effect_after};
 ghost use Rattle.scmi_core.specs.History.{IsIdle, answer_to, answer_with};
@@ -32,18 +33,18 @@ impl Platform {
     ) -> Result<Answered, CoreError>
         ensures executes { IfOk result (λ x.
             ExecutesThere agent frame.now (answer_with x reply.new)
-            self.old (H.applied hardware.old) self.new (H.applied hardware.new)) }
+            self.old (H.asked hardware.old) self.new (H.asked hardware.new)) }
         ensures obeyed { H.REFUSES ≡ false → IfOk result (λ x.
             IsExecutedThere agent frame.now (answer_with x reply.new) self.old self.new) }
-        ensures driven { IsDriven self.old (H.applied hardware.old)
-            → IsDriven self.new (H.applied hardware.new) }
+        ensures driven { IsDriven self.old (H.asked hardware.old)
+            → IsDriven self.new (H.asked hardware.new) }
         ensures board { self.new.board ≡ self.old.board }
         ensures no_agent { (result ≡ Err CoreError.NoAgent)
             ↔ IsNoAgent (length self.old.board.agents) agent }
         ensures errors { IfErr result (λ e. e ≡ CoreError.NoAgent) }
         ensures err { OnErr result (self.new ≡ self.old) }
         ensures kept { OnErr result (reply.new ≡ reply.old) }
-        ensures unasked { OnErr result (H.applied hardware.new ≡ H.applied hardware.old) }
+        ensures unasked { OnErr result (IsAsked (H.asked hardware.old) None (H.asked hardware.new)) }
     {
         self.check_agent(agent)?;
         Ok(self.execute_on(hardware, agent, frame, reply))
@@ -55,12 +56,13 @@ impl Platform {
         ensures waiting { (h : List Event) → StandsAfter self.old h
             → (result ≡ false) ↔ IsIdle self.old.board h }
         ensures happens { result ≡ true → HappensThere IsEnd
-            self.old (H.applied hardware.old) self.new (H.applied hardware.new) }
+            self.old (H.asked hardware.old) self.new (H.asked hardware.new) }
         ensures obeyed { H.REFUSES ≡ false → result ≡ true → MovesOn self.old Advance self.new }
-        ensures driven { IsDriven self.old (H.applied hardware.old)
-            → IsDriven self.new (H.applied hardware.new) }
+        ensures driven { IsDriven self.old (H.asked hardware.old)
+            → IsDriven self.new (H.asked hardware.new) }
         ensures same { result ≡ false → self.new ≡ self.old }
-        ensures unasked { result ≡ false → H.applied hardware.new ≡ H.applied hardware.old }
+        ensures unasked { result ≡ false
+            → IsAsked (H.asked hardware.old) None (H.asked hardware.new) }
         ensures board { self.new.board ≡ self.old.board }
     {
         if self.is_idle() {
@@ -80,7 +82,7 @@ impl Platform {
     ) -> Answered
         requires agent { IsAgent (length self.old.board.agents) agent }
         ensures executes { ExecutesThere agent frame.now (answer_with result reply.new)
-            self.old (H.applied hardware.old) self.new (H.applied hardware.new) }
+            self.old (H.asked hardware.old) self.new (H.asked hardware.new) }
         ensures obeyed { H.REFUSES ≡ false
             → IsExecutedThere agent frame.now (answer_with result reply.new) self.old self.new }
         ensures board { self.new.board ≡ self.old.board }
@@ -100,7 +102,7 @@ impl Platform {
     fn end_on<H: Hardware>(&mut self, hardware: &mut H)
         requires waiting { 0 < length self.old.tables.pending }
         ensures happens { HappensThere IsEnd
-            self.old (H.applied hardware.old) self.new (H.applied hardware.new) }
+            self.old (H.asked hardware.old) self.new (H.asked hardware.new) }
         ensures obeyed { H.REFUSES ≡ false → MovesOn self.old Advance self.new }
         ensures board { self.new.board ≡ self.old.board }
     {

@@ -10,7 +10,7 @@ joined_nothing : (o : Option (List ℕ)) → both_bytes o (Some []) ≡ both_byt
 joined_nothing None = refl
 joined_nothing (Some a) = ap Some (list.append-nil a)
 
-pub joined_in_turn : (a b c : Option (List ℕ)) → both_bytes a (both_bytes b c) ≡ both_bytes (both_bytes a b) c
+joined_in_turn : (a b c : Option (List ℕ)) → both_bytes a (both_bytes b c) ≡ both_bytes (both_bytes a b) c
 joined_in_turn None b c = refl
 joined_in_turn (Some a) None c = refl
 joined_in_turn (Some a) (Some b) None = refl

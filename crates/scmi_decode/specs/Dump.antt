@@ -1,10 +1,9 @@
 -- The bytes of a line of a dump.
-use Rattle.std.specs.Prelude.{◌≡◌, ℕ, ◌+◌, ◌==◌, ◌&&◌, ◌||◌, nat_lt, Bool, true, false, if◌then◌else◌, List, [], ◌∷◌, ◌++◌, length, drop, reverse, slice_index, Option, Some, None}
+use Rattle.std.specs.Prelude.{◌≡◌, ℕ, ◌==◌, ◌&&◌, ◌||◌, nat_lt, Bool, true, false, if◌then◌else◌, List, [], ◌∷◌, ◌++◌, length, drop, reverse, slice_index, Option, Some, None}
 use Rattle.std.specs.List.{slice_split}
 use Rattle.std.specs.Option.{option_map}
 use Rattle.std.specs.Result.{result_ok}
-use Rattle.hex.specs.Hex.{decode_of, pair_value}
-use Rattle.scmi_decode.specs.declared.row.TheConstants.{ROW_BYTES}
+use Rattle.hex.specs.Hex.{decode_of}
 
 -- whether a byte separates the items of a line: a space, a tab, a carriage return or a comma
 abbrev pub is_gap : ℕ → Bool
@@ -13,10 +12,6 @@ is_gap b = (b == 32) || (b == 9) || (b == 13) || (b == 44)
 -- whether an item has the mark of a number, `0x`, and something after it
 abbrev pub has_mark : List ℕ → Bool
 has_mark item = nat_lt 2 (length item) && (slice_index item 0 == 48) && (slice_index item 1 == 120)
-
--- the byte of two hexadecimal digits
-abbrev pub pair_byte : (high low : ℕ) → Option ℕ
-pair_byte high low = result_ok (pair_value high low 0)
 
 -- bytes as two hexadecimal digits each, of either case, the high one first
 abbrev pub bytes_of : List ℕ → Option (List ℕ)
@@ -56,8 +51,3 @@ items_bytes (item ∷ items) = both_bytes (item_bytes item) (items_bytes items)
 -- the bytes of a line, if each of its items has some
 abbrev pub line_bytes : List ℕ → Option (List ℕ)
 line_bytes line = items_bytes (slice_split is_gap line)
-
--- bytes, if a row has room for them after those that it has
-abbrev pub fitting : (row : List ℕ) → Option (List ℕ) → Option (List ℕ)
-fitting row None = None
-fitting row (Some bytes) = if nat_lt (length row + length bytes) (ROW_BYTES + 1) then Some bytes else None

@@ -1,6 +1,8 @@
 -- The message that a line of Linux's event `scmi_msg_dump` reports, by its fields.
-use Rattle.std.specs.Prelude.{ℕ, ◌-◌, ◌%◌, ◌^◌, ◌==◌, ◌&&◌, nat_lt, Bool, true, false, if◌then◌else◌, List, [], ◌∷◌, ◌++◌, drop, Option, Some, None}
+use Rattle.std.specs.Prelude.{ℕ, ◌-◌, ◌%◌, ◌^◌, ◌==◌, nat_eq, nat_lt, Bool, true, false, if◌then◌else◌, List, [], ◌∷◌, ◌++◌, drop, length, Option, Some, None}
 use Rattle.std.specs.Int.{to_le_bytes, w32}
+use Rattle.std.specs.List.{starts_with}
+use Rattle.std.specs.Str.{bytes_eq}
 use Rattle.scmi_codec.specs.Header.{HeaderFields, header_word}
 use Rattle.scmi_decode.specs.Dump.{both_bytes, bytes_of}
 use Rattle.scmi_decode.specs.MessageArea.{message_area}
@@ -9,18 +11,9 @@ use Rattle.scmi_decode.specs.declared.event.EventKind.{EventKind}
 use Rattle.scmi_decode.specs.declared.event.EventKind.TheVariants.{Command, Response, Delayed, Notification}
 use Rattle.scmi_decode.specs.declared.message_words.TheConstants.{COMMAND, RESPONSE, DELAYED, NOTIFICATION, KIND, PROTOCOL, MESSAGE_ID, TOKEN, STATUS, PAYLOAD}
 
--- whether an item is this word
-abbrev pub is_word : (word item : List ℕ) → Bool
-is_word [] [] = true
-is_word [] (b ∷ bs) = false
-is_word (c ∷ cs) [] = false
-is_word (c ∷ cs) (b ∷ bs) = (b == c) && is_word cs bs
-
 -- what follows a name at the beginning of an item, if the item begins with it
 abbrev pub behind_name : (name item : List ℕ) → Option (List ℕ)
-behind_name [] item = Some item
-behind_name (c ∷ cs) [] = None
-behind_name (c ∷ cs) (b ∷ bs) = if b == c then behind_name cs bs else None
+behind_name name item = if starts_with nat_eq item name then Some (drop (length name) item) else None
 
 -- the first of two that is there
 abbrev pub first_there : Option (List ℕ) → Option (List ℕ) → Option (List ℕ)
@@ -51,8 +44,8 @@ field_number limit (Some digits) = digits_number 16 limit digits
 abbrev pub kind_of : Option (List ℕ) → Option EventKind
 kind_of None = None
 kind_of (Some t) =
-    if is_word COMMAND.now t then Some Command else if is_word RESPONSE.now t then Some Response
-    else if is_word DELAYED.now t then Some Delayed else if is_word NOTIFICATION.now t then Some Notification else None
+    if bytes_eq t COMMAND.now then Some Command else if bytes_eq t RESPONSE.now then Some Response
+    else if bytes_eq t DELAYED.now then Some Delayed else if bytes_eq t NOTIFICATION.now then Some Notification else None
 
 -- the message type of an event's message
 abbrev pub message_type : EventKind → ℕ

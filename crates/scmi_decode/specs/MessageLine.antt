@@ -1,15 +1,16 @@
 -- Lines that report a message: of Linux's event `scmi_msg_dump`, or of a script.
 use Rattle.std.specs.Prelude.{ℕ, ◌^◌, ◌&&◌, ◌||◌, Bool, if◌then◌else◌, List, [], ◌∷◌, Option, Some, None, is_some}
 use Rattle.std.specs.List.{slice_split}
+use Rattle.std.specs.Str.{bytes_eq}
 use Rattle.scmi_decode.specs.Dump.{is_gap, items_bytes}
-use Rattle.scmi_decode.specs.Event.{digits_number, event_area, is_word}
+use Rattle.scmi_decode.specs.Event.{digits_number, event_area}
 use Rattle.scmi_decode.specs.MessageArea.{message_area}
 use Rattle.scmi_decode.specs.declared.message_words.TheConstants.{EVENT, REPLY, GOT, P2A}
 
 -- what follows the name of the event, if it is among the items
 abbrev pub behind_event : List (List ℕ) → Option (List (List ℕ))
 behind_event [] = None
-behind_event (item ∷ items) = if is_word EVENT.now item then Some items else behind_event items
+behind_event (item ∷ items) = if bytes_eq item EVENT.now then Some items else behind_event items
 
 -- whether an item is the number of an agent
 abbrev pub is_agent : List ℕ → Bool
@@ -17,7 +18,7 @@ is_agent item = is_some (digits_number 10 (2 ^ 32) item)
 
 -- whether an item reports that an agent has got the message after it
 abbrev pub is_got : List ℕ → Bool
-is_got item = is_word REPLY.now item || is_word GOT.now item || is_word P2A.now item
+is_got item = bytes_eq item REPLY.now || bytes_eq item GOT.now || bytes_eq item P2A.now
 
 -- what follows an agent and the word for a message that it has got
 abbrev pub behind_got : List (List ℕ) → Option (List (List ℕ))

@@ -102,13 +102,10 @@ repeated d = record d { repeats = true }
 abbrev pub has_one_item : List ℕ → Bool
 has_one_item line = length (after_gap (after_item line)) == 0
 
--- whether a line is `*`
-abbrev pub line_is_star : List ℕ → Bool
-line_is_star line = (length (first_item line) == 1) && (slice_index (first_item line) 0 == 42) && has_one_item line
-
 -- whether a line is `*`, by which the last row of a dump with addresses repeats
 unfoldable pub is_star : DumpView → List ℕ → Bool
-is_star d line = is_open d && not (same_form d.form Plain) && line_is_star line
+is_star d line =
+    is_open d && not (same_form d.form Plain) && (length (first_item line) == 1) && (slice_index (first_item line) 0 == 42) && has_one_item line
 
 -- an address, if a dump reaches it
 abbrev pub if_reached : DumpView → Option ℕ → Option ℕ

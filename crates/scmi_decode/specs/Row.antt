@@ -1,6 +1,6 @@
 -- The rows of dumps: an address, some bytes, and a column of text.
-use Rattle.std.specs.Prelude.{◌≡◌, ◌≢◌, ◌<◌, ℕ, ◌+◌, ◌-◌, ◌*◌, ◌^◌, ◌==◌, ◌&&◌, ◌||◌, nat_lt, not, Bool, false, if◌then◌else◌, List, [], ◌∷◌, length, take, drop, slice_index, Option, Some, None}
-use Rattle.scmi_decode.specs.Dump.{both_bytes, is_gap, has_mark, line_bytes}
+use Rattle.std.specs.Prelude.{ℕ, ◌+◌, ◌-◌, ◌*◌, ◌^◌, ◌==◌, ◌&&◌, ◌||◌, nat_lt, not, Bool, false, if◌then◌else◌, List, [], ◌∷◌, length, take, drop, slice_index, Option, Some, None}
+use Rattle.scmi_decode.specs.Dump.{is_gap, has_mark, line_bytes}
 use Rattle.scmi_decode.specs.declared.form.Form.{Form}
 use Rattle.scmi_decode.specs.declared.form.Form.TheVariants.{Plain, Marked, Offset}
 use Rattle.scmi_decode.specs.declared.row.TheConstants.{ROW_BYTES, ROW_LINE_BYTES}
@@ -10,10 +10,6 @@ abbrev pub digit_value : ℕ → ℕ
 digit_value b =
     if nat_lt 47 b && nat_lt b 58 then b - 48 else if nat_lt 96 b && nat_lt b 103 then b - 97 + 10
     else if nat_lt 64 b && nat_lt b 71 then b - 65 + 10 else 16
-
--- the value of a digit of either case, 256 for what is no hexadecimal digit
-abbrev pub low_value : ℕ → ℕ
-low_value b = if nat_lt (digit_value b) 16 then digit_value b else 256
 
 -- the number that digits of a base give after what comes before them, if it has at most 64 bits
 abbrev pub number_from : (base before : ℕ) → List ℕ → Option ℕ
@@ -65,20 +61,6 @@ before_column behind = take (column_length (after_gap behind)) (after_gap behind
 -- what comes before `|` or `>`
 abbrev pub before_bar : List ℕ → List ℕ
 before_bar behind = take (bar_length behind) behind
-
--- what comes before the column of text of a row of this form
-abbrev pub data_of : Form → List ℕ → List ℕ
-data_of Plain text = text
-data_of Marked text = take (column_length text) text
-data_of Offset text = before_bar text
-
--- the bytes of a row and those of a text behind them are those of another row and the rest of the text
-abbrev pub ContinuesAs : Form → (row text new rest : List ℕ) → Type 0
-ContinuesAs f row text new rest = both_bytes (Some row) (line_bytes (data_of f text)) ≡ both_bytes (Some new) (line_bytes (data_of f rest))
-
--- so many bytes come before a space, which does not begin the column of text, and a byte
-abbrev pub EndsAt : Form → (text : List ℕ) → (count : ℕ) → Type 0
-EndsAt f text count = (count + 1 < length text) × (slice_index text count ≡ 32) × (f ≡ Marked → slice_index text (count + 1) ≢ 32)
 
 -- whether an item has a colon as its last byte
 abbrev pub ends_in_colon : List ℕ → Bool

@@ -2,7 +2,7 @@
 ghost use Rattle.std.specs.Prelude.{◌≡◌, ◌<◌, IfOk, IfSome, map};
 ghost use Rattle.std.specs.Int.{to_le_bytes, w32};
 ghost use Rattle.std.specs.Option.{option_copied, option_map};
-ghost use Rattle.scmi_decode.specs.Event.{behind_name, channel_word, digits_number, event_area, event_area_of, event_header, event_payload, field_number, has_status, is_word, kind_of, message_type, payload_bytes, signed_word, status_bytes, status_word, value_of, begins_with_minus, negative_word};
+ghost use Rattle.scmi_decode.specs.Event.{behind_name, channel_word, digits_number, event_area, event_area_of, event_header, event_payload, field_number, has_status, kind_of, message_type, payload_bytes, signed_word, status_bytes, status_word, value_of, begins_with_minus, negative_word};
 
 use crate::dump::bytes_of;
 use crate::message_area::message_area;
@@ -97,43 +97,21 @@ pub(crate) fn event_payload(
 pub(crate) fn value_of<'a>(name: &[u8], items: &[&'a [u8]]) -> Option<&'a [u8]>
     ensures { option_copied result ≡ value_of name.now (map (λ item. item.now) items.now) }
 {
-    let [item, items @ ..] = items else {
-        return None;
-    };
-    match behind_name(name, item) {
-        Some(value) => Some(value),
-        None => value_of(name, items),
+    let mut rest = items;
+    'items: while let [item, behind @ ..] = rest {
+        if let Some(value) = behind_name(name, item) {
+            return Some(value);
+        }
+        rest = behind;
     }
+    None
 }
 
 /// What follows a name at the beginning of an item, if the item begins with it.
 pub(crate) fn behind_name<'a>(name: &[u8], item: &'a [u8]) -> Option<&'a [u8]>
     ensures { option_copied result ≡ behind_name name.now item.now }
 {
-    let [first, name @ ..] = name else {
-        return Some(item);
-    };
-    let [byte, item @ ..] = item else {
-        return None;
-    };
-    if byte == first {
-        behind_name(name, item)
-    } else {
-        None
-    }
-}
-
-/// Whether an item is this word.
-pub(crate) fn is_word(word: &[u8], item: &[u8]) -> bool
-    ensures { result ≡ is_word word.now item.now }
-{
-    let [first, word @ ..] = word else {
-        return item.is_empty();
-    };
-    let [byte, item @ ..] = item else {
-        return false;
-    };
-    byte == first && is_word(word, item)
+    item.strip_prefix(name)
 }
 
 /// What an event is of, by its field `t=`.
@@ -141,13 +119,13 @@ pub(crate) fn kind_of(value: Option<&[u8]>) -> Option<EventKind>
     ensures { result ≡ kind_of (option_copied value.entry) }
 {
     let value = value?;
-    if is_word(COMMAND, value) {
+    if value == COMMAND {
         Some(EventKind::Command)
-    } else if is_word(RESPONSE, value) {
+    } else if value == RESPONSE {
         Some(EventKind::Response)
-    } else if is_word(DELAYED, value) {
+    } else if value == DELAYED {
         Some(EventKind::Delayed)
-    } else if is_word(NOTIFICATION, value) {
+    } else if value == NOTIFICATION {
         Some(EventKind::Notification)
     } else {
         None

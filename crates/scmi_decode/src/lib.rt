@@ -26,7 +26,6 @@ mod parts;
 mod reading;
 mod readings;
 mod row;
-mod row_bytes;
 mod scan;
 mod step;
 mod traced;

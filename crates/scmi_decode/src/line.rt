@@ -1,25 +1,21 @@
 //! What is written of a line, and of a dump.
-ghost use Rattle.std.specs.Prelude.{◌≡◌, ◌⊎◌, Some, OnOk, IfOk, IfErr, IfSome};
+ghost use Rattle.std.specs.Prelude.{◌≡◌, ◌⊎◌, OnOk, IfOk, IfErr, IfSome};
 ghost use Rattle.std.specs.Option.{is_some, option_copied, option_map};
 ghost use Rattle.std.specs.List.{slice_split};
 ghost use Rattle.scmi_decode.specs.Dump.{is_gap};
-ghost use Rattle.scmi_decode.specs.MessageLine.{alone_bytes};
 ghost use Rattle.scmi_decode.specs.Reading.{alone_reading};
-ghost use Rattle.scmi_decode.specs.declared.reading.Reading.TheVariants.{Bytes};
 ghost use Rattle.std.specs.Io.KnownBytes.{Appends};
 ghost use Rattle.scmi_decode.specs.Decoded.{are_area, bytes_text, dump_text, line_is_area, line_text, numbered_text, other_size_text};
 
 use crate::decode_error::DecodeError;
-use crate::dump::bytes_of;
 use crate::hint::write_hinted;
 use crate::lines::{is_described, items_of};
 use crate::message_line::alone_bytes;
 use crate::open_dump::{OpenDump, is_area};
 use crate::reading::{Reading, alone_reading};
-use crate::row::ROW_LINE_BYTES;
 use scmi_codec::{AREA_BYTES, LEAST_AREA_BYTES};
 use scmi_describe::describe_channel;
-use std::alloc::{AllocError, Global};
+use std::alloc::Global;
 use std::io;
 use std::io::Write;
 
@@ -54,37 +50,12 @@ pub fn write_line<W: Write>(
     if !is_described(line) {
         return Ok(None);
     }
-    if let Some(bytes) = digits_bytes(alloc, line)? {
-        let is_area = write_found_line(writer, number, &Some(bytes))?;
-        return Ok(bytes_if(is_area));
-    }
     let items = items_of(alloc, line)?;
     let found = alone_bytes(alloc, items.as_slice())?;
     if !write_found_line(writer, number, &found)? {
         return Ok(None);
     }
     Ok(Some(alone_reading(items.as_slice())))
-}
-
-/// The reading of bytes in their order, of an area.
-fn bytes_if(is_area: bool) -> Option<Reading>
-    ensures area { is_some result ≡ is_area }
-    ensures reading { IfSome result (λ reading. reading ≡ Bytes) }
-{
-    if is_area { Some(Reading::Bytes) } else { None }
-}
-
-/// The bytes of a line of more digits than a row may have, and nothing else; `None` of any other line.
-fn digits_bytes(alloc: Global, line: &[u8]) -> Result<Option<Vec<u8>>, AllocError>
-    ensures bytes { IfOk result (λ found. IfSome found (λ bytes.
-        alone_bytes line.now ≡ Some bytes.items)) }
-    ensures reading { IfOk result (λ found. IfSome found (λ _.
-        alone_reading (slice_split is_gap line.now) ≡ Bytes)) }
-{
-    if line.len() <= ROW_LINE_BYTES {
-        return Ok(None);
-    }
-    bytes_of(alloc, line)
 }
 
 /// Writes the text of a line, after its number, and gives whether it is an area.

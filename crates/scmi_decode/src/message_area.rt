@@ -1,8 +1,7 @@
 //! The area that holds a message.
-ghost use Rattle.std.specs.Prelude.{◌≡◌, IfOk, true, [], ◌∷◌};
+ghost use Rattle.std.specs.Prelude.{◌≡◌, IfOk, true, replicate};
 ghost use Rattle.std.specs.Option.{option_map};
 ghost use Rattle.scmi_decode.specs.MessageArea.{fits_area, message_area, message_start, padded};
-ghost use Rattle.scmi_decode.specs.OpenDump.{copies};
 
 use scmi_codec::{AREA_BYTES, PAYLOAD_WORDS};
 use std::alloc::{AllocError, Global};
@@ -58,7 +57,7 @@ fn padded(alloc: Global, mut bytes: Vec<u8>) -> Result<Vec<u8>, AllocError>
 
 /// Zeros, as many as the number.
 fn zeros(alloc: Global, count: usize) -> Result<Vec<u8>, AllocError>
-    ensures { IfOk result (λ all. all.items ≡ copies count (0 ∷ [])) }
+    ensures { IfOk result (λ all. all.items ≡ replicate count 0) }
 {
     let zeros = vec![in alloc; 0u8; count]?;
     Ok(zeros)

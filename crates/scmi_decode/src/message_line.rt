@@ -4,7 +4,7 @@ ghost use Rattle.std.specs.Option.{option_map};
 ghost use Rattle.scmi_decode.specs.MessageLine.{behind_event, behind_got, got_or_own, is_agent, is_got, items_alone};
 
 use crate::dump::items_bytes;
-use crate::event::{digits_number, event_area, is_word};
+use crate::event::{digits_number, event_area};
 use crate::message_area::message_area;
 use crate::message_words::{EVENT, GOT, P2A, REPLY};
 use std::alloc::{AllocError, Global};
@@ -26,14 +26,14 @@ pub(crate) fn behind_event<'a, 'b>(items: &'b [&'a [u8]]) -> Option<&'b [&'a [u8
     ensures { option_map (λ behind. map (λ item. item.now) behind.now) result
         ≡ behind_event (map (λ item. item.now) items.now) }
 {
-    let [item, items @ ..] = items else {
-        return None;
-    };
-    if is_word(EVENT, item) {
-        Some(items)
-    } else {
-        behind_event(items)
+    let mut rest = items;
+    'items: while let [item, behind @ ..] = rest {
+        if *item == EVENT {
+            return Some(behind);
+        }
+        rest = behind;
     }
+    None
 }
 
 /// The area of the message that an agent has got by a line, or else the bytes of its items.
@@ -79,5 +79,5 @@ fn is_agent(item: &[u8]) -> bool
 fn is_got(item: &[u8]) -> bool
     ensures { result ≡ is_got item.now }
 {
-    is_word(REPLY, item) || is_word(GOT, item) || is_word(P2A, item)
+    item == REPLY || item == GOT || item == P2A
 }

@@ -1,14 +1,13 @@
 //! A dump over several lines.
-ghost use Rattle.std.specs.Prelude.{◌≡◌, ◌+◌, ◌%◌, ◌^◌, ◌<◌, length, false, true, OnOk, IfOk};
+ghost use Rattle.std.specs.Prelude.{◌≡◌, ◌+◌, ◌%◌, ◌^◌, length, OnOk, IfOk};
 ghost use Rattle.std.specs.Option.{is_some};
-ghost use Rattle.scmi_decode.specs.OpenDump.{no_dump, is_open, is_area, same_form, reaches, is_even, goes_on, copies, rows_before, last_row, filled, extended, added, begun, closed, beside, repeated, has_one_item, is_star, line_is_star, end_at};
+ghost use Rattle.scmi_decode.specs.OpenDump.{no_dump, is_open, is_area, same_form, reaches, is_even, goes_on, copies, rows_before, last_row, filled, extended, added, begun, closed, beside, repeated, has_one_item, is_star, end_at};
 
 use crate::form::Form;
-use crate::lines::is_gap;
 use crate::reading::Reading;
 use crate::readings::{Readings, Unsaid};
 use crate::row::{Row, address_of};
-use crate::scan::{after_gap, after_item, first_item, item_length};
+use crate::scan::{after_gap, after_item, first_item};
 use scmi_codec::{AREA_BYTES, is_channel_size};
 use std::alloc::{AllocError, Global};
 use std::marker::Model;
@@ -230,7 +229,12 @@ impl OpenDump {
     pub(crate) fn is_star(&self, line: &[u8]) -> bool
         ensures { result ≡ is_star self.now line.now }
     {
-        self.is_open() && !same_form(self.form, Form::Plain) && is_star(line)
+        let item = first_item(line);
+        self.is_open()
+            && !same_form(self.form, Form::Plain)
+            && item.len() == 1
+            && item[0] == b'*'
+            && has_one_item(line)
     }
 
     /// Repeats the last row up to the next address.
@@ -284,35 +288,11 @@ fn same_form(first: Form, second: Form) -> bool
     }
 }
 
-/// Whether a line is `*`.
-fn is_star(line: &[u8]) -> bool
-    ensures { result ≡ line_is_star line.now }
-{
-    match after_gap(line) {
-        [b'*', rest @ ..] => item_length(rest) == 0 && after_gap(rest).is_empty(),
-        _ => false,
-    }
-}
-
-/// Whether a line has one item. Most lines with an address have bytes after its seven or eight digits.
+/// Whether a line has one item.
 fn has_one_item(line: &[u8]) -> bool
     ensures { result ≡ has_one_item line.now }
 {
-    if goes_on_behind(line, 7) || goes_on_behind(line, 8) {
-        return false;
-    }
     after_gap(after_item(line)).is_empty()
-}
-
-/// Whether a line begins with an item that ends at a place or before it, and ends with another.
-fn goes_on_behind(line: &[u8], place: usize) -> bool
-    requires inside { place < 2 ^ 32 }
-    ensures { result ≡ true → has_one_item line.now ≡ false }
-{
-    if place + 1 >= line.len() || !is_gap(line[place]) || is_gap(line[0]) {
-        return false;
-    }
-    !is_gap(line[line.len() - 1])
 }
 
 /// Copies of bytes, as many as the number.

@@ -1,18 +1,17 @@
 //! The parts of a row.
-ghost use Rattle.std.specs.Prelude.{◌≡◌, ◌==◌, false, take};
-ghost use Rattle.scmi_decode.specs.Row.{ends_in_colon, without_last, is_symbol, is_pair, is_offset, item_length, parts_of, marked_parts, data_of};
+ghost use Rattle.std.specs.Prelude.{◌≡◌};
+ghost use Rattle.scmi_decode.specs.Row.{ends_in_colon, without_last, is_symbol, is_pair, is_offset, parts_of, marked_parts, before_column, before_bar};
 
 use crate::dump::has_mark;
 use crate::form::Form;
-use crate::lines::is_gap;
-use crate::scan::{after_gap, bar_length, column_length, item_and_rest, item_length};
+use crate::scan::{after_gap, bar_length, column_length, item_and_rest};
 
-/// The form of a row, the digits of its address, and the text behind it: its bytes and the column.
+/// The form of a row, the digits of its address, and the place of its bytes.
 #[derive(Drop)]
 pub(crate) struct Parts<'a> {
     pub(crate) form: Form,
     pub(crate) digits: &'a [u8],
-    pub(crate) text: &'a [u8],
+    pub(crate) bytes: &'a [u8],
 }
 
 /// The parts of a line as a row; of a line that begins with no address all of it is data (own).
@@ -20,33 +19,30 @@ pub(crate) struct Parts<'a> {
 pub(crate) fn parts_of(line: &[u8]) -> Parts<'_>
     ensures form { result.form ≡ (parts_of line.now).form }
     ensures digits { result.digits.now ≡ (parts_of line.now).digits }
-    ensures bytes { data_of result.form result.text.now ≡ (parts_of line.now).bytes }
+    ensures bytes { result.bytes.now ≡ (parts_of line.now).bytes }
 {
     let (first, behind) = item_and_rest(line);
     if ends_in_colon(first) {
         return marked_parts(without_last(first), behind);
     }
-    let next = after_gap(behind);
-    if has_mark(first) || begins_symbol(next) {
-        let (second, rest) = item_and_rest(behind);
-        if is_symbol(second) {
-            return marked_parts(first, rest);
-        }
-        if is_pair(first, second, rest) {
-            return marked_parts(first, behind);
-        }
+    let (second, rest) = item_and_rest(behind);
+    if is_symbol(second) {
+        return marked_parts(first, rest);
     }
-    if is_offset(first, next) {
+    if is_pair(first, second, rest) {
+        return marked_parts(first, behind);
+    }
+    if is_offset(first, second) {
         return Parts {
             form: Form::Offset,
             digits: first,
-            text: behind,
+            bytes: before_bar(behind),
         };
     }
     Parts {
         form: Form::Plain,
         digits: &[],
-        text: line,
+        bytes: line,
     }
 }
 
@@ -55,26 +51,28 @@ pub(crate) fn parts_of(line: &[u8]) -> Parts<'_>
 fn marked_parts<'a>(digits: &'a [u8], behind: &'a [u8]) -> Parts<'a>
     ensures form { result.form ≡ (marked_parts digits.now behind.now).form }
     ensures digits { result.digits.now ≡ (marked_parts digits.now behind.now).digits }
-    ensures bytes { data_of result.form result.text.now ≡
-        (marked_parts digits.now behind.now).bytes }
+    ensures bytes { result.bytes.now ≡ (marked_parts digits.now behind.now).bytes }
 {
     Parts {
         form: Form::Marked,
         digits,
-        text: after_gap(behind),
+        bytes: before_column(behind),
     }
 }
 
-/// What comes before the column of text of a row of this form: it is behind two spaces, or behind `|`
-/// or `>`.
-pub(crate) fn data_of(form: Form, text: &[u8]) -> &[u8]
-    ensures { result.now ≡ data_of form text.now }
+/// What comes before two spaces, apart from the gap at the beginning.
+fn before_column(behind: &[u8]) -> &[u8]
+    ensures { result.now ≡ before_column behind.now }
 {
-    match form {
-        Form::Plain => text,
-        Form::Marked => &text[..column_length(text)],
-        Form::Offset => &text[..bar_length(text)],
-    }
+    let data = after_gap(behind);
+    &data[..column_length(data)]
+}
+
+/// What comes before `|` or `>`.
+fn before_bar(behind: &[u8]) -> &[u8]
+    ensures { result.now ≡ before_bar behind.now }
+{
+    &behind[..bar_length(behind)]
 }
 
 /// Whether an item has a colon as its last byte.
@@ -105,32 +103,13 @@ fn is_pair(first: &[u8], second: &[u8], behind: &[u8]) -> bool
     has_mark(first) && has_mark(second) && after_gap(behind).is_empty()
 }
 
-/// Whether a text begins as the name of the place of an address.
-fn begins_symbol(text: &[u8]) -> bool
-    ensures { result ≡ false → is_symbol (take (item_length text.now) text.now) ≡ false }
-{
-    !text.is_empty() && text[0] == b'<'
-}
-
 /// Whether an item is an address before items of two or of eight digits: six to eight digits, and not
-/// as many as the next has, with which a text begins.
-fn is_offset(first: &[u8], next: &[u8]) -> bool
-    ensures { result ≡ is_offset first.now (take (item_length next.now) next.now) }
+/// as many as the next has.
+fn is_offset(first: &[u8], second: &[u8]) -> bool
+    ensures { result ≡ is_offset first.now second.now }
 {
-    match first.len() {
-        6 | 7 => has_two(next) || item_length(next) == 8,
-        8 => has_two(next),
-        _ => false,
-    }
-}
-
-/// Whether the item with which a text begins has two bytes.
-fn has_two(text: &[u8]) -> bool
-    ensures { result ≡ (item_length text.now == 2) }
-{
-    match text {
-        [first, second, third, ..] => { is_gap(*third) && !is_gap(*first) && !is_gap(*second) }
-        [first, second] => !is_gap(*first) && !is_gap(*second),
-        _ => false,
-    }
+    first.len() > 5
+        && first.len() < 9
+        && (second.len() == 2 || second.len() == 8)
+        && first.len() != second.len()
 }

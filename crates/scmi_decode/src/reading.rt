@@ -5,7 +5,7 @@ ghost use Rattle.scmi_decode.specs.Reading.{alone_reading, first_full, is_wide, 
 use crate::dump::is_number;
 use crate::form::Form;
 use crate::message_line::{behind_event, behind_got};
-use crate::parts::{data_of, parts_of};
+use crate::parts::parts_of;
 use crate::scan::first_item;
 
 /// How a dump is read, or a line that reports a message.
@@ -73,8 +73,7 @@ pub(crate) fn row_reading(line: &[u8]) -> Reading
     ensures { result ≡ row_reading line.now }
 {
     let parts = parts_of(line);
-    let data = data_of(parts.form, parts.text);
-    rows_reading(parts.form, is_wide(first_item(data)))
+    rows_reading(parts.form, is_wide(first_item(parts.bytes)))
 }
 
 /// How rows of a form are read, whose items are wide or not.
@@ -108,14 +107,14 @@ pub(crate) fn alone_reading(items: &[&[u8]]) -> Reading
 fn first_full<'a>(items: &[&'a [u8]]) -> &'a [u8]
     ensures { result.now ≡ first_full (map (λ item. item.now) items.now) }
 {
-    let [item, items @ ..] = items else {
-        return &[];
-    };
-    if item.is_empty() {
-        first_full(items)
-    } else {
-        item
+    let mut rest = items;
+    'items: while let [item, behind @ ..] = rest {
+        if !item.is_empty() {
+            return item;
+        }
+        rest = behind;
     }
+    &[]
 }
 
 /// Whether an item is a number of several bytes.

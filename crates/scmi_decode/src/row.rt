@@ -1,13 +1,12 @@
 //! A row of a dump.
-ghost use Rattle.std.specs.Prelude.{◌≡◌, Some, IfOk, IfSome};
-ghost use Rattle.scmi_decode.specs.Row.{address_of, base_of, data_of, without_mark, parts_row, row_of, row_with};
+ghost use Rattle.std.specs.Prelude.{◌≡◌, IfOk};
+ghost use Rattle.scmi_decode.specs.Row.{address_of, base_of, without_mark, parts_row, row_of, row_with};
 
-use crate::dump::{add_bytes, has_mark};
+use crate::dump::{has_mark, line_bytes};
 use crate::form::Form;
 use crate::number::number_from;
 use crate::parts::parts_of;
-use crate::row_bytes::row_bytes;
-use arrayvec::ArrayVec;
+use std::alloc::{AllocError, Global};
 use std::marker::Model;
 
 /// The most bytes of a row; a longer line is a dump of its own (own).
@@ -21,7 +20,7 @@ pub const ROW_LINE_BYTES: usize = 512;
 pub(crate) struct Row {
     form: Form,
     address: u64,
-    bytes: ArrayVec<u8, ROW_BYTES>,
+    bytes: Vec<u8>,
 }
 
 impl Model for Row {
@@ -52,57 +51,43 @@ impl Row {
     }
 }
 
-/// The row that a line is, if it is one: it has bytes, and not too many (own).
+/// The row that a line is, if it is one: it has bytes, and not too many (own). The only error is out
+/// of memory.
 #[tactic(auto, unfolding(crate::specs::Row::row_of))]
-pub(crate) fn row_of(line: &[u8]) -> Option<Row>
-    ensures { result ≡ row_of line.now }
+pub(crate) fn row_of(alloc: Global, line: &[u8]) -> Result<Option<Row>, AllocError>
+    ensures { IfOk result (λ found. found ≡ row_of line.now) }
 {
     if line.len() > ROW_LINE_BYTES {
-        return None;
+        return Ok(None);
     }
-    match digits_row(line) {
-        Some(row) => Some(row),
-        None => {
-            let parts = parts_of(line);
-            parts_row(parts.form, parts.digits, parts.text)
-        }
-    }
+    let parts = parts_of(line);
+    parts_row(alloc, parts.form, parts.digits, parts.bytes)
 }
 
-/// The row of a line that is digits alone, as `xxd -p` prints them; `None` of any other line, and of
-/// eight digits, which are a number.
-fn digits_row(line: &[u8]) -> Option<Row>
-    ensures { IfSome result (λ row. row_of line.now ≡ Some row) }
-{
-    if line.len() % 2 != 0 || line.len() > 2 * ROW_BYTES || line.len() == 8 {
-        return None;
-    }
-    // Most other lines begin with a space, or with an address of seven digits.
-    if line.len() > 8 && (line[0] == b' ' || line[7] == b' ') {
-        return None;
-    }
-    let mut bytes = ArrayVec::new();
-    if !add_bytes(&mut bytes, line) {
-        return None;
-    }
-    row_with(Form::Plain, 0, bytes)
-}
-
-/// The row of a form, the digits of an address, and the text behind it.
+/// The row of a form, the digits of an address, and the text that has its bytes.
 #[tactic(auto, unfolding(crate::specs::Row::parts_row))]
-fn parts_row(form: Form, digits: &[u8], text: &[u8]) -> Option<Row>
-    ensures { result ≡ parts_row form digits.now (data_of form text.now) }
+fn parts_row(
+    alloc: Global,
+    form: Form,
+    digits: &[u8],
+    bytes: &[u8],
+) -> Result<Option<Row>, AllocError>
+    ensures { IfOk result (λ found. found ≡ parts_row form digits.now bytes.now) }
 {
-    let address = address_of(form, digits)?;
-    let bytes = row_bytes(form, text)?;
-    row_with(form, address, bytes)
+    let Some(address) = address_of(form, digits) else {
+        return Ok(None);
+    };
+    match line_bytes(alloc, bytes)? {
+        Some(bytes) => Ok(row_with(form, address, bytes)),
+        None => Ok(None),
+    }
 }
 
 /// A row of bytes, if it has some and not too many.
-fn row_with(form: Form, address: u64, bytes: ArrayVec<u8, ROW_BYTES>) -> Option<Row>
+fn row_with(form: Form, address: u64, bytes: Vec<u8>) -> Option<Row>
     ensures { result ≡ row_with form address bytes.items }
 {
-    if bytes.is_empty() {
+    if bytes.is_empty() || bytes.len() > ROW_BYTES {
         return None;
     }
     Some(Row {

@@ -9,29 +9,29 @@ fn gap_length(line: &[u8]) -> usize
     ensures value { result ≡ gap_length line.now }
     ensures bound { result ≤ length line.now }
 {
-    let [byte, rest @ ..] = line else {
-        return 0;
-    };
-    if is_gap(*byte) {
-        1 + gap_length(rest)
-    } else {
-        0
+    let mut rest = line;
+    'bytes: while let [byte, behind @ ..] = rest {
+        if !is_gap(*byte) {
+            break;
+        }
+        rest = behind;
     }
+    line.len() - rest.len()
 }
 
 /// How many bytes come before the first gap.
-pub(crate) fn item_length(line: &[u8]) -> usize
+fn item_length(line: &[u8]) -> usize
     ensures value { result ≡ item_length line.now }
     ensures bound { result ≤ length line.now }
 {
-    let [byte, rest @ ..] = line else {
-        return 0;
-    };
-    if is_gap(*byte) {
-        0
-    } else {
-        1 + item_length(rest)
+    let mut rest = line;
+    'bytes: while let [byte, behind @ ..] = rest {
+        if is_gap(*byte) {
+            break;
+        }
+        rest = behind;
     }
+    line.len() - rest.len()
 }
 
 /// What follows the gap at the beginning.
@@ -71,13 +71,14 @@ pub(crate) fn column_length(line: &[u8]) -> usize
     ensures value { result ≡ column_length line.now }
     ensures bound { result ≤ length line.now }
 {
-    let [byte, rest @ ..] = line else {
-        return 0;
-    };
-    if *byte == b' ' && begins_with_space(rest) {
-        return 0;
+    let mut rest = line;
+    'bytes: while let [byte, behind @ ..] = rest {
+        if *byte == b' ' && begins_with_space(behind) {
+            break;
+        }
+        rest = behind;
     }
-    1 + column_length(rest)
+    line.len() - rest.len()
 }
 
 fn begins_with_space(line: &[u8]) -> bool
@@ -94,11 +95,12 @@ pub(crate) fn bar_length(line: &[u8]) -> usize
     ensures value { result ≡ bar_length line.now }
     ensures bound { result ≤ length line.now }
 {
-    let [byte, rest @ ..] = line else {
-        return 0;
-    };
-    if *byte == b'|' || *byte == b'>' {
-        return 0;
+    let mut rest = line;
+    'bytes: while let [byte, behind @ ..] = rest {
+        if *byte == b'|' || *byte == b'>' {
+            break;
+        }
+        rest = behind;
     }
-    1 + bar_length(rest)
+    line.len() - rest.len()
 }

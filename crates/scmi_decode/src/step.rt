@@ -95,7 +95,7 @@ fn take_row<W: Write>(
         (dump.new ≡ dump_after_row dump.old number line.now (row_of line.now)) }
     ensures errors { IfErr result (λ e. (e ≡ DecodeError.Memory) ⊎ (e ≡ DecodeError.Write)) }
 {
-    match row_of(line) {
+    match row_of(alloc, line)? {
         None => take_alone(alloc, writer, dump, number, line),
         Some(row) => add_row(alloc, writer, dump, number, line, &row),
     }

@@ -61,10 +61,14 @@ fn other_event(items: &[&[u8]]) -> Traced
 fn names_event(items: &[&[u8]]) -> bool
     ensures { result ≡ names_event (map (λ item. item.now) items.now) }
 {
-    let [item, items @ ..] = items else {
-        return false;
-    };
-    is_event_name(item) || names_event(items)
+    let mut rest = items;
+    'items: while let [item, behind @ ..] = rest {
+        if is_event_name(item) {
+            return true;
+        }
+        rest = behind;
+    }
+    false
 }
 
 /// Whether an item is the name of an event of SCMI: it begins with `scmi_` and ends with `:`.
@@ -127,14 +131,15 @@ fn instance_of(value: Option<&[u8]>) -> Option<u32>
 fn words_behind(mut words: Payload, bytes: &[u8]) -> Option<Payload>
     ensures { option_map (λ payload. payload.items) result ≡ words_behind words.items bytes.now }
 {
-    let [a, b, c, d, rest @ ..] = bytes else {
-        return if bytes.is_empty() { Some(words) } else { None };
-    };
-    if words.is_full() {
-        return None;
+    let mut rest = bytes;
+    'words: while let [a, b, c, d, behind @ ..] = rest {
+        if words.is_full() {
+            return None;
+        }
+        words.push(word_of(*a, *b, *c, *d));
+        rest = behind;
     }
-    words.push(word_of(*a, *b, *c, *d));
-    words_behind(words, rest)
+    if rest.is_empty() { Some(words) } else { None }
 }
 
 /// The word of four bytes, the lowest first.

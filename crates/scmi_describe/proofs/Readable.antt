@@ -3,12 +3,12 @@ use Rattle.std.proofs.Common.{◌≡◌, ℕ, zero, suc, ◌+◌, ◌-◌, ◌/�
 use Rattle.std.proofs.lemmas.Bool.Decides.{nat_tests}
 use Rattle.byteorder.specs.Numbers.{little_from-lt}
 use Rattle.scmi_codec.specs.Area.{frame_of, is_well_formed, length_at, header_at}
-use Rattle.scmi_codec.specs.Header.{HeaderFields, header_of, header_word}
+use Rattle.scmi_codec.specs.Header.{HeaderFields, FitsWidths, header_of, header_word}
 use Rattle.scmi_codec.specs.Word.{word_at, words_at}
 use Rattle.scmi_codec.specs.declared.frame.Frame.{Frame}
 use Rattle.scmi_codec.specs.declared.frame.Frame.TheVariants.{Good, Malformed}
 use Rattle.scmi_codec.specs.declared.message.Message.{Message}
-use Rattle.scmi_codec.proofs.HeaderLemmas.{FitsWidths, header_of-header_word}
+use Rattle.scmi_codec.proofs.HeaderLemmas.{header_of-header_word}
 use Rattle.scmi_codec.proofs.WordLemmas.{length-words_at}
 use Rattle.scmi_describe.proofs.Backward.{AreWords}
 

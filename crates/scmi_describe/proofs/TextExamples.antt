@@ -12,7 +12,7 @@ use Rattle.scmi_describe.specs.LinePart.{state_text, status_or_none, taken_text,
 use Rattle.scmi_describe.specs.Literal.{literal}
 use Rattle.scmi_describe.specs.Text.{channel_error_text, command_line, command_text, delayed_line, delayed_text, foreign_text, length_text, listed_text, malformed_text, notification_line, notification_text, reply_fields_text, reply_text, request_fields_text, response_text, withdrawn_line, withdrawn_text}
 use Rattle.scmi_describe.specs.Value.{agent_text, characters, if_text, reserved_text, state_text as power_text, subject_text}
-use Rattle.scmi_describe.specs.Lists.{id_text, ids_text, protocol_label, protocols_start, rate_line, rates_start}
+use Rattle.scmi_describe.specs.Lists.{id_text, ids_text, protocol_label, protocols_start, rate_line, rate_lines, rates_start}
 use Rattle.scmi_describe.specs.Words.{word_text, words_start, words_text}
 use Rattle.scmi_describe.specs.declared.field.Field.TheVariants as field
 use Rattle.scmi_describe.proofs.DescriptionAt.{Busy, Free, Failed}
@@ -99,7 +99,7 @@ protocols = refl
 -- a part of a list of rates
 rates : text_at Free (Good (message_of 0x5004 (0 ∷ 0x30001 ∷ 24000000 ∷ 0 ∷ [])))
     ≡ codes "free: reply to CLOCK_DESCRIBE_RATES, token 0: SUCCESS\n    rates       1, 3 after these\n                24000000 Hz\n    words       00005004 00000000 00030001 016e3600 00000000\n"
-unfolding reply_text response_text reply_fields_text listed_text rates_start rate_line literal filled name_text rows_of token_text reserved_text digits words_text words_start word_text eight_digits
+unfolding reply_text response_text reply_fields_text listed_text rates_start rate_lines rate_line literal filled name_text rows_of token_text reserved_text digits words_text words_start word_text eight_digits
 rates = refl
 
 -- a triplet of rates

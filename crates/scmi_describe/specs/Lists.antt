@@ -1,5 +1,5 @@
 -- Lists in replies, as they are written.
-use Rattle.std.specs.Prelude.{ℕ, zero, suc, ◌*◌, ◌/◌, ◌%◌, ◌^◌, ◌==◌, if◌then◌else◌, List, [], ◌∷◌, ◌++◌, length, codes, decimal, min, slice_index, unwrap_or}
+use Rattle.std.specs.Prelude.{ℕ, zero, suc, ◌+◌, ◌*◌, ◌/◌, ◌%◌, ◌^◌, ◌==◌, if◌then◌else◌, List, [], ◌∷◌, ◌++◌, length, codes, decimal, min, slice_index, unwrap_or}
 use Rattle.scmi_codec.specs.Rate.{rate_of}
 use Rattle.scmi_describe.specs.Digits.{two_digits}
 use Rattle.scmi_template.specs.Filled.{filled}
@@ -11,11 +11,10 @@ use Rattle.scmi_describe.specs.declared.lists.TheConstants.{FIRST_PROTOCOL, NEXT
 unfoldable pub rate_line : ℕ → List ℕ
 rate_line rate = filled RATE.now (decimal rate ∷ [])
 
--- each rate of two words on a line of its own
-abbrev pub rate_lines : List ℕ → List ℕ
-rate_lines [] = []
-rate_lines (low ∷ []) = []
-rate_lines (low ∷ high ∷ more) = rate_line (rate_of low high) ++ rate_lines more
+-- this many rates of two words, each on a line of its own
+unfoldable pub rate_lines : ℕ → List ℕ → List ℕ
+rate_lines zero words = []
+rate_lines (suc i) words = rate_lines i words ++ rate_line (rate_of (slice_index words (2 * i)) (slice_index words (2 * i + 1)))
 
 -- how many rates a reply has, whether they are a triplet, and else how many follow them in the list
 unfoldable pub rates_start : ℕ → List ℕ
@@ -26,7 +25,7 @@ rates_start flags =
 -- the reply of a list of rates
 abbrev pub rates_text : List ℕ → List ℕ
 rates_text [] = []
-rates_text (flags ∷ rates) = rates_start flags ++ rate_lines rates
+rates_text (flags ∷ rates) = rates_start flags ++ rate_lines (length rates / 2) rates
 
 -- the id of a protocol in a list, four to a word, the lowest byte first
 abbrev pub id_at : ℕ → List ℕ → ℕ

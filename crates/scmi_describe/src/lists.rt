@@ -1,5 +1,5 @@
 //! Lists in replies, as they are written.
-ghost use Rattle.std.specs.Prelude.{◌≡◌, ◌*◌, ◌≤◌, OnOk, length};
+ghost use Rattle.std.specs.Prelude.{◌≡◌, ◌*◌, ◌/◌, ◌≤◌, OnOk, length};
 ghost use Rattle.std.specs.Io.KnownBytes.{Appends};
 ghost use Rattle.scmi_describe.specs.Lists.{id_at, id_text, ids_text, protocol_label, protocols_start, protocols_text, rate_line, rate_lines, rates_start, rates_text};
 
@@ -56,15 +56,15 @@ fn write_rates_start<W: Write>(writer: &mut W, flags: u32) -> io::Result<()>
 }
 
 /// Writes each rate of two words on a line of its own.
+#[tactic(auto, unfolding(crate::specs::Lists::rate_lines))]
 fn write_rate_lines<W: Write>(writer: &mut W, words: &[u32]) -> io::Result<()>
     ensures { OnOk result (Appends (W.contents writer.old) (W.contents writer.new)
-        (rate_lines words.now)) }
+        (rate_lines (length words.now / 2) words.now)) }
 {
-    let [low, high, more @ ..] = words else {
-        return Ok(());
-    };
-    write_rate(writer, rate_of(*low, *high))?;
-    write_rate_lines(writer, more)
+    for i in 0..words.len() / 2 {
+        write_rate(writer, rate_of(words[2 * i], words[2 * i + 1]))?;
+    }
+    Ok(())
 }
 
 #[tactic(auto, unfolding(crate::specs::Lists::rate_line))]

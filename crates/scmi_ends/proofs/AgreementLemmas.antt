@@ -21,9 +21,8 @@ use Rattle.scmi_core.specs.History.{answer_of_event, answer_to, delivered_messag
 use Rattle.scmi_core.specs.Outbox.{is_sent_by}
 use Rattle.scmi_core.specs.Reply.{failed_answer}
 use Rattle.scmi_core.specs.Legal.{IsLegal}
-use Rattle.scmi_core.specs.declared.effect.Effect.{Effect}
-use Rattle.scmi_core.specs.Driven.{HappensOn, HasMade, IsCommandOf, IsEnd}
-use Rattle.scmi_core.specs.Effect.{effects}
+use Rattle.scmi_core.specs.Asked.{Asked}
+use Rattle.scmi_core.specs.Driven.{HappensOn, HasMade, IsCommandOf, IsEnd, asks}
 use Rattle.scmi_core.proofs.EffectsMade.{made-on}
 use Rattle.scmi_core.proofs.Laws.{frames_failed_own, frames_failed_other, answers_failed_own, answers_failed_other, advance_failed, frames_own, frames_other, answers_own, answers_other, IsQuiet, advance, restarted, sent_to, frames_quiet, answers_quiet, delivered_kept, delivered_sent, delivered_other, as_many}
 use Rattle.scmi_ends.specs.declared.served.Served.{Served}
@@ -182,10 +181,10 @@ module _ {D : Type 0} (f : D → CalleeView) (board : Board) (a i : ℕ) (ds : L
       (agrees_command s.frame (subst (λ k. IsLegal board k) s.event legal) s.unclosed s.end)
 
   -- and beside the hardware
-  pub agrees_serve_on : (h' : List Event) (applied applied' : Option (List Effect)) (r : Served) → IsLegal board h' → ServesOneOn board a h applied (f x) r h' applied' (f d) → EndsAgree board h' (map f (set ds i d)) cs ps
-  agrees_serve_on h' applied applied' served.Nothing legal s =
+  pub agrees_serve_on : (h' : List Event) (asked asked' : List Asked → Type 0) (r : Served) → IsLegal board h' → ServesOneOn board a h asked (f x) r h' asked' (f d) → EndsAgree board h' (map f (set ds i d)) cs ps
+  agrees_serve_on h' asked asked' served.Nothing legal s =
       subst (λ k. EndsAgree board k (map f (set ds i d)) cs ps) (sym s.0) (agrees_callee (ap (λ w. w.closed) s.2.same) (ap (λ w. w.taken) s.2.same) (ap (λ w. w.answered) s.2.same))
-  agrees_serve_on h' applied applied' served.Done legal s =
+  agrees_serve_on h' asked asked' served.Done legal s =
       subst (λ k. EndsAgree board k (map f (set ds i d)) cs ps) (sym s.executes.happens.history)
       (by s.executes.happens.event s.executes.happens.is_one s.executes.answer (subst (λ k. IsLegal board k) s.executes.happens.history legal)) where
         with_answer : (y : Answer) → Some y ≡ Some s.answer
@@ -200,11 +199,11 @@ module _ {D : Type 0} (f : D → CalleeView) (board : Board) (a i : ℕ) (ds : L
             subst (λ v. EndsAgree board (h ++ v ∷ []) (map f (set ds i d)) cs ps) (sym is)
             (agrees_failed s.frame (subst (λ v. IsLegal board (h ++ v ∷ [])) is l) s.unclosed (with_answer (failed_answer s.frame) (subst (λ v. answer_of_event board h v ≡ Some s.answer) is answered)))
 
--- hardware that has made the effects of the history goes on having made them
-pub made_serve : (board : Board) (a : ℕ) (h h' : List Event) (applied applied' : Option (List Effect)) (before : List Effect) (old new : CalleeView) (r : Served) → ServesOneOn board a h applied old r h' applied' new
-    → HasMade before board h applied → HasMade before board h' applied'
-made_serve board a h h' applied applied' before old new served.Nothing s made = subst (λ k. HasMade before board k applied') (sym s.0) (subst (HasMade before board h) (sym s.1) made)
-made_serve board a h h' applied applied' before old new served.Done s made = made-on board (IsCommandOf a s.frame) h h' applied applied' before s.executes.happens made
+-- hardware that was asked for what belongs to the history goes on having been asked for it
+pub made_serve : (board : Board) (a : ℕ) (h h' : List Event) (asked asked' : List Asked → Type 0) (before : List Asked) (old new : CalleeView) (r : Served) → ServesOneOn board a h asked old r h' asked' new
+    → HasMade before board h asked → HasMade before board h' asked'
+made_serve board a h h' asked asked' before old new served.Nothing s made = subst (λ k. HasMade before board k asked') (sym s.0) (s.1 (before ++ asks board h) made)
+made_serve board a h h' asked asked' before old new served.Done s made = made-on board (IsCommandOf a s.frame) h h' asked asked' before s.executes.happens made
 
 -- ADVANCE
 
@@ -241,13 +240,13 @@ agrees_after_restart old new a vs cs ps (Ok done) kept eb legal event err =
 agrees_after_restart old new a vs cs ps (Err e) kept eb legal event err = subst (λ p. EndsAgree p.board p.history vs cs ps) (sym err) kept
 
 -- what `Core::advance_on` leaves, whatever it answers
-pub agrees_after_on : (old new : Platform) (applied applied' : Option (List Effect)) (vs : List CalleeView) (cs : List CallerView) (ps : List (Option ℕ)) (r : Result Bool CoreError) → EndsAgree old.board old.history vs cs ps → new.board ≡ old.board → IsLegal new.board new.history
-    → IfOk r (λ did. did ≡ true → HappensOn old.board IsEnd old.history applied new.history applied') → IfOk r (λ did. did ≡ false → new ≡ old) → OnErr r (new ≡ old) → EndsAgree new.board new.history vs cs ps
-agrees_after_on old new applied applied' vs cs ps (Ok true) kept eb legal event same err =
+pub agrees_after_on : (old new : Platform) (asked asked' : List Asked → Type 0) (vs : List CalleeView) (cs : List CallerView) (ps : List (Option ℕ)) (r : Result Bool CoreError) → EndsAgree old.board old.history vs cs ps → new.board ≡ old.board → IsLegal new.board new.history
+    → IfOk r (λ did. did ≡ true → HappensOn old.board IsEnd old.history asked new.history asked') → IfOk r (λ did. did ≡ false → new ≡ old) → OnErr r (new ≡ old) → EndsAgree new.board new.history vs cs ps
+agrees_after_on old new asked asked' vs cs ps (Ok true) kept eb legal event same err =
     let happens = event refl in
     rw eb (subst (λ k. EndsAgree old.board k vs cs ps) (sym happens.history) (agrees_end_of old.board old.history happens.event vs cs ps happens.is_one kept (subst (λ k. IsLegal old.board k) happens.history (rw eb at legal))))
-agrees_after_on old new applied applied' vs cs ps (Ok false) kept eb legal event same err = subst (λ p. EndsAgree p.board p.history vs cs ps) (sym (same refl)) kept
-agrees_after_on old new applied applied' vs cs ps (Err e) kept eb legal event same err = subst (λ p. EndsAgree p.board p.history vs cs ps) (sym err) kept
+agrees_after_on old new asked asked' vs cs ps (Ok false) kept eb legal event same err = subst (λ p. EndsAgree p.board p.history vs cs ps) (sym (same refl)) kept
+agrees_after_on old new asked asked' vs cs ps (Err e) kept eb legal event same err = subst (λ p. EndsAgree p.board p.history vs cs ps) (sym err) kept
 
 -- what `Core::advance` leaves, whatever it answers
 pub agrees_after : (old new : Platform) (vs : List CalleeView) (cs : List CallerView) (ps : List (Option ℕ)) (r : Result Bool CoreError) → EndsAgree old.board old.history vs cs ps → new.board ≡ old.board → IsLegal new.board new.history

@@ -14,7 +14,7 @@ use Rattle.scmi_ends.specs.declared.flushed.Flushed.{Flushed}
 use Rattle.scmi_ends.specs.declared.shut_error.ShutError.{ShutError}
 use Rattle.scmi_ends.specs.AgentView.{AgentView, IsOfLink}
 use Rattle.scmi_ends.specs.ControllerView.{ControllerView}
-use Rattle.scmi_core.specs.declared.effect.Effect.{Effect}
+use Rattle.scmi_core.specs.Asked.{Asked}
 use Rattle.scmi_ends.specs.Serve.{ServesOne, Serves}
 use Rattle.scmi_ends.specs.ServeOn.{ServesOneOn, ServesOn}
 use Rattle.scmi_ends.specs.Flush.{CollectsAndFlushes, Flushes}
@@ -38,8 +38,8 @@ module _ {D : Type 0} (f : D → CalleeView) (ds : List D) (a : ℕ) (x d : D) (
   pub serves : (r : Served) → ServesOne board a h (f x) r h' (f d) → Serves a (whole board h m (map f ds) cs ps an pn) r (whole board' h' m' (map f (set ds (a - 1) d)) cs ps an' pn)
   serves r s = rw (eb, ea, map_at_set f ds (a - 1) d) (record { callee = f d; step = rw (view_at f ds (a - 1) x new_callee lt is) s; same = refl })
 
-  pub serves_on : (applied applied' : Option (List Effect)) (r : Served) → ServesOneOn board a h applied (f x) r h' applied' (f d) → ServesOn a (whole board h m (map f ds) cs ps an pn) applied r (whole board' h' m' (map f (set ds (a - 1) d)) cs ps an' pn) applied'
-  serves_on applied applied' r s = rw (eb, ea, map_at_set f ds (a - 1) d) (record { callee = f d; step = rw (view_at f ds (a - 1) x new_callee lt is) s; same = refl })
+  pub serves_on : (asked asked' : List Asked → Type 0) (r : Served) → ServesOneOn board a h asked (f x) r h' asked' (f d) → ServesOn a (whole board h m (map f ds) cs ps an pn) asked r (whole board' h' m' (map f (set ds (a - 1) d)) cs ps an' pn) asked'
+  serves_on asked asked' r s = rw (eb, ea, map_at_set f ds (a - 1) d) (record { callee = f d; step = rw (view_at f ds (a - 1) x new_callee lt is) s; same = refl })
 
 module _ {D : Type 0} (f : D → CallerView) (ds : List D) (a : ℕ) (x d : D) (board board' : Board) (h h' : List Event) (vs : List CalleeView) (ps : List (Option ℕ)) (an pn pn' : List (List ℕ)) (m m' : ℕ)
     (lt : a - 1 < length ds) (is : x ≡ get_or ds (a - 1) x) (eb : board' ≡ board) (ep : pn' ≡ pn) where

@@ -1,10 +1,10 @@
 //! The platform's side of all agents' channels.
-ghost use Rattle.std.specs.Prelude.{◌≡◌, ◌≢◌, ◌<◌, ◌++◌, ◌∷◌, ◌↔◌, [], List, true, false, length, map, IfOk, OnOk, OnErr, IfErr, IsTrue};
+ghost use Rattle.std.specs.Prelude.{◌≡◌, ◌≢◌, ◌<◌, ◌++◌, ◌∷◌, ◌↔◌, [], List, None, true, false, length, map, IfOk, OnOk, OnErr, IfErr, IsTrue};
 ghost use Rattle.scmi_plan.specs.Agent.{IsAgent, IsNoAgent};
 ghost use Rattle.scmi_core.specs.History.{deeds};
+ghost use Rattle.scmi_core.specs.Asked.{Asked, IsAsked};
 ghost use Rattle.scmi_core.specs.Driven.{HappensOn, HasMade, IsEnd};
 ghost use Rattle.scmi_core.specs.Pending.{pending_sets};
-ghost use Rattle.scmi_core.specs.declared.effect.Effect.{Effect};
 ghost use Rattle.scmi_core.specs.declared.event.Event.TheVariants as event;
 
 use crate::buffers::Buffers;
@@ -126,20 +126,20 @@ impl<C: Channel> Controller<C> {
         ensures agrees { IsInStep self.new }
         ensures board { self.new.board ≡ self.old.board }
         ensures serves { IfOk result (λ served.
-            ServesOn agent self.old (H.applied hardware.old) served
-            self.new (H.applied hardware.new)) }
+            ServesOn agent self.old (H.asked hardware.old) served
+            self.new (H.asked hardware.new)) }
         ensures obeyed { H.REFUSES ≡ false → IfOk result (λ served.
             Serves agent self.old served self.new) }
-        ensures made { (before : List Effect)
-            → HasMade before self.old.board self.old.history (H.applied hardware.old)
-            → HasMade before self.new.board self.new.history (H.applied hardware.new) }
+        ensures made { (before : List Asked)
+            → HasMade before self.old.board self.old.history (H.asked hardware.old)
+            → HasMade before self.new.board self.new.history (H.asked hardware.new) }
         ensures closed { callee_knows_close (callee_of self.old agent) ≡ true →
             result ≢ Ok Served.Done }
         ensures no_agent { (result ≡ Err ServeError.NoAgent) ↔
             IsNoAgent (length self.old.board.agents) agent }
         ensures memory { result ≡ Err ServeError.Memory → self.old.room ≡ 0 }
         ensures err { OnErr result (self.new ≡ self.old) }
-        ensures unasked { OnErr result (H.applied hardware.new ≡ H.applied hardware.old) }
+        ensures unasked { OnErr result (IsAsked (H.asked hardware.old) None (H.asked hardware.new)) }
     {
         reserve_for(&mut self.core, agent)?;
         let index = agent as usize - 1;
@@ -164,18 +164,18 @@ impl<C: Channel> Controller<C> {
             (0 < length (pending_sets self.old.board (deeds self.old.board self.old.history)))) }
         ensures happens { IfOk result (λ did.
             IsTrue did →
-            HappensOn self.old.board IsEnd self.old.history (H.applied hardware.old)
-            self.new.history (H.applied hardware.new)) }
+            HappensOn self.old.board IsEnd self.old.history (H.asked hardware.old)
+            self.new.history (H.asked hardware.new)) }
         ensures obeyed { H.REFUSES ≡ false → IfOk result (λ did.
             IsTrue did → self.new.history ≡ self.old.history ++ event.Advance ∷ []) }
         ensures rest { self.new ≡
             record self.old { history = self.new.history; room = self.new.room } }
-        ensures made { (before : List Effect)
-            → HasMade before self.old.board self.old.history (H.applied hardware.old)
-            → HasMade before self.new.board self.new.history (H.applied hardware.new) }
+        ensures made { (before : List Asked)
+            → HasMade before self.old.board self.old.history (H.asked hardware.old)
+            → HasMade before self.new.board self.new.history (H.asked hardware.new) }
         ensures same { IfOk result (λ did. ¬ (IsTrue did) → self.new ≡ self.old) }
         ensures err { OnErr result (self.new ≡ self.old) }
-        ensures unasked { OnErr result (H.applied hardware.new ≡ H.applied hardware.old) }
+        ensures unasked { OnErr result (IsAsked (H.asked hardware.old) None (H.asked hardware.new)) }
         ensures memory { IfErr result (λ error.
             (error ≡ ServeError.Memory) × (self.old.room ≡ 0) ×
             (pending_sets self.old.board (deeds self.old.board self.old.history) ≢ [])) }

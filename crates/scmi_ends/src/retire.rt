@@ -3,10 +3,9 @@ ghost use Rattle.std.specs.Prelude.{◌≡◌, List, map, Option};
 ghost use Rattle.std.specs.List.{AllZip};
 ghost use Rattle.scmi_core.specs.Channels.{KeepsChannels};
 ghost use Rattle.scmi_core.specs.Bounds.{HasBounds, HasResponses};
-ghost use Rattle.scmi_core.specs.Driven.{HasMade};
+ghost use Rattle.scmi_core.specs.Driven.{asks};
 ghost use Rattle.scmi_core.specs.History.{deeds};
 ghost use Rattle.scmi_core.specs.Legal.{IsLegal};
-ghost use Rattle.scmi_core.specs.declared.effect.Effect.{Effect};
 ghost use Rattle.scmi_ends.specs.AgentView.{IsOfLink};
 ghost use Rattle.scmi_ends.specs.Links.{HasLinks, AreEndsOf};
 ghost use Rattle.scmi_ends.specs.Headline.{Headlines, AllGathered};
@@ -28,8 +27,9 @@ impl<C: Channel> Controller<C> {
     /// platform has closed the agent's A2P channel, what it had executed then is all that was
     /// executed; and the messages that the agent took are those delivered to it, at most the last
     /// left out. With its outbox they are all that was made for it, but for what a restart of it
-    /// dropped; no other delayed response is lost. What the hardware was given beside the calls
-    /// (`serve_on`, `advance_on`) is exactly what the history changes, in order, each once.
+    /// dropped; no other delayed response is lost. What the hardware was asked for beside the calls
+    /// (`serve_on`, `advance_on`) is exactly what belongs to the history, in order, each change
+    /// once.
     pub fn retire(self, links: Vec<Link<C>>, agents: Vec<AgentEnd<C>>) -> Trace
         requires links { HasLinks C.identity links.items self }
         requires ends { AreEndsOf C.identity links.items agents.items }
@@ -42,9 +42,7 @@ impl<C: Channel> Controller<C> {
         ensures headline { Headlines self.board result.events 1 agents.items self.callees
             self.callers }
         ensures shut { StayShut result.events self.callees self.closed_at }
-        ensures made { (before : List Effect) (applied : Option (List Effect))
-            → HasMade before self.board self.history applied
-            → HasMade before self.board result.events applied }
+        ensures made { asks self.board result.events ≡ asks self.board self.history }
     {
         self.gather_ends(links, agents).into_trace()
     }

@@ -28,8 +28,8 @@ pub(crate) fn serve_one_on<C: Channel, H: Hardware>(
     ensures board { core.new.board ≡ core.old.board }
     ensures legal { IsLegal core.new.board core.new.history }
     ensures step { ServesOneOn core.old.board agent
-        core.old.history (H.applied hardware.old) (C.callee_view callee.old) result
-        core.new.history (H.applied hardware.new) (C.callee_view callee.new) }
+        core.old.history (H.asked hardware.old) (C.callee_view callee.old) result
+        core.new.history (H.asked hardware.new) (C.callee_view callee.new) }
     ensures obeyed { H.REFUSES ≡ false → ServesOne core.old.board agent core.old.history
         (C.callee_view callee.old) result core.new.history (C.callee_view callee.new) }
 {

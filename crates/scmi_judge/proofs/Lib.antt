@@ -6,5 +6,6 @@ pub mod Ending
 pub mod Examples
 pub mod Histories
 pub mod Laws
+pub mod PlainRecords
 pub mod Records
 pub mod Verdicts

@@ -1,7 +1,8 @@
 -- What a record and a history have in common.
-use Rattle.std.specs.Prelude.{◌≡◌, ◌⊎◌, ℕ, ◌==◌, ◌<◌, ◌++◌, if◌then◌else◌, List, [], ◌∷◌, Option, Some, None, map, take, slice_get}
+use Rattle.std.specs.Prelude.{◌≡◌, ◌≢◌, ◌⊎◌, ℕ, ◌==◌, ◌<◌, ◌++◌, if◌then◌else◌, List, [], ◌∷◌, Option, Some, None, map, take, slice_get}
 use Rattle.std.specs.List.{filter_map}
 use Rattle.scmi_plan.specs.Board.{Board}
+use Rattle.scmi_codec.specs.Header.{HeaderFields}
 use Rattle.scmi_codec.specs.declared.message.Message.{Message}
 use Rattle.scmi_codec.specs.declared.frame.Frame.{Frame}
 use Rattle.scmi_codec.specs.declared.frame.Answer.{Answer}
@@ -10,6 +11,7 @@ use Rattle.scmi_core.specs.declared.event.Event.TheVariants.{Command, Sent, Comm
 use Rattle.scmi_core.specs.Agents.{answers_to, frames_of}
 use Rattle.scmi_core.specs.History.{answer_to, deeds, delivered_messages, outbox}
 use Rattle.scmi_core.specs.Legal.{IsLegal}
+use Rattle.scmi_core.specs.Outbox.{failed_response_to}
 use Rattle.scmi_core.specs.Pending.{pending_sets}
 use Rattle.scmi_core.specs.Reply.{failed_answer}
 use Rattle.scmi_judge.specs.Record.{ending_of}
@@ -86,3 +88,8 @@ pub record IsSplitBy (board : Board) (entries : List Entry) (h : List Event) : T
 -- a record has a legal history
 abbrev pub HasHistory : Board → List Entry → Type 0
 HasHistory board entries = (h : List Event) × IsSplitBy board entries h
+
+-- an entry shows no refusal of the hardware: its answer is not the one to a command whose change was refused, and its message not the response to a set whose change was refused
+abbrev pub ShowsNoRefusal : Entry → Type 0
+ShowsNoRefusal (Answered a frame answer) = answer ≢ failed_answer frame
+ShowsNoRefusal (Delivered a message) = (header : HeaderFields) → message ≢ failed_response_to header

@@ -3,11 +3,13 @@ use Rattle.std.proofs.Common.{◌≡◌, ℕ, Bool, ◌+◌, ◌<◌, ◌≤◌,
 use Rattle.std.specs.List.{All, flat_map}
 use Rattle.std.specs.Prelude.{OnOk}
 use Rattle.std.specs.Io.KnownBytes.{Appends}
+use Rattle.std.proofs.lemmas.List.Elements.{All-take}
 use Rattle.std.proofs.lemmas.List.{append-nil, take_more, take_all, length-take, take-append-drop}
 use Rattle.scmi_threads.specs.declared.agent_log.AgentLog.{AgentLog}
 use Rattle.scmi_threads.specs.declared.stop.Stop.{Stop}
 use Rattle.scmi_threads.specs.declared.stop.Stop.TheVariants as stop
 use Rattle.scmi_text.specs.ScriptLine.{lines_text}
+use Rattle.scmi_text.specs.Step.{IsWithoutHardware}
 use Rattle.scmi_text.specs.StepLine.{step_text}
 use Rattle.scmi_text.specs.declared.step.Step.{Step}
 use Rattle.scmi_text.specs.declared.step_line.StepLine.{StepLine}
@@ -98,7 +100,7 @@ module _ (full : Bool) (Shows : CallerView → Result Closing CloseError → Typ
     lines = so_far.lines;
     last = session;
     made = so_far.made;
-    plain = runs_plain full Shows board (take i steps) so_far.lines session so_far.made;
+    plain = λ without. runs_plain full Shows board (take i steps) so_far.lines session so_far.made (All-take IsWithoutHardware i steps without);
     text = so_far.text;
   }
 

@@ -42,7 +42,7 @@ module _ (full : Bool) (Shows : CallerView → Result Closing CloseError → Typ
     pub lines : List StepLine
     pub last : SessionView
     pub made : Runs full Shows board done lines last
-    pub plain : IsPlainWithoutHardware done last
+    pub plain : IsPlainWithoutHardware steps last
     pub text : Appends old new (flat_map step_text lines)
 
   -- what is written is the lines that all of these steps give, and then the length of the history that they leave
@@ -76,7 +76,7 @@ WritesSteps known kind old new = WritesScript Plain known kind old new
 abbrev pub WritesHardware : Option (List ℕ) → Kind → Option (List ℕ) → Option (List ℕ) → Type 0
 WritesHardware known kind old new = WritesScript Hardware known kind old new
 
--- nothing is written, or the lines of the first steps that the input encodes, on its board
+-- nothing is written, or the lines of the first steps that the input encodes, on its board, in a script of this kind
 abbrev pub WritesFirstSteps : ScriptKind → Option (List ℕ) → Kind → Option (List ℕ) → Option (List ℕ) → Type 0
 WritesFirstSteps script known kind old new =
-    (new ≡ old) ⊎ ((board : Board) × (steps : List Step) × AreStepsOf script known board steps × AreStepLines (may_be_full kind) (shows_close kind) board steps old new)
+    (new ≡ old) ⊎ ((board : Board) × (steps : List Step) × AreStepsOf script known board steps × All (MayHave script) steps × AreStepLines (may_be_full kind) (shows_close kind) board steps old new)

@@ -3,7 +3,7 @@ ghost use Rattle.std.specs.Prelude.{◌≡◌, IfOk, map};
 ghost use Rattle.scmi_core.specs.BoardB.{board_b};
 ghost use Rattle.scmi_plan.specs.RawPlan.{asked_board, asked_domain, asked_clock};
 
-use scmi_plan::{Device, RateList, Rates, RawClock, RawDomain, RawPlan};
+use scmi_plan::{Device, Rates, RawClock, RawDomain, RawPlan};
 use std::alloc::{AllocError, Global};
 
 /// The board that the mode `once` runs on (own): two agents, of which the first is trusted, three
@@ -75,7 +75,7 @@ fn clocks(alloc: Global) -> Result<Vec<RawClock>, AllocError>
             name: String::from_str(alloc, "core")?,
             enabled: true,
             rate: 100,
-            rates: Rates::List(RateList::new(core)),
+            rates: Rates::List(core),
         },
         RawClock {
             name: String::from_str(alloc, "bus")?,
@@ -91,7 +91,7 @@ fn clocks(alloc: Global) -> Result<Vec<RawClock>, AllocError>
             name: String::from_str(alloc, "pix")?,
             enabled: true,
             rate: 1,
-            rates: Rates::List(RateList::new(pix)),
+            rates: Rates::List(pix),
         },
     ]?)
 }

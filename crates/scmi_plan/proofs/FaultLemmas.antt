@@ -12,15 +12,14 @@ use Rattle.scmi_codec.specs.Name.{IsName}
 use Rattle.scmi_codec.specs.declared.name.TheConstants.{NAME_BYTES}
 use Rattle.scmi_plan.specs.Board.{Board, IsChannel, whole_channel}
 use Rattle.scmi_plan.specs.Plan.{IsValid}
-use Rattle.scmi_plan.specs.Rates.{HasValidRates, IsSupported}
+use Rattle.scmi_plan.specs.Rates.{SupportedRates, HasValidRates, IsSupported}
 use Rattle.scmi_plan.specs.PlanError.{is_name, rises, is_valid_list, is_valid, supports, has_valid_counts, has_valid_names, has_valid_clocks, has_valid_devices, has_trusted_agent, first_fault}
 use Rattle.scmi_plan.specs.RawPlan.{asked_board, asked_domain, asked_clock}
 use Rattle.scmi_plan.specs.declared.limits.TheConstants.{AGENTS, DOMAINS, CLOCKS, DEVICES, RATES}
 use Rattle.scmi_plan.specs.declared.raw_plan.RawPlan.{RawPlan}
 use Rattle.scmi_plan.specs.declared.clock.Clock.{Clock}
 use Rattle.scmi_plan.specs.declared.device.Device.{Device}
-use Rattle.scmi_plan.specs.declared.rates.Rates.{Rates}
-use Rattle.scmi_plan.specs.declared.rates.Rates.TheVariants as rates
+use Rattle.scmi_plan.specs.Rates as rates
 use Rattle.scmi_plan.specs.declared.plan_error.PlanError.TheVariants as error
 
 pub Decides-leb : (a b : ℕ) → Decides (nat_le a b) (a ≤ b)
@@ -68,12 +67,12 @@ Decides-rises (x ∷ y ∷ xs) =
             let here : get_or (y ∷ xs) k 0 < get_or (x ∷ y ∷ xs) (suc k + 1) 0 = w (suc k) (omega (arith, h)) in
             rw next (rw after at here)
 
-Decides-is_valid : (r : Rates) → Decides (is_valid r) (HasValidRates r)
-Decides-is_valid (rates.List list) =
+Decides-is_valid : (r : SupportedRates) → Decides (is_valid r) (HasValidRates r)
+Decides-is_valid (rates.list list) =
     Decides-like (is_valid_list list) (λ w. (w.0.0, w.0.1, w.1)) (λ w. ((w.0, w.1), w.2))
     (Decides-and _ _ (Decides-and _ _ (Decides-leb 1 (length list)) (Decides-leb (length list) RATES)) (Decides-rises list))
-Decides-is_valid (rates.Steps low high step) =
-    Decides-like (is_valid (rates.Steps low high step)) (λ w. (w.0.0, w.0.1, w.1)) (λ w. ((w.0, w.1), w.2))
+Decides-is_valid (rates.steps low high step) =
+    Decides-like (is_valid (rates.steps low high step)) (λ w. (w.0.0, w.0.1, w.1)) (λ w. ((w.0, w.1), w.2))
     (Decides-and _ _ (Decides-and _ _ (Decides-leb 1 step) (Decides-leb low high)) (Decides-eqb ((high - low) % step) 0))
 
 Decides-is_in : (list : List ℕ) (rate : ℕ) → Decides (list_any (λ r. r == rate) list) (Contains list rate)
@@ -84,9 +83,9 @@ Decides-is_in list rate =
     (Decides-by_or (λ r. r == rate) (λ r. r ≡ rate) (list_any (λ r. r == rate)) (λ r. Decides-eqb r rate) refl (λ _ _. refl) list)
 
 -- a rate between the lowest and the highest is supported where it is a number of steps above the lowest
-Decides-is_step : (low high step rate : ℕ) → 1 ≤ step → low ≤ high → Decides (supports (rates.Steps low high step) rate) (IsSupported (rates.Steps low high step) rate)
+Decides-is_step : (low high step rate : ℕ) → 1 ≤ step → low ≤ high → Decides (supports (rates.steps low high step) rate) (IsSupported (rates.steps low high step) rate)
 Decides-is_step low high step rate some up =
-    Decides-like (supports (rates.Steps low high step) rate) to from
+    Decides-like (supports (rates.steps low high step) rate) to from
     (Decides-and _ _ (Decides-and _ _ (Decides-leb low rate) (Decides-leb rate high)) (Decides-eqb ((rate - low) % step) 0)) where
       count : ℕ
       count = (high - low) / step + 1
@@ -126,9 +125,9 @@ Decides-is_step low high step rate some up =
           let above : rate - low ≡ k * step = omega arith in
           ((omega arith, omega arith), ap (λ n. n % step) above ∙ mul-mod_left k step)
 
-Decides-supports : (r : Rates) (rate : ℕ) → HasValidRates r → Decides (supports r rate) (IsSupported r rate)
-Decides-supports (rates.List list) rate valid = Decides-is_in list rate
-Decides-supports (rates.Steps low high step) rate valid = Decides-is_step low high step rate valid.0 valid.1
+Decides-supports : (r : SupportedRates) (rate : ℕ) → HasValidRates r → Decides (supports r rate) (IsSupported r rate)
+Decides-supports (rates.list list) rate valid = Decides-is_in list rate
+Decides-supports (rates.steps low high step) rate valid = Decides-is_step low high step rate valid.0 valid.1
 
 Decides-clock : (clock : Clock) → Decides (is_valid clock.rates && supports clock.rates clock.rate) (HasValidRates clock.rates × IsSupported clock.rates clock.rate)
 Decides-clock clock = Decides-then _ _ (Decides-is_valid clock.rates) (λ valid. Decides-supports clock.rates clock.rate valid)

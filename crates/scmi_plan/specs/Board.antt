@@ -8,7 +8,7 @@ use Rattle.scmi_plan.specs.declared.domain.Domain.{Domain}
 use Rattle.scmi_plan.specs.declared.clock.Clock.{Clock}
 use Rattle.scmi_plan.specs.declared.device.Device.{Device}
 use Rattle.scmi_plan.specs.declared.limits.TheConstants.{DOMAINS, CLOCKS, DEVICES}
-use Rattle.scmi_plan.specs.declared.rates.Rates.TheVariants as rates
+use Rattle.scmi_plan.specs.Rates as rates
 use Rattle.scmi_plan.specs.declared.resource.Resource.{Resource}
 use Rattle.scmi_plan.specs.declared.resource.Resource.TheVariants as resource
 
@@ -52,7 +52,7 @@ domain_at board d = get_or board.domains d (record { name = []; on = false; sync
 
 -- a clock by its number
 abbrev pub clock_at : Board → ℕ → Clock
-clock_at board c = get_or board.clocks c (record { name = []; enabled = false; rate = 0; rates = rates.List [] })
+clock_at board c = get_or board.clocks c (record { name = []; enabled = false; rate = 0; rates = rates.list [] })
 
 -- a device of a list, by its number
 abbrev pub device_in : List Device → ℕ → Device

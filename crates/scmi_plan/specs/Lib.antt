@@ -1,4 +1,5 @@
 pub mod Rates
+pub mod ClockView
 pub mod Agent
 pub mod Board
 pub mod RawPlan

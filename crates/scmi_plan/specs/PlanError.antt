@@ -4,8 +4,8 @@ use Rattle.std.specs.List.{list_all, list_any}
 use Rattle.scmi_codec.specs.declared.name.TheConstants.{NAME_BYTES}
 use Rattle.scmi_plan.specs.Board.{Board}
 use Rattle.scmi_plan.specs.declared.limits.TheConstants.{AGENTS, DOMAINS, CLOCKS, DEVICES, RATES}
-use Rattle.scmi_plan.specs.declared.rates.Rates.{Rates}
-use Rattle.scmi_plan.specs.declared.rates.Rates.TheVariants as rates
+use Rattle.scmi_plan.specs.Rates.{SupportedRates}
+use Rattle.scmi_plan.specs.Rates as rates
 use Rattle.scmi_plan.specs.declared.plan_error.PlanError.{PlanError}
 use Rattle.scmi_plan.specs.declared.plan_error.PlanError.TheVariants as error
 
@@ -35,14 +35,14 @@ abbrev pub is_valid_list : List ℕ → Bool
 is_valid_list list = nat_le 1 (length list) && nat_le (length list) RATES && rises list
 
 -- a valid list, or steps that end at the highest rate (own)
-abbrev pub is_valid : Rates → Bool
-is_valid (rates.List list) = is_valid_list list
-is_valid (rates.Steps low high step) = nat_le 1 step && nat_le low high && (high - low) % step == 0
+abbrev pub is_valid : SupportedRates → Bool
+is_valid (rates.list list) = is_valid_list list
+is_valid (rates.steps low high step) = nat_le 1 step && nat_le low high && (high - low) % step == 0
 
 -- a rate is one of the list, or a number of steps above the lowest
-abbrev pub supports : Rates → ℕ → Bool
-supports (rates.List list) rate = list_any (λ r. r == rate) list
-supports (rates.Steps low high step) rate = nat_le low rate && nat_le rate high && (rate - low) % step == 0
+abbrev pub supports : SupportedRates → ℕ → Bool
+supports (rates.list list) rate = list_any (λ r. r == rate) list
+supports (rates.steps low high step) rate = nat_le low rate && nat_le rate high && (rate - low) % step == 0
 
 -- each clock has valid rates, and starts at one of them (own)
 abbrev pub has_valid_clocks : Board → Bool

@@ -1,6 +1,7 @@
 -- The board that a raw plan writes down.
 use Rattle.std.specs.Prelude.{map, replicate, string_bytes}
 use Rattle.scmi_plan.specs.Board.{Board, whole_channel}
+use Rattle.scmi_plan.specs.Rates.{rates_of}
 use Rattle.scmi_plan.specs.declared.limits.TheConstants.{AGENTS}
 use Rattle.scmi_plan.specs.declared.domain.Domain.{Domain}
 use Rattle.scmi_plan.specs.declared.clock.Clock.{Clock}
@@ -21,7 +22,7 @@ asked_domain raw =
 
 -- a clock with its name as bytes
 abbrev pub asked_clock : RawClock → Clock
-asked_clock raw = record { name = string_bytes raw.name; enabled = raw.enabled; rate = raw.rate; rates = raw.rates }
+asked_clock raw = record { name = string_bytes raw.name; enabled = raw.enabled; rate = raw.rate; rates = rates_of raw.rates }
 
 -- the board with its names as bytes, and whole channels
 abbrev pub asked_board : RawPlan → Board

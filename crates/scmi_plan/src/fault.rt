@@ -1,6 +1,7 @@
 //! The rules that a board has to keep, in the order of their numbers. None takes memory.
 ghost use Rattle.std.specs.Prelude.{◌≡◌, ◌≢◌, ◌^◌, nat_lt, IfSome, true, map, string_bytes};
 ghost use Rattle.std.specs.List.{list_all};
+ghost use Rattle.scmi_plan.specs.Rates.{rates_of};
 ghost use Rattle.scmi_plan.specs.RawPlan.{asked_board, asked_domain, asked_clock};
 ghost use Rattle.scmi_plan.specs.PlanError.{first_fault, has_valid_counts, has_valid_names, has_valid_clocks, has_valid_devices, has_trusted_agent, is_name, is_valid, is_valid_list, supports, rises};
 ghost use Rattle.scmi_plan.specs.declared.plan_error.PlanError.TheVariants.{Memory};
@@ -86,7 +87,7 @@ fn has_valid_clocks(raw: &RawPlan) -> bool
 }
 
 fn is_valid(rates: &Rates) -> bool
-    ensures { result ≡ is_valid rates.now }
+    ensures { result ≡ is_valid (rates_of rates.now) }
 {
     match rates {
         Rates::List(list) => is_valid_list(list.as_slice()),
@@ -109,8 +110,8 @@ fn rises(rates: &[u64]) -> bool
 }
 
 fn supports(rates: &Rates, rate: u64) -> bool
-    requires { is_valid rates.now ≡ true }
-    ensures { result ≡ supports rates.now rate }
+    requires { is_valid (rates_of rates.now) ≡ true }
+    ensures { result ≡ supports (rates_of rates.now) rate }
 {
     match rates {
         Rates::List(list) => list.as_slice().contains(&rate),

@@ -32,6 +32,6 @@ pub use load::Load;
 pub use mask::{MASK_BITS, with_bit, without_bit};
 pub use plan::Plan;
 pub use plan_error::PlanError;
-pub use rates::{RateList, Rates};
+pub use rates::Rates;
 pub use raw_plan::{RawClock, RawDomain, RawPlan};
 pub use resource::Resource;

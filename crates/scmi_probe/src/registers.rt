@@ -1,5 +1,5 @@
 //! Hardware that takes a register write for each change.
-ghost use Rattle.std.specs.Prelude.{true, None};
+ghost use Rattle.std.specs.Prelude.{true, ⊤};
 
 use scmi_core::{Effect, Fault, Hardware};
 
@@ -25,7 +25,7 @@ impl Registers {
 impl Hardware for Registers {
     ghost REFUSES = { true };
 
-    ghost applied = { λ hardware. None };
+    ghost asked = { λ hardware asks. ⊤ };
 
     fn apply(&mut self, effect: Effect) -> Result<(), Fault> {
         match effect {

@@ -4,6 +4,7 @@ use Rattle.std.specs.List.{All}
 use Rattle.std.proofs.lemmas.List.Elements.{All-head, All-nil, All-push, All-tail}
 use Rattle.scmi_core.specs.Plain.{IsPlain}
 use Rattle.scmi_core.specs.declared.event.Event.TheVariants as event
+use Rattle.scmi_ends.proofs.PlainCalls.{flushed_plain, served_plain}
 use Rattle.scmi_ends.specs.AgentView.{AgentView}
 use Rattle.scmi_ends.specs.ControllerView.{ControllerView}
 use Rattle.scmi_ends.specs.Serve.{Serves}
@@ -20,7 +21,6 @@ use Rattle.scmi_text.specs.declared.step.Step.{Step}
 use Rattle.scmi_text.specs.declared.step.Step.TheVariants.{Agent, Platform, Do, Advance, Fail, AdvanceFailed}
 use Rattle.scmi_text.specs.declared.step_line.StepLine.{StepLine}
 use Rattle.scmi_text.specs.declared.step_line.StepLine.TheVariants as line
-use Rattle.scmi_threads.proofs.PlainLemmas.{flushed_all, served_plain}
 use Rattle.scmi_session.specs.Run.{AllSteps, Runs}
 use Rattle.scmi_session.specs.SessionView.{SessionView}
 use Rattle.scmi_session.specs.Steps.{Advances, AtAgent, Exchanges, PlatformMakes, Steps}
@@ -42,7 +42,7 @@ exchanged a call answer old new made all =
 module _ (full : Bool) (Shows : CallerView → Result Closing CloseError → Type 0) where
   at_platform : (a : ℕ) (s : PlatformStep) (l : StepLine) (old new : ControllerView) → PlatformMakes full Shows a s l old new → All IsPlain old.history → All IsPlain new.history
   at_platform a Serve (line.Served b served) old new made all = served_plain a old served new made.1 all
-  at_platform a Flush (line.Flushed b flushed) old new made all = flushed_all IsPlain full a old flushed new tt made.1 all
+  at_platform a Flush (line.Flushed b flushed) old new made all = flushed_plain full a old flushed new made.1 all
   at_platform a Shut (line.Shut b closing) old new made all = subst (λ (c : ControllerView). All IsPlain c.history) (sym made.1.same) all
   at_platform a s l old new made all = absurd made
 

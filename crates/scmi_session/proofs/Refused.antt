@@ -1,15 +1,17 @@
--- What happens beside hardware that has made nothing.
+-- What happens beside hardware that refuses each change.
 use Rattle.std.proofs.Common.{◌≡◌, ◌<◌, ◌⊎◌, inl, inr, Bool, true, false, List, [], ◌∷◌, ◌++◌, length, Option, Some, None, refl, sym, ap, subst, ◌∙◌, arith}
 use Rattle.std.proofs.lemmas.List.{append-nil, append_cancel_left}
 use Rattle.std.specs.Prelude.{◌↔◌, ◌≢◌, ℕ, IsTrue, option_map, slice_get}
 use Rattle.std.specs.Option.{option_or}
 use Rattle.scmi_codec.specs.declared.frame.Frame.{Frame}
 use Rattle.scmi_plan.specs.Board.{Board}
+use Rattle.scmi_core.proofs.EffectsMade.{refuses-one}
 use Rattle.scmi_core.specs.declared.effect.Effect.{Effect}
 use Rattle.scmi_core.specs.declared.event.Event.{Event}
 use Rattle.scmi_core.specs.declared.event.Event.TheVariants.{Advance, AdvanceFailed, Command, CommandFailed}
 use Rattle.scmi_core.specs.declared.pending_set.PendingSet.{PendingSet}
-use Rattle.scmi_core.specs.Driven.{and_made, HappensOn, IsEnd}
+use Rattle.scmi_core.specs.Asked.{IsAllRefused, IsAsked, Made, Refused}
+use Rattle.scmi_core.specs.Driven.{HappensOn, IsEnd, ask_after}
 use Rattle.scmi_core.specs.Effect.{effect_of, effect_after}
 use Rattle.scmi_core.specs.History.{deeds}
 use Rattle.scmi_core.specs.Legal.{IsLegal}
@@ -21,21 +23,25 @@ use Rattle.scmi_ends.specs.declared.served.Served.{Served}
 use Rattle.scmi_ends.specs.declared.served.Served.TheVariants.{Nothing, Done}
 use Rattle.scmi_session.specs.Steps.{AdvancesRefused, ServesRefused}
 
--- hardware that has still made nothing was to change nothing
-pub made_none : (change : Option Effect) → Some [] ≡ and_made (Some []) change → change ≡ None
-made_none None is = refl
-made_none (Some effect) is = cc
+-- hardware that refuses each change refuses one more
+pub refuses_more : (effect : Effect) → IsAsked IsAllRefused (Some (Refused effect)) IsAllRefused
+refuses_more effect = refuses-one effect [] [] refl
+
+-- hardware that refuses each change, and has made one if there was one, was to change nothing
+pub made_none : (change : Option Effect) → IsAsked IsAllRefused (option_map Made change) IsAllRefused → change ≡ None
+made_none None asked = refl
+made_none (Some effect) asked = let none : effect ∷ [] ≡ [] = asked [] refl in cc
 
 -- if a set is pending, its completion changes something
 completion_changes : (sets : List PendingSet) → 0 < length sets → option_map effect_of (option_or (option_map completion (slice_get sets 0)) None) ≡ None → ⊥
 completion_changes [] some none = omega (arith, some)
 completion_changes (set ∷ sets) some none = cc
 
--- a pending set ends as failed if the hardware has made nothing
-ends_failed : (board : Board) (h h' : List Event) → 0 < length (pending_sets board (deeds board h)) → HappensOn board IsEnd h (Some []) h' (Some []) → h' ≡ h ++ AdvanceFailed ∷ []
+-- a pending set ends as failed if the hardware refuses each change
+ends_failed : (board : Board) (h h' : List Event) → 0 < length (pending_sets board (deeds board h)) → HappensOn board IsEnd h IsAllRefused h' IsAllRefused → h' ≡ h ++ AdvanceFailed ∷ []
 ends_failed board h h' some happens =
     elim happens.is_one [
-      | inl is ↦ absurd (completion_changes (pending_sets board (deeds board h)) some (ap (effect_after board h) (sym is) ∙ made_none (effect_after board h happens.event) happens.hardware))
+      | inl is ↦ absurd (completion_changes (pending_sets board (deeds board h)) some (made_none (effect_after board h Advance) (subst (λ event. IsAsked IsAllRefused (ask_after board h event) IsAllRefused) is happens.hardware)))
       | inr is ↦ happens.history ∙ ap (λ (event : Event). h ++ event ∷ []) is
     ]
 
@@ -46,10 +52,10 @@ none_left (set ∷ sets) none = absurd (none (omega arith))
 no_truth : IsTrue false → ⊥
 no_truth is = cc
 
--- an advance beside hardware that has made nothing
+-- an advance beside hardware that refuses each change
 pub advance_refused : (old new : ControllerView) (more : Bool)
     → (IsTrue more ↔ (0 < length (pending_sets old.board (deeds old.board old.history))))
-    → (IsTrue more → HappensOn old.board IsEnd old.history (Some []) new.history (Some []))
+    → (IsTrue more → HappensOn old.board IsEnd old.history IsAllRefused new.history IsAllRefused)
     → new ≡ record old { history = new.history; room = new.room }
     → (¬ (IsTrue more) → new ≡ old)
     → AdvancesRefused old more new
@@ -65,18 +71,18 @@ same_last h x y is = let last : x ∷ [] ≡ y ∷ [] = append_cancel_left h (x 
 longer : (h : List Event) (x : Event) → h ≡ h ++ x ∷ [] → ⊥
 longer h x is = let none : [] ≡ x ∷ [] = append_cancel_left h [] (x ∷ []) (append-nil h ∙ is) in cc
 
--- a command that is in the history of an agent served beside hardware that has made nothing was to change nothing
-done_none : (a : ℕ) (old : ControllerView) (served : Served) (new : ControllerView) → ServesOn a old (Some []) served new (Some [])
+-- a command that is in the history of an agent served beside hardware that refuses each change was to change nothing
+done_none : (a : ℕ) (old : ControllerView) (served : Served) (new : ControllerView) → ServesOn a old IsAllRefused served new IsAllRefused
     → (frame : Frame) → new.history ≡ old.history ++ Command a frame ∷ [] → effect_after old.board old.history (Command a frame) ≡ None
 done_none a old Nothing new serves frame is = absurd (longer old.history (Command a frame) (sym serves.step.0 ∙ is))
 done_none a old Done new serves frame is =
     let happens = serves.step.executes.happens in
     let event : happens.event ≡ Command a frame = same_last old.history happens.event (Command a frame) (sym happens.history ∙ is) in
-    ap (effect_after old.board old.history) (sym event) ∙ made_none (effect_after old.board old.history happens.event) happens.hardware
+    made_none (effect_after old.board old.history (Command a frame)) (subst (λ event. IsAsked IsAllRefused (ask_after old.board old.history event) IsAllRefused) event happens.hardware)
 
--- an agent is served beside hardware that has made nothing
+-- an agent is served beside hardware that refuses each change
 pub serves_refused : (a : ℕ) (old : ControllerView) (served : Served) (new : ControllerView) → IsLegal new.board new.history → new.board ≡ old.board
-    → ServesOn a old (Some []) served new (Some []) → ServesRefused a old served new
+    → ServesOn a old IsAllRefused served new IsAllRefused → ServesRefused a old served new
 serves_refused a old served new legal board serves = record {
   serves = serves;
   done = done_none a old served new serves;

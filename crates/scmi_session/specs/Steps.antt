@@ -13,6 +13,7 @@ use Rattle.scmi_link.specs.declared.collected.Collected.{Collected}
 use Rattle.scmi_link.specs.declared.collected.Collected.TheVariants as collected
 use Rattle.scmi_link.specs.declared.post_error.PostError.{PostError}
 use Rattle.scmi_link.specs.declared.post_error.PostError.TheVariants as refused
+use Rattle.scmi_core.specs.Asked.{IsAllRefused}
 use Rattle.scmi_core.specs.Effect.{effect_after}
 use Rattle.scmi_core.specs.History.{deeds}
 use Rattle.scmi_core.specs.Pending.{pending_sets}
@@ -95,9 +96,9 @@ abbrev pub AdvancesRefused : ControllerView → Bool → ControllerView → Type
 AdvancesRefused old true new = (0 < length (pending_sets old.board (deeds old.board old.history))) × (new ≡ record old { history = old.history ++ event.AdvanceFailed ∷ []; room = new.room })
 AdvancesRefused old false new = (pending_sets old.board (deeds old.board old.history) ≡ []) × (new ≡ old)
 
--- agent a is served beside hardware that has made no change: a command that is then in the history was to make none, and one that failed was to make one
+-- agent a is served beside hardware that refuses each change: a command that is then in the history was to make none, and one that failed was to make one
 pub record ServesRefused (a : ℕ) (old : ControllerView) (served : Served) (new : ControllerView) : Type 0 where
-  pub serves : ServesOn a old (Some []) served new (Some [])
+  pub serves : ServesOn a old IsAllRefused served new IsAllRefused
   pub done : (frame : Frame) → new.history ≡ old.history ++ event.Command a frame ∷ [] → effect_after old.board old.history (event.Command a frame) ≡ None
   pub failed : (frame : Frame) → new.history ≡ old.history ++ event.CommandFailed a frame ∷ [] → effect_after old.board old.history (event.Command a frame) ≢ None
 

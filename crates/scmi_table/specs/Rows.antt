@@ -6,8 +6,8 @@ use Rattle.scmi_plan.specs.declared.agent_channel.AgentChannel.{AgentChannel}
 use Rattle.scmi_plan.specs.declared.clock.Clock.{Clock}
 use Rattle.scmi_plan.specs.declared.device.Device.{Device}
 use Rattle.scmi_plan.specs.declared.domain.Domain.{Domain}
-use Rattle.scmi_plan.specs.declared.rates.Rates.{Rates}
-use Rattle.scmi_plan.specs.declared.rates.Rates.TheVariants as rates
+use Rattle.scmi_plan.specs.Rates.{SupportedRates}
+use Rattle.scmi_plan.specs.Rates as rates
 use Rattle.scmi_board.specs.Lines.{number_behind}
 use Rattle.scmi_board.specs.declared.channel_line.ChannelLine.{ChannelLine}
 use Rattle.scmi_template.specs.Filled.{filled}
@@ -36,9 +36,9 @@ domain_text domain =
     (in_string domain.name ∷ bit_text domain.on ∷ bit_text domain.synchronous ∷ bit_text domain.asynchronous ∷ bit_text domain.notify ∷ [])
 
 -- the end of a row: a list by its place in the table of rates, or steps
-unfoldable pub kind_text : ℕ → Rates → List ℕ
-kind_text first (rates.List list) = filled LIST_END.now (decimal first ∷ decimal (length list) ∷ [])
-kind_text first (rates.Steps low high step) = filled STEPS_END.now (decimal low ∷ decimal high ∷ decimal step ∷ [])
+unfoldable pub kind_text : ℕ → SupportedRates → List ℕ
+kind_text first (rates.list list) = filled LIST_END.now (decimal first ∷ decimal (length list) ∷ [])
+kind_text first (rates.steps low high step) = filled STEPS_END.now (decimal low ∷ decimal high ∷ decimal step ∷ [])
 
 -- the row of a clock
 unfoldable pub clock_text : ℕ → Clock → List ℕ
@@ -46,9 +46,9 @@ clock_text first clock =
     filled CLOCK_START.now (in_string clock.name ∷ bit_text clock.enabled ∷ decimal clock.rate ∷ []) ++ kind_text first clock.rates
 
 -- the place after a clock's rates; the places stay at 2^64 - 1 once they are there
-abbrev pub place_behind : ℕ → Rates → ℕ
-place_behind first (rates.List list) = min (first + length list) (2 ^ 64 - 1)
-place_behind first (rates.Steps low high step) = first
+abbrev pub place_behind : ℕ → SupportedRates → ℕ
+place_behind first (rates.list list) = min (first + length list) (2 ^ 64 - 1)
+place_behind first (rates.steps low high step) = first
 
 -- clocks, the rates of which begin at this place
 abbrev pub clocks_text : ℕ → List Clock → List ℕ
@@ -65,9 +65,9 @@ unfoldable pub rate_text : ℕ → List ℕ
 rate_text rate = filled RATE_ROW.now (decimal rate ∷ [])
 
 -- the rates of a list
-abbrev pub list_text : Rates → List ℕ
-list_text (rates.List list) = flat_map rate_text list
-list_text (rates.Steps low high step) = []
+abbrev pub list_text : SupportedRates → List ℕ
+list_text (rates.list list) = flat_map rate_text list
+list_text (rates.steps low high step) = []
 
 -- the row of a device
 unfoldable pub device_text : Device → List ℕ

@@ -1,8 +1,8 @@
 -- A board's tables, from the bytes that are read to the status.
-use Rattle.std.specs.Prelude.{◌≡◌, ℕ, ◌<◌, ⊤, List, length, Option, IfSome}
+use Rattle.std.specs.Prelude.{◌≡◌, ℕ, ◌<◌, ⊤, List, length, Option, IfSome, Err}
 use Rattle.std.specs.Io.KnownBytes.{Appends}
 use Rattle.scmi_board.specs.Channels.{Described}
-use Rattle.scmi_board.specs.ValidBoard.{IsBoardFault, IsBoardText}
+use Rattle.scmi_board.specs.ValidBoard.{IsBoardFault, IsBoardText, said_in}
 use Rattle.scmi_board.specs.declared.board_error.BoardError.TheVariants as board
 use Rattle.scmi_fault.specs.FaultLine.{fault_line}
 use Rattle.scmi_input.specs.declared.input.TheConstants.{INPUT_BYTES}
@@ -19,10 +19,10 @@ pub record WritesTable (known : Option (List ℕ)) (old new : Option (List ℕ))
   pub of_text : IfSome known (λ text. IsBoardText text said)
   pub text : Appends old new (table_text said)
 
--- a fault of a board's text: its length, its first line that is not one of a board, or the first rule that the board breaks. A failed read, or out of memory, shows nothing of it
+-- a fault of a board's text: its length, its first line that is not one of a board or follows it, or the first rule that the board breaks. A failed read, or out of memory, shows nothing of it
 abbrev pub IsFaultOf : List ℕ → TableError → Type 0
 IsFaultOf text Size = INPUT_BYTES < length text
-IsFaultOf text (BoardLine line) = IsBoardFault text (board.Line line)
+IsFaultOf text (BoardLine line) = said_in text ≡ Err line
 IsFaultOf text (PlanRule rule) = (broken : PlanError) × IsBoardFault text (board.Rule broken) × (rule ≡ number broken)
 IsFaultOf text Read = ⊤
 IsFaultOf text Memory = ⊤

@@ -1,6 +1,7 @@
 //! Rows of clocks.
 ghost use Rattle.std.specs.Prelude.{◌≡◌, OnOk, map};
 ghost use Rattle.std.specs.Io.KnownBytes.{Appends};
+ghost use Rattle.scmi_plan.specs.Rates.{rates_of};
 ghost use Rattle.scmi_plan.specs.RawPlan.{asked_clock};
 ghost use Rattle.scmi_table.specs.Rows.{clock_text, clocks_text, kind_text, place_behind, place_behind_all};
 
@@ -44,13 +45,13 @@ fn write_clock<W: Write>(writer: &mut W, first: usize, clock: &RawClock) -> io::
 #[tactic(auto, unfolding(crate::specs::Rows::kind_text))]
 fn write_kind<W: Write>(writer: &mut W, first: usize, rates: &Rates) -> io::Result<()>
     ensures { OnOk result (Appends (W.contents writer.old) (W.contents writer.new)
-        (kind_text first rates.now)) }
+        (kind_text first (rates_of rates.now))) }
 {
     match rates {
         Rates::List(list) => write_filled(
             writer,
             LIST_END,
-            &[Number(first as u64), Number(list.as_slice().len() as u64)],
+            &[Number(first as u64), Number(list.len() as u64)],
         ),
         Rates::Steps { low, high, step } => write_filled(
             writer,
@@ -63,10 +64,10 @@ fn write_kind<W: Write>(writer: &mut W, first: usize, rates: &Rates) -> io::Resu
 /// The place after a clock's rates. The places stay at the last once they are there, which is after
 /// those of each board that keeps the rules.
 fn place_behind(first: usize, rates: &Rates) -> usize
-    ensures { result ≡ place_behind first rates.now }
+    ensures { result ≡ place_behind first (rates_of rates.now) }
 {
     match rates {
-        Rates::List(list) => first.saturating_add(list.as_slice().len()),
+        Rates::List(list) => first.saturating_add(list.len()),
         Rates::Steps { .. } => first,
     }
 }

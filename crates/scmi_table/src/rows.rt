@@ -1,12 +1,13 @@
 //! Rows of domains, rates and devices.
 ghost use Rattle.std.specs.Prelude.{◌≡◌, OnOk, flat_map, map};
 ghost use Rattle.std.specs.Io.KnownBytes.{Appends};
+ghost use Rattle.scmi_plan.specs.Rates.{rates_of};
 ghost use Rattle.scmi_plan.specs.RawPlan.{asked_clock, asked_domain};
 ghost use Rattle.scmi_table.specs.Rows.{device_text, domain_text, list_text, rate_text};
 
 use crate::texts::{DEVICE_ROW, DOMAIN_ROW, RATE_ROW};
 use crate::value::Value::{Bit, Hex, Name, Number};
-use scmi_plan::{Device, RateList, Rates, RawClock, RawDomain};
+use scmi_plan::{Device, Rates, RawClock, RawDomain};
 use scmi_template::write_filled;
 use std::io;
 use std::io::Write;
@@ -52,7 +53,7 @@ pub(crate) fn write_rates<W: Write>(writer: &mut W, clocks: &[RawClock]) -> io::
 
 fn write_list<W: Write>(writer: &mut W, rates: &Rates) -> io::Result<()>
     ensures { OnOk result (Appends (W.contents writer.old) (W.contents writer.new)
-        (list_text rates.now)) }
+        (list_text (rates_of rates.now))) }
 {
     match rates {
         Rates::List(list) => write_each(writer, list),
@@ -60,11 +61,11 @@ fn write_list<W: Write>(writer: &mut W, rates: &Rates) -> io::Result<()>
     }
 }
 
-fn write_each<W: Write>(writer: &mut W, list: &RateList) -> io::Result<()>
+fn write_each<W: Write>(writer: &mut W, list: &[u64]) -> io::Result<()>
     ensures { OnOk result (Appends (W.contents writer.old) (W.contents writer.new)
         (flat_map rate_text list.now)) }
 {
-    'rates: for rate in list.as_slice() {
+    'rates: for rate in list {
         write_rate(writer, *rate)?;
     }
     Ok(())

@@ -13,8 +13,8 @@ use std::io::{Read, Write};
 /// text is written as the only line. Nothing is written before the whole text is read and every
 /// rule was checked. An output that fails gives status 1.
 ///
-/// The board's text is that from its line `board` to its line `end`, with lines `channel`; what
-/// follows is ignored.
+/// The board's text is that from its line `board` to its line `end`, with lines `channel`; only
+/// empty lines and comments may follow.
 pub fn run_table<R: Read, W: Write>(alloc: Global, reader: &mut R, writer: &mut W) -> u8
     ensures table { result ≡ 0 → WritesTable (R.remaining reader.old)
         (W.contents writer.old) (W.contents writer.new) }

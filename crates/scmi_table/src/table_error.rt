@@ -15,7 +15,7 @@ pub enum TableError {
     Size,
     /// A read failed, or reads were interrupted too often.
     Read,
-    /// This line of the input is not a line of a board.
+    /// This line of the input is not a line of a board, or follows it.
     Board(u32),
     /// The board breaks this rule.
     Plan(u8),
@@ -76,7 +76,7 @@ impl From<BoardError> for TableError {
 
     fn from(error: BoardError) -> TableError {
         match error {
-            BoardError::Line(line) => TableError::Board(line),
+            BoardError::Line(line) | BoardError::After(line) => TableError::Board(line),
             BoardError::Rule(rule) => TableError::Plan(rule.number()),
             BoardError::Memory => TableError::Memory,
         }

@@ -8,7 +8,6 @@
 //! | `Event` | `CommandFailed`, `AdvanceFailed`, `Restarted` |
 //! | `AgentLog` | `reply_looks`, `message_looks` |
 //! | `Gate`, `Channel` | ghost members, by which contracts speak of them |
-//! | `Rates::List` | a `RateList` of the vector, which contracts see as a list |
 //! | the program | a library, `scmi_modes`, which has its names, and `scmi_threads` below it |
 #![tactic(auto)]
 

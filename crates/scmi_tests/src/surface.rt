@@ -3,10 +3,10 @@
 mod base;
 mod clock;
 mod codec;
-mod core;
 mod ends;
 mod link;
 mod plan;
+mod platform_core;
 mod power;
 mod run;
 mod words;

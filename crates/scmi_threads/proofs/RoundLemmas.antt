@@ -1,11 +1,12 @@
 -- A round, call by call.
-use Rattle.std.proofs.Common.{◌≡◌, ℕ, Bool, false, List, [], ◌∷◌, ◌++◌, Option, refl, sym, ap, subst, ◌∙◌}
+use Rattle.std.proofs.Common.{◌≡◌, ℕ, Bool, false, List, [], ◌∷◌, ◌++◌, refl, sym, ap, subst, ◌∙◌}
 use Rattle.std.specs.Prelude.{IsTrue}
 use Rattle.scmi_core.proofs.EffectsMade.{made-on}
 use Rattle.scmi_core.specs.Driven.{HappensOn, HasMade, IsEnd}
-use Rattle.scmi_core.specs.declared.effect.Effect.{Effect}
+use Rattle.scmi_core.specs.Asked.{Asked}
 use Rattle.scmi_core.specs.declared.event.Event.{Event}
 use Rattle.scmi_core.specs.declared.event.Event.TheVariants.{Advance, Sent}
+use Rattle.scmi_ends.proofs.PlainCalls.{flushed_all, served_plain}
 use Rattle.scmi_ends.specs.ControllerView.{ControllerView}
 use Rattle.scmi_ends.specs.Flush.{Flushes, FlushesOne}
 use Rattle.scmi_ends.specs.Links.{HasLinks}
@@ -20,21 +21,21 @@ use Rattle.scmi_plan.specs.Board.{Board}
 use Rattle.scmi_core.specs.Plain.{IsNoRestart, IsPlain}
 use Rattle.scmi_threads.specs.Rounds.{GoesOn}
 use Rattle.scmi_threads.proofs.Opened.{flushes_open, serves_on_open}
-use Rattle.scmi_threads.proofs.PlainLemmas.{advanced_no_restart, advanced_plain, flushed_all, served_no_restart, served_plain}
+use Rattle.scmi_threads.proofs.PlainLemmas.{advanced_no_restart, advanced_plain, served_no_restart}
 
 -- that a message was sent changes nothing of the hardware
-sent_made : (board : Board) (a : ℕ) (h : List Event) (applied : Option (List Effect)) (before : List Effect) → HasMade before board h applied → HasMade before board (h ++ Sent a ∷ []) applied
-sent_made board a h applied before made = made-on board (λ event. event ≡ Sent a) h (h ++ Sent a ∷ []) applied applied before (record { event = Sent a; is_one = refl; history = refl; hardware = refl }) made
+sent_made : (board : Board) (a : ℕ) (h : List Event) (asked : List Asked → Type 0) (before : List Asked) → HasMade before board h asked → HasMade before board (h ++ Sent a ∷ []) asked
+sent_made board a h asked before made = made-on board (λ event. event ≡ Sent a) h (h ++ Sent a ∷ []) asked asked before (record { event = Sent a; is_one = refl; history = refl; hardware = λ asks asked. asked }) made
 
-flushed_made : (full : Bool) (board : Board) (a : ℕ) (h h' : List Event) (v w : CallerView) (r : Flushed) (applied : Option (List Effect)) (before : List Effect) → FlushesOne full board a h v r h' w → HasMade before board h applied → HasMade before board h' applied
-flushed_made full board a h h' v w flushed.Waiting applied before s made = subst (λ k. HasMade before board k applied) (sym s.0) made
-flushed_made full board a h h' v w flushed.Nothing applied before s made = subst (λ k. HasMade before board k applied) (sym s.0) made
-flushed_made full board a h h' v w flushed.Closed applied before s made = subst (λ k. HasMade before board k applied) (sym s.0) made
-flushed_made full board a h h' v w flushed.Posted applied before s made = subst (λ k. HasMade before board k applied) (sym s.event) (sent_made board a h applied before made)
+flushed_made : (full : Bool) (board : Board) (a : ℕ) (h h' : List Event) (v w : CallerView) (r : Flushed) (asked : List Asked → Type 0) (before : List Asked) → FlushesOne full board a h v r h' w → HasMade before board h asked → HasMade before board h' asked
+flushed_made full board a h h' v w flushed.Waiting asked before s made = subst (λ k. HasMade before board k asked) (sym s.0) made
+flushed_made full board a h h' v w flushed.Nothing asked before s made = subst (λ k. HasMade before board k asked) (sym s.0) made
+flushed_made full board a h h' v w flushed.Closed asked before s made = subst (λ k. HasMade before board k asked) (sym s.0) made
+flushed_made full board a h h' v w flushed.Posted asked before s made = subst (λ k. HasMade before board k asked) (sym s.event) (sent_made board a h asked before made)
 
-module _ {C Caller Callee Rest : Type 0} (refuses : Bool) (identity : C → List ℕ) (links : List (Link C Caller Callee Rest)) (old c c' : ControllerView) (applied b : Option (List Effect)) where
-  pub and_served : (b' : Option (List Effect)) (a : ℕ) (r : Served) → GoesOn refuses identity links old applied c b → HasLinks identity links c' → c'.board ≡ c.board → ServesOn a c b r c' b' → (refuses ≡ false → Serves a c r c')
-      → ((before : List Effect) → HasMade before c.board c.history b → HasMade before c'.board c'.history b') → GoesOn refuses identity links old applied c' b'
+module _ {C Caller Callee Rest : Type 0} (refuses : Bool) (identity : C → List ℕ) (links : List (Link C Caller Callee Rest)) (old c c' : ControllerView) (asked b : List Asked → Type 0) where
+  pub and_served : (b' : List Asked → Type 0) (a : ℕ) (r : Served) → GoesOn refuses identity links old asked c b → HasLinks identity links c' → c'.board ≡ c.board → ServesOn a c b r c' b' → (refuses ≡ false → Serves a c r c')
+      → ((before : List Asked) → HasMade before c.board c.history b → HasMade before c'.board c'.history b') → GoesOn refuses identity links old asked c' b'
   and_served b' a r so_far is same serves obeyed makes = record {
     has_links = is;
     board = same ∙ so_far.board;
@@ -44,11 +45,11 @@ module _ {C Caller Callee Rest : Type 0} (refuses : Bool) (identity : C → List
     plain = λ never none. served_plain a c r c' (obeyed never) (so_far.plain never none);
   }
 
-  pub and_advanced : (b' : Option (List Effect)) (did : Bool) → GoesOn refuses identity links old applied c b → c' ≡ record c { history = c'.history; room = c'.room } → (IsTrue did → HappensOn c.board IsEnd c.history b c'.history b')
+  pub and_advanced : (b' : List Asked → Type 0) (did : Bool) → GoesOn refuses identity links old asked c b → c' ≡ record c { history = c'.history; room = c'.room } → (IsTrue did → HappensOn c.board IsEnd c.history b c'.history b')
       → (refuses ≡ false → IsTrue did → c'.history ≡ c.history ++ Advance ∷ []) → (¬ (IsTrue did) → c' ≡ c)
-      → ((before : List Effect) → HasMade before c.board c.history b → HasMade before c'.board c'.history b') → GoesOn refuses identity links old applied c' b'
+      → ((before : List Asked) → HasMade before c.board c.history b → HasMade before c'.board c'.history b') → GoesOn refuses identity links old asked c' b'
   and_advanced b' did so_far same happens obeyed still makes =
-      let moved : GoesOn refuses identity links old applied (record c { history = c'.history; room = c'.room }) b' = record {
+      let moved : GoesOn refuses identity links old asked (record c { history = c'.history; room = c'.room }) b' = record {
         has_links = record { of_a2p = so_far.has_links.of_a2p; of_p2a = so_far.has_links.of_p2a };
         board = so_far.board;
         open_ends = so_far.open_ends;
@@ -56,9 +57,9 @@ module _ {C Caller Callee Rest : Type 0} (refuses : Bool) (identity : C → List
         no_restart = λ none. advanced_no_restart did c.board c.history c'.history b b' happens (λ not. ap (λ v. v.history) (still not)) (so_far.no_restart none);
         plain = λ never none. advanced_plain did c.history c'.history (obeyed never) (λ not. ap (λ v. v.history) (still not)) (so_far.plain never none);
       } in
-      subst (λ v. GoesOn refuses identity links old applied v b') (sym same) moved
+      subst (λ v. GoesOn refuses identity links old asked v b') (sym same) moved
 
-  pub and_flushed : (full : Bool) (a : ℕ) (r : Flushed) → GoesOn refuses identity links old applied c b → HasLinks identity links c' → c'.board ≡ c.board → Flushes full a c r c' → GoesOn refuses identity links old applied c' b
+  pub and_flushed : (full : Bool) (a : ℕ) (r : Flushed) → GoesOn refuses identity links old asked c b → HasLinks identity links c' → c'.board ≡ c.board → Flushes full a c r c' → GoesOn refuses identity links old asked c' b
   and_flushed full a r so_far is same flushes = record {
     has_links = is;
     board = same ∙ so_far.board;
@@ -69,8 +70,8 @@ module _ {C Caller Callee Rest : Type 0} (refuses : Bool) (identity : C → List
   }
 
 -- one round after others
-module _ {C Caller Callee Rest : Type 0} (refuses : Bool) (identity : C → List ℕ) (links : List (Link C Caller Callee Rest)) (old c c' : ControllerView) (applied b b' : Option (List Effect)) where
-  pub and_on : GoesOn refuses identity links old applied c b → GoesOn refuses identity links c b c' b' → GoesOn refuses identity links old applied c' b'
+module _ {C Caller Callee Rest : Type 0} (refuses : Bool) (identity : C → List ℕ) (links : List (Link C Caller Callee Rest)) (old c c' : ControllerView) (asked b b' : List Asked → Type 0) where
+  pub and_on : GoesOn refuses identity links old asked c b → GoesOn refuses identity links c b c' b' → GoesOn refuses identity links old asked c' b'
   and_on so_far more = record {
     has_links = more.has_links;
     board = more.board ∙ so_far.board;
@@ -81,12 +82,12 @@ module _ {C Caller Callee Rest : Type 0} (refuses : Bool) (identity : C → List
   }
 
 -- the rounds of a whole run, of which the history at the end has another name
-pub made_of_run : (plan b b' : Board) (h h' k : List Event) (applied applied' : Option (List Effect)) → b ≡ plan → h ≡ [] → b' ≡ b → k ≡ h'
-    → ((before : List Effect) → HasMade before b h applied → HasMade before b' h' applied')
-    → (before : List Effect) → HasMade before plan [] applied → HasMade before plan k applied'
-made_of_run plan b b' h h' k applied applied' began none same is makes before made =
-    subst (λ events. HasMade before plan events applied') (sym is)
-    (subst (λ board. HasMade before board h' applied') (same ∙ began)
+pub made_of_run : (plan b b' : Board) (h h' k : List Event) (asked asked' : List Asked → Type 0) → b ≡ plan → h ≡ [] → b' ≡ b → k ≡ h'
+    → ((before : List Asked) → HasMade before b h asked → HasMade before b' h' asked')
+    → (before : List Asked) → HasMade before plan [] asked → HasMade before plan k asked'
+made_of_run plan b b' h h' k asked asked' began none same is makes before made =
+    subst (λ events. HasMade before plan events asked') (sym is)
+    (subst (λ board. HasMade before board h' asked') (same ∙ began)
     (makes before
-    (subst (λ board. HasMade before board h applied) (sym began)
-    (subst (λ events. HasMade before plan events applied) (sym none) made))))
+    (subst (λ board. HasMade before board h asked) (sym began)
+    (subst (λ events. HasMade before plan events asked) (sym none) made))))

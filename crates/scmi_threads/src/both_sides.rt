@@ -36,8 +36,8 @@ pub(crate) fn run_beside<
 ) -> ((Controller<C>, bool, H), Vec<ScriptRun<'a, C>>)
     requires links { HasLinks C.identity links.now controller }
     requires open_ends { IsOpenToAll controller }
-    ensures goes_on { GoesOn H.REFUSES C.identity links.now controller (H.applied hardware)
-        result.0.0 (H.applied result.0.2) }
+    ensures goes_on { GoesOn H.REFUSES C.identity links.now controller (H.asked hardware)
+        result.0.0 (H.asked result.0.2) }
     ensures memory { result.0.1 ≡ true → result.0.0.room ≡ 0 }
     ensures ran { AllZip (HasPlayed C.FULL (G.asked gate.now)) script_runs.entry.items
         result.1.items }
@@ -48,8 +48,8 @@ pub(crate) fn run_beside<
         || -> (Controller<C>, bool, H)
             requires links { HasLinks C.identity links.now controller }
             requires open_ends { IsOpenToAll controller }
-            ensures goes_on { GoesOn H.REFUSES C.identity links.entry.now controller (H.applied hardware)
-                result.0 (H.applied result.2) }
+            ensures goes_on { GoesOn H.REFUSES C.identity links.entry.now controller (H.asked hardware)
+                result.0 (H.asked result.2) }
             ensures memory { result.1 ≡ true → result.0.room ≡ 0 }
         { run_rounds(rt, processors, links, &ended, controller, hardware) },
         || -> Vec<ScriptRun<C>>

@@ -23,8 +23,8 @@ pub(crate) fn run_rounds<C: Channel, H: Hardware, R: Wait>(
 ) -> (Controller<C>, bool, H)
     requires links { HasLinks C.identity links.now controller }
     requires open_ends { IsOpenToAll controller }
-    ensures goes_on { GoesOn H.REFUSES C.identity links.now controller (H.applied hardware)
-        result.0 (H.applied result.2) }
+    ensures goes_on { GoesOn H.REFUSES C.identity links.now controller (H.asked hardware)
+        result.0 (H.asked result.2) }
     ensures memory { result.1 ≡ true → result.0.room ≡ 0 }
 {
     let mut memory = false;
@@ -51,8 +51,8 @@ fn run_round<C: Channel, H: Hardware>(
 ) -> Result<(), ServeError>
     requires links { HasLinks C.identity links.now controller.old }
     requires open_ends { IsOpenToAll controller.old }
-    ensures goes_on { GoesOn H.REFUSES C.identity links.now controller.old (H.applied hardware.old)
-        controller.new (H.applied hardware.new) }
+    ensures goes_on { GoesOn H.REFUSES C.identity links.now controller.old (H.asked hardware.old)
+        controller.new (H.asked hardware.new) }
     ensures memory { result ≡ Err ServeError.Memory → controller.new.room ≡ 0 }
 {
     let agents = controller.core().agents();

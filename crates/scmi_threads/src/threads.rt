@@ -1,11 +1,11 @@
 //! The run: each agent in a thread of its own, and the controller in another.
 ghost use Rattle.std.specs.Prelude.{◌≡◌, ◌≤◌, [], false, true, List, length, vec_len, vec_capacity, IfOk, OnErr};
 ghost use Rattle.std.specs.List.{All};
+ghost use Rattle.scmi_core.specs.Asked.{Asked};
 ghost use Rattle.scmi_core.specs.Bounds.{HasBounds, HasResponses};
 ghost use Rattle.scmi_core.specs.Driven.{HasMade};
 ghost use Rattle.scmi_core.specs.History.{deeds};
 ghost use Rattle.scmi_core.specs.Legal.{IsLegal};
-ghost use Rattle.scmi_core.specs.declared.effect.Effect.{Effect};
 ghost use Rattle.scmi_ends.specs.Each.{AllFrom};
 ghost use Rattle.scmi_threads.specs.AfterClose.{EndsAtClose};
 ghost use Rattle.scmi_threads.specs.Logs.{LogHeadline};
@@ -82,8 +82,9 @@ pub fn run_agents<C: Channel, G: Gate, R: Threads + Wait + Sync>(
 /// ends as failed.
 ///
 /// No agent is restarted, and beside hardware that never refuses no event is a failed one. Hardware
-/// that keeps a list has made exactly what the trace changes, in order, each once, after what it had
-/// made before. After a refusal it comes back as it was.
+/// that keeps a list was asked for exactly what belongs to the trace, in order, each change once,
+/// after what it was asked for before: it has made what the trace changes, and refused what failed.
+/// After an error it comes back as it was.
 pub fn run_agents_on<C: Channel, G: Gate, H: Hardware + Send + Drop, R: Threads + Wait + Sync>(
     rt: &R,
     alloc: Global,
@@ -112,9 +113,9 @@ pub fn run_agents_on<C: Channel, G: Gate, H: Hardware + Send + Drop, R: Threads 
         EndsAtClose C.FULL (orders_of scripts.now a) outcome.trace.events a log)
         1 outcome.logs.items) }
     ensures memory { IfOk result.0 (λ outcome. outcome.memory ≡ true → outcome.trace.room ≡ 0) }
-    ensures made { IfOk result.0 (λ outcome. (before : List Effect)
-        → HasMade before plan [] (H.applied hardware)
-        → HasMade before plan outcome.trace.events (H.applied result.1)) }
+    ensures made { IfOk result.0 (λ outcome. (before : List Asked)
+        → HasMade before plan [] (H.asked hardware)
+        → HasMade before plan outcome.trace.events (H.asked result.1)) }
     ensures unasked { OnErr result.0 (result.1 ≡ hardware) }
 {
     let agents = plan.agents() as usize;

@@ -20,7 +20,7 @@ fn rows(alloc: Global) -> (RawDomain, RawClock, RawClock) {
         name: String::new(alloc),
         enabled: true,
         rate: 100,
-        rates: Rates::List(scmi_plan::RateList::new(Vec::new(alloc))),
+        rates: Rates::List(Vec::new(alloc)),
     };
     let bus = RawClock {
         name: String::new(alloc),

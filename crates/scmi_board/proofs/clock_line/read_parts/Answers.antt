@@ -27,5 +27,4 @@ pub returns : goal.returns
 returns c =
     let parts = YieldsList-from_slice_split _ is_comma c.args.text.now (cc) (cc) (cc) (λ x b q k. search (rules, tests)) in
     let ended = YieldsList-end parts c.loop-part.yielded _ c.loop-part.yielded_by _ _ c.in-None.is c.next.ensures.steps in
-    let done = all_done with_rate c.loop-part.rates.items (parts_of c.args.text.now) (length c.loop-part.yielded) (after_each with_rate [] (parts_of c.args.text.now)) (omega (arith, ended.1)) c.loop-part.invariant.so_far in
-    rw c.new.ensures done
+    all_done with_rate c.loop-part.rates.items (parts_of c.args.text.now) (length c.loop-part.yielded) (after_each with_rate [] (parts_of c.args.text.now)) (omega (arith, ended.1)) c.loop-part.invariant.so_far

@@ -1,7 +1,7 @@
 use Rattle.scmi_core.proofs.Bounds.{bounds}
 use Rattle.scmi_core.proofs.Causes.{integrity}
 use Rattle.scmi_core.proofs.Channels.{channels}
-use Rattle.scmi_core.proofs.EffectsMade.{effects-push}
+use Rattle.scmi_core.proofs.EffectsMade.{effects-push, made-effects}
 use Rattle.scmi_core.proofs.Isolation.{isolation, refused}
 use Rattle.scmi_core.proofs.Responses.{responses}
 use Rattle.scmi_core.proofs.Trusted.{permissions}
@@ -16,5 +16,6 @@ returns c = record {
   integrity = integrity;
   permissions = λ board h legal. permissions board h;
   channels = channels;
+  made = made-effects;
   effects = effects-push;
 }

@@ -29,4 +29,4 @@ returns-clause-text g c =
 pub returns-clause-memory : goal.returns-clause-memory
 returns-clause-memory g c = λ memory.
     let are = known_stands (steps_of_input c.args.script) (g.R.CountedRead.remaining c.args.reader.now) c.deref.result.now c.in_ok-bytes.bytes.items c.deref.ensures.value c.in_ok-bytes.ensures.whole c.in_ok-plan.ensures.input in
-    either_way (c.step_over.ensures.memory memory) (λ lines. (_, _, are, lines))
+    either_way (c.step_over.ensures.memory memory) (λ lines. (_, _, are, c.in_ok-plan.ensures.kinds, lines))

@@ -74,7 +74,7 @@ pub returns-clause-closed : goal.returns-clause-closed
 returns-clause-closed g c = all_end_at_close g.C.Channel.FULL (orders_of c.args.scripts.now) _ _ 1 _ (all_gated _ _ (λ a log gated. gated.script) 1 _ (gated_logs g (goal.at.returns-clause-closed g c).After-conclude)) c.conclude.ensures.headline
 
 pub returns-clause-made : goal.returns-clause-made
-returns-clause-made g c = made_of_run c.args.plan c.in-Ok.controller.board c.run_beside-controller.result.0.0.board c.in-Ok.controller.history c.run_beside-controller.result.0.0.history c.conclude.result.trace.events (g.H.Hardware.applied c.args.hardware) (g.H.Hardware.applied c.run_beside-controller.result.0.2)
+returns-clause-made g c = made_of_run c.args.plan c.in-Ok.controller.board c.run_beside-controller.result.0.0.board c.in-Ok.controller.history c.run_beside-controller.result.0.0.history c.conclude.result.trace.events (g.H.Hardware.asked c.args.hardware) (g.H.Hardware.asked c.run_beside-controller.result.0.2)
     (c.in-Ok.ensures.controller.0 ∙ c.new-core.ensures.board) c.in-Ok.ensures.controller.1 c.run_beside-controller.ensures.goes_on.board c.conclude.ensures.history c.run_beside-controller.ensures.goes_on.made
 
 pub returns-clause-no_restart : goal.returns-clause-no_restart

@@ -1,7 +1,6 @@
-use Rattle.std.proofs.Common.{inl, inr, Some, refl, sym, ap, ◌∙◌}
+use Rattle.std.proofs.Common.{inl, inr, Some, option_map, refl, sym, ap, subst, ◌∙◌}
 use Rattle.scmi_core.specs.declared.event.Event.TheVariants.{Command as Called, CommandFailed}
-use Rattle.scmi_core.specs.Driven.{and_made}
-use Rattle.scmi_core.proofs.EffectsMade.{failed-none}
+use Rattle.scmi_core.specs.Asked.{IsAsked, Made, Refused}
 use Rattle.scmi_core.proofs.platform.Platform.execute_on.Goals as goal
 
 pub returns-in_default-clause-executes : goal.returns-in_default-clause-executes
@@ -10,7 +9,9 @@ returns-in_default-clause-executes g c = record {
     event = Called c.args.agent c.args.frame.now;
     is_one = inl refl;
     moves = c.execute.ensures.event;
-    hardware = λ h stands. ap (and_made (g.H.Hardware.applied c.args.hardware.now)) (sym c.in_default.is ∙ c.effect_in.ensures.effect h stands);
+    hardware = λ h stands.
+        subst (λ effect. IsAsked (g.H.Hardware.asked c.args.hardware.now) (option_map Made effect) (g.H.Hardware.asked c.args.hardware.now))
+        (sym c.in_default.is ∙ c.effect_in.ensures.effect h stands) (λ asks asked. asked);
   };
   answer = λ h stands. ap Some (sym (c.execute.ensures.answer h stands));
 }
@@ -27,8 +28,8 @@ returns-then-make-clause-executes g c = record {
     is_one = inl refl;
     moves = c.commit.ensures.event;
     hardware = λ h stands.
-        c.make.ensures.made c.if-make.true
-        ∙ ap (and_made (g.H.Hardware.applied c.args.hardware.now)) (sym c.in-Some.is ∙ c.effect_in.ensures.effect h stands);
+        subst (λ effect. IsAsked (g.H.Hardware.asked c.args.hardware.now) (option_map Made effect) (g.H.Hardware.asked c.make.new.hardware))
+        (sym c.in-Some.is ∙ c.effect_in.ensures.effect h stands) (c.make.ensures.made c.if-make.true);
   };
   answer = λ h stands. ap Some (sym (c.commit.ensures.answer h stands));
 }
@@ -39,8 +40,9 @@ returns-else-make-clause-executes g c = record {
     event = CommandFailed c.args.agent c.args.frame.now;
     is_one = inr refl;
     moves = c.answer_failed.ensures.event;
-    hardware = λ h stands. c.make.ensures.refused c.if-make.false
-        ∙ ap (and_made (g.H.Hardware.applied c.args.hardware.now)) (sym (failed-none c.args.self.now.board h c.args.agent c.args.frame.now));
+    hardware = λ h stands.
+        subst (λ effect. IsAsked (g.H.Hardware.asked c.args.hardware.now) (option_map Refused effect) (g.H.Hardware.asked c.make.new.hardware))
+        (sym c.in-Some.is ∙ c.effect_in.ensures.effect h stands) (c.make.ensures.refused c.if-make.false);
   };
   answer = λ h stands. ap Some (sym c.answer_failed.ensures.answer);
 }

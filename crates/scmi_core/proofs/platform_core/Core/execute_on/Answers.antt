@@ -1,8 +1,9 @@
-use Rattle.std.proofs.Common.{inl, inr, Some, refl, sym, ap, subst, ◌∙◌}
+use Rattle.std.proofs.Common.{inl, inr, Some, option_map, refl, sym, ap, subst, ◌∙◌}
 use Rattle.scmi_core.specs.declared.event.Event.TheVariants.{Command as Called, CommandFailed}
-use Rattle.scmi_core.specs.Driven.{HasMade, IsCommandOf, and_made}
+use Rattle.scmi_core.specs.Asked.{IsAsked, Made, Refused}
+use Rattle.scmi_core.specs.Driven.{HasMade, IsCommandOf}
 use Rattle.scmi_core.specs.Effect.{effect_after}
-use Rattle.scmi_core.proofs.EffectsMade.{failed-none, made-on}
+use Rattle.scmi_core.proofs.EffectsMade.{made-on}
 use Rattle.scmi_core.proofs.platform_core.Core.execute_on.Goals as goal
 
 pub returns-in_default-clause-executes : goal.returns-in_default-clause-executes
@@ -12,17 +13,17 @@ returns-in_default-clause-executes g c = record {
     is_one = inl refl;
     history = c.execute.ensures.event;
     hardware =
-        ap (and_made (g.H.Hardware.applied c.args.hardware.now))
-        (sym c.in_default.is ∙ c.effect_in.ensures.effect c.self.inside.trace.events c.self.invariant ∙ ap (λ p. effect_after p.board p.history (Called c.args.agent c.args.frame.now)) c.self.view_is);
+        subst (λ effect. IsAsked (g.H.Hardware.asked c.args.hardware.now) (option_map Made effect) (g.H.Hardware.asked c.args.hardware.now))
+        (sym c.in_default.is ∙ c.effect_in.ensures.effect c.self.inside.trace.events c.self.invariant ∙ ap (λ p. effect_after p.board p.history (Called c.args.agent c.args.frame.now)) c.self.view_is) (λ asks asked. asked);
   };
   answer = ap Some (sym c.execute.ensures.answer);
 }
 
 pub returns-in_default-clause-made : goal.returns-in_default-clause-made
 returns-in_default-clause-made g c = λ before made.
-    subst (λ board. HasMade before board c.execute.new.self.history (g.H.Hardware.applied c.args.hardware.now)) (sym c.execute.ensures.board)
+    subst (λ board. HasMade before board c.execute.new.self.history (g.H.Hardware.asked c.args.hardware.now)) (sym c.execute.ensures.board)
     (made-on c.args.self.now.board (IsCommandOf c.args.agent c.args.frame.now) c.args.self.now.history c.execute.new.self.history
-    (g.H.Hardware.applied c.args.hardware.now) (g.H.Hardware.applied c.args.hardware.now) before (returns-in_default-clause-executes g c).happens made)
+    (g.H.Hardware.asked c.args.hardware.now) (g.H.Hardware.asked c.args.hardware.now) before (returns-in_default-clause-executes g c).happens made)
 
 pub returns-then-make-clause-executes : goal.returns-then-make-clause-executes
 returns-then-make-clause-executes g c = record {
@@ -31,18 +32,17 @@ returns-then-make-clause-executes g c = record {
     is_one = inl refl;
     history = c.commit.ensures.event;
     hardware =
-        c.make.ensures.made c.if-make.true
-        ∙ ap (and_made (g.H.Hardware.applied c.args.hardware.now))
-        (sym c.in-Some.is ∙ c.effect_in.ensures.effect c.self.inside.trace.events c.self.invariant ∙ ap (λ p. effect_after p.board p.history (Called c.args.agent c.args.frame.now)) c.self.view_is);
+        subst (λ effect. IsAsked (g.H.Hardware.asked c.args.hardware.now) (option_map Made effect) (g.H.Hardware.asked c.make.new.hardware))
+        (sym c.in-Some.is ∙ c.effect_in.ensures.effect c.self.inside.trace.events c.self.invariant ∙ ap (λ p. effect_after p.board p.history (Called c.args.agent c.args.frame.now)) c.self.view_is) (c.make.ensures.made c.if-make.true);
   };
   answer = ap Some (sym c.commit.ensures.answer);
 }
 
 pub returns-then-make-clause-made : goal.returns-then-make-clause-made
 returns-then-make-clause-made g c = λ before made.
-    subst (λ board. HasMade before board c.commit.new.self.history (g.H.Hardware.applied c.make.new.hardware)) (sym c.commit.ensures.board)
+    subst (λ board. HasMade before board c.commit.new.self.history (g.H.Hardware.asked c.make.new.hardware)) (sym c.commit.ensures.board)
     (made-on c.args.self.now.board (IsCommandOf c.args.agent c.args.frame.now) c.args.self.now.history c.commit.new.self.history
-    (g.H.Hardware.applied c.args.hardware.now) (g.H.Hardware.applied c.make.new.hardware) before (returns-then-make-clause-executes g c).happens made)
+    (g.H.Hardware.asked c.args.hardware.now) (g.H.Hardware.asked c.make.new.hardware) before (returns-then-make-clause-executes g c).happens made)
 
 pub returns-else-make-clause-executes : goal.returns-else-make-clause-executes
 returns-else-make-clause-executes g c = record {
@@ -50,14 +50,15 @@ returns-else-make-clause-executes g c = record {
     event = CommandFailed c.args.agent c.args.frame.now;
     is_one = inr refl;
     history = c.fail_command.ensures.event;
-    hardware = c.make.ensures.refused c.if-make.false
-        ∙ ap (and_made (g.H.Hardware.applied c.args.hardware.now)) (sym (failed-none c.args.self.now.board c.args.self.now.history c.args.agent c.args.frame.now));
+    hardware =
+        subst (λ effect. IsAsked (g.H.Hardware.asked c.args.hardware.now) (option_map Refused effect) (g.H.Hardware.asked c.make.new.hardware))
+        (sym c.in-Some.is ∙ c.effect_in.ensures.effect c.self.inside.trace.events c.self.invariant ∙ ap (λ p. effect_after p.board p.history (Called c.args.agent c.args.frame.now)) c.self.view_is) (c.make.ensures.refused c.if-make.false);
   };
   answer = ap Some (sym c.fail_command.ensures.answer);
 }
 
 pub returns-else-make-clause-made : goal.returns-else-make-clause-made
 returns-else-make-clause-made g c = λ before made.
-    subst (λ board. HasMade before board c.fail_command.new.self.history (g.H.Hardware.applied c.make.new.hardware)) (sym c.fail_command.ensures.board)
+    subst (λ board. HasMade before board c.fail_command.new.self.history (g.H.Hardware.asked c.make.new.hardware)) (sym c.fail_command.ensures.board)
     (made-on c.args.self.now.board (IsCommandOf c.args.agent c.args.frame.now) c.args.self.now.history c.fail_command.new.self.history
-    (g.H.Hardware.applied c.args.hardware.now) (g.H.Hardware.applied c.make.new.hardware) before (returns-else-make-clause-executes g c).happens made)
+    (g.H.Hardware.asked c.args.hardware.now) (g.H.Hardware.asked c.make.new.hardware) before (returns-else-make-clause-executes g c).happens made)

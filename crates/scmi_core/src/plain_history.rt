@@ -1,0 +1,23 @@
+//! What a platform is without the hardware's refusals and without restarts.
+ghost use Rattle.std.specs.Prelude.{◌++◌, ◌∷◌, [], List};
+ghost use Rattle.std.specs.List.{All};
+ghost use Rattle.scmi_core.specs.Plain.{HasPlainHistory, IsPlain};
+ghost use Rattle.scmi_core.specs.Standing.{MovesOn, Standing, StandsAfter};
+ghost use Rattle.scmi_core.specs.declared.event.Event.{Event};
+
+/// Beside hardware that never refuses, and without restarts, a history has commands, advances and
+/// postings alone, and a platform is as such a history leaves it. It does nothing: its clauses are
+/// the laws.
+///
+/// `Core` and `Platform` add one event with each call. It is plain if the call is `command`,
+/// `advance` or `sent`, or if it is `command_on` or `advance_on` and the hardware never refuses
+/// (`obeyed`).
+pub fn every_plain_history()
+    ensures history { (h : List Event) (event : Event) → IsPlain event → All IsPlain h
+        → All IsPlain (h ++ event ∷ []) }
+    ensures start { (p : Standing) → StandsAfter p [] → HasPlainHistory p }
+    ensures platform { (p k : Standing) (event : Event) → IsPlain event → MovesOn p event k
+        → HasPlainHistory p → HasPlainHistory k }
+{
+    // Nothing to do: the clauses hold of every history.
+}

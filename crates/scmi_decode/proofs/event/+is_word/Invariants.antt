@@ -1,5 +1,0 @@
-use Rattle.std.proofs.Common.{length}
-use Rattle.scmi_decode.proofs.event.+is_word.Given as goal
-
-abbrev pub decreases-is_word : goal.decreases-is_word
-decreases-is_word l = length l.item.now

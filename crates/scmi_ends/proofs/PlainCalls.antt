@@ -1,0 +1,38 @@
+-- What serving an agent and flushing its outbox add to a history of plain events.
+use Rattle.std.proofs.Common.{◌≡◌, ℕ, Bool, List, [], ◌∷◌, ◌++◌, sym, subst}
+use Rattle.std.specs.List.{All}
+use Rattle.std.proofs.lemmas.List.Elements.{All-push}
+use Rattle.scmi_core.specs.Plain.{IsPlain}
+use Rattle.scmi_core.specs.declared.event.Event.{Event}
+use Rattle.scmi_core.specs.declared.event.Event.TheVariants.{Command, Sent}
+use Rattle.scmi_ends.specs.ControllerView.{ControllerView, callee_of}
+use Rattle.scmi_ends.specs.Flush.{Flushes, FlushesOne}
+use Rattle.scmi_ends.specs.Serve.{Serves, ServesOne}
+use Rattle.scmi_ends.specs.declared.flushed.Flushed.{Flushed}
+use Rattle.scmi_ends.specs.declared.flushed.Flushed.TheVariants as flushed
+use Rattle.scmi_ends.specs.declared.served.Served.{Served}
+use Rattle.scmi_ends.specs.declared.served.Served.TheVariants as served
+use Rattle.scmi_link.specs.View.{CallerView, CalleeView}
+use Rattle.scmi_plan.specs.Board.{Board}
+
+pub one_more_event : (P : Event → Type 0) (h h' : List Event) (e : Event) → h' ≡ h ++ e ∷ [] → P e → All P h → All P h'
+one_more_event P h h' e is p all = subst (All P) (sym is) (All-push P h e all p)
+
+one_served : (board : Board) (a : ℕ) (h h' : List Event) (v w : CalleeView) (r : Served) → ServesOne board a h v r h' w → All IsPlain h → All IsPlain h'
+one_served board a h h' v w served.Nothing s all = subst (All IsPlain) (sym s.0) all
+one_served board a h h' v w served.Done s all = one_more_event IsPlain h h' (Command a s.frame) s.event tt all
+
+pub served_plain : (a : ℕ) (c : ControllerView) (r : Served) (c' : ControllerView) → Serves a c r c' → All IsPlain c.history → All IsPlain c'.history
+served_plain a c r c' s all = one_served c.board a c.history c'.history (callee_of c a) s.callee r s.step all
+
+one_flushed : (P : Event → Type 0) (full : Bool) (board : Board) (a : ℕ) (h h' : List Event) (v w : CallerView) (r : Flushed) → P (Sent a) → FlushesOne full board a h v r h' w → All P h → All P h'
+one_flushed P full board a h h' v w flushed.Waiting p s all = subst (All P) (sym s.0) all
+one_flushed P full board a h h' v w flushed.Nothing p s all = subst (All P) (sym s.0) all
+one_flushed P full board a h h' v w flushed.Closed p s all = subst (All P) (sym s.0) all
+one_flushed P full board a h h' v w flushed.Posted p s all = one_more_event P h h' (Sent a) s.event p all
+
+pub flushed_all : (P : Event → Type 0) (full : Bool) (a : ℕ) (c : ControllerView) (r : Flushed) (c' : ControllerView) → P (Sent a) → Flushes full a c r c' → All P c.history → All P c'.history
+flushed_all P full a c r c' p s all = one_flushed P full c.board a c.history c'.history s.step.collected s.caller r p s.step.step all
+
+pub flushed_plain : (full : Bool) (a : ℕ) (c : ControllerView) (r : Flushed) (c' : ControllerView) → Flushes full a c r c' → All IsPlain c.history → All IsPlain c'.history
+flushed_plain full a c r c' s all = flushed_all IsPlain full a c r c' tt s all
