@@ -1,5 +1,6 @@
 //! The surface of `scmi_ends`.
-ghost use Rattle.std.specs.Prelude.{◌≡◌, true};
+ghost use Rattle.std.specs.Prelude.{◌≡◌, [], true};
+ghost use Rattle.scmi_ends.specs.AgentView.{IsOfLink};
 
 use scmi_codec::{Frame, Message, Payload};
 use scmi_core::{Core, Trace};
@@ -11,27 +12,37 @@ use std::sync::Wait;
 /// The two sides of a board.
 type Sides<C> = (Controller<C>, Vec<Link<C>>, Vec<AgentEnd<C>>);
 
-fn name_the_calls_of_an_agent<C: Channel, R: Wait>() {
-    let _: fn(&AgentEnd<C>) -> u32 = AgentEnd::id;
-    let _: fn(&mut AgentEnd<C>, &Link<C>, u8, u8, &Payload) -> Result<u16, PostError> =
-        AgentEnd::call;
-    let _: fn(&mut AgentEnd<C>, &Link<C>, &Message) -> Result<(), PostError> = AgentEnd::post;
-    let _: fn(&mut AgentEnd<C>, &Link<C>, u32, u32) -> Result<(), PostError> =
-        AgentEnd::post_malformed;
-    let _: fn(&mut AgentEnd<C>, &Link<C>) -> Collected = AgentEnd::collect;
-    let _: fn(&mut AgentEnd<C>, &Link<C>) -> Option<Frame> = AgentEnd::next_p2a;
-    let _: fn(&mut AgentEnd<C>, &Link<C>) -> Result<Closing, CloseError> = AgentEnd::close;
+fn call_an_agent<C: Channel, R: Wait>(
+    rt: &R,
+    end: &mut AgentEnd<C>,
+    link: &Link<C>,
+    message: &Message,
+    payload: &Payload,
+)
+    requires { IsOfLink (C.identity link.now.a2p) (C.identity link.now.p2a) end.old }
+{
+    let _id: u32 = end.id();
+    let _token: Result<u16, PostError> = end.call(link, 0x10, 0x0, payload);
+    let _posted: Result<(), PostError> = end.post(link, message);
+    let _posted: Result<(), PostError> = end.post_malformed(link, 5, 0x4000);
+    let _collected: Collected = end.collect(link);
+    let _message: Option<Frame> = end.next_p2a(link);
+    let _reply: Collected = end.wait_reply(rt, link, 1_000_000);
+    let _closing: Result<Closing, CloseError> = end.close(link);
 }
 
-fn name_the_calls_of_the_platform<C: Channel>() {
-    let _: fn(Global, Core) -> Result<Sides<C>, Core> = connect;
-    let _: fn(&mut Controller<C>, &[Link<C>], u32) -> Result<Served, ServeError> =
-        Controller::serve;
-    let _: fn(&mut Controller<C>) -> Result<bool, ServeError> = Controller::advance;
-    let _: fn(&mut Controller<C>, &[Link<C>], u32) -> Result<Flushed, ServeError> =
-        Controller::flush;
-    let _: fn(&mut Controller<C>, &[Link<C>], u32) -> Result<(), ShutError> = Controller::close;
-    let _: fn(Controller<C>, Vec<Link<C>>, Vec<AgentEnd<C>>) -> Trace = Controller::retire;
+fn call_the_platform<C: Channel>(alloc: Global, core: Core) -> Option<Trace>
+    requires { core.history ≡ [] }
+{
+    let connected: Result<Sides<C>, Core> = connect(alloc, core);
+    let Ok((mut platform, links, ends)) = connected else {
+        return None;
+    };
+    let _served: Result<Served, ServeError> = platform.serve(&links, 1);
+    let _advanced: Result<bool, ServeError> = platform.advance();
+    let _flushed: Result<Flushed, ServeError> = platform.flush(&links, 1);
+    let _closed: Result<(), ShutError> = platform.close(&links, 1);
+    Some(platform.retire(links, ends))
 }
 
 /// A link by all its fields.

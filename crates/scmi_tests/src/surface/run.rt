@@ -1,5 +1,6 @@
 //! The surface of `scmi_run`, whose library is `scmi_modes`.
-ghost use Rattle.std.specs.Prelude.{⊤};
+ghost use Rattle.std.specs.Prelude.{⊤, length};
+ghost use Rattle.scmi_threads.specs.Scripts.{AreScriptsOf};
 
 use scmi_codec::{Answer, Frame, Payload};
 use scmi_core::Trace;
@@ -14,16 +15,29 @@ use std::io::{Read, Write};
 use std::sync::Wait;
 use std::thread::Threads;
 
-type RunAgents<G, T> = fn(&T, Global, &G, Plan, &[Script]) -> Result<Outcome, RunError>;
+fn call_each<G: Gate, R: Read, W: Write, T: Threads + Wait + Sync>(
+    rt: &T,
+    alloc: Global,
+    gate: &G,
+    reader: &mut R,
+    writer: &mut W,
+) -> u8 {
+    let _ran: Result<(), RunError> = run_once(alloc, reader, writer);
+    let _ran: Result<(), RunError> = run_steps(alloc, reader, writer, Kind::Words);
+    let _ran: Result<(), RunError> = run_threads(rt, alloc, gate, reader, writer, Kind::Rings);
+    run(rt, alloc, gate, reader, writer)
+}
 
-type RunThreads<G, R, W, T> = fn(&T, Global, &G, &mut R, &mut W, Kind) -> Result<(), RunError>;
-
-fn name_the_calls<C: Channel, G: Gate, R: Read, W: Write, T: Threads + Wait + Sync>() {
-    let _: RunAgents<G, T> = run_agents::<C, G, T>;
-    let _: fn(Global, &mut R, &mut W) -> Result<(), RunError> = run_once;
-    let _: fn(Global, &mut R, &mut W, Kind) -> Result<(), RunError> = run_steps;
-    let _: RunThreads<G, R, W, T> = run_threads;
-    let _: fn(&T, Global, &G, &mut R, &mut W) -> u8 = run;
+fn call_run_agents<C: Channel, G: Gate, T: Threads + Wait + Sync>(
+    rt: &T,
+    alloc: Global,
+    gate: &G,
+    plan: Plan,
+    scripts: &[Script],
+) -> Result<Outcome, RunError>
+    requires { AreScriptsOf (length plan.agents) scripts.now }
+{
+    run_agents::<C, G, T>(rt, alloc, gate, plan, scripts)
 }
 
 /// What a run leaves, by all its fields.
