@@ -244,7 +244,7 @@ static inline uint32_t scmi_platform_new_of(scmi_platform *platform, const scmi_
 #define SCMI_PLATFORM_BYTES(agents, domains, clocks, rates, devices) \
     (SCMI_PLATFORM_ALONE + 64 * (size_t)(agents) + 80 * (size_t)(domains) + 160 * (size_t)(clocks) + \
      16 * (size_t)(rates) + 16 * (size_t)(devices))
-#define SCMI_PLATFORM_ALONE ((size_t)7872)
+#define SCMI_PLATFORM_ALONE ((size_t)8192)
 
 static inline size_t scmi_platform_bytes(const scmi_board *board)
 {

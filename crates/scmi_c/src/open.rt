@@ -3,7 +3,7 @@ ghost use Rattle.std.specs.Prelude.{◌≡◌, ◌≢◌, ◌↔◌, ◌⊎◌, 
 ghost use Rattle.scmi_plan.specs.Plan.{IsValid};
 ghost use Rattle.scmi_c.specs.Board.{IsFault, board_of_text};
 ghost use Rattle.scmi_c.specs.Kept.{IsUnasked};
-ghost use Rattle.scmi_c.specs.Standing.{board_of, StandsAt, IsRecorded};
+ghost use Rattle.scmi_c.specs.Standing.{board_of, StandsAt, IsRecorded, HasRoom};
 ghost use Rattle.scmi_c.specs.declared.code.TheConstants.{DONE, IN_USE, MEMORY};
 
 use crate::board::read_plan;
@@ -42,6 +42,7 @@ pub extern "C" fn scmi_platform_new(alloc: Global, platform: &mut Handle, board:
 }
 
 /// As `scmi_platform_new`, of a platform that keeps its history, which takes memory with each event.
+/// There is room for the first one.
 #[unsafe(no_mangle)]
 pub extern "C" fn scmi_platform_new_recorded(
     alloc: Global,
@@ -52,6 +53,7 @@ pub extern "C" fn scmi_platform_new_recorded(
         IsSomeAnd platform.new.value (λ p. IsUnasked p
         × (board_of_text board.now ≡ Ok (board_of p.held)) × StandsAt p.held []
         × IsValid (board_of p.held) × IsRecorded p.held) }
+    ensures room { result ≡ DONE → IsSomeAnd platform.new.value (λ p. HasRoom p.held) }
     ensures fault { (result ≡ DONE) ⊎ (result ≡ IN_USE) ⊎ (result ≡ MEMORY)
         ⊎ (board_of_text board.now ≡ Err result) }
     ensures in_use { (result ≡ IN_USE) ↔ (platform.old.value ≢ None) }
@@ -82,14 +84,14 @@ pub fn hold_endless(alloc: Global, platform: &mut Handle, plan: Plan) -> u32
     hold(alloc, platform, Held::Endless(Unrecorded::new(plan)))
 }
 
-/// As `hold_endless`, of a platform that keeps its history. It has room for an event, so that its
-/// memory grows from there on, and where it was made.
+/// As `hold_endless`, of a platform that keeps its history. It has memory for an event, so that
+/// what it takes later grows from there, and is in the same block.
 #[inline(never)]
 fn hold_recorded(alloc: Global, platform: &mut Handle, plan: Plan) -> u32
     requires { platform.old.value ≡ None }
     ensures done { result ≡ DONE →
         IsSomeAnd platform.new.value (λ p. IsUnasked p × (board_of p.held ≡ plan)
-        × StandsAt p.held [] × IsRecorded p.held) }
+        × StandsAt p.held [] × IsRecorded p.held × HasRoom p.held) }
     ensures errors { (result ≡ DONE) ⊎ (result ≡ MEMORY) }
     ensures kept { result ≢ DONE → platform.new.value ≡ platform.old.value }
 {
