@@ -39,6 +39,17 @@ impl fmt::Display for UnknownText<'_, '_> {
                 "each protocol has a message {}; write base, power or clock before it",
                 item_text(item)
             ),
+            Unknown::Elsewhere(message, own, asked) => write!(
+                f,
+                "{} is a message of the {own} protocol, not of {}",
+                item_text(message),
+                item_text(asked)
+            ),
+            Unknown::Nameless(protocol) => write!(
+                f,
+                "the messages of protocol {} have no names here; write the message as a number",
+                item_text(protocol)
+            ),
             Unknown::Part(number, item, part) => write_part(f, self.board, number, item, part),
             Unknown::Count(name, parts) => write_parts(f, name, parts),
         }

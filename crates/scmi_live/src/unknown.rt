@@ -6,7 +6,10 @@ use crate::messages::{id_in, id_of, message_named, protocol_of};
 use crate::named_step::agent_of;
 use crate::word::{is_flags, words_of_item};
 use scmi_board::word;
-use scmi_codec::{BASE_MESSAGES, CLOCK_MESSAGES, HeldRow, POWER_MESSAGES, Part, listed_row};
+use scmi_codec::{
+    BASE_MESSAGES, CLOCK_MESSAGES, HeldRow, POWER_MESSAGES, Part, listed_row, rows_of,
+};
+use scmi_describe::protocol_name;
 use scmi_plan::RawPlan;
 use std::alloc::Global;
 
@@ -19,6 +22,10 @@ pub enum Unknown<'a> {
     Message(&'a [u8]),
     /// More protocols than one have this message.
     Shared(&'a [u8]),
+    /// This item is a message of this protocol alone, and the item before it is another protocol.
+    Elsewhere(&'a [u8], &'static str, &'a [u8]),
+    /// This item is a protocol whose messages have no names here.
+    Nameless(&'a [u8]),
     /// This item, of this number in the line, does not encode this part of the message.
     Part(usize, &'a [u8], Part),
     /// The message, of this name, has these parts, and there are more or fewer items.
@@ -64,12 +71,23 @@ fn unknown_command<'a>(board: &RawPlan, items: &[&'a [u8]]) -> Option<Unknown<'a
         [first, rest @ ..] => match (protocol_of(*first), rest) {
             (Some(protocol), [message, behind @ ..]) => match id_of(protocol, *message) {
                 Some(id) => unknown_payload(board, protocol, id, 5, behind),
-                None => Some(Unknown::Message(*message)),
+                None => Some(unknown_message(*first, protocol, *message)),
             },
             (Some(_), []) => None,
             (None, _) => unknown_name(board, *first, rest),
         },
         [] => None,
+    }
+}
+
+/// Why an item is no message of the protocol that the item before it encodes.
+fn unknown_message<'a>(asked: &'a [u8], protocol: u8, message: &'a [u8]) -> Unknown<'a> {
+    if rows_of(protocol).is_empty() {
+        return Unknown::Nameless(asked);
+    }
+    match message_named(message).and_then(|(own, _)| protocol_name(own)) {
+        Some(own) => Unknown::Elsewhere(message, own, asked),
+        None => Unknown::Message(message),
     }
 }
 
