@@ -4,7 +4,6 @@ use Rattle.std.specs.List.{All}
 use Rattle.scmi_plan.specs.Board.{Board}
 use Rattle.scmi_board.specs.Channels.{IsLineOf, described, described_left, with_channels}
 use Rattle.scmi_board.specs.Lines.{lines_left, whole}
-use Rattle.scmi_board.specs.ValidBoard.{said_in}
 use Rattle.scmi_board.proofs.ChannelLines.{lines-said}
 use Rattle.scmi_board.proofs.ValidBoards.{has_line_after, nothing_after, rule_fails}
 use Rattle.scmi_board.proofs.valid_board.read_valid_board.Goals as goal
