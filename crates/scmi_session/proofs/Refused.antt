@@ -1,5 +1,5 @@
 -- What happens beside hardware that refuses each change.
-use Rattle.std.proofs.Common.{◌≡◌, ◌<◌, ◌⊎◌, inl, inr, Bool, true, false, List, [], ◌∷◌, ◌++◌, length, Option, Some, None, refl, sym, ap, subst, ◌∙◌, arith}
+use Rattle.std.proofs.Common.{◌≡◌, ◌<◌, inl, inr, Bool, true, false, List, [], ◌∷◌, ◌++◌, length, Option, Some, None, refl, sym, ap, subst, ◌∙◌, arith}
 use Rattle.std.proofs.lemmas.List.{append-nil, append_cancel_left}
 use Rattle.std.specs.Prelude.{◌↔◌, ◌≢◌, ℕ, IsTrue, option_map, slice_get}
 use Rattle.std.specs.Option.{option_or}
@@ -18,7 +18,7 @@ use Rattle.scmi_core.specs.Legal.{IsLegal}
 use Rattle.scmi_core.specs.Pending.{pending_sets}
 use Rattle.scmi_core.specs.Value.{completion}
 use Rattle.scmi_ends.specs.ControllerView.{ControllerView}
-use Rattle.scmi_ends.specs.ServeOn.{ServesOn, ServesOneOn}
+use Rattle.scmi_ends.specs.ServeOn.{ServesOn}
 use Rattle.scmi_ends.specs.declared.served.Served.{Served}
 use Rattle.scmi_ends.specs.declared.served.Served.TheVariants.{Nothing, Done}
 use Rattle.scmi_session.specs.Steps.{AdvancesRefused, ServesRefused}

@@ -1,5 +1,5 @@
 -- What the steps of a script leave, from a new session on.
-use Rattle.std.specs.Prelude.{◌≡◌, Bool, List, [], ◌∷◌, length, replicate, Option, None, Result}
+use Rattle.std.specs.Prelude.{◌≡◌, Bool, List, [], ◌∷◌, length, replicate, None, Result}
 use Rattle.scmi_link.specs.View.{CallerView, new_caller, new_callee}
 use Rattle.scmi_link.specs.declared.closing.Closing.{Closing}
 use Rattle.scmi_link.specs.declared.close_error.CloseError.{CloseError}
