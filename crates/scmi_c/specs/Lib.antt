@@ -8,3 +8,4 @@ pub mod Board
 pub mod Tables
 pub mod Effect
 pub mod Numbers
+pub mod Plain

@@ -28,6 +28,7 @@ mod loose;
 mod numbers;
 mod open;
 mod open_tables;
+mod plain;
 mod refusal;
 mod restart;
 mod rows;
