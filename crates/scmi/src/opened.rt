@@ -104,7 +104,7 @@ impl Refused {
             Why::After(line) => {
                 let line = line_of_file(line);
                 let _ = eprintln!(rt;
-                    "{name}:{line}: a session's file has a board and nothing behind its line end; \
+                    "{name}:{line}: a session's file has a board and nothing after its line end; \
                     the steps are read from standard input"
                 );
                 return;

@@ -1,7 +1,7 @@
 //! What is reported on standard error of a rejected board.
 
 use crate::opened::Refused;
-use scmi_board::{Items, Lines};
+use scmi_board::{BoardError, Items, Lines, read_valid_board};
 use scmi_explain::{Fault, Kept};
 use std::alloc::Global;
 use std::io::{Eprint, Read};
@@ -17,6 +17,12 @@ pub fn report_board<R: Read + Drop>(
     board: &Kept<R>,
     fault: Fault,
 ) {
+    if let Err(BoardError::After(line)) = read_valid_board(alloc, board.bytes()) {
+        let _ = eprintln!(rt;
+            "{name}:{line}: a board's file has a board and nothing after its line end"
+        );
+        return;
+    }
     if let Some(line) = line_for_channels(board.bytes(), fault) {
         let _ = eprintln!(rt;
             "{name}:{line}: a line for channels is channel AGENT BYTES or channel AGENT BYTES \
