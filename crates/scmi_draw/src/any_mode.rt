@@ -4,9 +4,8 @@ ghost use Rattle.scmi_draw.specs.AnyMode.{any_line_of, threads_line};
 ghost use Rattle.scmi_draw.specs.declared.any_mode.AnyMode.{AnyMode};
 ghost use Rattle.scmi_modes.specs.declared.kind.Kind.{Kind as KindOf};
 
-use scmi_modes::Kind;
 use crate::mode::Mode;
-use scmi_modes::{THREADS_RINGS, THREADS_WORDS};
+use scmi_modes::{Kind, THREADS_RINGS, THREADS_WORDS};
 
 /// What is drawn, and what the channels of its run are made of.
 #[derive(Clone, Copy)]

@@ -3,8 +3,7 @@ ghost use Rattle.std.specs.Prelude.{◌≡◌, ◌≢◌, IfSome, IfNone};
 ghost use Rattle.scmi_draw.specs.Mode.{line_of};
 ghost use Rattle.scmi_draw.specs.declared.mode.Mode.{Mode};
 
-use scmi_modes::Kind;
-use scmi_modes::{HARDWARE_RINGS, HARDWARE_WORDS, STEPS_RINGS, STEPS_WORDS};
+use scmi_modes::{HARDWARE_RINGS, HARDWARE_WORDS, Kind, STEPS_RINGS, STEPS_WORDS};
 
 /// Which steps a script on one thread may have, and what its channels are made of.
 #[derive(Clone, Copy)]

@@ -9,13 +9,12 @@ ghost use Rattle.scmi_text.specs.TextLines.{GivesScript};
 ghost use Rattle.scmi_modes.specs.RunError.{fault_of_plan, status_of};
 ghost use Rattle.scmi_draw.specs.Run.{MayHave, ShowsRun, ShowsScript, StandsFor, script_of_lines};
 
-use scmi_modes::RunError;
-use scmi_modes::Kind;
 use crate::mode::Mode;
 use scmi_board::{Lines, TextError, TextLine, read_board};
 use scmi_chart::Recorder;
 use scmi_core::Core;
 use scmi_link::{Channel, RingChannel};
+use scmi_modes::{Kind, RunError};
 use scmi_plan::{Plan, RawPlan};
 use scmi_session::{Session, Standing};
 use scmi_svg::Chart;

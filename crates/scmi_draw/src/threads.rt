@@ -9,14 +9,13 @@ ghost use Rattle.scmi_draw.specs.Run.{ShowsRun};
 ghost use Rattle.scmi_draw.specs.Threads.{HasScripts, ShowsScripts, ShowsThreads};
 
 use crate::any_mode::threads_line;
-use scmi_modes::RunError;
 use crate::history::steps_of_run;
-use scmi_modes::Kind;
 use crate::run::{STEPS, plural, record_dropped, title_of};
 use crate::step_text::StepText;
 use scmi_board::{Lines, TextLine, read_board};
 use scmi_chart::Recorder;
 use scmi_link::{Channel, RingChannel};
+use scmi_modes::{Kind, RunError};
 use scmi_plan::{Plan, RawPlan};
 use scmi_session::{Session, Standing};
 use scmi_svg::Chart;
