@@ -111,7 +111,8 @@ pub fn read_chart<T: Threads + Wait + Sync, G: Gate, R: CountedRead + Drop>(
     let line = input.read_first_line()?;
     let mode = AnyMode::of_first_line(&line).ok_or(RunError::Mode)?;
     let bytes = read_rest(alloc, input)?;
-    chart_in(rt, alloc, gate, mode, &bytes)
+    let chart = chart_in(rt, alloc, gate, mode, &bytes)?;
+    Ok(chart)
 }
 
 /// The chart of the run of what follows the first line of an input in this mode.

@@ -16,7 +16,7 @@ mod step_text;
 mod threads;
 
 pub use any_mode::AnyMode;
-pub use draw::{draw, draw_input, read_chart, run_draw};
+pub use draw::{draw_input, read_chart, run_draw};
 pub use form::Form;
 pub use mode::Mode;
 pub use run::{STEPS, chart_of};
