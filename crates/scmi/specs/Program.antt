@@ -1,5 +1,5 @@
 -- What the program writes.
-use Rattle.std.specs.Prelude.{ℕ, List, Option}
+use Rattle.std.specs.Prelude.{ℕ, List, Option, ⊤}
 use Rattle.scmi_modes.specs.Program.{AnswersOnce, RunsHardware, RunsSteps, RunsThreads}
 use Rattle.scmi_decode.specs.Decoded.{IsDecoded}
 use Rattle.scmi_draw.specs.Picture.{IsDiagram}
