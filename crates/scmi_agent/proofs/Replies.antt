@@ -1,5 +1,5 @@
 -- What makes a message the reply to a command.
-use Rattle.std.proofs.Common.{◌≡◌, ℕ, ◌%◌, ◌==◌, ◌&&◌, List, Bool, true, false, not, Ok, refl, sym, ap, ◌∙◌}
+use Rattle.std.proofs.Common.{◌≡◌, ℕ, ◌%◌, List, Bool, false, not, Ok, sym, ap, ◌∙◌}
 use Rattle.std.proofs.lemmas.Bool.{not-false}
 use Rattle.scmi_codec.specs.Area.{status_at, frame_of}
 use Rattle.scmi_codec.specs.Header.{HeaderFields, is_same_header}
@@ -19,19 +19,6 @@ is_reply h area m words reply free frame same listed says = record {
   says = sym (says ∙ ap (λ (w : List ℕ). reply_of h w) listed);
 }
 
--- five conditions, whichever are taken together first
-together : (v w x y z : Bool) → (v && (w && (x && (y && z)))) ≡ v && w && x && y && z
-together false w x y z = refl
-together true false x y z = refl
-together true true false y z = refl
-together true true true false z = refl
-together true true true true z = refl
-
 -- two headers of which `!=` does not hold are the same
-pub same_unless : (a b : HeaderFields) (differ : Bool)
-    → differ ≡ not (a.reserved == b.reserved && (a.token == b.token && (a.protocol == b.protocol && (a.kind == b.kind && a.id == b.id))))
-    → differ ≡ false → a ≡ b
-same_unless a b differ is never =
-    let same : differ ≡ not (is_same_header a b) =
-    is ∙ ap not (together (a.reserved == b.reserved) (a.token == b.token) (a.protocol == b.protocol) (a.kind == b.kind) (a.id == b.id)) in
-    (header_decides a b).0 (not-false (is_same_header a b) (sym same ∙ never))
+pub same_unless : (a b : HeaderFields) (differ : Bool) → differ ≡ not (is_same_header a b) → differ ≡ false → a ≡ b
+same_unless a b differ is never = (header_decides a b).0 (not-false (is_same_header a b) (sym is ∙ never))

@@ -9,8 +9,9 @@ ghost use Rattle.scmi_clock.specs.ClockTable.{rate_at, enabled_at};
 
 use crate::checks::{check_clock, check_index};
 use crate::clock_state::ClockState;
+use arrayvec::ArrayVec;
 use scmi_codec::{
-    CLOCK_PROTOCOL, PAYLOAD_WORDS, Payload, SUCCESS, Status, is_listed, name_words, rate_words,
+    CLOCK_PROTOCOL, Payload, SUCCESS, Status, is_listed, name_words, rate_words, resize,
     set_payload, set_refusal,
 };
 use scmi_plan::{AgentChannel, Plan, Rates};
@@ -127,7 +128,8 @@ fn set_rate_list(channel: AgentChannel, list: &[u64], index: usize, reply: &mut 
 {
     let left = list.len() - index;
     let count = left.min(most_rates(channel));
-    let mut words = [0; PAYLOAD_WORDS];
+    resize(reply, 2 + 2 * count);
+    let words = reply.as_mut_slice();
     words[0] = SUCCESS;
     words[1] = rates_word(left - count, count);
     let mut size = 2;
@@ -138,7 +140,6 @@ fn set_rate_list(channel: AgentChannel, list: &[u64], index: usize, reply: &mut 
         words[size + 1] = high;
         size += 2;
     }
-    set_payload(reply, &words[..size]);
 }
 
 /// The most rates of one reply: two words each, after the status and the flags word.

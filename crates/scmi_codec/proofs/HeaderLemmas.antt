@@ -54,16 +54,16 @@ header_word-header_of word small = omega arith
 
 -- the fields of two headers are equal
 abbrev HaveSameFields : HeaderFields → HeaderFields → Type 0
-HaveSameFields a b = ((((a.reserved ≡ b.reserved) × (a.token ≡ b.token)) × (a.protocol ≡ b.protocol)) × (a.kind ≡ b.kind)) × (a.id ≡ b.id)
+HaveSameFields a b = (a.reserved ≡ b.reserved) × ((a.token ≡ b.token) × ((a.protocol ≡ b.protocol) × ((a.kind ≡ b.kind) × (a.id ≡ b.id))))
 
 fields_to_header : (a b : HeaderFields) → HaveSameFields a b → a ≡ b
-fields_to_header a b ((((r, t), p), k), d) = λ i. record { reserved = r i; token = t i; protocol = p i; kind = k i; id = d i }
+fields_to_header a b (r, (t, (p, (k, d)))) = λ i. record { reserved = r i; token = t i; protocol = p i; kind = k i; id = d i }
 
 header_to_fields : (a b : HeaderFields) → a ≡ b → HaveSameFields a b
-header_to_fields a b is = ((((ap (λ h. h.reserved) is, ap (λ h. h.token) is), ap (λ h. h.protocol) is), ap (λ h. h.kind) is), ap (λ h. h.id) is)
+header_to_fields a b is = (ap (λ h. h.reserved) is, (ap (λ h. h.token) is, (ap (λ h. h.protocol) is, (ap (λ h. h.kind) is, ap (λ h. h.id) is))))
 
 pub header_decides : (a b : HeaderFields) → Decides (is_same_header a b) (a ≡ b)
 header_decides a b =
     Decides-like (is_same_header a b) (fields_to_header a b) (header_to_fields a b)
-    (Decides-and _ _ (Decides-and _ _ (Decides-and _ _ (Decides-and _ _ (Decides-eqb a.reserved b.reserved) (Decides-eqb a.token b.token))
-    (Decides-eqb a.protocol b.protocol)) (Decides-eqb a.kind b.kind)) (Decides-eqb a.id b.id))
+    (Decides-and _ _ (Decides-eqb a.reserved b.reserved) (Decides-and _ _ (Decides-eqb a.token b.token)
+    (Decides-and _ _ (Decides-eqb a.protocol b.protocol) (Decides-and _ _ (Decides-eqb a.kind b.kind) (Decides-eqb a.id b.id)))))

@@ -47,6 +47,7 @@ impl BaseCommand {
     /// The command of a message id and payload words: NOT_SUPPORTED for an unknown id, then
     /// PROTOCOL_ERROR for another number of words than the command has.
     #[tactic(auto, unfolding(crate::specs::Listing::rows_of))]
+    #[inline(always)]
     pub(crate) fn read(id: u8, words: &[u32]) -> Result<BaseCommand, Status>
         ensures { result ≡ base_of id words.now }
     {

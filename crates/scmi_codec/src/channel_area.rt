@@ -10,10 +10,12 @@ use crate::area::AREA_BYTES;
 use crate::area_layout::PAYLOAD_AT;
 use crate::area_reader::{is_marked_free, read_frame};
 use crate::area_writer::{put_answer, put_message, put_response};
+use crate::channel_status::ChannelStatus;
 use crate::frame::{Answer, Frame};
 use crate::message::Message;
 use crate::payload::{PAYLOAD_WORDS, Payload};
 use arrayvec::ArrayVec;
+use bitflags::Flags;
 use thiserror::Error;
 
 /// The fewest payload words that a channel's area has room for (own).
@@ -125,6 +127,21 @@ pub fn write_channel_answer(area: &mut [u8], answer: &Answer) -> Result<(), Chan
 {
     check_room(area, words_of(answer))?;
     put_answer(area, answer);
+    Ok(())
+}
+
+/// Writes a response, as `write_channel_answer` writes a reply, from a message by reference.
+pub fn write_channel_reply(area: &mut [u8], reply: &Message) -> Result<(), ChannelAreaError>
+    ensures size { result ≡ room_for (length reply.now.payload.items) area.old }
+    ensures written { OnOk result (area.new ≡ area_after_answer (Reply reply.now) area.old) }
+    ensures stands { OnOk result (StandsForAnswerWithin (capacity area.old) area.new
+        (channel_frame area.old) (Reply reply.now)) }
+    ensures rest { OnOk result ((i : ℕ) → IsUntouched (Reply reply.now) i
+        → slice_index area.new i ≡ slice_index area.old i) }
+    ensures err { OnErr result (area.new ≡ area.old) }
+{
+    check_room(area, reply.payload.len())?;
+    put_message(area, reply, ChannelStatus::FREE.bits());
     Ok(())
 }
 

@@ -27,6 +27,7 @@ impl ClockCommand {
     /// The command of a message id and payload words: NOT_SUPPORTED for an unknown id, then
     /// PROTOCOL_ERROR for another number of words than the command has.
     #[tactic(auto, unfolding(crate::specs::Listing::rows_of))]
+    #[inline(always)]
     pub(crate) fn read(id: u8, words: &[u32]) -> Result<ClockCommand, Status>
         ensures { result ≡ clock_of id words.now }
     {

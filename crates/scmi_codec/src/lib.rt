@@ -39,7 +39,7 @@ pub use base_command::{BASE_PROTOCOL, BaseCommand};
 pub use channel_area::{
     ChannelAreaError, LEAST_AREA_BYTES, LEAST_PAYLOAD_WORDS, channel_bytes, channel_frame,
     channel_words, is_channel_free, is_channel_size, read_channel_area, read_channel_area_into,
-    write_channel_answer, write_channel_message, write_channel_response,
+    write_channel_answer, write_channel_message, write_channel_reply, write_channel_response,
 };
 pub use channel_status::ChannelStatus;
 pub use clock_command::{CLOCK_PROTOCOL, ClockCommand};
@@ -52,7 +52,8 @@ pub use message::Message;
 pub use messages::{BASE_MESSAGES, CLOCK_MESSAGES, HeldRow, MessageRow, POWER_MESSAGES, Part};
 pub use name::{NAME_BYTES, Name, name_words};
 pub use payload::{
-    PAYLOAD_WORDS, Payload, SUCCESS, is_success, payload_of, refusal, set_payload, set_refusal,
+    PAYLOAD_WORDS, Payload, SUCCESS, is_success, payload_of, refusal, resize, set_payload,
+    set_refusal,
 };
 pub use power_command::{POWER_PROTOCOL, PowerCommand};
 pub use rate::{rate_of, rate_words};

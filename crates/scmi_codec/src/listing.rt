@@ -20,10 +20,18 @@ pub fn message_name(protocol: u8, id: u8) -> Option<&'static str>
 }
 
 /// Whether a protocol of the profile has a message.
+///
+/// An image that only answers has the ids from here, and none of the tables.
+#[tactic(auto, unfolding(crate::specs::Listing::rows_of))]
 pub fn is_listed(protocol: u8, id: u32) -> bool
     ensures { result ≡ is_listed protocol id }
 {
-    listed_row(protocol, id).is_some()
+    match protocol {
+        BASE_PROTOCOL => id < 0x8 || id >= 0x9 && id <= 0xb,
+        POWER_PROTOCOL => id <= 0x6,
+        CLOCK_PROTOCOL => id <= 0x7,
+        _ => false,
+    }
 }
 
 /// The number of payload words of a command; 0 for an unknown message.

@@ -45,7 +45,7 @@ pub fn set_payload(payload: &mut Payload, words: &[u32])
 
 /// Gives a payload this many words, of any value.
 #[inline]
-pub(crate) fn resize(payload: &mut Payload, count: usize)
+pub fn resize(payload: &mut Payload, count: usize)
     requires { count ≤ PAYLOAD_WORDS }
     ensures { length payload.new.items ≡ count }
 {

@@ -25,6 +25,7 @@ impl PowerCommand {
     /// The command of a message id and payload words: NOT_SUPPORTED for an unknown id, then
     /// PROTOCOL_ERROR for another number of words than the command has.
     #[tactic(auto, unfolding(crate::specs::Listing::rows_of))]
+    #[inline(always)]
     pub(crate) fn read(id: u8, words: &[u32]) -> Result<PowerCommand, Status>
         ensures { result ≡ power_of id words.now }
     {

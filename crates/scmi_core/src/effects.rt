@@ -1,15 +1,18 @@
 //! What a command or a completion is to change of the hardware.
-ghost use Rattle.std.specs.Prelude.{◌≡◌, ◌==◌, ◌&&◌, ◌||◌, length, None, Ok, option_map};
+ghost use Rattle.std.specs.Prelude.{◌≡◌, ◌==◌, ◌&&◌, ◌||◌, ℕ, List, length, false, None, Ok, option_map};
 ghost use Rattle.scmi_codec.specs.Payload.{if_success};
 ghost use Rattle.scmi_codec.specs.declared.command.Command.TheVariants.{Power, Clock};
 ghost use Rattle.scmi_codec.specs.declared.frame.Frame.TheVariants.{Good};
 ghost use Rattle.scmi_plan.specs.Agent.{IsAgent};
+ghost use Rattle.scmi_plan.specs.Board.{Board};
 ghost use Rattle.scmi_plan.specs.Plan.{IsValid};
 ghost use Rattle.scmi_power.specs.PowerTable.{set_now};
 ghost use Rattle.scmi_clock.specs.ClockTable.{rate_now, enabled_now};
-ghost use Rattle.scmi_core.specs.Effect.{effect_in, effect_read, state_effect, clock_effect};
+ghost use Rattle.scmi_core.specs.Effect.{effect_after, effect_in, effect_read, state_effect, clock_effect};
 ghost use Rattle.scmi_core.specs.Reply.{reply_words};
 ghost use Rattle.scmi_core.specs.Tables.{situation_in};
+ghost use Rattle.scmi_core.specs.declared.event.Event.{Event};
+ghost use Rattle.scmi_core.specs.declared.event.Event.TheVariants.{Command as Called};
 
 use crate::channel::fits_channel;
 use crate::effect::Effect;
@@ -107,6 +110,17 @@ impl Tables {
                 None => None,
             },
         }
+    }
+}
+
+/// Whether a frame may change hardware, by its header alone, whatever came before it.
+pub fn may_change(frame: &Frame) -> bool
+    ensures none { result ≡ false → (board : Board) → (agent : ℕ) → (h : List Event)
+        → effect_after board h (Called agent frame.now) ≡ None }
+{
+    match frame {
+        Frame::Good(message) => may_have_effect(&message.header),
+        Frame::Malformed { .. } => false,
     }
 }
 

@@ -42,6 +42,7 @@ mod whole_channels;
 pub use answered::Answered;
 pub use core_error::CoreError;
 pub use effect::Effect;
+pub use effects::may_change;
 pub use event::Event;
 pub use events::Events;
 pub use hardware::{Fault, Hardware, NoHardware};

@@ -117,7 +117,7 @@ impl Platform {
 
     /// As `execute`, for a command whose effect the hardware made; nothing is decided again.
     #[inline(always)]
-    pub(crate) fn commit(
+    pub fn commit(
         &mut self,
         agent: u32,
         frame: &Frame,

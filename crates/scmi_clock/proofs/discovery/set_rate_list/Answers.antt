@@ -1,4 +1,4 @@
-use Rattle.std.proofs.Common.{◌≡◌, ◌+◌, ◌-◌, ◌<◌, ℕ, List, [], ◌∷◌, ◌++◌, length, get_or, set, take, drop, sym, ap, ◌∙◌, arith, append_assoc, append-nil, length-set}
+use Rattle.std.proofs.Common.{◌≡◌, ◌+◌, ◌*◌, ◌-◌, ◌<◌, ℕ, List, [], ◌∷◌, ◌++◌, length, get_or, set, take, drop, refl, sym, ap, ◌∙◌, arith, append_assoc, append-nil, length-set}
 use Rattle.std.specs.List.{flat_map}
 use Rattle.std.proofs.lemmas.List.{length-take, take_more, take_more_set}
 use Rattle.std.proofs.lemmas.Grind.{flat_map-append}
@@ -44,4 +44,14 @@ loop-rate-preserved c =
           (two_more l.words l.size (get_or (rate_words r) 0 0) (get_or (rate_words r) 1 0) fits
           ∙ ap (λ p. p ++ rate_words r) l.invariant.so_far
           ∙ ap (λ w. 0 ∷ word ∷ w) (sym (one_more rates l.rate-index c.loop-rate-test.true)));
+    }
+
+pub loop-rate-init : goal.loop-rate-init
+loop-rate-init c =
+    let blank = c.as_mut_slice-words.result.now in
+    let long : length blank ≡ 2 + 2 * c.min-count.result = ap length c.as_mut_slice-words.ensures.value ∙ c.resize.ensures in
+    record {
+      place = refl;
+      whole = simp length-set long;
+      so_far = rw c.rates_word.ensures (two_more blank 0 0 _ (omega (arith, long)));
     }
