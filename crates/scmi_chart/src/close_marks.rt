@@ -5,8 +5,8 @@ ghost use Rattle.scmi_chart.specs.Shown.{adds};
 
 use crate::board_names::agent_name;
 use crate::recorder::Recorder;
-use scmi_ends::ShutError;
 use scmi_link::{CloseError, Closing};
+use scmi_script::ShutError;
 use scmi_svg::{Mark, Side};
 use std::alloc::AllocError;
 

@@ -7,7 +7,7 @@ use crate::arrows::{Way, posted_arrow};
 use crate::recorder::Recorder;
 use crate::sign::posted_mark;
 use scmi_codec::Frame;
-use scmi_ends::Flushed;
+use scmi_script::Flushed;
 use scmi_svg::{Mark, Side};
 use std::alloc::AllocError;
 

@@ -5,7 +5,7 @@ ghost use Rattle.scmi_chart.specs.Service.{if_done};
 ghost use Rattle.scmi_chart.specs.Shown.{serves};
 
 use crate::recorder::Recorder;
-use scmi_ends::Served;
+use scmi_script::Served;
 use scmi_svg::{Mark, Side};
 use std::alloc::AllocError;
 

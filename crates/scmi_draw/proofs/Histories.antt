@@ -10,6 +10,8 @@ use Rattle.scmi_core.specs.declared.event.Event.{Event}
 use Rattle.scmi_core.specs.declared.event.Event.TheVariants as event
 use Rattle.scmi_plan.specs.Agent.{IsAgent}
 use Rattle.scmi_plan.specs.Board.{Board}
+use Rattle.scmi_script.specs.declared.script.Script.{Script}
+use Rattle.scmi_script.specs.Scripts.{orders_of}
 use Rattle.scmi_text.specs.Step.{IsStepOf}
 use Rattle.scmi_text.specs.declared.step.Step.{Step}
 use Rattle.scmi_text.specs.declared.step.Step.TheVariants as step
@@ -18,9 +20,8 @@ use Rattle.scmi_text.specs.declared.step.AgentStep.TheVariants as agent_step
 use Rattle.scmi_text.specs.declared.step.PlatformStep.TheVariants as platform_step
 use Rattle.scmi_threads.specs.declared.agent_log.AgentLog.{AgentLog}
 use Rattle.scmi_threads.specs.declared.outcome.Outcome.{Outcome}
-use Rattle.scmi_threads.specs.declared.script.Script.{Script}
 use Rattle.scmi_threads.specs.Logs.{LogHeadline}
-use Rattle.scmi_threads.specs.ScriptLogs.{IsScriptLog, orders_of}
+use Rattle.scmi_threads.specs.ScriptLogs.{IsScriptLog}
 use Rattle.scmi_ends.specs.Each.{AllFrom}
 use Rattle.scmi_link.specs.View.{CallerView}
 use Rattle.scmi_link.specs.declared.closing.Closing.{Closing}

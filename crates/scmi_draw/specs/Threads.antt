@@ -7,13 +7,14 @@ use Rattle.scmi_plan.specs.Board.{Board}
 use Rattle.scmi_board.specs.BoardText.{board_left}
 use Rattle.scmi_board.specs.Lines.{Line}
 use Rattle.scmi_core.specs.Legal.{IsLegal}
+use Rattle.scmi_script.specs.Scripts.{orders_of}
+use Rattle.scmi_script.specs.declared.script.Script.{Script}
 use Rattle.scmi_ends.specs.Each.{AllFrom}
 use Rattle.scmi_text.specs.ScriptText.{scripts_of, with_line}
 use Rattle.scmi_text.specs.TextLines.{after_lines}
 use Rattle.scmi_threads.specs.Logs.{LogHeadline}
-use Rattle.scmi_threads.specs.ScriptLogs.{IsScriptLog, orders_of}
+use Rattle.scmi_threads.specs.ScriptLogs.{IsScriptLog}
 use Rattle.scmi_threads.specs.declared.outcome.Outcome.{Outcome}
-use Rattle.scmi_threads.specs.declared.script.Script.{Script}
 use Rattle.scmi_svg.specs.declared.chart.Chart.{Chart}
 use Rattle.scmi_draw.specs.History.{steps_of_run}
 use Rattle.scmi_draw.specs.Run.{ShowsRun, may_be_full, shows_close}

@@ -5,13 +5,13 @@ use Rattle.std.proofs.lemmas.List.Elements.{All-push}
 use Rattle.scmi_core.specs.Plain.{IsPlain}
 use Rattle.scmi_core.specs.declared.event.Event.{Event}
 use Rattle.scmi_core.specs.declared.event.Event.TheVariants.{Command, Sent}
+use Rattle.scmi_script.specs.declared.flushed.Flushed.{Flushed}
+use Rattle.scmi_script.specs.declared.flushed.Flushed.TheVariants as flushed
+use Rattle.scmi_script.specs.declared.served.Served.{Served}
+use Rattle.scmi_script.specs.declared.served.Served.TheVariants as served
 use Rattle.scmi_ends.specs.ControllerView.{ControllerView, callee_of}
 use Rattle.scmi_ends.specs.Flush.{Flushes, FlushesOne}
 use Rattle.scmi_ends.specs.Serve.{Serves, ServesOne}
-use Rattle.scmi_ends.specs.declared.flushed.Flushed.{Flushed}
-use Rattle.scmi_ends.specs.declared.flushed.Flushed.TheVariants as flushed
-use Rattle.scmi_ends.specs.declared.served.Served.{Served}
-use Rattle.scmi_ends.specs.declared.served.Served.TheVariants as served
 use Rattle.scmi_link.specs.View.{CallerView, CalleeView}
 use Rattle.scmi_plan.specs.Board.{Board}
 

@@ -9,16 +9,14 @@ ghost use Rattle.scmi_core.specs.declared.event.Event.TheVariants as event;
 
 use crate::buffers::Buffers;
 use crate::flush::flush_one;
-use crate::flushed::Flushed;
 use crate::link::Link;
 use crate::serve::serve_one;
 use crate::serve_error::ServeError;
 use crate::serve_on::serve_one_on;
-use crate::served::Served;
 use crate::shut::shut_one;
-use crate::shut_error::ShutError;
 use scmi_core::{Core, Hardware};
 use scmi_link::Channel;
+use scmi_script::{Flushed, Served, ShutError};
 use std::marker::Model;
 
 /// The platform: its core, and its endpoints of each agent's two channels.

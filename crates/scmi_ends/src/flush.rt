@@ -5,9 +5,9 @@ ghost use Rattle.scmi_core.specs.Legal.{IsLegal};
 ghost use Rattle.scmi_ends.specs.Flush.{CollectsAndFlushes};
 
 use crate::buffers::Buffers;
-use crate::flushed::Flushed;
 use scmi_core::Core;
 use scmi_link::{Channel, PostError};
+use scmi_script::Flushed;
 
 // Collects on P2A into `buffers`, and then posts the first message of the agent's outbox, once. The
 // trace has room for it.

@@ -2,11 +2,11 @@
 ghost use Rattle.std.specs.Prelude.{ℕ, Bool};
 ghost use Rattle.std.specs.List.{All};
 ghost use Rattle.scmi_core.specs.Plain.{IsPlain};
+ghost use Rattle.scmi_script.specs.declared.flushed.Flushed.{Flushed};
+ghost use Rattle.scmi_script.specs.declared.served.Served.{Served};
 ghost use Rattle.scmi_ends.specs.ControllerView.{ControllerView};
 ghost use Rattle.scmi_ends.specs.Flush.{Flushes};
 ghost use Rattle.scmi_ends.specs.Serve.{Serves};
-ghost use Rattle.scmi_ends.specs.declared.flushed.Flushed.{Flushed};
-ghost use Rattle.scmi_ends.specs.declared.served.Served.{Served};
 
 /// Beside hardware that never refuses, and without restarts, the history of a controller has
 /// commands, advances and postings alone. It does nothing: its clauses are the laws.

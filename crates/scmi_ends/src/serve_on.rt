@@ -7,9 +7,9 @@ ghost use Rattle.scmi_ends.specs.ServeOn.{ServesOneOn};
 
 use crate::buffers::Buffers;
 use crate::serve::answer_malformed;
-use crate::served::Served;
 use scmi_core::{Answered, Core, Hardware};
 use scmi_link::Channel;
+use scmi_script::Served;
 
 // As `serve_one`, beside the hardware: what the command changes of it is made first.
 pub(crate) fn serve_one_on<C: Channel, H: Hardware>(

@@ -5,9 +5,9 @@ ghost use Rattle.scmi_link.specs.View.{Owes};
 ghost use Rattle.scmi_ends.specs.Shut.{CollectsAndShuts, ShowsClose};
 
 use crate::link::Link;
-use crate::shut_error::ShutError;
 use scmi_codec::Answer;
 use scmi_link::{Channel, CloseError};
+use scmi_script::ShutError;
 
 // Closes A2P, if no answer is owed, and notes after how many events it first did; collects on P2A,
 // and closes that.

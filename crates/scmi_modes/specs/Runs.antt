@@ -4,14 +4,14 @@ use Rattle.std.specs.List.{All}
 use Rattle.std.specs.Io.KnownBytes.{Appends}
 use Rattle.scmi_plan.specs.Board.{Board}
 use Rattle.scmi_core.specs.Legal.{IsLegal}
+use Rattle.scmi_script.specs.Scripts.{AreScriptsOf, orders_of}
+use Rattle.scmi_script.specs.declared.script.Script.{Script}
 use Rattle.scmi_ends.specs.Each.{AllFrom}
 use Rattle.scmi_threads.specs.Logs.{LogHeadline}
 use Rattle.scmi_core.specs.Plain.{IsPlain}
-use Rattle.scmi_threads.specs.ScriptLogs.{IsScriptLog, orders_of}
-use Rattle.scmi_threads.specs.Scripts.{AreScriptsOf}
+use Rattle.scmi_threads.specs.ScriptLogs.{IsScriptLog}
 use Rattle.scmi_threads.specs.declared.agent_log.AgentLog.{AgentLog}
 use Rattle.scmi_threads.specs.declared.outcome.Outcome.{Outcome}
-use Rattle.scmi_threads.specs.declared.script.Script.{Script}
 use Rattle.scmi_text.specs.ScriptLine.{lines_text}
 use Rattle.scmi_text.specs.ScriptText.{scripts_of}
 use Rattle.scmi_modes.specs.Input.{scripts_of_input}

@@ -5,11 +5,11 @@ ghost use Rattle.scmi_core.specs.Bounds.{HasBounds, HasResponses};
 ghost use Rattle.scmi_core.specs.History.{deeds};
 ghost use Rattle.scmi_core.specs.Legal.{IsLegal};
 ghost use Rattle.scmi_core.specs.Plain.{IsPlain};
+ghost use Rattle.scmi_script.specs.Scripts.{AreScriptsOf, orders_of};
 ghost use Rattle.scmi_ends.specs.Each.{AllFrom};
 ghost use Rattle.scmi_threads.specs.AfterClose.{EndsAtClose};
 ghost use Rattle.scmi_threads.specs.Logs.{LogHeadline};
-ghost use Rattle.scmi_threads.specs.ScriptLogs.{IsGatedLog, IsScriptLog, orders_of};
-ghost use Rattle.scmi_threads.specs.Scripts.{AreScriptsOf};
+ghost use Rattle.scmi_threads.specs.ScriptLogs.{IsGatedLog, IsScriptLog};
 
 use crate::run_error::RunError;
 use scmi_link::Channel;

@@ -18,6 +18,7 @@ use Rattle.scmi_core.specs.Effect.{effect_after}
 use Rattle.scmi_core.specs.History.{deeds}
 use Rattle.scmi_core.specs.Pending.{pending_sets}
 use Rattle.scmi_core.specs.declared.event.Event.TheVariants as event
+use Rattle.scmi_script.specs.declared.served.Served.{Served}
 use Rattle.scmi_ends.specs.AgentView.{AgentView}
 use Rattle.scmi_ends.specs.ControllerView.{ControllerView}
 use Rattle.scmi_ends.specs.Poll.{Receives}
@@ -25,7 +26,6 @@ use Rattle.scmi_ends.specs.Serve.{Serves}
 use Rattle.scmi_ends.specs.ServeOn.{ServesOn}
 use Rattle.scmi_ends.specs.Flush.{Flushes}
 use Rattle.scmi_ends.specs.Shut.{Shuts}
-use Rattle.scmi_ends.specs.declared.served.Served.{Served}
 use Rattle.scmi_text.specs.declared.step.Call.{Call}
 use Rattle.scmi_text.specs.declared.step.AgentStep.{AgentStep}
 use Rattle.scmi_text.specs.declared.step.AgentStep.TheVariants as agent

@@ -7,7 +7,7 @@
 //! |---|---|
 //! | `Event` | `CommandFailed`, `AdvanceFailed`, `Restarted` |
 //! | `AgentLog` | `reply_looks`, `message_looks` |
-//! | `Gate`, `Channel` | ghost members, by which contracts speak of them |
+//! | `Channel` | ghost members, by which contracts speak of a channel |
 //! | the program | a library, `scmi_modes`, which has its names, and `scmi_threads` below it |
 #![tactic(auto)]
 

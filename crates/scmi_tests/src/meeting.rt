@@ -1,5 +1,4 @@
 //! Two agents that wait for each other between the lines of their scripts.
-ghost use Rattle.std.specs.Prelude.{⊤};
 
 use scmi_modes::{Gate, Kind, RunError, run_threads};
 use std::alloc::Global;
@@ -38,8 +37,6 @@ struct Meeting {
 }
 
 impl Gate for Meeting {
-    ghost asked = { λ gate agent line. ⊤ };
-
     fn before<R: Wait>(&self, _rt: &R, agent: u32, line: u32) {
         if line != 2 {
             return;

@@ -1,5 +1,4 @@
 pub mod TokenLemmas
-pub mod LineLemmas
 pub mod ClosesLemmas
 pub mod Looking
 pub mod Answered

@@ -6,16 +6,16 @@ use Rattle.scmi_core.specs.Driven.{HappensOn, HasMade, IsEnd}
 use Rattle.scmi_core.specs.Asked.{Asked}
 use Rattle.scmi_core.specs.declared.event.Event.{Event}
 use Rattle.scmi_core.specs.declared.event.Event.TheVariants.{Advance, Sent}
+use Rattle.scmi_script.specs.declared.flushed.Flushed.{Flushed}
+use Rattle.scmi_script.specs.declared.flushed.Flushed.TheVariants as flushed
+use Rattle.scmi_script.specs.declared.served.Served.{Served}
 use Rattle.scmi_ends.proofs.PlainCalls.{flushed_all, served_plain}
 use Rattle.scmi_ends.specs.ControllerView.{ControllerView}
 use Rattle.scmi_ends.specs.Flush.{Flushes, FlushesOne}
 use Rattle.scmi_ends.specs.Links.{HasLinks}
 use Rattle.scmi_ends.specs.Serve.{Serves}
 use Rattle.scmi_ends.specs.ServeOn.{ServesOn}
-use Rattle.scmi_ends.specs.declared.flushed.Flushed.{Flushed}
-use Rattle.scmi_ends.specs.declared.flushed.Flushed.TheVariants as flushed
 use Rattle.scmi_ends.specs.declared.link.Link.{Link}
-use Rattle.scmi_ends.specs.declared.served.Served.{Served}
 use Rattle.scmi_link.specs.View.{CallerView}
 use Rattle.scmi_plan.specs.Board.{Board}
 use Rattle.scmi_core.specs.Plain.{IsNoRestart, IsPlain}

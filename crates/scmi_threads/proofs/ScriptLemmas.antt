@@ -6,14 +6,15 @@ use Rattle.std.proofs.lemmas.List.{append-nil, length-append, take_more, drop_mo
 use Rattle.std.proofs.lemmas.Grind.{flat_map-append}
 use Rattle.scmi_link.specs.View.{CallerView, new_caller}
 use Rattle.std.proofs.lemmas.List.Sums.{sum_by-append}
+use Rattle.scmi_script.specs.Scripts.{is_close}
+use Rattle.scmi_script.specs.declared.order.Order.{Order}
 use Rattle.scmi_ends.specs.Poll.{more_calls}
 use Rattle.scmi_ends.proofs.Counts.{calls_of_sum}
 use Rattle.scmi_threads.specs.Logs.{HasSameLooks, IsEmptyLog}
 use Rattle.scmi_threads.specs.Orders.{HasDone, HasMore, IsAtRest}
 use Rattle.scmi_threads.specs.Parts.{Part, Writes}
-use Rattle.scmi_threads.specs.ScriptLogs.{Follows, all_done, ends_here, goes_on, IsGatedLog, IsMadeOf, IsScriptLog, is_close, line_number}
+use Rattle.scmi_threads.specs.ScriptLogs.{Follows, all_done, ends_here, goes_on, IsGatedLog, IsMadeOf, IsScriptLog, line_number}
 use Rattle.scmi_threads.specs.declared.agent_log.AgentLog.{AgentLog}
-use Rattle.scmi_threads.specs.declared.order.Order.{Order}
 use Rattle.scmi_threads.specs.declared.stop.Stop.{Stop}
 use Rattle.scmi_threads.proofs.OrderLemmas.{writes_rest}
 

@@ -1,21 +1,17 @@
 -- What a script leaves once it has closed.
-use Rattle.std.specs.Prelude.{◌≡◌, ℕ, Bool, false, if◌then◌else◌, List, [], ◌∷◌, ◌++◌, Some, None}
+use Rattle.std.specs.Prelude.{◌≡◌, ℕ, Bool, false, List, ◌++◌, Some, None}
 use Rattle.std.specs.List.{All, flat_map}
 use Rattle.scmi_link.specs.declared.closing.Closing.TheVariants.{Idle}
 use Rattle.scmi_link.specs.declared.post_error.PostError.TheVariants as post
 use Rattle.scmi_core.specs.Agents.{frames_of}
 use Rattle.scmi_core.specs.declared.event.Event.{Event}
+use Rattle.scmi_script.specs.Scripts.{up_to_close}
+use Rattle.scmi_script.specs.declared.line.Line.{Line}
+use Rattle.scmi_script.specs.declared.line.Line.TheVariants as line
+use Rattle.scmi_script.specs.declared.order.Order.{Order}
 use Rattle.scmi_threads.specs.Parts.{Part}
-use Rattle.scmi_threads.specs.ScriptLogs.{Follows, is_close}
+use Rattle.scmi_threads.specs.ScriptLogs.{Follows}
 use Rattle.scmi_threads.specs.declared.agent_log.AgentLog.{AgentLog}
-use Rattle.scmi_threads.specs.declared.line.Line.{Line}
-use Rattle.scmi_threads.specs.declared.line.Line.TheVariants as line
-use Rattle.scmi_threads.specs.declared.order.Order.{Order}
-
--- the orders of a script up to its first close
-abbrev pub up_to_close : List Order → List Order
-up_to_close [] = []
-up_to_close (order ∷ orders) = if is_close order then order ∷ [] else order ∷ up_to_close orders
 
 -- the line says that nothing came of its order: a post was refused as closed, polls ran out, or the
 -- endpoint was closed already

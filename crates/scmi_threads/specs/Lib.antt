@@ -1,6 +1,4 @@
 pub mod Tokens
-pub mod Lines
-pub mod Scripts
 pub mod Closes
 pub mod Logs
 pub mod Parts

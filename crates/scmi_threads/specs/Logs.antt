@@ -7,11 +7,11 @@ use Rattle.scmi_plan.specs.Board.{Board}
 use Rattle.scmi_core.specs.Agents.{frames_of, answers_to}
 use Rattle.scmi_core.specs.History.{delivered_messages}
 use Rattle.scmi_core.specs.declared.event.Event.{Event}
+use Rattle.scmi_script.specs.Lines.{messages_of, first_closing}
 use Rattle.scmi_ends.specs.AgentView.{AgentView}
 use Rattle.scmi_ends.specs.Headline.{IsAllMade}
 use Rattle.scmi_threads.specs.declared.agent_log.AgentLog.{AgentLog}
 use Rattle.scmi_threads.specs.Closes.{IsClosedAs}
-use Rattle.scmi_threads.specs.Lines.{messages_of, first_closing}
 use Rattle.scmi_threads.specs.Tokens.{command_token, first_tokens}
 
 -- the log of an agent that has done nothing

@@ -11,11 +11,12 @@ use Rattle.scmi_codec.specs.declared.header.TheConstants.{TOKENS}
 use Rattle.scmi_link.specs.declared.closing.Closing.TheVariants.{Idle}
 use Rattle.scmi_link.specs.declared.post_error.PostError.TheVariants as post
 use Rattle.scmi_plan.specs.declared.agent_channel.TheConstants.{LEAST_CHANNEL_WORDS}
+use Rattle.scmi_script.specs.Scripts.{IsForNothing}
+use Rattle.scmi_script.specs.declared.line.Line.{Line}
+use Rattle.scmi_script.specs.declared.line.Line.TheVariants as line
+use Rattle.scmi_script.specs.declared.order.Order.{Order}
+use Rattle.scmi_script.specs.declared.order.Order.TheVariants as order
 use Rattle.scmi_threads.specs.declared.limits.TheConstants.{TURNS, CALLS}
-use Rattle.scmi_threads.specs.declared.line.Line.{Line}
-use Rattle.scmi_threads.specs.declared.line.Line.TheVariants as line
-use Rattle.scmi_threads.specs.declared.order.Order.{Order}
-use Rattle.scmi_threads.specs.declared.order.Order.TheVariants as order
 use Rattle.scmi_threads.specs.declared.stop.Stop.{Stop}
 use Rattle.scmi_threads.specs.declared.stop.Stop.TheVariants as stop
 
@@ -99,11 +100,6 @@ pub data P2aWrites (count : ℕ) : Option Stop → Part → Type 0 where
 pub data CloseWrites : Option Stop → Part → Type 0 where
   close_done : CloseWrites None (only_lines (line.Close Idle ∷ []))
   close_had_no_room : CloseWrites (Some stop.Memory) (only_lines [])
-
--- the order is to take no message
-abbrev pub IsForNothing : Order → Type 0
-IsForNothing (order.P2a count) = count ≡ 0
-IsForNothing _ = ⊥
 
 -- an order of a script that has closed, by how it ended: it posts nothing, reads no answer and takes no message, and polls for no reply
 pub data ClosedWrites : Order → Option Stop → Part → Type 0 where

@@ -1,17 +1,11 @@
 -- How a log follows its script.
-use Rattle.std.specs.Prelude.{◌≡◌, ◌==◌, ℕ, ◌+◌, ◌-◌, ◌%◌, ◌^◌, ◌<◌, min, Bool, true, false, ◌||◌, if◌then◌else◌, List, [], ◌∷◌, length, Option, Some, None}
+use Rattle.std.specs.Prelude.{◌≡◌, ℕ, ◌+◌, ◌-◌, ◌%◌, ◌^◌, ◌<◌, min, Bool, false, ◌||◌, List, [], ◌∷◌, length, Option, Some, None}
 use Rattle.std.specs.List.{flat_map, sum_by}
+use Rattle.scmi_script.specs.declared.order.Order.{Order}
+use Rattle.scmi_script.specs.Scripts.{is_close}
 use Rattle.scmi_threads.specs.Parts.{Part, Writes}
 use Rattle.scmi_threads.specs.declared.agent_log.AgentLog.{AgentLog}
-use Rattle.scmi_threads.specs.declared.order.Order.{Order}
-use Rattle.scmi_threads.specs.declared.order.Order.TheVariants as order
-use Rattle.scmi_threads.specs.declared.script.Script.{Script}
 use Rattle.scmi_threads.specs.declared.stop.Stop.{Stop}
-
--- whether the order is to close
-abbrev pub is_close : Order → Bool
-is_close order.Close = true
-is_close _ = false
 
 -- the orders wrote these parts, one after another: all of them, or those up to the one that ended the script
 pub data Follows (full : Bool) : Bool → ℕ → List Order → Option Stop → List Part → Type 0 where
@@ -42,8 +36,3 @@ line_number k = min (k + 1) (2 ^ 32 - 1)
 pub record IsGatedLog (full : Bool) (asked : ℕ → Type 0) (orders : List Order) (log : AgentLog) : Type 0 where
   pub script : IsScriptLog full orders log
   pub gate : (k : ℕ) → k < length script.parts → asked (line_number k)
-
--- the orders of an agent; none if it has no script
-abbrev pub orders_of : List Script → ℕ → List Order
-orders_of [] agent = []
-orders_of (script ∷ scripts) agent = if script.agent == agent then script.lines.items else orders_of scripts agent

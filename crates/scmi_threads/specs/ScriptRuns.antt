@@ -1,11 +1,12 @@
 -- The run of an agent's script before and after its script.
 use Rattle.std.specs.Prelude.{◌≡◌, ℕ, Bool, List}
 use Rattle.scmi_link.specs.View.{new_caller, new_callee}
+use Rattle.scmi_script.specs.Scripts.{orders_of}
+use Rattle.scmi_script.specs.declared.script.Script.{Script}
 use Rattle.scmi_ends.specs.AgentView.{AgentView, IsOfLink}
 use Rattle.scmi_threads.specs.Logs.{IsEmptyLog}
 use Rattle.scmi_threads.specs.Orders.{IsUndisturbed}
-use Rattle.scmi_threads.specs.ScriptLogs.{IsGatedLog, orders_of}
-use Rattle.scmi_threads.specs.declared.script.Script.{Script}
+use Rattle.scmi_threads.specs.ScriptLogs.{IsGatedLog}
 use Rattle.scmi_threads.specs.declared.script_run.ScriptRun.{ScriptRun}
 
 -- what an agent's script leaves as it was: whose endpoints it has, and what it was to do; a

@@ -1,15 +1,15 @@
 //! The order to close.
 
-use crate::line::Line;
 use crate::script_run::ScriptRun;
 use crate::stop::Stop;
 use scmi_link::Channel;
+use scmi_script::Line;
 
 impl<'a, C: Channel> ScriptRun<'a, C> {
     ghost use Rattle.std.specs.Prelude.{◌≡◌};
+    ghost use Rattle.scmi_script.specs.declared.order.Order.TheVariants as order;
     ghost use Rattle.scmi_threads.specs.Orders.{HasDone, IsAtRest, IsUndisturbed, stop_of};
     ghost use Rattle.scmi_threads.specs.ScriptRuns.{HasRun};
-    ghost use Rattle.scmi_threads.specs.declared.order.Order.TheVariants as order;
 
     /// Closes the agent's endpoint, and notes how, or that it was refused.
     #[tactic(auto, using(crate::proofs::ClosesLemmas::closes_idle, crate::proofs::ClosesLemmas::closes_withdrawn, crate::proofs::ClosesLemmas::is_shut, crate::proofs::Looking::close_looks))]

@@ -1,20 +1,20 @@
 //! The order to take messages.
 
 use crate::limits::TURNS;
-use crate::line::Line;
 use crate::script_run::ScriptRun;
 use crate::stop::Stop;
 use scmi_ends::Pause;
 use scmi_link::Channel;
+use scmi_script::Line;
 use std::sync::Wait;
 
 impl<'a, C: Channel> ScriptRun<'a, C> {
     ghost use Rattle.std.specs.Prelude.{◌≡◌, ◌<◌, vec_len, vec_capacity, IsTrue};
     ghost use Rattle.scmi_link.specs.View.{one_more};
+    ghost use Rattle.scmi_script.specs.declared.order.Order.TheVariants as order;
     ghost use Rattle.scmi_threads.specs.Logs.{IsSameLog};
     ghost use Rattle.scmi_threads.specs.Orders.{HasDone, HasLookedFor, HasTaken, IsUnmoved, TakesOne, stop_of};
     ghost use Rattle.scmi_threads.specs.ScriptRuns.{HasRun};
-    ghost use Rattle.scmi_threads.specs.declared.order.Order.TheVariants as order;
 
     /// Takes this many P2A messages, and notes each.
     pub(crate) fn take_messages<R: Wait>(&mut self, rt: &R, count: u32) -> Result<(), Stop>

@@ -6,10 +6,10 @@ ghost use Rattle.scmi_threads.specs.Closes.{IsClosedAs, IsClosedAs-prop};
 
 use crate::agent_log::AgentLog;
 use crate::gate::Gate;
-use crate::order::Order;
 use crate::stop::Stop;
 use scmi_ends::{AgentEnd, Link, Processors};
 use scmi_link::Channel;
+use scmi_script::Order;
 use std::alloc::Global;
 use std::sync::Wait;
 

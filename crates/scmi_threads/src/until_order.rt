@@ -3,11 +3,11 @@ ghost use Rattle.std.specs.Prelude.{◌↔◌, IsTrue};
 ghost use Rattle.scmi_threads.specs.Orders.{IsGot, ShowsState};
 
 use crate::limits::CALLS;
-use crate::line::Line;
 use crate::script_run::ScriptRun;
 use crate::stop::Stop;
 use scmi_codec::{Command, PowerCommand, SUCCESS};
 use scmi_link::Channel;
+use scmi_script::Line;
 use std::sync::Wait;
 
 /// Whether the line reports a reply.
@@ -29,12 +29,12 @@ fn shows_state(line: &Line, state: u32) -> bool
 
 impl<'a, C: Channel> ScriptRun<'a, C> {
     ghost use Rattle.std.specs.Prelude.{◌≡◌, ◌∷◌, [], length, IfOk, IfErr, OnErr};
+    ghost use Rattle.scmi_script.specs.declared.order.Order.TheVariants as order;
     ghost use Rattle.scmi_threads.specs.Logs.{IsSameLog};
     ghost use Rattle.scmi_threads.specs.Parts.{command};
     ghost use Rattle.scmi_threads.specs.declared.stop.Stop.TheVariants as stop;
     ghost use Rattle.scmi_threads.specs.Orders.{HasAsked, HasDone, HasLooked, IsAtRest, IsUndisturbed, LeavesRest, stop_of};
     ghost use Rattle.scmi_threads.specs.ScriptRuns.{HasRun};
-    ghost use Rattle.scmi_threads.specs.declared.order.Order.TheVariants as order;
 
     /// Asks for the state of a power domain until it is this one, and notes whether it came to be.
     pub(crate) fn wait_for_state<R: Wait>(

@@ -1,6 +1,6 @@
 //! The surface of `scmi_run`, whose library is `scmi_modes`.
-ghost use Rattle.std.specs.Prelude.{⊤, length};
-ghost use Rattle.scmi_threads.specs.Scripts.{AreScriptsOf};
+ghost use Rattle.std.specs.Prelude.{length};
+ghost use Rattle.scmi_script.specs.Scripts.{AreScriptsOf};
 
 use scmi_codec::{Answer, Frame, Payload};
 use scmi_core::Trace;
@@ -133,7 +133,5 @@ fn number(error: RunError) -> u32 {
 struct Passed;
 
 impl Gate for Passed {
-    ghost asked = { λ gate agent line. ⊤ };
-
     fn before<R: Wait>(&self, _rt: &R, _agent: u32, _line: u32) {}
 }

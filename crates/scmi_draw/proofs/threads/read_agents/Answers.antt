@@ -3,9 +3,9 @@ use Rattle.std.proofs.lemmas.List.{length-map}
 use Rattle.scmi_board.specs.BoardText.{board_left}
 use Rattle.scmi_board.specs.Lines.{lines_left}
 use Rattle.scmi_plan.specs.RawPlan.{asked_board}
+use Rattle.scmi_script.specs.Scripts.{AreScriptsOf}
 use Rattle.scmi_text.specs.ScriptText.{scripts_of, with_line}
 use Rattle.scmi_text.specs.TextLines.{after_lines}
-use Rattle.scmi_threads.specs.Scripts.{AreScriptsOf}
 use Rattle.scmi_draw.proofs.Inputs.{lines_same}
 use Rattle.scmi_draw.proofs.Scripts.{scripts_of_agents}
 use Rattle.scmi_draw.proofs.threads.read_agents.Goals as goal

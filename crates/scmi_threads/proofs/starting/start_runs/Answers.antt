@@ -1,6 +1,6 @@
 use Rattle.std.proofs.lemmas.List.{length-append}
+use Rattle.scmi_script.specs.Scripts.{orders_of}
 use Rattle.scmi_ends.specs.Each.{AllFrom}
-use Rattle.scmi_threads.specs.ScriptLogs.{orders_of}
 use Rattle.scmi_threads.proofs.Started.{first_new, all_push}
 use Rattle.std.proofs.Common.{◌≡◌, ◌+◌, ◌∷◌, [], length, arith, map, ap, sym, ◌∙◌, subst}
 use Rattle.scmi_threads.specs.ScriptRuns.{IsNewOnLink, IsStarted}

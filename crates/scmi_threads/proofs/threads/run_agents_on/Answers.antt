@@ -5,11 +5,12 @@ use Rattle.scmi_threads.specs.Logs.{IsLogOf}
 use Rattle.scmi_threads.specs.ScriptRuns.{HasPlayed}
 use Rattle.std.specs.List.{All}
 use Rattle.scmi_plan.specs.Plan.{IsValid}
+use Rattle.scmi_script.specs.Scripts.{orders_of}
 use Rattle.scmi_ends.specs.Each.{AllFrom}
 use Rattle.scmi_ends.specs.Links.{identities_of_a2p, identities_of_p2a}
 use Rattle.scmi_threads.specs.Orders.{IsUndisturbed}
 use Rattle.scmi_core.specs.Plain.{IsNoRestart, IsPlain}
-use Rattle.scmi_threads.specs.ScriptLogs.{IsGatedLog, IsScriptLog, orders_of}
+use Rattle.scmi_threads.specs.ScriptLogs.{IsGatedLog, IsScriptLog}
 use Rattle.scmi_threads.specs.declared.agent_log.AgentLog.{AgentLog}
 use Rattle.scmi_threads.proofs.AfterCloseLemmas.{all_end_at_close}
 use Rattle.scmi_threads.proofs.Started.{all_follow, all_gated}

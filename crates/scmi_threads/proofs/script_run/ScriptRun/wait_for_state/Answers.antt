@@ -1,7 +1,7 @@
 use Rattle.std.proofs.Common.{true, false, ap, refl, rules, subst, Ok}
+use Rattle.scmi_script.specs.declared.line.Line.TheVariants as line
+use Rattle.scmi_script.specs.declared.order.Order.TheVariants as order
 use Rattle.scmi_threads.specs.Orders.{HasLooked, stop_of}
-use Rattle.scmi_threads.specs.declared.line.Line.TheVariants as line
-use Rattle.scmi_threads.specs.declared.order.Order.TheVariants as order
 use Rattle.scmi_threads.specs.declared.stop.Stop.TheVariants as stop
 use Rattle.std.proofs.Common.{None, Some}
 use Rattle.scmi_threads.proofs.OrderLemmas.{nothing_done, done_since, still_rests, until_noted, until_ended}
