@@ -33,7 +33,7 @@ use crate::arguments::{ArgumentError, read_arguments};
 use crate::refusal::{WRONG_ARGUMENT, refuse, refuse_unread};
 use crate::serve::serve;
 use clap::error::ErrorKind;
-use scmi_fault::write_fault;
+use scmi_io::write_fault;
 use scmi_modes::RunError;
 use std::io::Print;
 use std::process::ExitCode;

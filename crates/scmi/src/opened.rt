@@ -3,7 +3,7 @@
 use crate::report_found::report_found;
 use scmi_board::{Lines, read_board};
 use scmi_explain::{Expected, Fault, explain};
-use scmi_input::{CountedReader, InputError, read_rest};
+use scmi_io::{CountedReader, InputError, read_rest};
 use scmi_modes::RunError;
 use scmi_plan::{Plan, PlanError, RawPlan};
 use std::alloc::Global;

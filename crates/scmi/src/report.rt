@@ -5,7 +5,7 @@ use crate::report_found::report_found;
 use crate::request::Request;
 use crate::task::Task;
 use scmi_explain::{Expected, Fault, Kept, LastLine, explain};
-use scmi_fault::FAILED_OUTPUT;
+use scmi_io::FAILED_OUTPUT;
 use std::alloc::Global;
 use std::io::{Eprint, ErrorKind, Read, Write};
 

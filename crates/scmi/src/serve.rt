@@ -12,7 +12,7 @@ use crate::serve_session::serve_session;
 use crate::task::Task;
 use scmi_check::Style;
 use scmi_explain::{Kept, LastLine};
-use scmi_fault::FAILED_OUTPUT;
+use scmi_io::FAILED_OUTPUT;
 use std::alloc::Global;
 use std::fs::{self, Files};
 use std::io::{self, BufWriter, Eprint, Input, Print, Read, Write};

@@ -4,8 +4,7 @@ ghost use Rattle.scmi_plan.specs.RawPlan.{asked_board};
 ghost use Rattle.scmi.specs.Session.{IsSession};
 
 use crate::opened::Opened;
-use scmi_fault::write_fault;
-use scmi_input::{CountedRead, CountedReader, Input};
+use scmi_io::{CountedRead, CountedReader, Input, write_fault};
 use scmi_live::{Listener, LiveError, run_live};
 use scmi_words::WordChannel;
 use std::alloc::Global;

@@ -9,7 +9,7 @@ use Rattle.scmi_plan.specs.Board.{Board}
 use Rattle.scmi_plan.specs.Rates as rates
 use Rattle.scmi_svg.specs.Rate.{scaled_text}
 use Rattle.scmi_svg.specs.declared.mark.Outcome.TheVariants as outcome
-use Rattle.scmi_template.specs.Filled.{filled}
+use Rattle.scmi_io.specs.Filled.{filled}
 use Rattle.scmi_chart.specs.Answered.{answer_words, list_text, posted_words}
 use Rattle.scmi_chart.specs.Asked.{command_words}
 use Rattle.scmi_chart.specs.Detail.{message_detail}

@@ -13,7 +13,7 @@ use Rattle.scmi_describe.specs.declared.field.Field.{Field}
 use Rattle.scmi_plan.specs.Board.{Board}
 use Rattle.scmi_svg.specs.declared.mark.Outcome.{Outcome}
 use Rattle.scmi_svg.specs.declared.mark.Outcome.TheVariants as outcome
-use Rattle.scmi_template.specs.Filled.{filled}
+use Rattle.scmi_io.specs.Filled.{filled}
 use Rattle.scmi_chart.specs.Words.{counted_text, hex_text, payload_text}
 use Rattle.scmi_chart.specs.LabelWords.{LabelWords, message_text, name_alone}
 use Rattle.scmi_chart.specs.Fields.{with_fields}

@@ -5,7 +5,7 @@ use Rattle.scmi_describe.specs.Names.{protocol_text}
 use Rattle.scmi_describe.specs.declared.field.Field.{Field}
 use Rattle.scmi_describe.specs.declared.field.Field.TheVariants as field
 use Rattle.scmi_svg.specs.Rate.{rate_text}
-use Rattle.scmi_template.specs.Filled.{filled}
+use Rattle.scmi_io.specs.Filled.{filled}
 use Rattle.scmi_chart.specs.Words.{agent_text, clock_text, counted_text, domain_text, hex_text, letters_text, numbered_text, state_text, switch_text}
 use Rattle.scmi_chart.specs.LabelWords.{LabelWords, behind, protocol_or_number, with_remark, with_remark_if}
 use Rattle.scmi_chart.specs.declared.label_texts.TheConstants.{AGENTS, ALLOW, ASYNC, BY, DENY, DEVICE, FLAGS, FROM, NEAREST, NO_RESPONSE, PERMISSIONS, PROTOCOLS, SKIP, UP, VERSION}

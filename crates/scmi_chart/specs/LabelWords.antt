@@ -3,7 +3,7 @@ use Rattle.std.specs.Prelude.{ℕ, Bool, if◌then◌else◌, List, [], ◌∷�
 use Rattle.scmi_codec.specs.Listing.{message_name}
 use Rattle.scmi_describe.specs.Names.{protocol_text}
 use Rattle.scmi_svg.specs.declared.mark.Label.{Label}
-use Rattle.scmi_template.specs.Filled.{filled}
+use Rattle.scmi_io.specs.Filled.{filled}
 use Rattle.scmi_chart.specs.Words.{hex_text}
 use Rattle.scmi_chart.specs.declared.label_texts.TheConstants.{COMMA, PROTOCOL, UNNAMED}
 

@@ -2,7 +2,7 @@
 use Rattle.std.specs.Prelude.{ℕ, ◌-◌, ◌/◌, ◌%◌, ◌^◌, ◌==◌, nat_le, nat_lt, false, if◌then◌else◌, List, [], ◌∷◌, ◌++◌, decimal, flat_map, get_or, map, take, length}
 use Rattle.std.specs.Fmt.{digits}
 use Rattle.scmi_plan.specs.Board.{Board}
-use Rattle.scmi_template.specs.Filled.{filled}
+use Rattle.scmi_io.specs.Filled.{filled}
 use Rattle.scmi_chart.specs.declared.detail_texts.TheConstants.{DROPPED}
 use Rattle.scmi_chart.specs.declared.label_texts.TheConstants.{AGENT, CLOCK, DISABLED, DOMAIN, ENABLED, HEX, MORE, OFF, ON, PLATFORM, SPACE}
 use Rattle.scmi_chart.specs.declared.words.TheConstants.{SHOWN_WORDS}

@@ -1,12 +1,12 @@
 //! Values in texts.
 ghost use Rattle.std.specs.Prelude.{◌≡◌, IfOk, OnOk, map};
 ghost use Rattle.std.specs.Io.KnownBytes.{Appends};
-ghost use Rattle.scmi_template.specs.Filled.{filled};
+ghost use Rattle.scmi_io.specs.Filled.{filled};
 ghost use Rattle.scmi_chart.specs.Value.{value_text};
 ghost use Rattle.scmi_chart.specs.Words.{hex_text};
 
 use crate::label_texts::HEX;
-use scmi_template::{Piece, write_filled};
+use scmi_io::{Piece, write_filled};
 use std::alloc::{AllocError, Global};
 use std::io;
 use std::io::Write;

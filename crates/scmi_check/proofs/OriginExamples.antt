@@ -8,7 +8,7 @@ use Rattle.scmi_codec.specs.declared.message.Message.{Message}
 use Rattle.scmi_codec.specs.Listing.{rows_of}
 use Rattle.scmi_judge.specs.declared.entry.Entry.TheVariants.{Answered, Delivered}
 use Rattle.scmi_judge.specs.declared.verdict.Verdict.TheVariants as verdict
-use Rattle.scmi_template.specs.Filled.{filled}
+use Rattle.scmi_io.specs.Filled.{filled}
 use Rattle.scmi_check.specs.Deciding.{check_word}
 use Rattle.scmi_check.specs.Own.{own_rule}
 use Rattle.scmi_check.specs.Report.{lines_text}

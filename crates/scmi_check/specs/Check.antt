@@ -5,8 +5,8 @@ use Rattle.scmi_board.specs.Channels.{Described}
 use Rattle.scmi_board.specs.Lines.{whole}
 use Rattle.scmi_board.specs.ValidBoard.{IsBoardFault, IsBoardText, said_in, with_its_channels}
 use Rattle.scmi_board.specs.declared.board_error.BoardError.TheVariants as board
-use Rattle.scmi_fault.specs.FaultLine.{fault_line}
-use Rattle.scmi_input.specs.declared.input.TheConstants.{INPUT_BYTES}
+use Rattle.scmi_io.specs.FaultLine.{fault_line}
+use Rattle.scmi_io.specs.declared.input.TheConstants.{INPUT_BYTES}
 use Rattle.scmi_plan.specs.Board.{Board}
 use Rattle.scmi_plan.specs.PlanError.{number}
 use Rattle.scmi_plan.specs.declared.plan_error.PlanError.{PlanError}

@@ -4,9 +4,9 @@ use Rattle.scmi_board.specs.declared.board_error.BoardError.{BoardError}
 use Rattle.scmi_board.specs.declared.board_error.BoardError.TheVariants as board
 use Rattle.scmi_board.specs.declared.text_error.TextError.{TextError}
 use Rattle.scmi_board.specs.declared.text_error.TextError.TheVariants as text
-use Rattle.scmi_fault.specs.declared.fault_words.TheConstants.{BOARD, MEMORY, PLAN, READ, RECORD, SIZE, WRITE}
-use Rattle.scmi_input.specs.declared.input_error.InputError.{InputError}
-use Rattle.scmi_input.specs.declared.input_error.InputError.TheVariants as input
+use Rattle.scmi_io.specs.declared.fault_words.TheConstants.{BOARD, MEMORY, PLAN, READ, RECORD, SIZE, WRITE}
+use Rattle.scmi_io.specs.declared.input_error.InputError.{InputError}
+use Rattle.scmi_io.specs.declared.input_error.InputError.TheVariants as input
 use Rattle.scmi_plan.specs.PlanError.{number}
 use Rattle.scmi_check.specs.declared.check_error.CheckError.{CheckError}
 use Rattle.scmi_check.specs.declared.check_error.CheckError.TheVariants.{Size, Read, Board, Plan, Record, Memory, Write}

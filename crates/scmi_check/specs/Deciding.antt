@@ -21,7 +21,7 @@ use Rattle.scmi_check.specs.declared.check_row.When.{When}
 use Rattle.scmi_check.specs.declared.check_row.When.TheVariants as when
 use Rattle.scmi_check.specs.declared.judged.Judged.{Judged}
 use Rattle.scmi_check.specs.declared.texts.TheConstants.{BY}
-use Rattle.scmi_template.specs.Filled.{filled}
+use Rattle.scmi_io.specs.Filled.{filled}
 
 -- a command has this protocol and message id
 abbrev pub is_command : ℕ → ℕ → HeaderFields → Bool

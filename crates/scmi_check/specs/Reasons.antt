@@ -9,7 +9,7 @@ use Rattle.scmi_judge.specs.declared.verdict.Verdict.{Verdict}
 use Rattle.scmi_judge.specs.declared.verdict.Verdict.TheVariants as verdict
 use Rattle.scmi_text.specs.Words.{message_text}
 use Rattle.scmi_check.specs.declared.texts.TheConstants.{AGENT, DUE, ERROR, MESSAGE, NOTHING_DUE, RELEASED, SEEN, STATUS}
-use Rattle.scmi_template.specs.Filled.{filled}
+use Rattle.scmi_io.specs.Filled.{filled}
 
 -- the name of the status that a payload begins with, after a space
 abbrev pub status_text : List ℕ → List ℕ

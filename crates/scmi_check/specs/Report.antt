@@ -13,7 +13,7 @@ use Rattle.scmi_check.specs.declared.style.Style.{Style}
 use Rattle.scmi_check.specs.declared.style.Style.TheVariants.{Plain, Tap}
 use Rattle.scmi_check.specs.declared.origin.Origin.{Origin}
 use Rattle.scmi_check.specs.declared.texts.TheConstants.{AFTER, COUNTS, DIFFERS, FAILED, MARK, OWN, PASSED, PLAN, REMARK, SAME, SET}
-use Rattle.scmi_template.specs.Filled.{filled}
+use Rattle.scmi_io.specs.Filled.{filled}
 
 -- what was found, with the rule if it is one of the profile's own
 abbrev pub finding_text : Finding → List ℕ

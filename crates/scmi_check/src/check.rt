@@ -11,7 +11,7 @@ use crate::record::read_record;
 use crate::report::write_report;
 use crate::style::Style;
 use scmi_board::{Lines, read_valid_board};
-use scmi_input::{CountedReader, read_rest};
+use scmi_io::{CountedReader, read_rest};
 use scmi_plan::Plan;
 use std::alloc::Global;
 use std::io::{Read, Write};

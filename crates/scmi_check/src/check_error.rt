@@ -6,8 +6,7 @@ ghost use Rattle.scmi_check.specs.declared.run.TheConstants.{DIFFERS};
 
 use scmi_board::{BoardError, TextError};
 use scmi_core::CoreError;
-use scmi_fault::{BOARD, MEMORY, PLAN, READ, RECORD, SIZE, WRITE};
-use scmi_input::InputError;
+use scmi_io::{BOARD, InputError, MEMORY, PLAN, READ, RECORD, SIZE, WRITE};
 use std::error::Error;
 use std::fmt;
 

@@ -12,8 +12,8 @@ use crate::own_test::{begins_with, has_reserved_flags};
 use crate::texts::BY;
 use crate::value::Value;
 use scmi_codec::{Answer, Command, Frame, Header, Message, is_listed, wanted_words};
+use scmi_io::write_filled;
 use scmi_judge::{Entry, Verdict};
-use scmi_template::write_filled;
 use std::io;
 use std::io::Write;
 

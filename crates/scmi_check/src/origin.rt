@@ -5,7 +5,7 @@ ghost use Rattle.scmi_check.specs.Report.{line_named, origin_text};
 
 use crate::texts::{AFTER, MARK, SET};
 use crate::value::Value;
-use scmi_template::write_filled;
+use scmi_io::write_filled;
 use std::io;
 use std::io::Write;
 

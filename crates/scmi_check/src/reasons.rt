@@ -6,8 +6,8 @@ ghost use Rattle.scmi_check.specs.Reasons.{answer_text, lack_text, reasons_text,
 use crate::texts::{AGENT, DUE, ERROR, MESSAGE, NOTHING_DUE, RELEASED, SEEN, STATUS};
 use crate::value::Value;
 use scmi_codec::{Answer, Status};
+use scmi_io::write_filled;
 use scmi_judge::{Entry, Verdict};
-use scmi_template::write_filled;
 use scmi_text::write_message_text;
 use std::io;
 use std::io::Write;

@@ -13,7 +13,7 @@ use crate::reasons::write_reasons;
 use crate::style::Style;
 use crate::texts::{COUNTS, DIFFERS, FAILED, OWN, PASSED, PLAN, REMARK, SAME};
 use crate::value::Value;
-use scmi_template::write_filled;
+use scmi_io::write_filled;
 use std::io;
 use std::io::Write;
 

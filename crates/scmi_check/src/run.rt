@@ -6,7 +6,7 @@ ghost use Rattle.scmi_check.specs.declared.run.TheConstants.{DIFFERS};
 use crate::check::check;
 use crate::check_error::CheckError;
 use crate::style::Style;
-use scmi_fault::write_fault;
+use scmi_io::write_fault;
 use std::alloc::Global;
 use std::io::{Read, Write};
 

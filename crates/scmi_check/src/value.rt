@@ -1,7 +1,7 @@
 //! What fills the holes of texts.
 ghost use Rattle.scmi_check.specs.Value.{value_text};
 
-use scmi_template::Piece;
+use scmi_io::Piece;
 use std::io;
 use std::io::Write;
 

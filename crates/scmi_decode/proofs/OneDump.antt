@@ -5,7 +5,7 @@ use Rattle.std.specs.List.{slice_split}
 use Rattle.std.specs.Io.KnownBytes.{Appends}
 use Rattle.std.proofs.lemmas.Bool.Decides.{nat_tests}
 use Rattle.std.proofs.lemmas.List.{length-append}
-use Rattle.scmi_input.specs.Lines.{is_line_feed}
+use Rattle.scmi_io.specs.Lines.{is_line_feed}
 use Rattle.scmi_decode.specs.OpenDump.{DumpView, no_dump, added, begun, closed, copies, end_at, extended, filled, goes_on, is_open, is_star, last_row, rows_before}
 use Rattle.scmi_decode.specs.Row.{RowView}
 use Rattle.scmi_decode.specs.Decoded.{IsDecoded, dump_after, dump_text, lines_text, numbered_text, step_text}

@@ -7,8 +7,8 @@ use Rattle.std.proofs.lemmas.Bool.Decides.{nat_tests}
 use Rattle.std.proofs.lemmas.List as list
 use Rattle.std.proofs.lemmas.List.Splits.{slice_split_first, slice_split_none}
 use Rattle.std.proofs.lemmas.List.Sums.{fails_before_first, prefix_len-le-length}
-use Rattle.scmi_input.specs.declared.input.TheConstants.{INPUT_BYTES}
-use Rattle.scmi_input.specs.Lines.{is_line_feed, first_line, after_line, has_line_feed}
+use Rattle.scmi_io.specs.declared.input.TheConstants.{INPUT_BYTES}
+use Rattle.scmi_io.specs.Lines.{is_line_feed, first_line, after_line, has_line_feed}
 use Rattle.scmi_decode.specs.OpenDump.{DumpView, no_dump, closed}
 use Rattle.scmi_decode.specs.Decoded.{IsDecoded, decoded_text, dump_after, dump_text, has_area, lines_found, lines_text, step_text}
 

@@ -1,7 +1,7 @@
 -- The exit statuses of a run.
 use Rattle.std.specs.Prelude.{ℕ}
-use Rattle.scmi_input.specs.declared.input_error.InputError.{InputError}
-use Rattle.scmi_input.specs.declared.input_error.InputError.TheVariants as input
+use Rattle.scmi_io.specs.declared.input_error.InputError.{InputError}
+use Rattle.scmi_io.specs.declared.input_error.InputError.TheVariants as input
 use Rattle.scmi_decode.specs.declared.decode_error.DecodeError.{DecodeError}
 use Rattle.scmi_decode.specs.declared.decode_error.DecodeError.TheVariants.{Size, Read, Memory, Write, NoArea}
 

@@ -6,7 +6,7 @@ use Rattle.byteorder.specs.Endian.{big_from}
 use Rattle.scmi_codec.specs.Area.{is_well_formed, length_at}
 use Rattle.scmi_codec.specs.declared.area.TheConstants.{AREA_BYTES}
 use Rattle.scmi_codec.specs.declared.channel_area.TheConstants.{LEAST_AREA_BYTES}
-use Rattle.scmi_input.specs.Lines.{is_line_feed}
+use Rattle.scmi_io.specs.Lines.{is_line_feed}
 use Rattle.scmi_describe.specs.Description.{described_channel}
 use Rattle.scmi_describe.specs.Text.{description_text}
 use Rattle.scmi_decode.specs.MessageLine.{alone_bytes}

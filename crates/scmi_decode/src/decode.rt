@@ -1,8 +1,8 @@
 //! A run from its input to its exit status.
 ghost use Rattle.std.specs.Prelude.{◌≡◌, ◌≢◌, ◌<◌, ◌≤◌, IfErr, IfOk, IfSome, IsErrOf, IsTrue, OnOk, false, length};
 ghost use Rattle.std.specs.Io.KnownBytes.{Appends};
-ghost use Rattle.scmi_input.specs.Reads.{StopsWith};
-ghost use Rattle.scmi_input.specs.declared.input.TheConstants.{INPUT_BYTES};
+ghost use Rattle.scmi_io.specs.Reads.{StopsWith};
+ghost use Rattle.scmi_io.specs.declared.input.TheConstants.{INPUT_BYTES};
 ghost use Rattle.scmi_decode.specs.Decoded.{IsDecoded, has_area};
 ghost use Rattle.scmi_decode.specs.OneDump.{WritesForms};
 
@@ -10,8 +10,7 @@ use crate::decode_error::DecodeError;
 use crate::open_dump::OpenDump;
 use crate::readings::Readings;
 use crate::step::{close_and_say, take_and_say};
-use scmi_fault::write_fault;
-use scmi_input::{CountedRead, CountedReader, Input};
+use scmi_io::{CountedRead, CountedReader, Input, write_fault};
 use std::alloc::Global;
 use std::io::{Read, Write};
 

@@ -3,7 +3,7 @@ ghost use Rattle.std.specs.Prelude.{◌≡◌, ◌≢◌};
 ghost use Rattle.scmi_decode.specs.DecodeError.{fault_of_input, status_of};
 ghost use Rattle.scmi_decode.specs.declared.decode_error.DecodeError.TheVariants.{Memory};
 
-use scmi_input::InputError;
+use scmi_io::InputError;
 use std::alloc::AllocError;
 use thiserror::Error;
 

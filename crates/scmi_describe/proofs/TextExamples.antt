@@ -6,7 +6,7 @@ use Rattle.scmi_codec.specs.Listing.{rows_of}
 use Rattle.scmi_codec.specs.declared.frame.Frame.TheVariants.{Good, Malformed}
 use Rattle.scmi_describe.specs.Digits.{eight_digits, two_digits}
 use Rattle.scmi_describe.specs.Field.{fields_text, name_words}
-use Rattle.scmi_template.specs.Filled.{filled}
+use Rattle.scmi_io.specs.Filled.{filled}
 use Rattle.scmi_describe.specs.Heading.{in_brackets, name_text, notification_name_text, own_token_text, token_text, unknown_text}
 use Rattle.scmi_describe.specs.LinePart.{state_text, status_or_none, taken_text, why_text}
 use Rattle.scmi_describe.specs.Literal.{literal}

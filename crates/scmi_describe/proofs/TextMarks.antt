@@ -10,12 +10,12 @@ use Rattle.scmi_codec.specs.declared.frame.Frame.{Frame}
 use Rattle.scmi_codec.specs.declared.frame.Frame.TheVariants.{Good, Malformed}
 use Rattle.scmi_describe.specs.Literal.{literal}
 use Rattle.scmi_describe.specs.Digits.{eight_digits}
-use Rattle.scmi_template.specs.Filled.{filled}
+use Rattle.scmi_io.specs.Filled.{filled}
 use Rattle.scmi_describe.specs.LinePart.{state_text, why_text}
 use Rattle.scmi_describe.specs.Words.{words_text, words_start, each_word}
 use Rattle.scmi_describe.specs.Text.{description_text, command_text, command_line, withdrawn_text, withdrawn_line, request_fields_text, response_text, reply_text, delayed_text, delayed_line, notification_text, notification_line, channel_error_text, malformed_text, length_text, foreign_text}
 use Rattle.scmi_describe.specs.declared.description.Description.{Description}
-use Rattle.scmi_template.specs.declared.filled.TheConstants.{HOLE}
+use Rattle.scmi_io.specs.declared.filled.TheConstants.{HOLE}
 use Rattle.scmi_describe.specs.declared.lines.TheConstants.{ERROR_MALFORMED, LENGTH, MALFORMED, UNUSED}
 use Rattle.scmi_describe.proofs.Backward.{back, back-append, eight_back, words_back, back-each_word}
 use Rattle.scmi_describe.proofs.Figures.{decimal_first}

@@ -2,7 +2,7 @@
 use Rattle.std.specs.Prelude.{ℕ, ◌/◌, ◌*◌, ◌%◌, ◌^◌, ◌==◌, ◌&&◌, not, Bool, if◌then◌else◌, List, [], ◌∷◌, decimal, flat_map, slice_index, false}
 use Rattle.std.specs.Fmt.{digits}
 use Rattle.scmi_describe.specs.Digits.{eight_digits}
-use Rattle.scmi_template.specs.Filled.{filled}
+use Rattle.scmi_io.specs.Filled.{filled}
 use Rattle.scmi_describe.specs.Literal.{literal}
 use Rattle.scmi_describe.specs.Value.{agent_text, characters, if_text, reserved_text, state_text, subject_text}
 use Rattle.scmi_describe.specs.declared.field.Field.{Field}

@@ -4,7 +4,7 @@ use Rattle.std.specs.Fmt.{digits}
 use Rattle.scmi_codec.specs.Header.{HeaderFields}
 use Rattle.scmi_codec.specs.Listing.{message_name}
 use Rattle.scmi_describe.specs.Digits.{two_digits}
-use Rattle.scmi_template.specs.Filled.{filled}
+use Rattle.scmi_io.specs.Filled.{filled}
 use Rattle.scmi_describe.specs.Names.{notification_text, protocol_text}
 use Rattle.scmi_describe.specs.Value.{reserved_text}
 use Rattle.scmi_describe.specs.declared.lines.TheConstants.{IN_BRACKETS, OWN_TOKEN, TOKEN, UNKNOWN}

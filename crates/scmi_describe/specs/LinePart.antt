@@ -3,7 +3,7 @@ use Rattle.std.specs.Prelude.{ℕ, ◌+◌, ◌*◌, ◌%◌, ◌==◌, nat_lt, 
 use Rattle.scmi_codec.specs.declared.payload.TheConstants.{PAYLOAD_WORDS}
 use Rattle.scmi_codec.specs.declared.status.Status.{Status}
 use Rattle.scmi_describe.specs.Digits.{eight_digits}
-use Rattle.scmi_template.specs.Filled.{filled}
+use Rattle.scmi_io.specs.Filled.{filled}
 use Rattle.scmi_describe.specs.Heading.{name_text, notification_name_text, own_token_text, token_text}
 use Rattle.scmi_describe.specs.Literal.{literal}
 use Rattle.scmi_describe.specs.Names.{status_text}

@@ -2,7 +2,7 @@
 use Rattle.std.specs.Prelude.{ℕ, zero, suc, ◌+◌, ◌*◌, ◌/◌, ◌%◌, ◌^◌, ◌==◌, if◌then◌else◌, List, [], ◌∷◌, ◌++◌, length, codes, decimal, min, slice_index, unwrap_or}
 use Rattle.scmi_codec.specs.Rate.{rate_of}
 use Rattle.scmi_describe.specs.Digits.{two_digits}
-use Rattle.scmi_template.specs.Filled.{filled}
+use Rattle.scmi_io.specs.Filled.{filled}
 use Rattle.scmi_describe.specs.Names.{protocol_text}
 use Rattle.scmi_describe.specs.Value.{reserved_text}
 use Rattle.scmi_describe.specs.declared.lists.TheConstants.{FIRST_PROTOCOL, NEXT_PROTOCOL, NO_NAME, PROTOCOLS, RATE, RATES, TRIPLET}

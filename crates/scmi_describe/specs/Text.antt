@@ -12,7 +12,7 @@ use Rattle.scmi_codec.specs.declared.frame.Frame.TheVariants as frame
 use Rattle.scmi_describe.specs.Commands.{command_fields}
 use Rattle.scmi_describe.specs.Digits.{eight_digits}
 use Rattle.scmi_describe.specs.Field.{fields_text}
-use Rattle.scmi_template.specs.Filled.{filled}
+use Rattle.scmi_io.specs.Filled.{filled}
 use Rattle.scmi_describe.specs.Heading.{name_text, notification_name_text, own_token_text, token_text}
 use Rattle.scmi_describe.specs.LinePart.{state_text, status_or_none, taken_text, why_text}
 use Rattle.scmi_describe.specs.Literal.{literal}

@@ -9,7 +9,7 @@ use crate::line_part::LinePart::{Count, Name, Token};
 use crate::lines::{COMMAND, MISFIT, OTHER_SIZE, UNNAMED, WITHDRAWN};
 use crate::words::write_words;
 use scmi_codec::{Command, Message, Status, wanted_words};
-use scmi_template::write_filled;
+use scmi_io::write_filled;
 use std::io;
 use std::io::Write;
 

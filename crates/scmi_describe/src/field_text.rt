@@ -2,7 +2,7 @@
 ghost use Rattle.std.specs.Prelude.{◌∷◌, [], OnOk};
 ghost use Rattle.std.specs.Io.KnownBytes.{Appends};
 ghost use Rattle.scmi_describe.specs.Field.{by_line, clocks_line, counts_line, domains_line, field_text, fields_text, statistics_line, version_line};
-ghost use Rattle.scmi_template.specs.Filled.{filled};
+ghost use Rattle.scmi_io.specs.Filled.{filled};
 ghost use Rattle.scmi_describe.specs.Value.{value_text};
 
 use crate::field::Field;
@@ -15,7 +15,7 @@ use crate::flags::{write_flag, write_rate_flags, write_supports, write_switch};
 use crate::literal::write_text;
 use crate::name_text::write_name;
 use crate::value::Value;
-use scmi_template::write_filled;
+use scmi_io::write_filled;
 use std::io;
 use std::io::Write;
 

@@ -8,7 +8,7 @@ use crate::field_lines::{
     ROUND_NEAREST, ROUND_UP, SUPPORTS, SYNCHRONOUS,
 };
 use crate::value::Value;
-use scmi_template::write_filled;
+use scmi_io::write_filled;
 use std::io;
 use std::io::Write;
 

@@ -8,7 +8,7 @@ use crate::lines::{CHANNEL_ERROR, ERROR_MALFORMED, FOREIGN, LENGTH, MALFORMED};
 use crate::literal::write_text;
 use crate::words::write_words;
 use scmi_codec::{Frame, Message};
-use scmi_template::write_filled;
+use scmi_io::write_filled;
 use std::io;
 use std::io::Write;
 

@@ -7,7 +7,7 @@ use crate::lines::{IN_BRACKETS, OWN_TOKEN, TOKEN, UNKNOWN};
 use crate::names::{notification_name, protocol_name};
 use crate::value::Value;
 use scmi_codec::{Header, message_name};
-use scmi_template::write_filled;
+use scmi_io::write_filled;
 use std::io;
 use std::io::Write;
 

@@ -10,7 +10,7 @@ use crate::literal::write_text;
 use crate::names::status_name;
 use crate::value::Value;
 use scmi_codec::{Header, PAYLOAD_WORDS, Status};
-use scmi_template::{Piece, write_filled};
+use scmi_io::{Piece, write_filled};
 use std::io;
 use std::io::Write;
 

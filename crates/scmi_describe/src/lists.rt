@@ -6,7 +6,7 @@ ghost use Rattle.scmi_describe.specs.Lists.{id_at, id_text, ids_text, protocol_l
 use crate::names::protocol_name;
 use crate::value::Value;
 use scmi_codec::rate_of;
-use scmi_template::write_filled;
+use scmi_io::write_filled;
 use std::io;
 use std::io::Write;
 

@@ -6,7 +6,7 @@ ghost use Rattle.scmi_describe.specs.Value.{character, characters};
 
 use crate::field_lines::{MORE_BYTES, NAME, OTHER_CHARACTER};
 use crate::value::Value;
-use scmi_template::write_filled;
+use scmi_io::write_filled;
 use std::io;
 use std::io::Write;
 

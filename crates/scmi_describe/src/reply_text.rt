@@ -11,7 +11,7 @@ use crate::lists::{write_protocols, write_rates};
 use crate::reply::reply_fields;
 use crate::words::write_words;
 use scmi_codec::{BASE_PROTOCOL, CLOCK_PROTOCOL, Message, Status};
-use scmi_template::write_filled;
+use scmi_io::write_filled;
 use std::io;
 use std::io::Write;
 

@@ -14,7 +14,7 @@ use crate::reply::{delayed_fields, notification_fields};
 use crate::reply_text::{write_reply, write_response};
 use crate::words::write_words;
 use scmi_codec::{Message, Status};
-use scmi_template::write_filled;
+use scmi_io::write_filled;
 use std::io;
 use std::io::Write;
 

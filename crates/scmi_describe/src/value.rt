@@ -7,7 +7,7 @@ use crate::digits::{write_eight_digits, write_two_digits};
 use crate::field_lines::{CALLER, NO_AGENT, NO_STATE, OFF_STATE, ON_STATE, PLATFORM, RESERVED};
 use crate::literal::write_text;
 use crate::name_text::write_characters;
-use scmi_template::Piece;
+use scmi_io::Piece;
 use std::io;
 use std::io::Write;
 

@@ -5,7 +5,7 @@ ghost use Rattle.scmi_describe.specs.Words.{each_word, word_text, words_start, w
 
 use crate::value::Value;
 use scmi_codec::Message;
-use scmi_template::write_filled;
+use scmi_io::write_filled;
 use std::io;
 use std::io::Write;
 

@@ -2,8 +2,8 @@
 use Rattle.std.proofs.Common.{◌≡◌, ℕ, ◌≤◌, ◌<◌, List, take, length, Option, None, Some, IfSome, sym, ap, ◌∙◌, subst, arith}
 use Rattle.std.proofs.lemmas.List.{length-take, take_all}
 use Rattle.scmi_board.specs.Lines.{LinesView}
-use Rattle.scmi_input.specs.Lines.{after_line, first_line}
-use Rattle.scmi_input.specs.declared.input.TheConstants.{KEPT_BYTES}
+use Rattle.scmi_io.specs.Lines.{after_line, first_line}
+use Rattle.scmi_io.specs.declared.input.TheConstants.{KEPT_BYTES}
 use Rattle.scmi_draw.specs.AnyMode.{any_line_of}
 use Rattle.scmi_draw.specs.declared.any_mode.AnyMode.{AnyMode}
 use Rattle.scmi_draw.specs.declared.any_mode.AnyMode.TheVariants.{Script, Threads}

@@ -1,7 +1,7 @@
 -- The picture of a run.
 use Rattle.std.specs.Prelude.{◌≡◌, ℕ, List, Option, IfSome}
 use Rattle.std.specs.Io.KnownBytes.{Appends}
-use Rattle.scmi_input.specs.Lines.{after_line, first_line}
+use Rattle.scmi_io.specs.Lines.{after_line, first_line}
 use Rattle.scmi_svg.specs.Diagram.{diagram_text}
 use Rattle.scmi_svg.specs.declared.chart.Chart.{Chart}
 use Rattle.scmi_draw.specs.AnyMode.{any_line_of}

@@ -1,6 +1,6 @@
 //! A run from its input to its exit status.
 ghost use Rattle.std.specs.Prelude.{◌≡◌, ◌≢◌, ◌≤◌, ◌+◌, ◌*◌, IfErr, IfOk, OnOk};
-ghost use Rattle.scmi_input.specs.declared.input.TheConstants.{INPUT_BYTES};
+ghost use Rattle.scmi_io.specs.declared.input.TheConstants.{INPUT_BYTES};
 ghost use Rattle.scmi_modes.specs.Reads.{StopsAtFailure};
 ghost use Rattle.std.specs.Io.KnownBytes.{Appends};
 ghost use Rattle.scmi_svg.specs.Diagram.{diagram_text};
@@ -11,8 +11,7 @@ use crate::any_mode::AnyMode;
 use crate::form::Form;
 use crate::run::chart_of;
 use crate::threads::chart_of_threads;
-use scmi_fault::write_fault;
-use scmi_input::{CountedRead, CountedReader, Input, read_rest};
+use scmi_io::{CountedRead, CountedReader, Input, read_rest, write_fault};
 use scmi_modes::RunError;
 use scmi_svg::{Chart, write_chart, write_diagram};
 use scmi_threads::Gate;

@@ -1,7 +1,7 @@
 //! A reader whose first bytes are kept, so that a fault can be explained.
 ghost use Rattle.std.specs.Prelude.{◌≡◌};
 
-use scmi_input::INPUT_BYTES;
+use scmi_io::INPUT_BYTES;
 use std::alloc::Global;
 use std::io::{Error, Read, Result};
 use std::marker::Model;

@@ -4,7 +4,7 @@ use crate::expected::Expected;
 use crate::rows::Rows;
 use crate::text::{behind_first, first_line};
 use crate::what::What;
-use scmi_input::INPUT_BYTES;
+use scmi_io::INPUT_BYTES;
 
 /// The most steps of a script that is drawn.
 const DRAWN_STEPS: usize = 2_000;

@@ -7,7 +7,7 @@ use Rattle.std.proofs.lemmas.Bool.Decides.{nat_tests}
 use Rattle.std.proofs.lemmas.List as list
 use Rattle.std.proofs.lemmas.List.Splits.{slice_split_first, slice_split_none}
 use Rattle.std.proofs.lemmas.List.Sums.{fails_before_first}
-use Rattle.scmi_input.specs.Lines.{is_line_feed, first_line, after_line, has_line_feed}
+use Rattle.scmi_io.specs.Lines.{is_line_feed, first_line, after_line, has_line_feed}
 use Rattle.scmi_link.specs.View.{CallerView}
 use Rattle.scmi_link.specs.declared.closing.Closing.{Closing}
 use Rattle.scmi_link.specs.declared.close_error.CloseError.{CloseError}

@@ -5,7 +5,7 @@ use Rattle.std.specs.Io.KnownBytes.{Appends}
 use Rattle.scmi_link.specs.View.{CallerView}
 use Rattle.scmi_link.specs.declared.closing.Closing.{Closing}
 use Rattle.scmi_link.specs.declared.close_error.CloseError.{CloseError}
-use Rattle.scmi_input.specs.Lines.{is_line_feed}
+use Rattle.scmi_io.specs.Lines.{is_line_feed}
 use Rattle.scmi_plan.specs.Board.{Board}
 use Rattle.scmi_session.specs.Run.{IsGathered, Runs}
 use Rattle.scmi_session.specs.SessionView.{SessionView}

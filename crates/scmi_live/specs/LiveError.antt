@@ -1,7 +1,7 @@
 -- The exit statuses of a session.
 use Rattle.std.specs.Prelude.{ℕ}
-use Rattle.scmi_input.specs.declared.input_error.InputError.{InputError}
-use Rattle.scmi_input.specs.declared.input_error.InputError.TheVariants as input
+use Rattle.scmi_io.specs.declared.input_error.InputError.{InputError}
+use Rattle.scmi_io.specs.declared.input_error.InputError.TheVariants as input
 use Rattle.scmi_live.specs.declared.live_error.LiveError.{LiveError}
 use Rattle.scmi_live.specs.declared.live_error.LiveError.TheVariants.{Size, Read, Memory, Write}
 

@@ -1,6 +1,6 @@
 //! A session from its input to its end.
 ghost use Rattle.std.specs.Prelude.{◌≡◌, OnOk, IfSome};
-ghost use Rattle.scmi_input.specs.Reads.{StopsWith};
+ghost use Rattle.scmi_io.specs.Reads.{StopsWith};
 ghost use Rattle.scmi_plan.specs.RawPlan.{asked_board};
 ghost use Rattle.scmi_ends.specs.Shut.{ShowsClose};
 ghost use Rattle.scmi_live.specs.Live.{IsTextOfLive};
@@ -8,7 +8,7 @@ ghost use Rattle.scmi_live.specs.Live.{IsTextOfLive};
 use crate::listener::Listener;
 use crate::live::Live;
 use crate::live_error::LiveError;
-use scmi_input::{CountedRead, Input};
+use scmi_io::{CountedRead, Input};
 use scmi_link::Channel;
 use scmi_plan::{Plan, RawPlan};
 use std::alloc::Global;

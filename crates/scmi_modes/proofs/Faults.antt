@@ -1,10 +1,10 @@
 -- The fault that a run of a known input ends with.
 use Rattle.std.proofs.Common.{◌≡◌, ◌≢◌, ℕ, ◌<◌, ◌≤◌, ◌⊎◌, inl, inr, List, take, length, Option, None, Some, IfSome, IfErr, IsErrOf, Result, Ok, Err, OnOk, refl, sym, ap, ◌∙◌, subst, arith}
 use Rattle.std.proofs.lemmas.List.{length-take, take_all}
-use Rattle.scmi_input.specs.Lines.{after_line, first_line}
-use Rattle.scmi_input.specs.declared.input.TheConstants.{INPUT_BYTES, KEPT_BYTES}
-use Rattle.scmi_input.specs.declared.input_error.InputError.{InputError}
-use Rattle.scmi_input.specs.declared.input_error.InputError.TheVariants as input
+use Rattle.scmi_io.specs.Lines.{after_line, first_line}
+use Rattle.scmi_io.specs.declared.input.TheConstants.{INPUT_BYTES, KEPT_BYTES}
+use Rattle.scmi_io.specs.declared.input_error.InputError.{InputError}
+use Rattle.scmi_io.specs.declared.input_error.InputError.TheVariants as input
 use Rattle.scmi_modes.specs.AnyMode.{Takes, any_text_of}
 use Rattle.scmi_modes.specs.Fault.{IsFaultBehind, IsFaultIn, IsFaultOfOnce, IsFaultOfRun}
 use Rattle.scmi_modes.specs.Once.{area_of}

@@ -1,7 +1,7 @@
 -- The mode that a first line names.
 use Rattle.std.proofs.Common.{◌≡◌, ℕ, List, take, get_or, Option, None, Some, IfSome, Result, Ok, Err, OnOk, sym, ap, ◌∙◌, refl, subst, arith}
-use Rattle.scmi_input.specs.Lines.{after_line, first_line}
-use Rattle.scmi_input.specs.declared.input.TheConstants.{KEPT_BYTES}
+use Rattle.scmi_io.specs.Lines.{after_line, first_line}
+use Rattle.scmi_io.specs.declared.input.TheConstants.{KEPT_BYTES}
 use Rattle.scmi_modes.specs.AnyMode.{Takes, any_text_of, hardware_text}
 use Rattle.scmi_modes.specs.Mode.{text_of}
 use Rattle.scmi_modes.specs.Program.{NamesNoHardware, RunsHardware, RunsSteps, RunsThreads}

@@ -5,9 +5,9 @@ use Rattle.scmi_board.specs.BoardText.{FailsBoard, board_left}
 use Rattle.scmi_board.specs.Lines.{Line, LinesView}
 use Rattle.scmi_board.specs.declared.text_error.TextError.{TextError}
 use Rattle.scmi_board.specs.declared.text_error.TextError.TheVariants as text
-use Rattle.scmi_input.specs.declared.input.TheConstants.{INPUT_BYTES}
-use Rattle.scmi_input.specs.declared.input_error.InputError.{InputError}
-use Rattle.scmi_input.specs.declared.input_error.InputError.TheVariants as input
+use Rattle.scmi_io.specs.declared.input.TheConstants.{INPUT_BYTES}
+use Rattle.scmi_io.specs.declared.input_error.InputError.{InputError}
+use Rattle.scmi_io.specs.declared.input_error.InputError.TheVariants as input
 use Rattle.scmi_plan.specs.Board.{Board}
 use Rattle.scmi_plan.specs.PlanError.{first_fault, number}
 use Rattle.scmi_plan.specs.declared.plan_error.PlanError.{PlanError}

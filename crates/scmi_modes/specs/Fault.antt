@@ -1,9 +1,9 @@
 -- The fault that a run of a known input ends with.
 use Rattle.std.specs.Prelude.{◌≡◌, ◌≢◌, ℕ, ◌<◌, ◌⊎◌, ⊤, List, length, Option, None, IfSome}
 use Rattle.std.specs.Io.KnownBytes.{Appends}
-use Rattle.scmi_fault.specs.FaultLine.{fault_line}
-use Rattle.scmi_input.specs.Lines.{first_line, after_line}
-use Rattle.scmi_input.specs.declared.input.TheConstants.{INPUT_BYTES}
+use Rattle.scmi_io.specs.FaultLine.{fault_line}
+use Rattle.scmi_io.specs.Lines.{first_line, after_line}
+use Rattle.scmi_io.specs.declared.input.TheConstants.{INPUT_BYTES}
 use Rattle.scmi_modes.specs.AnyMode.{Takes, any_text_of}
 use Rattle.scmi_modes.specs.Input.{IsFaultOf, IsFaultOrLimit, scripts_of_input, steps_of_input}
 use Rattle.scmi_modes.specs.Once.{area_of}

@@ -1,6 +1,6 @@
 -- What is written of an input that is known.
 use Rattle.std.specs.Prelude.{◌≡◌, ◌≢◌, ℕ, List, Option, Some, IfSome}
-use Rattle.scmi_input.specs.Lines.{first_line, after_line}
+use Rattle.scmi_io.specs.Lines.{first_line, after_line}
 use Rattle.scmi_modes.specs.AnyMode.{Takes, any_text_of, hardware_text}
 use Rattle.scmi_modes.specs.Mode.{text_of}
 use Rattle.scmi_modes.specs.Once.{IsAnswerTo}

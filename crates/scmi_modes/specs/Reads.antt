@@ -1,6 +1,6 @@
 -- What a run does once a read fails.
 use Rattle.std.specs.Prelude.{ℕ, Result}
-use Rattle.scmi_input.specs.Reads.{StopsWith}
+use Rattle.scmi_io.specs.Reads.{StopsWith}
 use Rattle.scmi_modes.specs.declared.run_error.RunError.{RunError}
 use Rattle.scmi_modes.specs.declared.run_error.RunError.TheVariants.{Read}
 

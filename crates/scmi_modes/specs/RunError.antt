@@ -4,9 +4,9 @@ use Rattle.scmi_modes.specs.declared.run_error.RunError.{RunError}
 use Rattle.scmi_modes.specs.declared.run_error.RunError.TheVariants.{Mode, Size, Read, Area, Board, Script, Plan, Limit, Memory, Write}
 use Rattle.scmi_board.specs.declared.text_error.TextError.{TextError}
 use Rattle.scmi_board.specs.declared.text_error.TextError.TheVariants as text
-use Rattle.scmi_fault.specs.declared.fault_words.TheConstants.{AREA, BOARD, LIMIT, MEMORY, MODE, PLAN, READ, SCRIPT, SIZE, WRITE}
-use Rattle.scmi_input.specs.declared.input_error.InputError.{InputError}
-use Rattle.scmi_input.specs.declared.input_error.InputError.TheVariants as input
+use Rattle.scmi_io.specs.declared.fault_words.TheConstants.{AREA, BOARD, LIMIT, MEMORY, MODE, PLAN, READ, SCRIPT, SIZE, WRITE}
+use Rattle.scmi_io.specs.declared.input_error.InputError.{InputError}
+use Rattle.scmi_io.specs.declared.input_error.InputError.TheVariants as input
 use Rattle.scmi_plan.specs.PlanError.{number}
 use Rattle.scmi_plan.specs.declared.plan_error.PlanError.{PlanError}
 use Rattle.scmi_plan.specs.declared.plan_error.PlanError.TheVariants as plan

@@ -3,14 +3,14 @@ ghost use Rattle.std.specs.Prelude.{◌≡◌, ◌≢◌, ◌<◌, ◌≤◌, �
 ghost use Rattle.std.specs.Io.KnownBytes.{Appends};
 ghost use Rattle.scmi_modes.specs.Once.{IsAnswerTo, area_of, area_text};
 ghost use Rattle.scmi_modes.specs.Reads.{StopsAtFailure};
-ghost use Rattle.scmi_input.specs.declared.input.TheConstants.{INPUT_BYTES};
+ghost use Rattle.scmi_io.specs.declared.input.TheConstants.{INPUT_BYTES};
 
 use crate::answer::answer_area;
 use crate::lines::only_line;
 use crate::run_error::RunError;
 use hex::FromHex;
 use scmi_codec::AREA_BYTES;
-use scmi_input::{CountedRead, CountedReader, read_rest};
+use scmi_io::{CountedRead, CountedReader, read_rest};
 use std::alloc::Global;
 use std::io::{Read, Write};
 

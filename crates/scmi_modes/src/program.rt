@@ -1,6 +1,6 @@
 //! A run from its first line to its exit status.
 ghost use Rattle.std.specs.Prelude.{◌≡◌, ◌≢◌, ◌≤◌, ◌+◌, ◌*◌, IfErr, IfSome, OnOk};
-ghost use Rattle.scmi_input.specs.declared.input.TheConstants.{INPUT_BYTES};
+ghost use Rattle.scmi_io.specs.declared.input.TheConstants.{INPUT_BYTES};
 ghost use Rattle.scmi_modes.specs.Once.{IsAnswerTo};
 ghost use Rattle.scmi_modes.specs.Program.{AnswersOnce, NamesMode, NamesNoHardware, RunsHardware, RunsSteps, RunsThreads};
 ghost use Rattle.scmi_modes.specs.Reads.{StopsAtFailure};
@@ -16,8 +16,7 @@ use crate::once::run_once_counted;
 use crate::run_error::RunError;
 use crate::steps::{run_hardware_counted, run_steps_counted};
 use crate::threads::run_threads_counted;
-use scmi_fault::write_fault;
-use scmi_input::{CountedRead, CountedReader, Input};
+use scmi_io::{CountedRead, CountedReader, Input, write_fault};
 use scmi_threads::Gate;
 use std::alloc::Global;
 use std::io::{Read, Write};

@@ -3,8 +3,7 @@ ghost use Rattle.std.specs.Prelude.{◌≡◌, ◌≢◌};
 ghost use Rattle.scmi_modes.specs.RunError.{status_of, fault_of_input, fault_of_text, fault_of_plan};
 
 use scmi_board::TextError;
-use scmi_fault::{AREA, BOARD, LIMIT, MEMORY, MODE, PLAN, READ, SCRIPT, SIZE, WRITE};
-use scmi_input::InputError;
+use scmi_io::{AREA, BOARD, InputError, LIMIT, MEMORY, MODE, PLAN, READ, SCRIPT, SIZE, WRITE};
 use scmi_plan::PlanError;
 use std::alloc::AllocError;
 use std::error::Error;

@@ -12,13 +12,13 @@ ghost use Rattle.scmi_modes.specs.Reads.{StopsAtFailure};
 ghost use Rattle.scmi_modes.specs.RunError.{status_of};
 ghost use Rattle.scmi_modes.specs.Runs.{may_be_full};
 ghost use Rattle.scmi_modes.specs.Steps.{AreStepLines, IsTextOfSteps, MayHave, WritesFirstSteps, WritesHardware, WritesScript, WritesSteps, shows_close};
-ghost use Rattle.scmi_input.specs.declared.input.TheConstants.{INPUT_BYTES};
+ghost use Rattle.scmi_io.specs.declared.input.TheConstants.{INPUT_BYTES};
 
 use crate::kind::Kind;
 use crate::run_error::RunError;
 use crate::script_kind::ScriptKind;
 use scmi_board::{Lines, TextError, read_board};
-use scmi_input::{CountedRead, CountedReader, read_rest};
+use scmi_io::{CountedRead, CountedReader, read_rest};
 use scmi_link::{Channel, RingChannel};
 use scmi_plan::Plan;
 use scmi_session::Session;

@@ -9,13 +9,13 @@ ghost use Rattle.scmi_modes.specs.RunError.{status_of};
 ghost use Rattle.scmi_text.specs.ScriptText.{scripts_of};
 ghost use Rattle.scmi_modes.specs.Input.{FailsInput, IsFaultOrLimit, scripts_of_input};
 ghost use Rattle.scmi_modes.specs.Runs.{IsTextOfAnyRun, IsTextOfEndedRun, IsTextOfRun, IsTextOfStoppedRun, logs_text, may_be_full};
-ghost use Rattle.scmi_input.specs.declared.input.TheConstants.{INPUT_BYTES};
+ghost use Rattle.scmi_io.specs.declared.input.TheConstants.{INPUT_BYTES};
 
 use crate::agents::run_agents;
 use crate::kind::Kind;
 use crate::run_error::RunError;
 use scmi_board::{Lines, read_board};
-use scmi_input::{CountedRead, CountedReader, read_rest};
+use scmi_io::{CountedRead, CountedReader, read_rest};
 use scmi_link::{Channel, RingChannel};
 use scmi_plan::Plan;
 use scmi_text::{read_scripts, write_script_lines};

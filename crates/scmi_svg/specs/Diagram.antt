@@ -1,6 +1,6 @@
 -- The lines of a diagram.
 use Rattle.std.specs.Prelude.{ℕ, List, [], ◌∷◌, ◌++◌, flat_map, decimal}
-use Rattle.scmi_template.specs.Filled.{filled}
+use Rattle.scmi_io.specs.Filled.{filled}
 use Rattle.scmi_svg.specs.DiagramValue.{label_text, shown_text}
 use Rattle.scmi_svg.specs.declared.chart.Chart.{Chart}
 use Rattle.scmi_svg.specs.declared.chart.Lifeline.{Lifeline}

@@ -6,7 +6,7 @@ ghost use Rattle.scmi_svg.specs.Diagram.{agents_text, beside_text, diagram_text,
 use crate::chart::{Chart, Lifeline};
 use crate::diagram_value::Value;
 use crate::mark::{Mark, Message, Side};
-use scmi_template::write_filled;
+use scmi_io::write_filled;
 use std::io;
 use std::io::Write;
 

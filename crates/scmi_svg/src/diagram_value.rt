@@ -4,7 +4,7 @@ ghost use Rattle.std.specs.Io.KnownBytes.{Appends};
 ghost use Rattle.scmi_svg.specs.DiagramValue.{label_text, part_text, shown_byte, shown_text, value_text};
 
 use crate::mark::Label;
-use scmi_template::Piece;
+use scmi_io::Piece;
 use std::io;
 use std::io::Write;
 

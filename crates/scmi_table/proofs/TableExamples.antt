@@ -2,7 +2,7 @@
 use Rattle.std.proofs.Common.{◌≡◌, [], refl}
 use Rattle.std.specs.Prelude.{codes}
 use Rattle.std.specs.Fmt.{digits}
-use Rattle.scmi_template.specs.Filled.{filled}
+use Rattle.scmi_io.specs.Filled.{filled}
 use Rattle.scmi_table.specs.Table.{edge_text, field_text, table_with}
 use Rattle.scmi_table.specs.declared.texts.TheConstants.{AGENTS_FIELD, AGENTS_START}
 

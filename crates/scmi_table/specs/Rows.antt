@@ -10,7 +10,7 @@ use Rattle.scmi_plan.specs.Rates.{SupportedRates}
 use Rattle.scmi_plan.specs.Rates as rates
 use Rattle.scmi_board.specs.Lines.{number_behind}
 use Rattle.scmi_board.specs.declared.channel_line.ChannelLine.{ChannelLine}
-use Rattle.scmi_template.specs.Filled.{filled}
+use Rattle.scmi_io.specs.Filled.{filled}
 use Rattle.scmi_table.specs.Value.{bit_text, hex_text, in_string}
 use Rattle.scmi_table.specs.declared.texts.TheConstants.{AGENT_ROW, DOMAIN_ROW, CLOCK_START, LIST_END, STEPS_END, RATE_ROW, DEVICE_ROW}
 

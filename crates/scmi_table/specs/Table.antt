@@ -3,7 +3,7 @@ use Rattle.std.specs.Prelude.{ℕ, ◌==◌, if◌then◌else◌, List, [], ◌�
 use Rattle.scmi_plan.specs.Board.{Board}
 use Rattle.scmi_board.specs.Channels.{Described}
 use Rattle.scmi_table.specs.Rows.{agents_text, clocks_text, device_text, domain_text, list_text, place_behind_all}
-use Rattle.scmi_template.specs.Filled.{filled}
+use Rattle.scmi_io.specs.Filled.{filled}
 use Rattle.scmi_table.specs.Value.{hex_text, in_string}
 use Rattle.scmi_table.specs.declared.texts.TheConstants.{INCLUDE, AGENTS_START, DOMAINS_START, CLOCKS_START, RATES_START, DEVICES_START, TABLE_END, BOARD_START, HEADING, AGENTS_FIELD, DOMAINS_FIELD, CLOCKS_FIELD, RATES_FIELD, DEVICES_FIELD, BOARD_END}
 

@@ -2,9 +2,9 @@
 use Rattle.std.specs.Prelude.{ℕ, List, ◌++◌, decimal}
 use Rattle.scmi_board.specs.declared.board_error.BoardError.{BoardError}
 use Rattle.scmi_board.specs.declared.board_error.BoardError.TheVariants as board
-use Rattle.scmi_fault.specs.declared.fault_words.TheConstants.{BOARD, MEMORY, PLAN, READ, SIZE, WRITE}
-use Rattle.scmi_input.specs.declared.input_error.InputError.{InputError}
-use Rattle.scmi_input.specs.declared.input_error.InputError.TheVariants as input
+use Rattle.scmi_io.specs.declared.fault_words.TheConstants.{BOARD, MEMORY, PLAN, READ, SIZE, WRITE}
+use Rattle.scmi_io.specs.declared.input_error.InputError.{InputError}
+use Rattle.scmi_io.specs.declared.input_error.InputError.TheVariants as input
 use Rattle.scmi_plan.specs.PlanError.{number}
 use Rattle.scmi_table.specs.declared.table_error.TableError.{TableError}
 use Rattle.scmi_table.specs.declared.table_error.TableError.TheVariants.{Size, Read, Board, Plan, Memory, Write}

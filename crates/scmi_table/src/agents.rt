@@ -7,8 +7,8 @@ use crate::texts::AGENT_ROW;
 use crate::value::Value::{Bit, Name, Number};
 use scmi_board::ChannelLine;
 use scmi_codec::{AREA_BYTES, PAYLOAD_WORDS};
+use scmi_io::write_filled;
 use scmi_plan::{AgentChannel, WHOLE_CHANNEL};
-use scmi_template::write_filled;
 use std::io;
 use std::io::Write;
 

@@ -10,8 +10,8 @@ use crate::texts::{
     RATES_FIELD,
 };
 use crate::value::Value::{Hex, Name, Number};
+use scmi_io::write_filled;
 use scmi_plan::RawPlan;
-use scmi_template::write_filled;
 use std::io;
 use std::io::Write;
 

@@ -7,8 +7,8 @@ ghost use Rattle.scmi_table.specs.Rows.{clock_text, clocks_text, kind_text, plac
 
 use crate::texts::{CLOCK_START, LIST_END, STEPS_END};
 use crate::value::Value::{Bit, Name, Number};
+use scmi_io::write_filled;
 use scmi_plan::{Rates, RawClock};
-use scmi_template::write_filled;
 use std::io;
 use std::io::Write;
 

@@ -6,7 +6,7 @@ ghost use Rattle.scmi_table.specs.Run.{IsFaultOf};
 
 use crate::table_error::TableError;
 use scmi_board::{BoardWithChannels, read_valid_board};
-use scmi_input::{CountedReader, read_rest};
+use scmi_io::{CountedReader, read_rest};
 use std::alloc::Global;
 use std::io::Read;
 

@@ -7,8 +7,8 @@ ghost use Rattle.scmi_table.specs.Rows.{device_text, domain_text, list_text, rat
 
 use crate::texts::{DEVICE_ROW, DOMAIN_ROW, RATE_ROW};
 use crate::value::Value::{Bit, Hex, Name, Number};
+use scmi_io::write_filled;
 use scmi_plan::{Device, Rates, RawClock, RawDomain};
-use scmi_template::write_filled;
 use std::io;
 use std::io::Write;
 

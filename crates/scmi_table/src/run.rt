@@ -5,7 +5,7 @@ ghost use Rattle.scmi_table.specs.Run.{EndsWithFault, WritesTable};
 use crate::read::read_board;
 use crate::table::write_table;
 use crate::table_error::TableError;
-use scmi_fault::write_fault;
+use scmi_io::write_fault;
 use std::alloc::Global;
 use std::io::{Read, Write};
 

@@ -3,8 +3,7 @@ ghost use Rattle.std.specs.Prelude.{◌≡◌, ◌≢◌};
 ghost use Rattle.scmi_table.specs.TableError.{error_of_board, error_of_input, status_of};
 
 use scmi_board::BoardError;
-use scmi_fault::{BOARD, MEMORY, PLAN, READ, SIZE, WRITE};
-use scmi_input::InputError;
+use scmi_io::{BOARD, InputError, MEMORY, PLAN, READ, SIZE, WRITE};
 use std::error::Error;
 use std::fmt;
 

@@ -3,7 +3,7 @@ ghost use Rattle.std.specs.Prelude.{◌≡◌, OnOk};
 ghost use Rattle.std.specs.Io.KnownBytes.{Appends};
 ghost use Rattle.scmi_table.specs.Value.{byte_text, in_string, is_marked, value_text};
 
-use scmi_template::Piece;
+use scmi_io::Piece;
 use std::io;
 use std::io::Write;
 

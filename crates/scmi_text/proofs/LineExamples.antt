@@ -8,7 +8,7 @@ use Rattle.scmi_link.specs.declared.close_error.CloseError.TheVariants.{InServic
 use Rattle.scmi_link.specs.declared.closing.Closing.TheVariants.{Idle, Withdrawn}
 use Rattle.scmi_link.specs.declared.collected.Collected.TheVariants as collected
 use Rattle.scmi_link.specs.declared.post_error.PostError.TheVariants as post
-use Rattle.scmi_template.specs.Filled.{filled}
+use Rattle.scmi_io.specs.Filled.{filled}
 use Rattle.scmi_script.specs.declared.flushed.Flushed.TheVariants as flushed
 use Rattle.scmi_script.specs.declared.served.Served.TheVariants as served
 use Rattle.scmi_script.specs.declared.shut_error.ShutError.TheVariants as shut

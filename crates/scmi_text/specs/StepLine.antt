@@ -5,7 +5,7 @@ use Rattle.scmi_codec.specs.declared.frame.Frame.TheVariants.{Good, Malformed}
 use Rattle.scmi_codec.specs.declared.frame.Answer.TheVariants.{Reply, Released, ChannelError}
 use Rattle.scmi_link.specs.declared.collected.Collected.{Collected}
 use Rattle.scmi_link.specs.declared.collected.Collected.TheVariants.{Nothing, Got, Closed as CollectedClosed}
-use Rattle.scmi_template.specs.Filled.{filled}
+use Rattle.scmi_io.specs.Filled.{filled}
 use Rattle.scmi_text.specs.Words.{message_text}
 use Rattle.scmi_text.specs.Names.{refusal_text, served_text, flushed_text, close_text, shut_text, advanced_text}
 use Rattle.scmi_text.specs.declared.step_line.StepLine.{StepLine}

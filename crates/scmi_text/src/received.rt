@@ -7,8 +7,8 @@ use crate::lines::{CLOSED, ERROR, NO_P2A, NOT_ANSWERED, P2A, P2A_ERROR, RELEASED
 use crate::value::Value::{Message, Number};
 use crate::value::write_agent_line;
 use scmi_codec::{Answer, Frame};
+use scmi_io::write_filled;
 use scmi_link::Collected;
-use scmi_template::write_filled;
 use std::io;
 use std::io::Write;
 

@@ -8,8 +8,8 @@ use crate::names::{close_error_name, closing_name, refusal_name};
 use crate::received::write_frame;
 use crate::value::Value::{Name, Number, Words};
 use crate::value::write_agent_line;
+use scmi_io::write_filled;
 use scmi_script::Line;
-use scmi_template::write_filled;
 use std::io;
 use std::io::Write;
 

@@ -11,9 +11,9 @@ use crate::received::{write_collected, write_p2a};
 use crate::value::Value::{Count, Name, Number};
 use crate::value::write_agent_line;
 use scmi_codec::Frame;
+use scmi_io::write_filled;
 use scmi_link::{CloseError, Closing, Collected, PostError};
 use scmi_script::{Flushed, Served, ShutError};
-use scmi_template::write_filled;
 use std::io;
 use std::io::Write;
 

@@ -1,12 +1,12 @@
 //! What fills the holes of lines, as it is written.
 ghost use Rattle.std.specs.Prelude.{OnOk, decimal, [], ◌∷◌};
 ghost use Rattle.std.specs.Io.KnownBytes.{Appends};
-ghost use Rattle.scmi_template.specs.Filled.{filled};
+ghost use Rattle.scmi_io.specs.Filled.{filled};
 ghost use Rattle.scmi_text.specs.Value.{value_text};
 
 use crate::words::{write_message_text, write_words};
 use scmi_codec::Message;
-use scmi_template::{Piece, write_filled};
+use scmi_io::{Piece, write_filled};
 use std::io;
 use std::io::Write;
 

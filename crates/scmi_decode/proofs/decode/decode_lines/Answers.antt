@@ -1,6 +1,6 @@
 use Rattle.std.proofs.Common.{◌≡◌, ℕ, List, Bool, true, false, IfSome, subst, sym, arith, rules, tests}
 use Rattle.std.proofs.lemmas.Bool.Decides.{nat_tests}
-use Rattle.scmi_input.specs.Lines.{first_line}
+use Rattle.scmi_io.specs.Lines.{first_line}
 use Rattle.scmi_decode.specs.Decoded.{has_area}
 use Rattle.scmi_decode.proofs.UnderWay.{at_end, one_more}
 use Rattle.scmi_decode.proofs.decode.decode_lines.Goals as goal

@@ -2,7 +2,7 @@ use Rattle.std.proofs.Common.{◌≡◌, List, ℕ, IfSome, OnOk, Result, Ok, Er
 use Rattle.std.proofs.lemmas.Result.{err_from_is_err_and}
 use Rattle.scmi_live.specs.LiveError.{fault_of_input}
 use Rattle.std.proofs.lemmas.Bool.Decides.{nat_tests}
-use Rattle.scmi_input.specs.Lines.{first_line}
+use Rattle.scmi_io.specs.Lines.{first_line}
 use Rattle.scmi_plan.specs.RawPlan.{asked_board}
 use Rattle.scmi_ends.specs.Shut.{ShowsClose}
 use Rattle.scmi_live.proofs.UnderWay.{at_end, one_more}

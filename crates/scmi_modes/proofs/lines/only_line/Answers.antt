@@ -3,7 +3,7 @@ use Rattle.std.proofs.lemmas.Iterator.Splits.{YieldsList-from_slice_split}
 use Rattle.std.proofs.lemmas.Iterator.Consumers.{YieldsList-turn, YieldsList-end, YieldsList-so_far}
 use Rattle.std.specs.List.{filter}
 use Rattle.scmi_board.specs.Lines.{is_significant}
-use Rattle.scmi_input.specs.Lines.{is_line_feed}
+use Rattle.scmi_io.specs.Lines.{is_line_feed}
 use Rattle.scmi_modes.proofs.OneLine.{is_only, is_second, some_mapped}
 use Rattle.scmi_modes.proofs.lines.only_line.Goals as goal
 

@@ -1,7 +1,7 @@
 use Rattle.std.proofs.Common.{◌≡◌, Err, ap, rules}
 use Rattle.scmi_modes.specs.AnyMode.{Takes, any_text_of}
 use Rattle.std.proofs.lemmas.Result.{err_from_is_err_and}
-use Rattle.scmi_input.specs.declared.input_error.InputError.{InputError}
+use Rattle.scmi_io.specs.declared.input_error.InputError.{InputError}
 use Rattle.scmi_modes.proofs.Faults.{in_mode, not_read, where_named}
 use Rattle.scmi_modes.proofs.FirstLine.{where_hardware, where_plain, where_steps, where_threads}
 use Rattle.scmi_modes.proofs.program.run_mode.Goals as goal

@@ -1,6 +1,6 @@
 use Rattle.std.proofs.Common.{Err, ap}
 use Rattle.std.proofs.lemmas.Result.{err_from_is_err_and}
-use Rattle.scmi_input.specs.declared.input_error.InputError.{InputError}
+use Rattle.scmi_io.specs.declared.input_error.InputError.{InputError}
 use Rattle.scmi_modes.proofs.Inputs.{known_length, known_stands, known_steps, known_text}
 use Rattle.scmi_modes.proofs.RunLemmas.{either_way, on_ok}
 use Rattle.scmi_modes.specs.Input.{steps_of_input}

@@ -1,5 +1,0 @@
-mod AheadLemmas
-pub mod FirstLine
-mod NextLine
-pub mod RestLemmas
-mod Numbers

@@ -1,0 +1,4 @@
+pub mod FaultLine
+pub mod Filled
+pub mod Lines
+pub mod Reads

@@ -1,2 +1,0 @@
-pub mod FilledExamples
-pub mod Holes
