@@ -1,5 +1,5 @@
 /*
- * One command again and again, for ./bench to count what an answer takes:
+ * One command again and again, for tools/bench to count what an answer takes:
  *
  *     answers [devices] post|answer|exchange COUNT HEADER WORD..
  *

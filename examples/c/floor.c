@@ -1,5 +1,5 @@
 /*
- * The floor of an exchange, for ./bench: its loads, stores and exchanges, each sequentially consistent, the
+ * The floor of an exchange, for tools/bench: its loads, stores and exchanges, each sequentially consistent, the
  * words of its event in a history that grows by doubling, and nothing in between.
  *
  *     floor words|rings COUNT WORDS REPLY [bare]

@@ -1,5 +1,5 @@
 #!/usr/bin/env python3
-"""A simulation over python/scmi.py: two agents, hardware that refuses each second change, and what is refused."""
+"""A simulation over tools/python/scmi.py: two agents, hardware that refuses each second change, and what is refused."""
 import scmi
 
 BOARD = """board Acme Lab 0x00010000 1

@@ -1,4 +1,4 @@
-//! One command of a platform again and again, for `./bench` to count what it takes.
+//! One command of a platform again and again, for `tools/bench` to count what it takes.
 
 use crate::board::new_plan;
 use crate::lines::Lines;

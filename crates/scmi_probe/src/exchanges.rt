@@ -1,4 +1,4 @@
-//! One command again and again, for `./bench` to count what an exchange takes.
+//! One command again and again, for `tools/bench` to count what an exchange takes.
 
 use crate::channels::open;
 use crate::lines::Lines;

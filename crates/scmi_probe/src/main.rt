@@ -1,5 +1,5 @@
 //! The library's calls that take memory, one by one: each that is refused memory is made again, or
-//! given up, and a line reports what each answered. `faults/run` refuses each request in turn.
+//! given up, and a line reports what each answered. `tests/faults/run` refuses each request in turn.
 //!
 //! With the arguments `exchange words|rings COUNT WORDS` it makes one exchange again and again, in
 //! place of the calls; with `command platform|core COUNT PROTOCOL MESSAGE WORD ..` a platform
