@@ -8,7 +8,7 @@
 //! | `Event` | `CommandFailed`, `AdvanceFailed`, `Restarted` |
 //! | `AgentLog` | `reply_looks`, `message_looks` |
 //! | `Channel` | ghost members, by which contracts speak of a channel |
-//! | the program | a library, `scmi_modes`, which has its names, and `scmi_threads` below it |
+//! | the program | a library, `scmi_modes`, which has its names, and two below it |
 #![tactic(auto)]
 
 #[cfg(test)]
