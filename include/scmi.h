@@ -132,15 +132,15 @@ typedef struct scmi_channel_numbers {
 
 /*
  * Makes a platform of a board's text (docs/SCRIPTS.md, "Boards"), which is `length` bytes; lines `channel` may
- * give the channels of its agents, and if none does, they are whole, SCMI_AREA_BYTES, both ways. It keeps no history
- * and takes no memory from then on. SCMI_DONE, SCMI_IN_USE, SCMI_MEMORY, SCMI_RULE + N or SCMI_LINE + L; L is
+ * give the channels of its agents, and if none does, they are whole, SCMI_AREA_BYTES, both ways. It takes memory here
+ * alone, and none from then on, so no later call gives SCMI_MEMORY. SCMI_DONE, SCMI_IN_USE, SCMI_MEMORY, SCMI_RULE + N or SCMI_LINE + L; L is
  * the last line if `end` is missing, and 0 if there is no line. Only comments and empty lines may follow `end`; the
  * zero that ends a string in C is such a line of another form. The rules: 1 counts, 2 names, 3 rates,
  * 4 devices, 5 the trusted agent.
  */
 uint32_t scmi_platform_new(scmi_platform *SCMI_ALONE platform, const uint8_t *board, size_t length);
 
-/* As scmi_platform_new, of a platform that keeps its history: it takes memory with its events. */
+/* As scmi_platform_new, of a platform that counts the events of its history, for scmi_history_length. */
 uint32_t scmi_platform_new_recorded(scmi_platform *SCMI_ALONE platform, const uint8_t *board, size_t length);
 
 /*
@@ -254,8 +254,8 @@ static inline size_t scmi_platform_bytes(const scmi_board *board)
 
 /*
  * Executes the frame in an agent's area, and answers it in place: the reply and status word 1, or
- * status word 3 to a malformed frame. SCMI_DONE, SCMI_NO_PLATFORM, SCMI_ASKED, SCMI_NOTHING (the channel is free),
- * SCMI_NO_AGENT, or SCMI_MEMORY of a platform that keeps its history. Agents are numbered from 1.
+ * status word 3 to a malformed frame. SCMI_DONE, SCMI_NO_PLATFORM, SCMI_ASKED, SCMI_NOTHING (the channel is free) or
+ * SCMI_NO_AGENT. Agents are numbered from 1.
  */
 uint32_t scmi_answer(scmi_platform *SCMI_ALONE platform, uint32_t agent, uint8_t area[SCMI_ALONE SCMI_AREA_BYTES]);
 
@@ -265,8 +265,7 @@ uint32_t scmi_answer(scmi_platform *SCMI_ALONE platform, uint32_t agent, uint8_t
  * the platform keeps the frame as it was read, and the area stays as it was. The program makes the change, and calls
  * scmi_commit, or scmi_fail if the hardware refused; until then every call that would change the platform gives
  * SCMI_ASKED and changes nothing, and the calls that read it go on. SCMI_NO_PLATFORM, SCMI_ASKED, SCMI_NO_FRAME (the
- * channel is free), SCMI_NO_AGENT, or SCMI_MEMORY of a platform that keeps its history; after SCMI_EFFECT there is
- * room for the event.
+ * channel is free) or SCMI_NO_AGENT.
  */
 uint32_t scmi_ask(scmi_platform *SCMI_ALONE platform, uint32_t agent, uint8_t area[SCMI_ALONE SCMI_AREA_BYTES],
                   scmi_effect *SCMI_ALONE effect);
@@ -275,7 +274,7 @@ uint32_t scmi_ask(scmi_platform *SCMI_ALONE platform, uint32_t agent, uint8_t ar
  * The hardware has made what scmi_ask gave: the command is executed as it was kept, and its answer written into the
  * area whole, status, length, header and payload. Nothing of the area is read, so what an agent does to it after
  * scmi_ask changes neither what is executed nor the answer. SCMI_DONE, SCMI_NO_PLATFORM, SCMI_NOTHING (no command was
- * asked about), or SCMI_WRONG_SIZE (it was in an area of another size), and never SCMI_MEMORY.
+ * asked about) or SCMI_WRONG_SIZE (it was in an area of another size).
  */
 uint32_t scmi_commit(scmi_platform *SCMI_ALONE platform, uint8_t area[SCMI_ALONE SCMI_AREA_BYTES]);
 
@@ -298,10 +297,7 @@ uint32_t scmi_fail_in(scmi_platform *SCMI_ALONE platform, uint8_t *SCMI_ALONE ar
 /* Gives what an agent's channels are. SCMI_DONE, SCMI_NO_PLATFORM or SCMI_NO_AGENT. */
 uint32_t scmi_channel(scmi_platform *SCMI_ALONE platform, uint32_t agent, scmi_channel_numbers *SCMI_ALONE channel);
 
-/*
- * Completes the first pending set. SCMI_DONE, SCMI_NO_PLATFORM, SCMI_ASKED, SCMI_NOTHING (none is pending), or
- * SCMI_MEMORY of a platform that keeps its history.
- */
+/* Completes the first pending set. SCMI_DONE, SCMI_NO_PLATFORM, SCMI_ASKED or SCMI_NOTHING (none is pending). */
 uint32_t scmi_advance(scmi_platform *platform);
 
 /*
@@ -313,8 +309,8 @@ uint32_t scmi_ask_advance(scmi_platform *SCMI_ALONE platform, scmi_effect *SCMI_
 
 /*
  * Takes the first pending set off, whose change the hardware refused: its delayed response, if one was asked for, is
- * HARDWARE_ERROR, and every value stays as it was. SCMI_DONE, SCMI_NO_PLATFORM, SCMI_ASKED, SCMI_NOTHING (none is
- * pending), or SCMI_MEMORY of a platform that keeps its history.
+ * HARDWARE_ERROR, and every value stays as it was. SCMI_DONE, SCMI_NO_PLATFORM, SCMI_ASKED or SCMI_NOTHING (none is
+ * pending).
  */
 uint32_t scmi_fail_advance(scmi_platform *platform);
 
@@ -329,8 +325,8 @@ uint32_t scmi_next(scmi_platform *SCMI_ALONE platform, uint32_t agent, uint8_t a
 uint32_t scmi_next_in(scmi_platform *SCMI_ALONE platform, uint32_t agent, uint8_t *SCMI_ALONE area, size_t bytes);
 
 /*
- * Takes the first message off an agent's outbox, as posted. SCMI_DONE, SCMI_NO_PLATFORM, SCMI_ASKED, SCMI_NO_AGENT,
- * SCMI_NOTHING (the outbox is empty), or SCMI_MEMORY of a platform that keeps its history.
+ * Takes the first message off an agent's outbox, as posted. SCMI_DONE, SCMI_NO_PLATFORM, SCMI_ASKED, SCMI_NO_AGENT
+ * or SCMI_NOTHING (the outbox is empty).
  */
 uint32_t scmi_sent(scmi_platform *platform, uint32_t agent);
 
@@ -339,8 +335,7 @@ uint32_t scmi_sent(scmi_platform *platform, uint32_t agent);
  * messages in its outbox, and the delayed responses to its pending sets. Permissions, values and the pending sets
  * themselves stay; so does what is in its channels already, which the program makes free. If a command of this agent is
  * asked about, it is committed or failed first, and its answer dropped: it would be taken for that to the agent's first
- * new command. scmi_mailbox_restart does all of this. SCMI_DONE, SCMI_NO_PLATFORM, SCMI_ASKED, SCMI_NO_AGENT, or
- * SCMI_MEMORY of a platform that keeps its history.
+ * new command. scmi_mailbox_restart does all of this. SCMI_DONE, SCMI_NO_PLATFORM, SCMI_ASKED or SCMI_NO_AGENT.
  */
 uint32_t scmi_restart(scmi_platform *platform, uint32_t agent);
 
@@ -364,7 +359,10 @@ uint32_t scmi_pending(scmi_platform *SCMI_ALONE platform, uint32_t place, uint32
 /* Gives how many messages wait in an agent's outbox. SCMI_DONE, SCMI_NO_PLATFORM or SCMI_NO_AGENT. */
 uint32_t scmi_outbox_length(scmi_platform *SCMI_ALONE platform, uint32_t agent, uint64_t *SCMI_ALONE messages);
 
-/* Gives the number of events of the history. SCMI_DONE, SCMI_NO_PLATFORM or SCMI_NO_HISTORY. */
+/*
+ * Gives the number of events of the history, or 2^64 - 1 if they are more. SCMI_DONE, SCMI_NO_PLATFORM or
+ * SCMI_NO_HISTORY (the platform was not made by scmi_platform_new_recorded).
+ */
 uint32_t scmi_history_length(scmi_platform *SCMI_ALONE platform, uint64_t *SCMI_ALONE events);
 
 /* Frees a platform. The handle then holds none; if it held none, nothing is done. */

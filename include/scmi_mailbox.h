@@ -197,8 +197,7 @@ static inline uint32_t scmi_mailbox_answer(const scmi_mailbox *box, const scmi_a
 /*
  * Polls for a command of an agent, and has it executed and answered. SCMI_DONE; SCMI_NOTHING if the channel is free;
  * SCMI_MAILBOX_LENGTH if the channel has fewer words than the reply, and then the agent gets a channel error; or
- * another number of scmi_answer, and then nothing has changed and the channel is busy: after SCMI_MEMORY the call may
- * be repeated.
+ * another number of scmi_answer, and then nothing has changed and the channel is busy.
  */
 static inline uint32_t scmi_mailbox_serve(const scmi_mailbox *box, scmi_platform *platform, uint32_t agent)
 {
@@ -237,8 +236,7 @@ static inline uint32_t scmi_mailbox_tell(const scmi_mailbox *box, scmi_platform 
  * about, `asked` is the copy that has it, and `made` whether the hardware has made the change: the command is committed
  * or fails, and the copy then holds no answer, so the agent gets none of it. Else `asked` is null. SCMI_DONE;
  * SCMI_ASKED if a command is asked about and `asked` is null: call again when it is answered. After the other numbers
- * of scmi_commit and scmi_restart nothing has changed, except that after SCMI_MEMORY the command is no longer asked
- * about: call again with null.
+ * of scmi_commit and scmi_restart nothing has changed.
  */
 static inline uint32_t scmi_mailbox_restart(const scmi_mailbox *a2p, const scmi_mailbox *p2a, scmi_platform *platform,
                                             uint32_t agent, scmi_area *asked, int made)

@@ -27,7 +27,7 @@ size_t scmi_memory_requests(void);
 /*
  * How many bytes are enough for a block with a platform of a valid board's text, by the numbers of its agents, domains,
  * clocks, rates in lists (of all clocks together) and devices: a constant. For a platform of tables SCMI_PLATFORM_BYTES
- * is enough. One that keeps its history needs more with each event.
+ * is enough.
  */
 #define SCMI_TEXT_BYTES(agents, domains, clocks, rates, devices) \
     ((size_t)8192 + 80 * (size_t)(agents) + 48 * (size_t)(domains) + SCMI_LEAST(128 * (size_t)(domains), 1920) + \
@@ -39,7 +39,7 @@ size_t scmi_memory_requests(void);
 /*
  * As scmi_platform_new, in a block of the program, which belongs to the platform until that is freed. SCMI_MEMORY if
  * the block is too small. Each platform may have its own block. Of two threads only one at a time may make or free a
- * platform this way, or be in a call that adds to a history.
+ * platform this way.
  */
 static inline uint32_t scmi_platform_new_in(scmi_platform *platform, void *block, size_t bytes, const uint8_t *board,
                                             size_t length)
@@ -48,7 +48,7 @@ static inline uint32_t scmi_platform_new_in(scmi_platform *platform, void *block
     return scmi_platform_new(platform, board, length);
 }
 
-/* The same of a platform that keeps its history, which grows in this block; if that is full, calls give SCMI_MEMORY. */
+/* The same of a platform that counts the events of its history. */
 static inline uint32_t scmi_platform_new_recorded_in(scmi_platform *platform, void *block, size_t bytes,
                                                      const uint8_t *board, size_t length)
 {

@@ -1,6 +1,6 @@
 /*
  * A platform and its two agents in one program: commands are answered in place, a set completes, and the
- * agents are told. It is done twice, on a platform that keeps no history and on one that keeps it.
+ * agents are told. It is done twice, on a platform that counts no events and on one that counts them.
  */
 #include <stdio.h>
 #include <string.h>

@@ -162,7 +162,7 @@ def words_of(area):
 
 
 class Platform:
-    """A platform of a board's text; with `recorded` it keeps its history. It is freed by close, or by `with`."""
+    """A platform of a board's text; with `recorded` it counts the events of its history. It is freed by close, or by `with`."""
 
     def __init__(self, board, recorded=False, library=None):
         self._library, self._handle, self._tokens = load(library), _Handle(), {}

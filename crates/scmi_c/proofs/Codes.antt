@@ -1,17 +1,15 @@
 -- What a code shows about why a call did nothing.
 use Rattle.std.proofs.Common.{rules, ◌≡◌, ◌↔◌, ℕ, Option, Some, Result, Err, IsSomeAnd, sym, subst, ap, ◌∙◌}
 use Rattle.std.specs.Prelude.{⊤}
-use Rattle.scmi_c.specs.declared.held.Held.{Held}
 use Rattle.scmi_c.specs.declared.refusal.Refusal.{Refusal}
-use Rattle.scmi_c.specs.declared.refusal.Refusal.TheVariants.{Nothing, Memory, NoAgent, NotFree, NoFrame, WrongSize}
+use Rattle.scmi_c.specs.declared.refusal.Refusal.TheVariants.{Nothing, NoAgent, NotFree, NoFrame, WrongSize}
 use Rattle.scmi_c.specs.Kept.{IsUnasked, Kept}
 use Rattle.scmi_c.specs.Refusal.{code_of}
-use Rattle.scmi_c.specs.Standing.{LacksAgent}
+use Rattle.scmi_c.specs.Standing.{Held, LacksAgent}
 
 -- the code 3 is that of NoAgent
 agent-code : (refusal : Refusal) → (code_of {A = ⊤} (Err refusal) ≡ 3) ↔ (refusal ≡ NoAgent)
 agent-code Nothing = search rules
-agent-code Memory = search rules
 agent-code NoAgent = search rules
 agent-code NotFree = search rules
 agent-code NoFrame = search rules

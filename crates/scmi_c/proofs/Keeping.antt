@@ -18,10 +18,8 @@ use Rattle.scmi_core.specs.declared.event.Event.{Event}
 use Rattle.scmi_core.specs.declared.event.Event.TheVariants.{Command as Called}
 use Rattle.scmi_c.specs.Calls.{IsAskedAbout}
 use Rattle.scmi_c.specs.Kept.{Asked, IsAskable, asked_by}
-use Rattle.scmi_c.specs.Standing.{board_of, HasNoRoom, HasRoom, StandsAt}
+use Rattle.scmi_c.specs.Standing.{Held, StandsAt, board_of}
 use Rattle.scmi_c.specs.declared.desk.Asker.{Asker}
-use Rattle.scmi_c.specs.declared.held.Held.{Held}
-use Rattle.scmi_c.specs.declared.held.Held.TheVariants.{Endless, Recorded}
 
 -- if nothing was asked, nobody asked
 pub nobody : (frame : Frame) (o : Option Asker) → asked_by frame o ≡ None → o ≡ None
@@ -35,11 +33,6 @@ still-unasked frame other o is = ap (asked_by other) (nobody frame o is)
 -- and there is nothing to be kept
 pub nothing-kept : (frame other : Frame) (o : Option Asker) (P : Asked → Type 0) → asked_by frame o ≡ None → IfSome (asked_by other o) P
 nothing-kept frame other o P is = subst (λ (a : Option Asked). IfSome a P) (sym (still-unasked frame other o is)) tt
-
--- if a platform has room for one more event, it is not out of memory
-pub has-room : (p : Held) → HasRoom p → HasNoRoom p → ⊥
-has-room (Endless p) room none = none
-has-room (Recorded c) room none = none room
 
 -- a word that is written over
 pub written-over : (word other : ℕ) (area : List ℕ) → 8 ≤ length area → put_word 4 word (put_word 4 other area) ≡ put_word 4 word area
@@ -99,14 +92,13 @@ pub askable : (p k : Held) (agent bytes : ℕ) (frame : Frame) (waits : Option F
     → is_channel_size bytes ≡ true → (channel_of (board_of p) agent).words ≤ channel_words bytes
     → IsAskable k (record { agent = agent; frame = frame; bytes = bytes })
 askable p k agent bytes frame waits effect about is given size words =
-    let board : board_of p ≡ board_of k = sym about.stands.board in
     let all : (h : List Event) → StandsAt p h → Some effect ≡ effect_after (board_of p) h (Called agent frame) =
     subst (λ (o : Option Frame). IsSomeAnd o (λ frame. (h : List Event) → StandsAt p h → Some effect ≡ effect_after (board_of p) h (Called agent frame))) is given in
-    record {
-      agent = subst (λ (b : Board). IsAgent (length b.agents) agent) board about.is_agent;
-      effect = λ h at none. is-some effect (all h ((about.stands.after h).1 at) ∙ ap (λ (b : Board). effect_after b h (Called agent frame)) board ∙ none);
-      room = about.room;
-      valid = subst IsValid board about.valid;
+    let may : IsAskable p (record { agent = agent; frame = frame; bytes = bytes }) = record {
+      agent = about.is_agent;
+      effect = λ h at none. is-some effect (all h at ∙ none);
+      valid = about.valid;
       size = size;
-      words = subst (λ (b : Board). (channel_of b agent).words ≤ channel_words bytes) board words;
-    }
+      words = words;
+    } in
+    subst (λ (held : Held). IsAskable held (record { agent = agent; frame = frame; bytes = bytes })) (sym about.same) may

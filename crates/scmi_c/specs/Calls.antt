@@ -1,5 +1,5 @@
 -- What calls leave, and when they leave all as it was.
-use Rattle.std.specs.Prelude.{◌≡◌, ◌≢◌, ℕ, List, [], ◌∷◌, ◌++◌, length, Some, None, slice_get}
+use Rattle.std.specs.Prelude.{◌≡◌, ◌≢◌, ◌↔◌, ℕ, List, [], ◌∷◌, ◌++◌, length, Some, None, slice_get}
 use Rattle.scmi_codec.specs.Area.{area_after_answer, area_after_post, frame_waiting}
 use Rattle.scmi_codec.specs.declared.frame.Frame.{Frame}
 use Rattle.scmi_codec.specs.declared.message.Message.{Message}
@@ -11,24 +11,23 @@ use Rattle.scmi_core.specs.History.{answer_to, outbox}
 use Rattle.scmi_core.specs.Reply.{failed_answer}
 use Rattle.scmi_core.specs.declared.event.Event.{Event}
 use Rattle.scmi_core.specs.declared.event.Event.TheVariants.{Command as Called, CommandFailed}
-use Rattle.scmi_c.specs.declared.held.Held.{Held}
-use Rattle.scmi_c.specs.Standing.{board_of, HasRoom, StandsAsBefore, StandsAt}
+use Rattle.scmi_c.specs.Standing.{Held, IsCounted, StandsAt, board_of}
 
--- one more event has happened to a platform
+-- one more event has happened to a platform, whose events are counted as before
 pub record HasHappened (p k : Held) (event : Event) : Type 0 where
   pub after : (h : List Event) → StandsAt p h → StandsAt k (h ++ event ∷ [])
   pub board : board_of k ≡ board_of p
+  pub counted : IsCounted p ↔ IsCounted k
 
 -- an agent's frame was executed, and the area is the definition's answer to it at its place in the history
 pub record HasAnswered (p k : Held) (agent : ℕ) (frame : Frame) (before after : List ℕ) : Type 0 where
   pub answer : (h : List Event) → StandsAt p h → after ≡ area_after_answer (answer_to (board_of p) agent frame h) before
   pub event : HasHappened p k (Called agent frame)
 
--- a command of an agent of the board waits to be committed or to fail: the platform's state is as before, and there is room for one more event
+-- a command of an agent of the board waits to be committed or to fail: the platform is as before
 pub record IsAskedAbout (p k : Held) (agent : ℕ) : Type 0 where
   pub is_agent : IsAgent (length (board_of p).agents) agent
-  pub stands : StandsAsBefore p k
-  pub room : HasRoom k
+  pub same : k ≡ p
   pub valid : IsValid (board_of p)
 
 -- an agent's frame failed, and the area is the answer HARDWARE_ERROR to it

@@ -10,8 +10,7 @@ use Rattle.scmi_core.specs.History.{outbox}
 use Rattle.scmi_core.specs.Value.{bit_value}
 use Rattle.scmi_core.specs.declared.event.Event.{Event}
 use Rattle.scmi_c.specs.declared.channel.ChannelNumbers.{ChannelNumbers}
-use Rattle.scmi_c.specs.declared.held.Held.{Held}
-use Rattle.scmi_c.specs.Standing.{board_of, StandsAt}
+use Rattle.scmi_c.specs.Standing.{Held, StandsAt, board_of}
 
 -- the size in bytes of the areas of an agent's channels
 abbrev pub bytes_of : ℕ → Held → ℕ

@@ -9,8 +9,7 @@ use Rattle.scmi_core.specs.Effect.{effect_after}
 use Rattle.scmi_core.specs.declared.event.Event.{Event}
 use Rattle.scmi_core.specs.declared.event.Event.TheVariants.{Command as Called}
 use Rattle.scmi_c.specs.declared.desk.Asker.{Asker}
-use Rattle.scmi_c.specs.declared.held.Held.{Held}
-use Rattle.scmi_c.specs.Standing.{board_of, HasRoom, StandsAsBefore, StandsAt}
+use Rattle.scmi_c.specs.Standing.{Held, StandsAt, board_of}
 
 -- a command that was asked about: its agent, its frame as it was read, and the bytes of its area
 pub record Asked : Type 0 where
@@ -36,16 +35,15 @@ abbrev pub asked_by : Frame → Option Asker → Option Asked
 asked_by frame None = None
 asked_by frame (Some asker) = Some (record { agent = asker.agent; frame = frame; bytes = asker.bytes })
 
--- a command may be committed and may fail: it is of an agent of the board and is to change the hardware, there is room for its event, and its area has room for its answer
+-- a command may be committed and may fail: it is of an agent of the board and is to change the hardware, and its area has room for its answer
 pub record IsAskable (held : Held) (asked : Asked) : Type 0 where
   pub agent : IsAgent (length (board_of held).agents) asked.agent
   pub effect : (h : List Event) → StandsAt held h → effect_after (board_of held) h (Called asked.agent asked.frame) ≢ None
-  pub room : HasRoom held
   pub valid : IsValid (board_of held)
   pub size : is_channel_size asked.bytes ≡ true
   pub words : (channel_of (board_of held) asked.agent).words ≤ channel_words asked.bytes
 
--- a platform was asked about a frame in an area of this many bytes, and its state is as before
+-- a platform was asked about a frame in an area of this many bytes, and is as before
 pub record HasAsked (p : Held) (k : Kept) (agent : ℕ) (frame : Frame) (bytes : ℕ) : Type 0 where
   pub asked : k.asked ≡ Some (record { agent = agent; frame = frame; bytes = bytes })
-  pub stands : StandsAsBefore p k.held
+  pub same : k.held ≡ p

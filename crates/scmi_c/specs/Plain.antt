@@ -3,8 +3,7 @@ use Rattle.std.specs.Prelude.{List}
 use Rattle.std.specs.List.{All}
 use Rattle.scmi_core.specs.Plain.{IsPlain}
 use Rattle.scmi_core.specs.declared.event.Event.{Event}
-use Rattle.scmi_c.specs.Standing.{StandsAt}
-use Rattle.scmi_c.specs.declared.held.Held.{Held}
+use Rattle.scmi_c.specs.Standing.{Held, StandsAt}
 
 -- a platform is at a history of commands, completions and postings alone
 abbrev pub HasPlainHistory : Held → Type 0

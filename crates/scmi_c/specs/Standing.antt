@@ -1,42 +1,36 @@
 -- What a handle holds, and after which histories.
-use Rattle.std.specs.Prelude.{◌≡◌, ◌↔◌, ℕ, ◌<◌, List, length, ⊤}
+use Rattle.std.specs.Prelude.{◌≡◌, ◌≢◌, ℕ, ◌-◌, ◌^◌, min, List, length, Option, Some, None, ⊤}
 use Rattle.scmi_plan.specs.Agent.{IsNoAgent}
 use Rattle.scmi_plan.specs.Board.{Board}
-use Rattle.scmi_core.specs.Standing.{StandsAfter}
+use Rattle.scmi_core.specs.Standing.{Standing, StandsAfter}
 use Rattle.scmi_core.specs.declared.event.Event.{Event}
-use Rattle.scmi_c.specs.declared.held.Held.{Held}
-use Rattle.scmi_c.specs.declared.held.Held.TheVariants.{Endless, Recorded}
+
+-- a platform, and the number of its events if they are counted
+pub record Held : Type 0 where
+  pub platform : Standing
+  pub events : Option ℕ
 
 -- the board of a platform
 abbrev pub board_of : Held → Board
-board_of (Endless p) = p.board
-board_of (Recorded c) = c.board
+board_of p = p.platform.board
 
--- a platform is in the state after this history; one that records it has exactly this history
+-- the number of a history's events, if they are counted; of 2^64 and more it is 2^64 - 1
+abbrev pub IsCount : Option ℕ → List Event → Type 0
+IsCount None h = ⊤
+IsCount (Some count) h = count ≡ min (length h) (2 ^ 64 - 1)
+
+-- a platform is as this history leaves it, and if its events are counted, they are this many
 abbrev pub StandsAt : Held → List Event → Type 0
-StandsAt (Endless p) h = StandsAfter p h
-StandsAt (Recorded c) h = c.history ≡ h
+StandsAt p h = StandsAfter p.platform h × IsCount p.events h
+
+-- a platform is as some history leaves it
+abbrev pub HasHistory : Held → Type 0
+HasHistory p = (h : List Event) × StandsAt p h
+
+-- the events of a platform are counted
+abbrev pub IsCounted : Held → Type 0
+IsCounted p = p.events ≢ None
 
 -- a number is no agent's of the board
 abbrev pub LacksAgent : ℕ → Held → Type 0
 LacksAgent agent p = IsNoAgent (length (board_of p).agents) agent
-
--- a platform records its history, and has no memory left for one more event
-abbrev pub HasNoRoom : Held → Type 0
-HasNoRoom (Endless p) = ⊥
-HasNoRoom (Recorded c) = ¬ (0 < c.room)
-
--- a platform has room for one more event
-abbrev pub HasRoom : Held → Type 0
-HasRoom (Endless p) = ⊤
-HasRoom (Recorded c) = 0 < c.room
-
--- the same board, after the same histories
-pub record StandsAsBefore (p k : Held) : Type 0 where
-  pub after : (h : List Event) → StandsAt p h ↔ StandsAt k h
-  pub board : board_of k ≡ board_of p
-
--- a platform records its history
-abbrev pub IsRecorded : Held → Type 0
-IsRecorded (Endless p) = ⊥
-IsRecorded (Recorded c) = ⊤

@@ -5,21 +5,20 @@ ghost use Rattle.scmi_core.specs.History.{IsIdle};
 ghost use Rattle.scmi_core.specs.declared.event.Event.{Event};
 ghost use Rattle.scmi_core.specs.declared.event.Event.TheVariants.{Advance};
 ghost use Rattle.scmi_c.specs.Kept.{IsAsked, IsUnasked};
-ghost use Rattle.scmi_c.specs.Standing.{board_of, StandsAt, LacksAgent, HasNoRoom};
+ghost use Rattle.scmi_c.specs.Standing.{LacksAgent, StandsAt, board_of};
 ghost use Rattle.scmi_c.specs.Calls.{HasAnswered, HasHappened};
-ghost use Rattle.scmi_c.specs.declared.code.TheConstants.{ASKED, DONE, NOTHING, MEMORY, NO_AGENT, NO_PLATFORM};
+ghost use Rattle.scmi_c.specs.declared.code.TheConstants.{ASKED, DONE, NOTHING, NO_AGENT, NO_PLATFORM};
 
 use crate::area::answer;
-use crate::code::{DONE, MEMORY, NOTHING, code};
+use crate::code::{DONE, NOTHING, code};
 use crate::desk::Desk;
 use crate::handle::Handle;
 use scmi_codec::AREA_BYTES;
 use std::alloc::Global;
 
 /// Executes the frame in an agent's area, and answers it in place. `DONE`; `NO_PLATFORM`; `ASKED`
-/// if a command waits to be committed or to fail; `NOTHING` if the channel is free; `NO_AGENT`;
-/// `MEMORY`, of a platform that keeps its history alone. After another number than `DONE` nothing
-/// changed.
+/// if a command waits to be committed or to fail; `NOTHING` if the channel is free; `NO_AGENT`. After
+/// another number than `DONE` nothing changed.
 #[unsafe(no_mangle)]
 pub extern "C" fn scmi_answer(
     alloc: Global,
@@ -39,8 +38,8 @@ pub extern "C" fn scmi_answer(
     ensures no_agent { (result ≡ NO_AGENT) ↔
         IsSomeAnd platform.old.value (λ p. IsUnasked p ×
         (frame_waiting area.old ≢ None) × LacksAgent agent p.held) }
-    ensures errors { (result ≤ NO_AGENT) ⊎ (result ≡ NO_PLATFORM) ⊎ (result ≡ ASKED) }
-    ensures memory { result ≡ MEMORY → IsSomeAnd platform.old.value (λ p. HasNoRoom p.held) }
+    ensures errors { (result ≤ NOTHING) ⊎ (result ≡ NO_AGENT) ⊎
+        (result ≡ NO_PLATFORM) ⊎ (result ≡ ASKED) }
     ensures kept { result ≢ DONE →
         (platform.new.value ≡ platform.old.value) × (area.new ≡ area.old) }
 {
@@ -55,8 +54,8 @@ pub extern "C" fn scmi_answer(
 }
 
 /// Completes the first pending set. `DONE`; `NO_PLATFORM`; `ASKED` if a command waits to be
-/// committed or to fail; `NOTHING` if none is pending; `MEMORY`, of a platform that keeps its
-/// history alone. After another number than `DONE` nothing changed.
+/// committed or to fail; `NOTHING` if none is pending. After another number than `DONE` nothing
+/// changed.
 #[unsafe(no_mangle)]
 pub extern "C" fn scmi_advance(alloc: Global, platform: &mut Handle) -> u32
     ensures done { result ≡ DONE →
@@ -67,9 +66,8 @@ pub extern "C" fn scmi_advance(alloc: Global, platform: &mut Handle) -> u32
         (h : List Event) → StandsAt p.held h →
         (result ≡ NOTHING) ↔ IsIdle (board_of p.held) h) }
     ensures asked { (result ≡ ASKED) ↔ IsSomeAnd platform.old.value IsAsked }
-    ensures errors { (result ≤ MEMORY) ⊎ (result ≡ NO_PLATFORM) ⊎ (result ≡ ASKED) }
+    ensures errors { (result ≤ NOTHING) ⊎ (result ≡ NO_PLATFORM) ⊎ (result ≡ ASKED) }
     ensures no_platform { (result ≡ NO_PLATFORM) ↔ (platform.old.value ≡ None) }
-    ensures memory { result ≡ MEMORY → IsSomeAnd platform.old.value (λ p. HasNoRoom p.held) }
     ensures kept { result ≢ DONE → platform.new.value ≡ platform.old.value }
 {
     let mut desk = match platform.take_unasked(alloc) {
@@ -78,9 +76,5 @@ pub extern "C" fn scmi_advance(alloc: Global, platform: &mut Handle) -> u32
     };
     let given = desk.held.advance();
     platform.put(desk);
-    match given {
-        Ok(true) => DONE,
-        Ok(false) => NOTHING,
-        Err(_) => MEMORY,
-    }
+    if given { DONE } else { NOTHING }
 }

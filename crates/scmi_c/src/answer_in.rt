@@ -5,7 +5,7 @@ ghost use Rattle.scmi_core.specs.declared.event.Event.{Event};
 ghost use Rattle.scmi_c.specs.Calls.{HasAnswered, HasNext, LacksNext};
 ghost use Rattle.scmi_c.specs.Kept.{IsAsked, IsUnasked};
 ghost use Rattle.scmi_c.specs.Channel.{HasAnotherSize, HasPostedIn, HasSize, IsFreeOf};
-ghost use Rattle.scmi_c.specs.Standing.{HasNoRoom, LacksAgent, StandsAt, board_of};
+ghost use Rattle.scmi_c.specs.Standing.{LacksAgent, StandsAt, board_of};
 ghost use Rattle.scmi_c.specs.declared.code.TheConstants.{ASKED, DONE, NOTHING, MEMORY, NO_AGENT, NOT_FREE, NO_PLATFORM, WRONG_SIZE};
 
 use crate::area_in::{answer, post_next};
@@ -36,9 +36,8 @@ pub extern "C" fn scmi_answer_in(
         IsUnasked p × HasAnotherSize agent (length area.old) p.held) }
     ensures free { (result ≡ NOTHING) ↔
         IsSomeAnd platform.old.value (λ p. IsUnasked p × IsFreeOf agent area.old p.held) }
-    ensures errors { (result ≤ NO_AGENT) ⊎ (result ≡ NO_PLATFORM) ⊎
-        (result ≡ ASKED) ⊎ (result ≡ WRONG_SIZE) }
-    ensures memory { result ≡ MEMORY → IsSomeAnd platform.old.value (λ p. HasNoRoom p.held) }
+    ensures errors { (result ≤ NOTHING) ⊎ (result ≡ NO_AGENT) ⊎
+        (result ≡ NO_PLATFORM) ⊎ (result ≡ ASKED) ⊎ (result ≡ WRONG_SIZE) }
     ensures kept { result ≢ DONE →
         (platform.new.value ≡ platform.old.value) × (area.new ≡ area.old) }
 {

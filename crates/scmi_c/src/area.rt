@@ -1,12 +1,13 @@
 //! Areas that a platform answers and fills.
-ghost use Rattle.std.specs.Prelude.{◌≡◌, ◌≢◌, ◌↔◌, Some, None, List, IsSomeAnd, IfOk, IfErr, OnOk, OnErr, Ok, Err, ◌⊎◌};
+ghost use Rattle.std.specs.Prelude.{◌≡◌, ◌≢◌, ◌↔◌, Some, None, List, length, IsSomeAnd, IfOk, IfErr, OnOk, OnErr, Ok, Err, ◌⊎◌};
 ghost use Rattle.scmi_codec.specs.Area.{area_after_answer, frame_waiting, header_at, message_of};
 ghost use Rattle.scmi_codec.specs.declared.frame.Answer.TheVariants as frame_answer;
+ghost use Rattle.scmi_plan.specs.Agent.{IsAgent};
 ghost use Rattle.scmi_core.specs.Effect.{effect_after};
 ghost use Rattle.scmi_core.specs.declared.answered.Answered.TheVariants as answered_by;
 ghost use Rattle.scmi_core.specs.declared.event.Event.{Event};
 ghost use Rattle.scmi_core.specs.declared.event.Event.TheVariants.{Command as Called};
-ghost use Rattle.scmi_c.specs.Standing.{board_of, StandsAt, LacksAgent, HasNoRoom};
+ghost use Rattle.scmi_c.specs.Standing.{LacksAgent, StandsAt, board_of};
 ghost use Rattle.scmi_c.specs.Calls.{HasAnswered, HasPosted, HasNext, IsAskedAbout, LacksNext};
 
 use crate::desk::Exchange;
@@ -19,8 +20,7 @@ use scmi_codec::{
 use scmi_core::{Answered, Effect};
 
 /// Executes the frame in an agent's area, and answers it in place. `Nothing` if the channel is
-/// free; else `NoAgent` if the board lacks the agent, and `Memory` if the history could not grow.
-/// Then nothing changed.
+/// free; else `NoAgent` if the board lacks the agent. Then nothing changed.
 pub fn answer(
     held: &mut Held,
     exchange: &mut Exchange,
@@ -34,67 +34,28 @@ pub fn answer(
     ensures free { (result ≡ Err Refusal.Nothing) ↔ (frame_waiting area.old ≡ None) }
     ensures no_agent { (result ≡ Err Refusal.NoAgent) ↔
         ((frame_waiting area.old ≢ None) × LacksAgent agent held.old) }
-    ensures memory { result ≡ Err Refusal.Memory → HasNoRoom held.old }
-    ensures never { (result ≢ Err Refusal.NotFree) × (result ≢ Err Refusal.NoFrame)
-        × (result ≢ Err Refusal.WrongSize) }
+    ensures errors { IfErr result (λ e. (e ≡ Refusal.Nothing) ⊎ (e ≡ Refusal.NoAgent)) }
     ensures err { OnErr result (held.new ≡ held.old) }
     ensures kept { OnErr result (area.new ≡ area.old) }
 {
     let Ok(true) = read_area_into(area, &mut exchange.frame) else {
         return Err(Refusal::Nothing);
     };
-    // The answer of a platform without a history is here, and nothing of it is a call of this crate's.
-    if held.is_recorded() {
-        return execute_apart(held, exchange, agent, area);
-    }
-    execute(held, exchange, agent, area)
-}
-
-/// Executes the frame that was read from an agent's area, and writes the answer over it. `NoAgent`
-/// if the board lacks the agent, and `Memory` if the history could not grow; then nothing changed.
-#[inline(always)]
-fn execute(
-    held: &mut Held,
-    exchange: &mut Exchange,
-    agent: u32,
-    area: &mut [u8; AREA_BYTES],
-) -> Result<(), Refusal>
-    requires waits { frame_waiting area.old ≡ Some exchange.old.frame }
-    ensures answered { OnOk result
-        (HasAnswered held.old held.new agent exchange.old.frame area.old area.new) }
-    ensures no_agent { (result ≡ Err Refusal.NoAgent) ↔ LacksAgent agent held.old }
-    ensures memory { result ≡ Err Refusal.Memory → HasNoRoom held.old }
-    ensures errors { IfErr result (λ e. (e ≡ Refusal.NoAgent) ⊎ (e ≡ Refusal.Memory)) }
-    ensures frame { exchange.new.frame ≡ exchange.old.frame }
-    ensures err { OnErr result (held.new ≡ held.old) }
-    ensures kept { OnErr result (area.new ≡ area.old) }
-{
-    // Once this is known, what `command` gives for other numbers is no longer in the way.
     held.check_agent(agent)?;
-    let answered = held.command(agent, &exchange.frame, &mut exchange.reply)?;
-    put_answer(area, answered, &exchange.reply.payload);
+    execute(held, exchange, agent, area);
     Ok(())
 }
 
-/// As `execute`, for callers that need not be fast: they share its code.
-#[inline(never)]
-fn execute_apart(
-    held: &mut Held,
-    exchange: &mut Exchange,
-    agent: u32,
-    area: &mut [u8; AREA_BYTES],
-) -> Result<(), Refusal>
+/// Executes the frame that was read from an agent's area, and writes the answer over it.
+#[inline(always)]
+fn execute(held: &mut Held, exchange: &mut Exchange, agent: u32, area: &mut [u8; AREA_BYTES])
+    requires agent { IsAgent (length (board_of held.old).agents) agent }
     requires waits { frame_waiting area.old ≡ Some exchange.old.frame }
-    ensures answered { OnOk result
-        (HasAnswered held.old held.new agent exchange.old.frame area.old area.new) }
-    ensures no_agent { (result ≡ Err Refusal.NoAgent) ↔ LacksAgent agent held.old }
-    ensures memory { result ≡ Err Refusal.Memory → HasNoRoom held.old }
-    ensures errors { IfErr result (λ e. (e ≡ Refusal.NoAgent) ⊎ (e ≡ Refusal.Memory)) }
+    ensures answered { HasAnswered held.old held.new agent exchange.old.frame area.old area.new }
     ensures frame { exchange.new.frame ≡ exchange.old.frame }
-    ensures err { OnErr result (held.new ≡ held.old) }
-    ensures kept { OnErr result (area.new ≡ area.old) }
 {
-    execute(held, exchange, agent, area)
+    let answered = held.command(agent, &exchange.frame, &mut exchange.reply);
+    put_answer(area, answered, &exchange.reply.payload);
 }
 
 /// Writes the answer to a frame over it: the reply's header is the frame's, which is in the area.
@@ -111,9 +72,8 @@ fn put_answer(area: &mut [u8; AREA_BYTES], answered: Answered, payload: &Payload
 }
 
 /// Executes the frame in an agent's area and answers it in place, if it changes no hardware. Else
-/// gives what it is to change, and keeps the frame, and there is room for its event. `NoFrame` if
-/// the channel is free; else `NoAgent` if the board lacks the agent, and `Memory` if the history
-/// could not grow. Then nothing changed.
+/// gives what it is to change, and keeps the frame. `NoFrame` if the channel is free; else
+/// `NoAgent` if the board lacks the agent. Then nothing changed.
 pub fn ask(
     held: &mut Held,
     exchange: &mut Exchange,
@@ -131,18 +91,16 @@ pub fn ask(
     ensures no_frame { (result ≡ Err Refusal.NoFrame) ↔ (frame_waiting area.old ≡ None) }
     ensures no_agent { (result ≡ Err Refusal.NoAgent) ↔
         ((frame_waiting area.old ≢ None) × LacksAgent agent held.old) }
-    ensures memory { result ≡ Err Refusal.Memory → HasNoRoom held.old }
-    ensures never { (result ≢ Err Refusal.NotFree) × (result ≢ Err Refusal.Nothing)
-        × (result ≢ Err Refusal.WrongSize) }
+    ensures errors { IfErr result (λ e. (e ≡ Refusal.NoFrame) ⊎ (e ≡ Refusal.NoAgent)) }
     ensures err { OnErr result (held.new ≡ held.old) }
     ensures kept { OnErr result (area.new ≡ area.old) }
 {
     let Ok(true) = read_area_into(area, &mut exchange.frame) else {
         return Err(Refusal::NoFrame);
     };
-    let effect = held.ask(agent, &exchange.frame)?;
+    let effect = held.effect_of(agent, &exchange.frame)?;
     if effect.is_none() {
-        execute_apart(held, exchange, agent, area)?;
+        execute(held, exchange, agent, area);
     }
     Ok(effect)
 }
@@ -158,11 +116,12 @@ pub fn post_next(held: &Held, agent: u32, area: &mut [u8; AREA_BYTES]) -> Result
     ensures not_free { (h : List Event) → StandsAt held.now h →
         (result ≡ Err Refusal.NotFree) ↔
         (HasNext (board_of held.now) agent h × (frame_waiting area.old ≢ None)) }
-    ensures never { (result ≢ Err Refusal.Memory) × (result ≢ Err Refusal.NoFrame)
-        × (result ≢ Err Refusal.WrongSize) }
+    ensures errors { IfErr result (λ e.
+        (e ≡ Refusal.Nothing) ⊎ (e ≡ Refusal.NoAgent) ⊎ (e ≡ Refusal.NotFree)) }
     ensures kept { OnErr result (area.new ≡ area.old) }
 {
-    let Some(message) = held.first(agent)? else {
+    held.check_agent(agent)?;
+    let Some(message) = held.platform.first(agent) else {
         return Err(Refusal::Nothing);
     };
     let Ok(true) = is_free(area) else {

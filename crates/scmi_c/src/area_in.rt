@@ -1,15 +1,17 @@
 //! Areas of the size of their agent's channel, which a platform answers and fills.
-ghost use Rattle.std.specs.Prelude.{◌≡◌, ◌≢◌, ◌↔◌, ◌≤◌, Some, None, IsSomeAnd, IfOk, OnOk, OnErr, Ok, Err, List, length, true};
+ghost use Rattle.std.specs.Prelude.{◌≡◌, ◌≢◌, ◌↔◌, ◌≤◌, ◌⊎◌, Some, None, IsSomeAnd, IfErr, IfOk, OnOk, OnErr, Ok, Err, List, length, true};
 ghost use Rattle.scmi_codec.specs.Area.{area_after_answer, header_at, message_of};
-ghost use Rattle.scmi_codec.specs.ChannelArea.{capacity, channel_waiting, is_channel_size};
+ghost use Rattle.scmi_codec.specs.ChannelArea.{capacity, channel_waiting, channel_words, is_channel_size};
 ghost use Rattle.scmi_codec.specs.declared.frame.Answer.TheVariants as frame_answer;
+ghost use Rattle.scmi_plan.specs.Agent.{IsAgent};
+ghost use Rattle.scmi_plan.specs.Board.{channel_of};
 ghost use Rattle.scmi_core.specs.Effect.{effect_after};
 ghost use Rattle.scmi_core.specs.declared.answered.Answered.TheVariants as answered_by;
 ghost use Rattle.scmi_core.specs.declared.event.Event.{Event};
 ghost use Rattle.scmi_core.specs.declared.event.Event.TheVariants.{Command as Called};
 ghost use Rattle.scmi_c.specs.Calls.{HasAnswered, HasNext, IsAskedAbout, LacksNext};
 ghost use Rattle.scmi_c.specs.Channel.{HasAnotherSize, HasPostedIn, HasSize, IsFreeOf};
-ghost use Rattle.scmi_c.specs.Standing.{HasNoRoom, LacksAgent, StandsAt, board_of};
+ghost use Rattle.scmi_c.specs.Standing.{LacksAgent, StandsAt, board_of};
 
 use crate::desk::Exchange;
 use crate::held::Held;
@@ -36,8 +38,8 @@ pub fn answer(
     ensures wrong_size { (result ≡ Err Refusal.WrongSize)
         ↔ HasAnotherSize agent (length area.old) held.old }
     ensures free { (result ≡ Err Refusal.Nothing) ↔ IsFreeOf agent area.old held.old }
-    ensures memory { result ≡ Err Refusal.Memory → HasNoRoom held.old }
-    ensures never { (result ≢ Err Refusal.NotFree) × (result ≢ Err Refusal.NoFrame) }
+    ensures errors { IfErr result (λ e.
+        (e ≡ Refusal.Nothing) ⊎ (e ≡ Refusal.NoAgent) ⊎ (e ≡ Refusal.WrongSize)) }
     ensures err { OnErr result (held.new ≡ held.old) }
     ensures kept { OnErr result (area.new ≡ area.old) }
 {
@@ -45,9 +47,23 @@ pub fn answer(
     let Ok(true) = read_channel_area_into(area, &mut exchange.frame) else {
         return Err(Refusal::Nothing);
     };
-    let answered = held.command(agent, &exchange.frame, &mut exchange.reply)?;
-    put_answer(area, answered, &exchange.reply.payload);
+    execute(held, exchange, agent, area);
     Ok(())
+}
+
+/// Executes the frame that was read from an area of its agent's channel, and writes the answer over
+/// it.
+fn execute(held: &mut Held, exchange: &mut Exchange, agent: u32, area: &mut [u8])
+    requires agent { IsAgent (length (board_of held.old).agents) agent }
+    requires waits { channel_waiting area.old ≡ Some exchange.old.frame }
+    requires size { is_channel_size (length area.old) ≡ true }
+    requires words { channel_words (length area.old) ≡ (channel_of (board_of held.old) agent).words }
+    ensures answered { HasAnswered held.old held.new agent exchange.old.frame area.old area.new }
+    ensures frame { exchange.new.frame ≡ exchange.old.frame }
+{
+    let _agents = held.platform.agents();
+    let answered = held.command(agent, &exchange.frame, &mut exchange.reply);
+    put_answer(area, answered, &exchange.reply.payload);
 }
 
 /// Writes the answer to a frame over it: the reply's header is the frame's, which is in the area.
@@ -86,8 +102,8 @@ pub fn ask(
     ensures wrong_size { (result ≡ Err Refusal.WrongSize)
         ↔ HasAnotherSize agent (length area.old) held.old }
     ensures no_frame { (result ≡ Err Refusal.NoFrame) ↔ IsFreeOf agent area.old held.old }
-    ensures memory { result ≡ Err Refusal.Memory → HasNoRoom held.old }
-    ensures never { (result ≢ Err Refusal.NotFree) × (result ≢ Err Refusal.Nothing) }
+    ensures errors { IfErr result (λ e.
+        (e ≡ Refusal.NoFrame) ⊎ (e ≡ Refusal.NoAgent) ⊎ (e ≡ Refusal.WrongSize)) }
     ensures err { OnErr result (held.new ≡ held.old) }
     ensures kept { OnErr result (area.new ≡ area.old) }
 {
@@ -95,10 +111,9 @@ pub fn ask(
     let Ok(true) = read_channel_area_into(area, &mut exchange.frame) else {
         return Err(Refusal::NoFrame);
     };
-    let effect = held.ask(agent, &exchange.frame)?;
+    let effect = held.effect_of(agent, &exchange.frame)?;
     if effect.is_none() {
-        let answered = held.command(agent, &exchange.frame, &mut exchange.reply)?;
-        put_answer(area, answered, &exchange.reply.payload);
+        execute(held, exchange, agent, area);
     }
     Ok(effect)
 }
@@ -117,11 +132,11 @@ pub fn post_next(held: &Held, agent: u32, area: &mut [u8]) -> Result<(), Refusal
         (h : List Event) → StandsAt held.now h →
         (result ≡ Err Refusal.NotFree) ↔
         (HasNext (board_of held.now) agent h × (channel_waiting area.old ≢ None)) }
-    ensures never { (result ≢ Err Refusal.Memory) × (result ≢ Err Refusal.NoFrame) }
+    ensures never { result ≢ Err Refusal.NoFrame }
     ensures kept { OnErr result (area.new ≡ area.old) }
 {
     held.check_size(agent, area.len())?;
-    let Some(message) = held.first(agent)? else {
+    let Some(message) = held.platform.first(agent) else {
         return Err(Refusal::Nothing);
     };
     let Ok(true) = is_channel_free(area) else {

@@ -6,10 +6,10 @@ ghost use Rattle.scmi_core.specs.declared.event.Event.{Event};
 ghost use Rattle.scmi_core.specs.declared.event.Event.TheVariants.{Command as Called};
 ghost use Rattle.scmi_c.specs.Effect.{numbers_of};
 ghost use Rattle.scmi_c.specs.Kept.{HasAsked, IsAsked, IsUnasked};
-ghost use Rattle.scmi_c.specs.Standing.{board_of, StandsAt, LacksAgent, HasNoRoom};
+ghost use Rattle.scmi_c.specs.Standing.{LacksAgent, StandsAt, board_of};
 ghost use Rattle.scmi_c.specs.Calls.{ChangesNothing, HasAnswered};
 ghost use Rattle.scmi_c.specs.Channel.{HasAnotherSize, IsFreeOf};
-ghost use Rattle.scmi_c.specs.declared.code.TheConstants.{ASKED, DONE, EFFECT, MEMORY, NO_AGENT, NO_PLATFORM, NO_FRAME, WRONG_SIZE};
+ghost use Rattle.scmi_c.specs.declared.code.TheConstants.{ASKED, DONE, EFFECT, NO_AGENT, NO_PLATFORM, NO_FRAME, WRONG_SIZE};
 
 use crate::area_in::ask;
 use crate::code::{DONE, EFFECT, code};
@@ -57,10 +57,9 @@ pub extern "C" fn scmi_ask_in(
         IsUnasked p × HasAnotherSize agent (length area.old) p.held) }
     ensures no_frame { (result ≡ NO_FRAME) ↔
         IsSomeAnd platform.old.value (λ p. IsUnasked p × IsFreeOf agent area.old p.held) }
-    ensures errors { (result ≡ DONE) ⊎ (result ≡ EFFECT) ⊎ (result ≡ MEMORY) ⊎
+    ensures errors { (result ≡ DONE) ⊎ (result ≡ EFFECT) ⊎
         (result ≡ NO_AGENT) ⊎ (result ≡ NO_PLATFORM) ⊎ (result ≡ NO_FRAME) ⊎
         (result ≡ ASKED) ⊎ (result ≡ WRONG_SIZE) }
-    ensures memory { result ≡ MEMORY → IsSomeAnd platform.old.value (λ p. HasNoRoom p.held) }
     ensures area { result ≢ DONE → area.new ≡ area.old }
     ensures kept { result ≢ DONE → result ≢ EFFECT → platform.new.value ≡ platform.old.value }
     ensures same { result ≢ EFFECT → effect.new ≡ effect.old }

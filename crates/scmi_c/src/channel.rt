@@ -4,10 +4,8 @@ ghost use Rattle.scmi_codec.specs.ChannelArea.{channel_words, is_channel_size};
 ghost use Rattle.scmi_plan.specs.Agent.{IsAgent};
 ghost use Rattle.scmi_plan.specs.Board.{IsChannel, channel_of};
 ghost use Rattle.scmi_plan.specs.Plan.{IsValid};
-ghost use Rattle.scmi_core.specs.Legal.{IsLegal};
-ghost use Rattle.scmi_core.specs.declared.event.Event.{Event};
 ghost use Rattle.scmi_c.specs.Channel.{HasAnotherSize, HasSize, numbers_of_channel};
-ghost use Rattle.scmi_c.specs.Standing.{LacksAgent, StandsAt, board_of};
+ghost use Rattle.scmi_c.specs.Standing.{LacksAgent, board_of};
 ghost use Rattle.scmi_c.specs.declared.code.TheConstants.{DONE, NO_AGENT, NO_PLATFORM};
 
 use crate::code::{DONE, NO_PLATFORM, code};
@@ -15,7 +13,7 @@ use crate::handle::Handle;
 use crate::held::Held;
 use crate::refusal::Refusal;
 use scmi_codec::channel_bytes;
-use scmi_plan::{AgentChannel, Plan};
+use scmi_plan::AgentChannel;
 use std::alloc::Global;
 
 /// An agent's channels: the bytes of an area, and 1 if the platform can't send to the agent, else
@@ -28,38 +26,17 @@ pub struct ChannelNumbers {
 }
 
 impl Held {
-    /// The board.
-    pub fn board(&self) -> &Plan
-        ensures board { result.now ≡ board_of self.now }
-        ensures valid { IsValid (board_of self.now) }
-        ensures legal { (h : List Event) → StandsAt self.now h → IsLegal (board_of self.now) h }
-    {
-        let plan = match self {
-            Held::Endless(endless) => endless.platform.board(),
-            Held::Recorded(core) => {
-                let _trace = core.trace();
-                core.board()
-            }
-        };
-        let _agents = plan.agents();
-        plan
-    }
-
     /// What an agent's channels are. `NoAgent` if the board lacks the agent.
     pub fn channel(&self, agent: u32) -> Result<AgentChannel, Refusal>
         ensures channel { IfOk result (λ channel. channel ≡ channel_of (board_of self.now) agent) }
         ensures agent { OnOk result (IsAgent (length (board_of self.now).agents) agent) }
         ensures words { IfOk result IsChannel }
         ensures valid { IsValid (board_of self.now) }
-        ensures legal { (h : List Event) → StandsAt self.now h → IsLegal (board_of self.now) h }
         ensures no_agent { (result ≡ Err Refusal.NoAgent) ↔ LacksAgent agent self.now }
         ensures errors { IfErr result (λ e. e ≡ Refusal.NoAgent) }
     {
-        let plan = self.board();
-        if agent == 0 || agent > plan.agents() {
-            return Err(Refusal::NoAgent);
-        }
-        Ok(plan.channel(agent))
+        self.check_agent(agent)?;
+        Ok(self.platform.board().channel(agent))
     }
 
     /// What an agent's channels are, as numbers for C. `NoAgent` if the board lacks the agent.
@@ -85,7 +62,6 @@ impl Held {
         ensures words { OnOk result
             (channel_words bytes ≡ (channel_of (board_of self.now) agent).words) }
         ensures valid { IsValid (board_of self.now) }
-        ensures legal { (h : List Event) → StandsAt self.now h → IsLegal (board_of self.now) h }
         ensures no_agent { (result ≡ Err Refusal.NoAgent) ↔ LacksAgent agent self.now }
         ensures wrong_size { (result ≡ Err Refusal.WrongSize) ↔ HasAnotherSize agent bytes self.now }
         ensures errors { IfErr result (λ e. (e ≡ Refusal.NoAgent) ⊎ (e ≡ Refusal.WrongSize)) }

@@ -59,7 +59,6 @@ pub fn code(given: Result<(), Refusal>) -> u32
     match given {
         Ok(()) => DONE,
         Err(Refusal::Nothing) => NOTHING,
-        Err(Refusal::Memory) => MEMORY,
         Err(Refusal::NoAgent) => NO_AGENT,
         Err(Refusal::NotFree) => NOT_FREE,
         Err(Refusal::NoFrame) => NO_FRAME,

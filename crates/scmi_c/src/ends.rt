@@ -7,11 +7,11 @@ ghost use Rattle.scmi_core.specs.declared.event.Event.{Event};
 ghost use Rattle.scmi_core.specs.declared.event.Event.TheVariants.{Advance, AdvanceFailed};
 ghost use Rattle.scmi_c.specs.Effect.{numbers_of};
 ghost use Rattle.scmi_c.specs.Kept.{IsAsked, IsUnasked};
-ghost use Rattle.scmi_c.specs.Standing.{board_of, StandsAt, HasNoRoom};
+ghost use Rattle.scmi_c.specs.Standing.{StandsAt, board_of};
 ghost use Rattle.scmi_c.specs.Calls.{HasHappened};
-ghost use Rattle.scmi_c.specs.declared.code.TheConstants.{ASKED, DONE, NOTHING, MEMORY, NO_PLATFORM};
+ghost use Rattle.scmi_c.specs.declared.code.TheConstants.{ASKED, DONE, NOTHING, NO_PLATFORM};
 
-use crate::code::{DONE, MEMORY, NO_PLATFORM, NOTHING};
+use crate::code::{DONE, NO_PLATFORM, NOTHING};
 use crate::effect::{EffectNumbers, numbers_of};
 use crate::handle::Handle;
 use std::alloc::Global;
@@ -39,7 +39,7 @@ pub extern "C" fn scmi_ask_advance(
     let Some(desk) = platform.take(alloc) else {
         return NO_PLATFORM;
     };
-    let given = desk.held.effect_of_advance();
+    let given = desk.held.platform.effect_of_advance();
     platform.put(desk);
     match given {
         Some(change) => {
@@ -51,8 +51,8 @@ pub extern "C" fn scmi_ask_advance(
 }
 
 /// Takes off the first pending set, whose change the hardware refused. `DONE`; `NO_PLATFORM`;
-/// `ASKED` if a command waits to be committed or to fail; `NOTHING` if none is pending; `MEMORY`,
-/// of a platform that keeps its history alone. After another number than `DONE` nothing changed.
+/// `ASKED` if a command waits to be committed or to fail; `NOTHING` if none is pending. After
+/// another number than `DONE` nothing changed.
 #[unsafe(no_mangle)]
 pub extern "C" fn scmi_fail_advance(alloc: Global, platform: &mut Handle) -> u32
     ensures done { result ≡ DONE →
@@ -63,9 +63,8 @@ pub extern "C" fn scmi_fail_advance(alloc: Global, platform: &mut Handle) -> u32
         (h : List Event) → StandsAt p.held h →
         (result ≡ NOTHING) ↔ IsIdle (board_of p.held) h) }
     ensures asked { (result ≡ ASKED) ↔ IsSomeAnd platform.old.value IsAsked }
-    ensures errors { (result ≤ MEMORY) ⊎ (result ≡ NO_PLATFORM) ⊎ (result ≡ ASKED) }
+    ensures errors { (result ≤ NOTHING) ⊎ (result ≡ NO_PLATFORM) ⊎ (result ≡ ASKED) }
     ensures no_platform { (result ≡ NO_PLATFORM) ↔ (platform.old.value ≡ None) }
-    ensures memory { result ≡ MEMORY → IsSomeAnd platform.old.value (λ p. HasNoRoom p.held) }
     ensures kept { result ≢ DONE → platform.new.value ≡ platform.old.value }
 {
     let mut desk = match platform.take_unasked(alloc) {
@@ -74,9 +73,5 @@ pub extern "C" fn scmi_fail_advance(alloc: Global, platform: &mut Handle) -> u32
     };
     let given = desk.held.advance_failed();
     platform.put(desk);
-    match given {
-        Ok(true) => DONE,
-        Ok(false) => NOTHING,
-        Err(_) => MEMORY,
-    }
+    if given { DONE } else { NOTHING }
 }

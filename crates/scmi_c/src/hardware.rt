@@ -7,9 +7,9 @@ ghost use Rattle.scmi_core.specs.declared.event.Event.{Event};
 ghost use Rattle.scmi_core.specs.declared.event.Event.TheVariants.{Command as Called};
 ghost use Rattle.scmi_c.specs.Effect.{numbers_of};
 ghost use Rattle.scmi_c.specs.Kept.{HasAsked, IsAsked, IsUnasked};
-ghost use Rattle.scmi_c.specs.Standing.{board_of, StandsAt, LacksAgent, HasNoRoom};
+ghost use Rattle.scmi_c.specs.Standing.{LacksAgent, StandsAt, board_of};
 ghost use Rattle.scmi_c.specs.Calls.{ChangesNothing, HasAnswered};
-ghost use Rattle.scmi_c.specs.declared.code.TheConstants.{ASKED, DONE, EFFECT, MEMORY, NO_AGENT, NO_PLATFORM, NO_FRAME};
+ghost use Rattle.scmi_c.specs.declared.code.TheConstants.{ASKED, DONE, EFFECT, NO_AGENT, NO_PLATFORM, NO_FRAME};
 
 use crate::area::ask;
 use crate::code::{DONE, EFFECT, code};
@@ -23,8 +23,7 @@ use std::alloc::Global;
 /// changes no hardware: `DONE`. Else gives what it is to change of the hardware, and keeps the
 /// frame, until `scmi_commit` or `scmi_fail` answers it: `EFFECT`; the area and the history are as
 /// they were. `NO_PLATFORM`; `ASKED` if a command was asked about already; `NO_FRAME` if the
-/// channel is free; `NO_AGENT`; `MEMORY`, of a platform that keeps its history alone. After another
-/// number than these two nothing changed.
+/// channel is free; `NO_AGENT`. After another number than these two nothing changed.
 #[unsafe(no_mangle)]
 pub extern "C" fn scmi_ask(
     alloc: Global,
@@ -61,9 +60,8 @@ pub extern "C" fn scmi_ask(
     ensures no_agent { (result ≡ NO_AGENT) ↔
         IsSomeAnd platform.old.value (λ p. IsUnasked p ×
         (frame_waiting area.old ≢ None) × LacksAgent agent p.held) }
-    ensures errors { (result ≡ DONE) ⊎ (result ≡ EFFECT) ⊎ (result ≡ MEMORY) ⊎
+    ensures errors { (result ≡ DONE) ⊎ (result ≡ EFFECT) ⊎
         (result ≡ NO_AGENT) ⊎ (result ≡ NO_PLATFORM) ⊎ (result ≡ NO_FRAME) ⊎ (result ≡ ASKED) }
-    ensures memory { result ≡ MEMORY → IsSomeAnd platform.old.value (λ p. HasNoRoom p.held) }
     ensures area { result ≢ DONE → area.new ≡ area.old }
     ensures kept { result ≢ DONE → result ≢ EFFECT → platform.new.value ≡ platform.old.value }
     ensures same { result ≢ EFFECT → effect.new ≡ effect.old }

@@ -1,9 +1,9 @@
 //! Platforms are made and freed.
-ghost use Rattle.std.specs.Prelude.{◌≡◌, ◌≢◌, ◌↔◌, ◌⊎◌, [], None, Ok, Err, IsSomeAnd};
+ghost use Rattle.std.specs.Prelude.{◌≡◌, ◌≢◌, ◌↔◌, ◌⊎◌, [], None, Ok, Err, IsSomeAnd, true};
 ghost use Rattle.scmi_plan.specs.Plan.{IsValid};
 ghost use Rattle.scmi_c.specs.Board.{IsFault, board_of_text};
 ghost use Rattle.scmi_c.specs.Kept.{IsUnasked};
-ghost use Rattle.scmi_c.specs.Standing.{board_of, StandsAt, IsRecorded, HasRoom};
+ghost use Rattle.scmi_c.specs.Standing.{IsCounted, StandsAt, board_of};
 ghost use Rattle.scmi_c.specs.declared.code.TheConstants.{DONE, IN_USE, MEMORY};
 
 use crate::board::read_plan;
@@ -11,12 +11,10 @@ use crate::code::{DONE, IN_USE, MEMORY};
 use crate::desk::Desk;
 use crate::handle::Handle;
 use crate::held::Held;
-use crate::unrecorded::Unrecorded;
-use scmi_core::Core;
 use scmi_plan::Plan;
 use std::alloc::Global;
 
-/// Makes a platform of a board's text, which keeps no history and takes no memory from then on.
+/// Makes a platform of a board's text, which takes no memory from then on.
 /// `DONE`; `IN_USE` if the handle holds a platform; else the number of the text's fault
 /// (`read_plan`). After another number than `DONE` the handle is as it was.
 #[unsafe(no_mangle)]
@@ -24,7 +22,7 @@ pub extern "C" fn scmi_platform_new(alloc: Global, platform: &mut Handle, board:
     ensures done { result ≡ DONE →
         IsSomeAnd platform.new.value (λ p. IsUnasked p
         × (board_of_text board.now ≡ Ok (board_of p.held)) × StandsAt p.held []
-        × IsValid (board_of p.held) × (¬ (IsRecorded p.held))) }
+        × IsValid (board_of p.held) × (¬ (IsCounted p.held))) }
     ensures fault { (result ≡ DONE) ⊎ (result ≡ IN_USE) ⊎ (result ≡ MEMORY)
         ⊎ (board_of_text board.now ≡ Err result) }
     ensures in_use { (result ≡ IN_USE) ↔ (platform.old.value ≢ None) }
@@ -36,13 +34,12 @@ pub extern "C" fn scmi_platform_new(alloc: Global, platform: &mut Handle, board:
         return IN_USE;
     }
     match read_plan(alloc, board) {
-        Ok(plan) => hold_endless(alloc, platform, plan),
+        Ok(plan) => hold(alloc, platform, plan, false),
         Err(fault) => fault,
     }
 }
 
-/// As `scmi_platform_new`, of a platform that keeps its history, which takes memory with each event.
-/// There is room for the first one.
+/// As `scmi_platform_new`, of a platform whose events are counted.
 #[unsafe(no_mangle)]
 pub extern "C" fn scmi_platform_new_recorded(
     alloc: Global,
@@ -52,8 +49,7 @@ pub extern "C" fn scmi_platform_new_recorded(
     ensures done { result ≡ DONE →
         IsSomeAnd platform.new.value (λ p. IsUnasked p
         × (board_of_text board.now ≡ Ok (board_of p.held)) × StandsAt p.held []
-        × IsValid (board_of p.held) × IsRecorded p.held) }
-    ensures room { result ≡ DONE → IsSomeAnd platform.new.value (λ p. HasRoom p.held) }
+        × IsValid (board_of p.held) × IsCounted p.held) }
     ensures fault { (result ≡ DONE) ⊎ (result ≡ IN_USE) ⊎ (result ≡ MEMORY)
         ⊎ (board_of_text board.now ≡ Err result) }
     ensures in_use { (result ≡ IN_USE) ↔ (platform.old.value ≢ None) }
@@ -65,53 +61,23 @@ pub extern "C" fn scmi_platform_new_recorded(
         return IN_USE;
     }
     match read_plan(alloc, board) {
-        Ok(plan) => hold_recorded(alloc, platform, plan),
+        Ok(plan) => hold(alloc, platform, plan, true),
         Err(fault) => fault,
     }
 }
 
-/// Makes a platform that keeps no history. Its parts are no locals of the caller's, which reads the
-/// text.
+/// Puts a new platform into the heap and its handle. Its parts are no locals of the caller's, which
+/// reads the board.
 #[inline(never)]
-pub fn hold_endless(alloc: Global, platform: &mut Handle, plan: Plan) -> u32
+pub fn hold(alloc: Global, platform: &mut Handle, plan: Plan, is_counted: bool) -> u32
     requires { platform.old.value ≡ None }
     ensures done { result ≡ DONE →
         IsSomeAnd platform.new.value (λ p. IsUnasked p × (board_of p.held ≡ plan)
-        × StandsAt p.held [] × (¬ (IsRecorded p.held))) }
+        × StandsAt p.held [] × (IsCounted p.held ↔ (is_counted ≡ true))) }
     ensures errors { (result ≡ DONE) ⊎ (result ≡ MEMORY) }
     ensures kept { result ≢ DONE → platform.new.value ≡ platform.old.value }
 {
-    hold(alloc, platform, Held::Endless(Unrecorded::new(plan)))
-}
-
-/// As `hold_endless`, of a platform that keeps its history. It has memory for an event, so that
-/// what it takes later grows from there, and is in the same block.
-#[inline(never)]
-fn hold_recorded(alloc: Global, platform: &mut Handle, plan: Plan) -> u32
-    requires { platform.old.value ≡ None }
-    ensures done { result ≡ DONE →
-        IsSomeAnd platform.new.value (λ p. IsUnasked p × (board_of p.held ≡ plan)
-        × StandsAt p.held [] × IsRecorded p.held × HasRoom p.held) }
-    ensures errors { (result ≡ DONE) ⊎ (result ≡ MEMORY) }
-    ensures kept { result ≢ DONE → platform.new.value ≡ platform.old.value }
-{
-    let mut core = Core::new(alloc, plan);
-    if core.reserve().is_err() {
-        return MEMORY;
-    }
-    hold(alloc, platform, Held::Recorded(core))
-}
-
-/// Puts a platform into the heap and its handle.
-#[inline(always)]
-fn hold(alloc: Global, platform: &mut Handle, held: Held) -> u32
-    requires { platform.old.value ≡ None }
-    ensures done { result ≡ DONE →
-        IsSomeAnd platform.new.value (λ p. IsUnasked p × (p.held ≡ held)) }
-    ensures errors { (result ≡ DONE) ⊎ (result ≡ MEMORY) }
-    ensures kept { result ≢ DONE → platform.new.value ≡ platform.old.value }
-{
-    match Box::new(alloc, Desk::new(held)) {
+    match Box::new(alloc, Desk::new(Held::new(plan, is_counted))) {
         Ok(desk) => {
             platform.put(desk);
             DONE

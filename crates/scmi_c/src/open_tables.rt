@@ -2,19 +2,19 @@
 ghost use Rattle.std.specs.Prelude.{◌≡◌, ◌≢◌, ◌↔◌, ◌⊎◌, [], None, Ok, Err, IsSomeAnd, false};
 ghost use Rattle.scmi_plan.specs.Plan.{IsValid};
 ghost use Rattle.scmi_c.specs.Kept.{IsUnasked};
-ghost use Rattle.scmi_c.specs.Standing.{board_of, StandsAt, IsRecorded};
+ghost use Rattle.scmi_c.specs.Standing.{IsCounted, StandsAt, board_of};
 ghost use Rattle.scmi_c.specs.Tables.{board_of_tables, is_well_formed, tables_given, IsTableFault};
 ghost use Rattle.scmi_c.specs.declared.code.TheConstants.{DONE, IN_USE, MEMORY, TABLE};
 
 use crate::board_of_tables::plan_of_tables;
 use crate::code::IN_USE;
 use crate::handle::Handle;
-use crate::open::hold_endless;
+use crate::open::hold;
 use crate::rows::{AgentRow, ClockRow, DeviceRow, DomainRow, HeadingRow};
 use crate::tables::Tables;
 use std::alloc::Global;
 
-/// Makes a platform of a board's tables, which keeps no history and takes no memory from then on.
+/// Makes a platform of a board's tables, which takes no memory from then on.
 /// `DONE`; `IN_USE` if the handle holds a platform; `TABLE` if the tables are not well formed; else
 /// the number of the first rule that the board breaks, or `MEMORY` (`plan_of_tables`). After
 /// another number than `DONE` the handle is as it was.
@@ -34,7 +34,7 @@ pub extern "C" fn scmi_platform_new_of_tables(
         × (board_of_tables
         (tables_given heading.now agents.now domains.now clocks.now rates.now devices.now)
         ≡ Ok (board_of p.held)) × StandsAt p.held []
-        × IsValid (board_of p.held) × (¬ (IsRecorded p.held))) }
+        × IsValid (board_of p.held) × (¬ (IsCounted p.held))) }
     ensures fault { (result ≡ DONE) ⊎ (result ≡ IN_USE) ⊎ (result ≡ MEMORY)
         ⊎ (board_of_tables
         (tables_given heading.now agents.now domains.now clocks.now rates.now devices.now)
@@ -59,7 +59,7 @@ pub extern "C" fn scmi_platform_new_of_tables(
         devices,
     };
     match plan_of_tables(alloc, &tables) {
-        Ok(plan) => hold_endless(alloc, platform, plan),
+        Ok(plan) => hold(alloc, platform, plan, false),
         Err(fault) => fault,
     }
 }

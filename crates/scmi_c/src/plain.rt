@@ -4,8 +4,7 @@ ghost use Rattle.scmi_core.specs.Plain.{IsPlain};
 ghost use Rattle.scmi_core.specs.declared.event.Event.{Event};
 ghost use Rattle.scmi_c.specs.Calls.{HasHappened};
 ghost use Rattle.scmi_c.specs.Plain.{HasPlainHistory};
-ghost use Rattle.scmi_c.specs.Standing.{StandsAsBefore, StandsAt};
-ghost use Rattle.scmi_c.specs.declared.held.Held.{Held};
+ghost use Rattle.scmi_c.specs.Standing.{Held, StandsAt};
 
 /// A platform that was made, and since then was neither failed nor told of a restart, is at a
 /// history of commands, completions and postings alone: all events but those of `scmi_fail`,
@@ -15,7 +14,6 @@ pub fn plain_histories()
     ensures made { (p : Held) → StandsAt p [] → HasPlainHistory p }
     ensures event { (p k : Held) (event : Event) → HasPlainHistory p → HasHappened p k event
         → IsPlain event → HasPlainHistory k }
-    ensures same { (p k : Held) → HasPlainHistory p → StandsAsBefore p k → HasPlainHistory k }
 {
     // Nothing to do: the clauses hold of every platform.
 }

@@ -4,7 +4,7 @@ ghost use Rattle.scmi_codec.specs.Area.{frame_waiting};
 ghost use Rattle.scmi_core.specs.History.{HasNothingFor};
 ghost use Rattle.scmi_core.specs.declared.event.Event.{Event};
 ghost use Rattle.scmi_core.specs.declared.event.Event.TheVariants.{Sent};
-ghost use Rattle.scmi_c.specs.Standing.{board_of, StandsAt, LacksAgent, HasNoRoom};
+ghost use Rattle.scmi_c.specs.Standing.{LacksAgent, StandsAt, board_of};
 ghost use Rattle.scmi_c.specs.Calls.{HasPosted, HasHappened, HasNext, LacksNext};
 ghost use Rattle.scmi_c.specs.Kept.{IsAsked, IsUnasked};
 ghost use Rattle.scmi_c.specs.declared.code.TheConstants.{ASKED, DONE, NOTHING, MEMORY, NO_AGENT, NOT_FREE, NO_PLATFORM};
@@ -12,7 +12,6 @@ ghost use Rattle.scmi_c.specs.declared.code.TheConstants.{ASKED, DONE, NOTHING, 
 use crate::area::post_next;
 use crate::code::{NO_PLATFORM, code};
 use crate::handle::Handle;
-use crate::refusal::Refusal;
 use scmi_codec::AREA_BYTES;
 use std::alloc::Global;
 
@@ -50,9 +49,8 @@ pub extern "C" fn scmi_next(
 }
 
 /// Takes the first message off an agent's outbox, as posted. `DONE`; `NO_PLATFORM`; `NO_AGENT`;
-/// `ASKED` if a command waits to be committed or to fail; `NOTHING` if the outbox is empty;
-/// `MEMORY`, of a platform that keeps its history alone. After another number than `DONE` nothing
-/// changed.
+/// `ASKED` if a command waits to be committed or to fail; `NOTHING` if the outbox is empty. After
+/// another number than `DONE` nothing changed.
 #[unsafe(no_mangle)]
 pub extern "C" fn scmi_sent(alloc: Global, platform: &mut Handle, agent: u32) -> u32
     ensures done { result ≡ DONE →
@@ -65,16 +63,16 @@ pub extern "C" fn scmi_sent(alloc: Global, platform: &mut Handle, agent: u32) ->
     ensures no_agent { (result ≡ NO_AGENT) ↔
         IsSomeAnd platform.old.value (λ p. IsUnasked p × LacksAgent agent p.held) }
     ensures asked { (result ≡ ASKED) ↔ IsSomeAnd platform.old.value IsAsked }
-    ensures errors { (result ≤ NO_AGENT) ⊎ (result ≡ NO_PLATFORM) ⊎ (result ≡ ASKED) }
+    ensures errors { (result ≤ NOTHING) ⊎ (result ≡ NO_AGENT) ⊎
+        (result ≡ NO_PLATFORM) ⊎ (result ≡ ASKED) }
     ensures no_platform { (result ≡ NO_PLATFORM) ↔ (platform.old.value ≡ None) }
-    ensures memory { result ≡ MEMORY → IsSomeAnd platform.old.value (λ p. HasNoRoom p.held) }
     ensures kept { result ≢ DONE → platform.new.value ≡ platform.old.value }
 {
     let mut desk = match platform.take_unasked(alloc) {
         Ok(desk) => desk,
         Err(number) => return number,
     };
-    let given = desk.held.sent(agent).map_err(Refusal::from);
+    let given = desk.held.sent(agent);
     platform.put(desk);
     code(given)
 }

@@ -33,7 +33,7 @@ pub fn commit(desk: &mut Desk, area: &mut [u8]) -> Result<(), Refusal>
     if asker.bytes != area.len() {
         return Err(Refusal::WrongSize);
     }
-    let answered = desk.held.command(asker.agent, &desk.exchange.frame, &mut desk.exchange.reply)?;
+    let answered = desk.held.command(asker.agent, &desk.exchange.frame, &mut desk.exchange.reply);
     write_whole(area, answered, &desk.exchange.reply);
     desk.asker = None;
     Ok(())
@@ -60,7 +60,7 @@ pub fn fail(desk: &mut Desk, area: &mut [u8]) -> Result<(), Refusal>
     if area.len() != asker.bytes {
         return Err(Refusal::WrongSize);
     }
-    desk.held.command_failed(asker.agent, &desk.exchange.frame, &mut desk.exchange.reply)?;
+    desk.held.command_failed(asker.agent, &desk.exchange.frame, &mut desk.exchange.reply);
     write_whole(area, Answered::Reply, &desk.exchange.reply);
     desk.asker = None;
     Ok(())

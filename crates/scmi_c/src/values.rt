@@ -34,7 +34,7 @@ pub extern "C" fn scmi_domain_state(
     let Some(desk) = platform.take(alloc) else {
         return NO_PLATFORM;
     };
-    let given = desk.held.power_state(domain);
+    let given = desk.held.platform.power_state(domain);
     platform.put(desk);
     match given {
         Some(value) => {
@@ -70,7 +70,7 @@ pub extern "C" fn scmi_clock_rate(
     let Some(desk) = platform.take(alloc) else {
         return NO_PLATFORM;
     };
-    let given = desk.held.clock_rate(clock);
+    let given = desk.held.platform.clock_rate(clock);
     platform.put(desk);
     match given {
         Some(rate) => {
@@ -104,7 +104,7 @@ pub extern "C" fn scmi_clock_enabled(
     let Some(desk) = platform.take(alloc) else {
         return NO_PLATFORM;
     };
-    let given = desk.held.is_clock_enabled(clock);
+    let given = desk.held.platform.is_clock_enabled(clock);
     platform.put(desk);
     match given {
         Some(is_enabled) => {

@@ -3,6 +3,7 @@ ghost use Rattle.std.specs.Prelude.{◌≡◌, ◌≢◌, ◌↔◌, ◌⊎◌, 
 ghost use Rattle.scmi_core.specs.Effect.{setting_effect};
 ghost use Rattle.scmi_core.specs.History.{deeds, outbox};
 ghost use Rattle.scmi_core.specs.Pending.{pending_sets};
+ghost use Rattle.scmi_core.specs.Standing.{StandsAfter};
 ghost use Rattle.scmi_core.specs.declared.event.Event.{Event};
 ghost use Rattle.scmi_c.specs.Effect.{numbers_of};
 ghost use Rattle.scmi_c.specs.Standing.{LacksAgent, StandsAt, board_of};
@@ -11,6 +12,7 @@ ghost use Rattle.scmi_c.specs.declared.code.TheConstants.{DONE, NOTHING, NO_AGEN
 use crate::code::{DONE, NO_AGENT, NO_PLATFORM, NOTHING};
 use crate::effect::{EffectNumbers, numbers_of};
 use crate::handle::Handle;
+use scmi_core::{PendingSet, Platform};
 use std::alloc::Global;
 
 /// Gives the pending set at a place, 0 that of the first, in the order in which they complete: its
@@ -41,7 +43,7 @@ pub extern "C" fn scmi_pending(
     let Some(desk) = platform.take(alloc) else {
         return NO_PLATFORM;
     };
-    let given = desk.held.pending_set(place);
+    let given = pending_set(&desk.held.platform, place);
     platform.put(desk);
     match given {
         Some(set) => {
@@ -51,6 +53,14 @@ pub extern "C" fn scmi_pending(
         }
         None => NOTHING,
     }
+}
+
+/// The pending set at a place, 0 that of the first, in the order in which they complete.
+fn pending_set(platform: &Platform, place: u32) -> Option<PendingSet>
+    ensures { (h : List Event) → StandsAfter platform.now h →
+        result ≡ slice_get (pending_sets platform.now.board (deeds platform.now.board h)) place }
+{
+    platform.pending_sets().get(place as usize).copied()
 }
 
 /// Gives how many messages wait in an agent's outbox. `DONE`; `NO_PLATFORM`; `NO_AGENT`. The platform is
@@ -75,7 +85,7 @@ pub extern "C" fn scmi_outbox_length(
     let Some(desk) = platform.take(alloc) else {
         return NO_PLATFORM;
     };
-    let given = desk.held.waiting(agent);
+    let given = desk.held.platform.waiting(agent);
     platform.put(desk);
     match given {
         Some(count) => {

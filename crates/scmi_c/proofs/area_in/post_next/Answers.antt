@@ -20,5 +20,5 @@ returns-in-Err-clause-not_free c = λ size h at.
     absurd
     (not-refused c.write_channel_message.result c.in-Err.field-0 (length message.payload.items) (channel_of board c.args.agent).words c.args.area.now
     c.in_ok-check_size.ensures.size c.in_ok-check_size.ensures.words
-    (first-within board c.args.agent h message c.in_ok-check_size.ensures.valid (c.in_ok-check_size.ensures.legal h at) (search rules))
+    (first-within board c.args.agent h message c.in_ok-check_size.ensures.valid at.0.legal (search rules))
     c.write_channel_message.ensures.size c.in-Err.is)

@@ -7,5 +7,4 @@ pub returns : goal.returns
 returns c = record {
   made = λ p stands. ([], stands, All-nil IsPlain);
   event = λ p k event plain happened is. (plain.0 ++ event ∷ [], happened.after plain.0 plain.1, All-push IsPlain plain.0 event plain.2 is);
-  same = λ p k plain as_before. (plain.0, (as_before.after plain.0).0 plain.1, plain.2);
 }

@@ -2,8 +2,7 @@ use Rattle.std.proofs.Common.{rules, ◌≡◌, ◌≤◌, ℕ, length, subst, a
 use Rattle.scmi_codec.specs.ChannelArea.{channel_words}
 use Rattle.scmi_plan.specs.Board.{channel_of}
 use Rattle.scmi_c.specs.Kept.{Asked, IsAskable, Kept}
-use Rattle.scmi_c.specs.Standing.{board_of}
-use Rattle.scmi_c.specs.declared.held.Held.{Held}
+use Rattle.scmi_c.specs.Standing.{Held, board_of}
 use Rattle.scmi_c.proofs.Answering.{some-and}
 use Rattle.scmi_c.proofs.AreaIn.{committed-in}
 use Rattle.scmi_c.proofs.Keeping.{kept-of}
@@ -21,7 +20,7 @@ returns-clause-ok c =
     some-and c.args.desk.now.asked asked _ (search rules)
     (record {
       answer = λ h at.
-          committed-in (board_of c.args.desk.now.held) agent h c.args.area.now c.write_whole.new.area frame _ c.command.new.reply may.valid
+          committed-in (board_of c.args.desk.now.held) agent h c.args.area.now c.write_whole.new.area frame _ c.command-answered.new.reply may.valid
           (subst (λ (n : ℕ). (channel_of (board_of c.args.desk.now.held) agent).words ≤ channel_words n) size may.words)
           (search rules) c.write_whole.ensures.reply c.write_whole.ensures.error;
       event = search rules;

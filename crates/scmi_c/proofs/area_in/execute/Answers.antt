@@ -1,0 +1,12 @@
+use Rattle.std.proofs.Common.{rules}
+use Rattle.scmi_c.specs.Standing.{board_of}
+use Rattle.scmi_c.proofs.AreaIn.{answered-in}
+use Rattle.scmi_c.proofs.area_in.execute.Goals as goal
+
+pub returns-clause-answered : goal.returns-clause-answered
+returns-clause-answered c = record {
+  answer = λ h at.
+      answered-in (board_of c.args.held.now) c.args.agent h c.args.area.now c.put_answer.new.area c.args.exchange.now.frame _ c.command-answered.new.reply
+      (search rules) (search rules) (search rules) (search rules) c.put_answer.ensures.reply c.put_answer.ensures.error;
+  event = search rules;
+}
