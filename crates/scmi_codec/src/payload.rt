@@ -13,6 +13,10 @@ pub const PAYLOAD_WORDS: usize = 64;
 /// The status word of a successful response.
 pub const SUCCESS: u32 = 0;
 
+/// What a payload is filled up with before its words are written. Its bytes differ: clang makes a
+/// loop that writes equal bytes a call of `memset`, which firmware does byte by byte.
+const FILLER: u32 = 1;
+
 /// The payload words of a message.
 pub type Payload = ArrayVec<u32, PAYLOAD_WORDS>;
 
@@ -63,7 +67,7 @@ fn refit(payload: &mut Payload, count: usize)
 {
     payload.truncate(count);
     for _ in payload.len()..count {
-        payload.push(0);
+        payload.push(FILLER);
     }
 }
 

@@ -147,6 +147,7 @@ impl Plan {
 
     /// What an agent's channels are. `Plan::check` gives each agent whole ones: 64 words of payload,
     /// both ways.
+    #[inline(always)]
     pub fn channel(&self, agent: u32) -> AgentChannel
         requires agent { IsAgent (length self.now.agents) agent }
         ensures row { result ≡ channel_of self.now agent }
