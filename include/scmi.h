@@ -88,7 +88,7 @@ typedef union scmi_area {
 enum {
     SCMI_DONE = 0,
     SCMI_NOTHING = 1,     /* no frame to answer, no command asked about, no set pending, or no message to post */
-    SCMI_MEMORY = 2,      /* out of memory */
+    SCMI_MEMORY = 2,      /* out of memory, when a platform is made */
     SCMI_NO_AGENT = 3,    /* the board has no agent of this number */
     SCMI_NOT_FREE = 4,    /* the area still holds a message */
     SCMI_NO_PLATFORM = 5, /* the handle holds no platform */

@@ -90,28 +90,26 @@ static inline int scmi_length_fits(uint32_t length, uint32_t payload_words)
 }
 
 /*
- * Copies flags and frame of a channel, each word once; words beyond the length are zeros. SCMI_DONE, or
- * SCMI_MAILBOX_LENGTH if the length does not fit the channel. Then the copy has only the flags and the length, or 0 in
- * place of a length that the library would take as well formed, so that the frame is malformed to all.
+ * Copies flags and frame of a channel, each word once. The words after the frame stay as they were, and no call reads
+ * them. SCMI_DONE, or SCMI_MAILBOX_LENGTH if the length does not fit the channel. Then the copy has the flags, the
+ * header 0, and the length, or 0 in place of a length that the library would take as well formed, so that the frame is
+ * malformed to all.
  */
 static inline uint32_t scmi_mailbox_copy(const scmi_mailbox *box, uint32_t status, scmi_area *area)
 {
-    uint32_t length = scmi_shared_load(box, SCMI_AT_LENGTH), count = 0, i;
-    int fits = scmi_length_fits(length, box->payload_words);
+    uint32_t length = scmi_shared_load(box, SCMI_AT_LENGTH), i;
 
-    area->reserved = area->reserved_too[0] = area->reserved_too[1] = area->header = 0;
     area->status = status;
     area->flags = scmi_shared_load(box, SCMI_AT_FLAGS);
-    area->length = fits || !scmi_length_fits(length, SCMI_PAYLOAD_WORDS) ? length : 0;
-    if (fits) {
-        area->header = scmi_shared_load(box, SCMI_AT_HEADER);
-        for (count = length / 4 - 1, i = 0; i < count; i++)
-            area->payload[i] = scmi_shared_load(box, SCMI_AT_PAYLOAD + i);
-    }
-    for (i = count; i < SCMI_PAYLOAD_WORDS; i++)
-        area->payload[i] = 0;
-    if (!fits)
+    if (!scmi_length_fits(length, box->payload_words)) {
+        area->length = scmi_length_fits(length, SCMI_PAYLOAD_WORDS) ? 0 : length;
+        area->header = 0;
         return SCMI_MAILBOX_LENGTH;
+    }
+    area->length = length;
+    area->header = scmi_shared_load(box, SCMI_AT_HEADER);
+    for (i = 0; i < length / 4 - 1; i++)
+        area->payload[i] = scmi_shared_load(box, SCMI_AT_PAYLOAD + i);
     return SCMI_DONE;
 }
 

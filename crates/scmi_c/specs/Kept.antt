@@ -1,14 +1,15 @@
 -- What a handle keeps: a platform, and the command that it was asked about, which is to be committed or to fail.
-use Rattle.std.specs.Prelude.{◌≡◌, ◌≢◌, ℕ, ◌≤◌, List, length, true, Option, Some, None}
+use Rattle.std.specs.Prelude.{◌≡◌, ◌≢◌, ℕ, ◌≤◌, List, length, true, if◌then◌else◌, Option, Some, None, option_map}
 use Rattle.scmi_codec.specs.ChannelArea.{channel_words, is_channel_size}
 use Rattle.scmi_codec.specs.declared.frame.Frame.{Frame}
 use Rattle.scmi_plan.specs.Agent.{IsAgent}
 use Rattle.scmi_plan.specs.Board.{channel_of}
-use Rattle.scmi_plan.specs.Plan.{IsValid}
 use Rattle.scmi_core.specs.Effect.{effect_after}
 use Rattle.scmi_core.specs.declared.event.Event.{Event}
 use Rattle.scmi_core.specs.declared.event.Event.TheVariants.{Command as Called}
-use Rattle.scmi_c.specs.declared.desk.Asker.{Asker}
+use Rattle.scmi_c.specs.declared.desk.Waiting.{Waiting}
+use Rattle.scmi_c.specs.declared.effect.EffectNumbers.{EffectNumbers}
+use Rattle.scmi_c.specs.Effect.{numbers_of}
 use Rattle.scmi_c.specs.Standing.{Held, StandsAt, board_of}
 
 -- a command that was asked about: its agent, its frame as it was read, and the bytes of its area
@@ -30,16 +31,14 @@ IsAsked k = k.asked ≢ None
 abbrev pub IsUnasked : Kept → Type 0
 IsUnasked k = k.asked ≡ None
 
--- who asked, with the frame that was read
-abbrev pub asked_by : Frame → Option Asker → Option Asked
-asked_by frame None = None
-asked_by frame (Some asker) = Some (record { agent = asker.agent; frame = frame; bytes = asker.bytes })
+-- the command that waits, with the frame that was read, if one waits
+abbrev pub asked_by : Frame → Waiting → Option Asked
+asked_by frame waiting = if waiting.is_asked then Some (record { agent = waiting.agent; frame = frame; bytes = waiting.bytes }) else None
 
--- a command may be committed and may fail: it is of an agent of the board and is to change the hardware, and its area has room for its answer
-pub record IsAskable (held : Held) (asked : Asked) : Type 0 where
+-- a command may be committed and may fail: it is of an agent of the board and is to make this change of the hardware, and its area has room for its answer
+pub record IsAskable (held : Held) (change : EffectNumbers) (asked : Asked) : Type 0 where
   pub agent : IsAgent (length (board_of held).agents) asked.agent
-  pub effect : (h : List Event) → StandsAt held h → effect_after (board_of held) h (Called asked.agent asked.frame) ≢ None
-  pub valid : IsValid (board_of held)
+  pub effect : (h : List Event) → StandsAt held h → option_map numbers_of (effect_after (board_of held) h (Called asked.agent asked.frame)) ≡ Some change
   pub size : is_channel_size asked.bytes ≡ true
   pub words : (channel_of (board_of held) asked.agent).words ≤ channel_words asked.bytes
 

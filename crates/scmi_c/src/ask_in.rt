@@ -13,8 +13,8 @@ ghost use Rattle.scmi_c.specs.declared.code.TheConstants.{ASKED, DONE, EFFECT, N
 
 use crate::area_in::ask;
 use crate::code::{DONE, EFFECT, code};
-use crate::desk::{Asker, Desk};
-use crate::effect::{EffectNumbers, numbers_of};
+use crate::desk::Desk;
+use crate::effect::{EffectNumbers, put_numbers};
 use crate::handle::Handle;
 use std::alloc::Global;
 
@@ -70,18 +70,13 @@ pub extern "C" fn scmi_ask_in(
     };
     let seat: &mut Desk = &mut desk;
     let given = ask(&mut seat.held, &mut seat.exchange, agent, area);
-    if let Ok(Some(_)) = given {
-        seat.asker = Some(Asker {
-            agent,
-            bytes: area.len(),
-        });
+    if let Ok(Some(change)) = given {
+        seat.waiting.begin(agent, area.len(), change);
+        put_numbers(change, effect);
     }
     platform.put(desk);
     match given {
-        Ok(Some(change)) => {
-            *effect = numbers_of(change);
-            EFFECT
-        }
+        Ok(Some(_)) => EFFECT,
         Ok(None) => DONE,
         Err(refusal) => code(Err(refusal)),
     }

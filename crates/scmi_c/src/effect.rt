@@ -1,8 +1,9 @@
 //! Changes of hardware, as numbers for C.
 ghost use Rattle.std.specs.Prelude.{◌≡◌};
+ghost use Rattle.scmi_core.specs.declared.effect.Effect.{Effect};
 ghost use Rattle.scmi_c.specs.Effect.{numbers_of};
 
-use scmi_codec::rate_words;
+use scmi_codec::{rate_of, rate_words};
 use scmi_core::Effect;
 
 /// A change of a domain's state.
@@ -24,31 +25,49 @@ pub struct EffectNumbers {
     pub high: u32,
 }
 
-/// The numbers of a change.
-pub fn numbers_of(effect: Effect) -> EffectNumbers
-    ensures { result ≡ numbers_of effect }
+/// Writes the numbers of a change, each by itself, since a copy of them all goes byte by byte.
+#[inline(always)]
+pub fn put_numbers(effect: Effect, numbers: &mut EffectNumbers)
+    ensures { numbers.new ≡ numbers_of effect }
 {
-    match effect {
-        Effect::State { domain, state } => EffectNumbers {
-            kind: STATE,
-            id: domain,
-            low: state,
-            high: 0,
-        },
-        Effect::Rate { clock, rate } => {
-            let [low, high] = rate_words(rate);
-            EffectNumbers {
-                kind: RATE,
-                id: clock,
-                low,
-                high,
-            }
+    let [low, high] = match effect {
+        Effect::State { domain, state } => {
+            numbers.kind = STATE;
+            numbers.id = domain;
+            [state, 0]
         }
-        Effect::Enabled { clock, enabled } => EffectNumbers {
-            kind: ENABLED,
-            id: clock,
-            low: u32::from(enabled),
-            high: 0,
+        Effect::Rate { clock, rate } => {
+            numbers.kind = RATE;
+            numbers.id = clock;
+            rate_words(rate)
+        }
+        Effect::Enabled { clock, enabled } => {
+            numbers.kind = ENABLED;
+            numbers.id = clock;
+            [u32::from(enabled), 0]
+        }
+    };
+    numbers.low = low;
+    numbers.high = high;
+}
+
+/// The change of which these are the numbers.
+#[inline(always)]
+pub fn effect_of(numbers: &EffectNumbers) -> Effect
+    ensures { (effect : Effect) → numbers_of effect ≡ numbers.now → result ≡ effect }
+{
+    match numbers.kind {
+        STATE => Effect::State {
+            domain: numbers.id,
+            state: numbers.low,
+        },
+        RATE => Effect::Rate {
+            clock: numbers.id,
+            rate: rate_of(numbers.low, numbers.high),
+        },
+        _ => Effect::Enabled {
+            clock: numbers.id,
+            enabled: numbers.low == 1,
         },
     }
 }

@@ -12,7 +12,7 @@ ghost use Rattle.scmi_c.specs.Calls.{HasHappened};
 ghost use Rattle.scmi_c.specs.declared.code.TheConstants.{ASKED, DONE, NOTHING, NO_PLATFORM};
 
 use crate::code::{DONE, NO_PLATFORM, NOTHING};
-use crate::effect::{EffectNumbers, numbers_of};
+use crate::effect::{EffectNumbers, put_numbers};
 use crate::handle::Handle;
 use std::alloc::Global;
 
@@ -43,7 +43,7 @@ pub extern "C" fn scmi_ask_advance(
     platform.put(desk);
     match given {
         Some(change) => {
-            *effect = numbers_of(change);
+            put_numbers(change, effect);
             DONE
         }
         None => NOTHING,

@@ -1,5 +1,5 @@
 //! What a handle holds.
-ghost use Rattle.std.specs.Prelude.{◌≡◌, ◌≢◌, ◌↔◌, ◌⊎◌, ◌++◌, ◌∷◌, [], List, length, true, false, None, IfOk, OnOk, OnErr, IfErr, Err};
+ghost use Rattle.std.specs.Prelude.{◌≡◌, ◌≢◌, ◌↔◌, ◌⊎◌, ◌++◌, ◌∷◌, [], List, length, true, false, Some, None, IfOk, OnOk, OnErr, IfErr, Err};
 ghost use Rattle.scmi_codec.specs.declared.frame.Answer.TheVariants.{Reply};
 ghost use Rattle.scmi_plan.specs.Agent.{IsAgent};
 ghost use Rattle.scmi_plan.specs.Plan.{IsValid};
@@ -13,7 +13,7 @@ ghost use Rattle.scmi_c.specs.Standing.{IsCount, IsCounted, LacksAgent, StandsAt
 
 use crate::refusal::Refusal;
 use scmi_codec::{Frame, Message};
-use scmi_core::{Answered, CoreError, Effect, Platform};
+use scmi_core::{Answered, CoreError, Effect, Platform, may_change};
 use scmi_plan::Plan;
 use std::marker::Model;
 
@@ -37,6 +37,7 @@ impl Model for Held {
 
 impl Held {
     /// The platform of a board, at the start.
+    #[inline(always)]
     pub fn new(plan: Plan, is_counted: bool) -> Held
         ensures board { board_of result ≡ plan }
         ensures start { StandsAt result [] }
@@ -132,6 +133,7 @@ impl Held {
 
     /// What an agent's command is to change of the hardware, before it is executed; `None` if it
     /// changes nothing of it. `NoAgent` if the board lacks the agent.
+    #[inline(always)]
     pub fn effect_of(&self, agent: u32, frame: &Frame) -> Result<Option<Effect>, Refusal>
         ensures effect { (h : List Event) → StandsAt self.now h →
             IfOk result (λ effect.
@@ -142,10 +144,35 @@ impl Held {
         ensures errors { IfErr result (λ e. e ≡ Refusal.NoAgent) }
     {
         self.check_agent(agent)?;
+        if !may_change(frame) {
+            return Ok(None);
+        }
         match self.platform.effect_of(agent, frame) {
             Ok(effect) => Ok(effect),
             Err(_) => Err(Refusal::NoAgent),
         }
+    }
+
+    /// Executes a command whose change the hardware has made; nothing is decided again.
+    #[inline(always)]
+    pub fn commit(
+        &mut self,
+        agent: u32,
+        frame: &Frame,
+        effect: Effect,
+        reply: &mut Message,
+    ) -> Answered
+        requires agent { IsAgent (length (board_of self.old).agents) agent }
+        requires effect { (h : List Event) → StandsAt self.old h →
+            effect_after (board_of self.old) h (Called agent frame.now) ≡ Some effect }
+        ensures valid { IsValid (board_of self.old) }
+        ensures answer { (h : List Event) → StandsAt self.old h →
+            answer_with result reply.new ≡ answer_to (board_of self.old) agent frame.now h }
+        ensures event { HasHappened self.old self.new (Called agent frame.now) }
+    {
+        let answered = self.platform.commit(agent, frame, effect, reply);
+        count(&mut self.events);
+        answered
     }
 
     /// Answers a command whose change the hardware refused by HARDWARE_ERROR.

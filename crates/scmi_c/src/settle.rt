@@ -8,14 +8,15 @@ ghost use Rattle.scmi_c.specs.Calls.{HasAnswered, HasFailed};
 ghost use Rattle.scmi_c.specs.Kept.{IsUnasked};
 
 use crate::desk::Desk;
+use crate::effect::effect_of;
 use crate::refusal::Refusal;
-use scmi_codec::{Answer, Message, write_channel_answer, write_channel_message};
+use scmi_codec::{Answer, Message, write_channel_answer, write_channel_reply};
 use scmi_core::Answered;
 
 /// Executes the command that was asked about, whose change the hardware has made, and writes its
-/// answer whole: nothing of the area is read. `Nothing` if no command was asked about, `WrongSize`
-/// if the area has not the size of the area that held the command; then nothing changed. It is
-/// refused for nothing else.
+/// answer whole: nothing of the area is read, and nothing is decided again. `Nothing` if no command
+/// was asked about, `WrongSize` if the area has not the size of the area that held the command;
+/// then nothing changed. It is refused for nothing else.
 pub fn commit(desk: &mut Desk, area: &mut [u8]) -> Result<(), Refusal>
     ensures ok { OnOk result (IsSomeAnd desk.old.asked (λ asked.
         HasAnswered desk.old.held desk.new.held asked.agent asked.frame area.old area.new)) }
@@ -27,15 +28,22 @@ pub fn commit(desk: &mut Desk, area: &mut [u8]) -> Result<(), Refusal>
     ensures err { OnErr result (desk.new ≡ desk.old) }
     ensures kept { OnErr result (area.new ≡ area.old) }
 {
-    let Some(asker) = desk.asker else {
+    let waiting = &desk.waiting;
+    if !waiting.is_asked {
         return Err(Refusal::Nothing);
-    };
-    if asker.bytes != area.len() {
+    }
+    if waiting.bytes != area.len() {
         return Err(Refusal::WrongSize);
     }
-    let answered = desk.held.command(asker.agent, &desk.exchange.frame, &mut desk.exchange.reply);
+    let effect = effect_of(&waiting.change);
+    let answered = desk.held.commit(
+        waiting.agent,
+        &desk.exchange.frame,
+        effect,
+        &mut desk.exchange.reply,
+    );
     write_whole(area, answered, &desk.exchange.reply);
-    desk.asker = None;
+    desk.waiting.is_asked = false;
     Ok(())
 }
 
@@ -54,15 +62,20 @@ pub fn fail(desk: &mut Desk, area: &mut [u8]) -> Result<(), Refusal>
     ensures err { OnErr result (desk.new ≡ desk.old) }
     ensures kept { OnErr result (area.new ≡ area.old) }
 {
-    let Some(asker) = desk.asker else {
+    let waiting = &desk.waiting;
+    if !waiting.is_asked {
         return Err(Refusal::Nothing);
-    };
-    if area.len() != asker.bytes {
+    }
+    if area.len() != waiting.bytes {
         return Err(Refusal::WrongSize);
     }
-    desk.held.command_failed(asker.agent, &desk.exchange.frame, &mut desk.exchange.reply);
+    desk.held.command_failed(
+        waiting.agent,
+        &desk.exchange.frame,
+        &mut desk.exchange.reply,
+    );
     write_whole(area, Answered::Reply, &desk.exchange.reply);
-    desk.asker = None;
+    desk.waiting.is_asked = false;
     Ok(())
 }
 
@@ -77,13 +90,8 @@ fn write_whole(area: &mut [u8], answered: Answered, reply: &Message)
     ensures error { answered ≡ answered_by.ChannelError →
         area.new ≡ area_after_answer frame_answer.ChannelError area.old }
 {
-    let last = match answered {
-        Answered::Reply => {
-            // As posted, and then the channel is free.
-            let _ = write_channel_message(area, reply);
-            Answer::Released
-        }
-        Answered::ChannelError => Answer::ChannelError,
+    let _ = match answered {
+        Answered::Reply => write_channel_reply(area, reply),
+        Answered::ChannelError => write_channel_answer(area, &Answer::ChannelError),
     };
-    let _ = write_channel_answer(area, &last);
 }

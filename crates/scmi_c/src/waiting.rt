@@ -10,7 +10,7 @@ ghost use Rattle.scmi_c.specs.Standing.{LacksAgent, StandsAt, board_of};
 ghost use Rattle.scmi_c.specs.declared.code.TheConstants.{DONE, NOTHING, NO_AGENT, NO_PLATFORM};
 
 use crate::code::{DONE, NO_AGENT, NO_PLATFORM, NOTHING};
-use crate::effect::{EffectNumbers, numbers_of};
+use crate::effect::{EffectNumbers, put_numbers};
 use crate::handle::Handle;
 use scmi_core::{PendingSet, Platform};
 use std::alloc::Global;
@@ -48,7 +48,7 @@ pub extern "C" fn scmi_pending(
     match given {
         Some(set) => {
             *agent = set.agent;
-            *effect = numbers_of(set.effect());
+            put_numbers(set.effect(), effect);
             DONE
         }
         None => NOTHING,

@@ -17,5 +17,5 @@ invariant_of-seat c =
     let size : HasSize c.args.agent (length c.args.area.now) held = search rules in
     let same : length c.ask-given.new.area ≡ length c.args.area.now = search rules in
     let two = sized (channel_of (board_of held) c.args.agent).words (length c.ask-given.new.area) valid.0 valid.1 (same ∙ size.1) in
-    askable held c.ask-given.new.held c.args.agent (length c.ask-given.new.area) c.ask-given.new.exchange.frame (channel_waiting c.args.area.now) c.in-Ok-Some.field-0-0
-    about (search rules) (search rules) two.0 (omega (arith, two.1))
+    askable held c.ask-given.new.held c.args.agent (length c.ask-given.new.area) c.ask-given.new.exchange.frame (channel_waiting c.args.area.now) c.in-Ok-Some.change
+    c.begin.new.self about (search rules) (search rules) c.begin.ensures.asked c.begin.ensures.agent c.begin.ensures.bytes c.begin.ensures.change two.0 (omega (arith, two.1))

@@ -10,8 +10,9 @@ use Rattle.scmi_c.proofs.hardware.scmi_ask.Goals as goal
 pub invariant_of-seat : goal.invariant_of-seat
 invariant_of-seat c =
     let about : IsAskedAbout c.seat.inside.held c.ask-given.new.held c.args.agent = search rules in
-    askable c.seat.inside.held c.ask-given.new.held c.args.agent 284 c.ask-given.new.exchange.frame (frame_waiting c.args.area.now) c.in-Ok-Some.field-0-0
-    about (search rules) (search rules) refl (valid_channel (board_of c.seat.inside.held) c.args.agent about.valid).1
+    askable c.seat.inside.held c.ask-given.new.held c.args.agent 284 c.ask-given.new.exchange.frame (frame_waiting c.args.area.now) c.in-Ok-Some.change
+    c.begin.new.self about (search rules) (search rules) c.begin.ensures.asked c.begin.ensures.agent c.begin.ensures.bytes c.begin.ensures.change
+    refl (valid_channel (board_of c.seat.inside.held) c.args.agent about.valid).1
 
 pub returns-in-Err-given-clause-no_agent : goal.returns-in-Err-given-clause-no_agent
 returns-in-Err-given-clause-no_agent c =
