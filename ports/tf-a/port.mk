@@ -18,9 +18,9 @@ $(error SCMI: SCMI_LIBRARY names no library: '$(SCMI_LIBRARY)')
 endif
 
 # Where the repository, and where ./install, has it.
-SCMI_PORT_MEMORY := $(firstword $(wildcard $(SCMI_PORT)../../include/scmi_memory.c $(SCMI_PORT)../../share/scmi/scmi_memory.c))
+SCMI_PORT_MEMORY := $(firstword $(wildcard $(addprefix $(SCMI_PORT)../../include/,scmi_memory.c tolbjir/scmi_memory.c)))
 ifeq ($(SCMI_PORT_MEMORY),)
-$(error SCMI: scmi_memory.c is neither in $(SCMI_PORT)../../include nor in $(SCMI_PORT)../../share/scmi)
+$(error SCMI: $(SCMI_PORT)../../include has no scmi_memory.c)
 endif
 
 BL31_SOURCES := $(filter-out drivers/scmi-msg/%.c,$(BL31_SOURCES)) \
