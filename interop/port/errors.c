@@ -14,8 +14,9 @@
 #include <lib/spinlock.h>
 
 #include "scmi_service.h"
+#include "scmi_service_board.h"
 
-enum { STATUS = 1, LENGTH = 5, HEADER = 6, PAYLOAD = 7, AREA_BYTES = 128, PANIC = 77 };
+enum { STATUS = 1, LENGTH = 5, HEADER = 6, PAYLOAD = 7, AREA_BYTES = 128, PANIC = 77, SECONDS = 60 };
 /* Headers without a token. */
 enum { VERSION = 0x4000, STATE_SET = 0x4404, STATE_GET = 0x4405, ATTRIBUTES = 0x5003, RATES = 0x5004, RATE_SET = 0x5005,
        RATE_GET = 0x5006, CONFIG_SET = 0x5007 };
@@ -499,6 +500,21 @@ static void steps_are_the_hooks_as_far_as_they_can_be(void)
     check("no range", rate_of(0, 3) == 150);
 }
 
+static void steps_need_no_room_for_rates(void)
+{
+    for (unsigned int id = 0; id < 2; id++) {
+        set_clock(0, id, "list", 1);
+        clocks[0][id].count = 50;
+        for (size_t i = 0; i < 50; i++)
+            clocks[0][id].offered[i] = i + 1;
+    }
+    set_clock(0, 2, "steps", 100);
+    clocks[0][2].count = 0;
+    memcpy(clocks[0][2].steps, (unsigned long[]){ 100, 400, 100 }, sizeof(clocks[0][2].steps));
+    init();
+    check("all are served", rate_of(0, 2) == 100 && set_rate(0, 1, 50) == 0 && set_rate(0, 2, 300) == 0);
+}
+
 static const struct {
     const char *what;
     void (*test)(void);
@@ -523,6 +539,7 @@ static const struct {
     { "what is not served is said by name", what_is_not_served_is_said_by_name, 0 },
     { "rates are the hook's as far as they can be", rates_are_the_hooks_as_far_as_they_can_be, 0 },
     { "steps are the hook's as far as they can be", steps_are_the_hooks_as_far_as_they_can_be, 0 },
+    { "steps need no room for rates", steps_need_no_room_for_rates, 0 },
 };
 
 static bool passes(size_t at)
@@ -533,6 +550,7 @@ static bool passes(size_t at)
     fflush(stdout);
     child = fork();
     if (child == 0) {
+        alarm(SECONDS);
         start();
         tests[at].test();
         if (is_locked)

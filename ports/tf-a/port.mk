@@ -5,7 +5,7 @@
 #   include FOLDER/ports/tf-a/port.mk
 #
 # The headers of drivers/scmi-msg stay, for the platform's own files. SCMI_PORT_BOARD names a file that knows the board in
-# place of TF-A's hooks (scmi_service.h).
+# place of TF-A's hooks (scmi_service_board.h).
 
 SCMI_PORT := $(dir $(lastword $(MAKEFILE_LIST)))
 SCMI_PORT_BOARD ?= $(SCMI_PORT)scmi_hooks.c

@@ -9,7 +9,7 @@
 #include <drivers/scmi.h>
 #include <lib/cassert.h>
 
-#include "scmi_service.h"
+#include "scmi_service_board.h"
 
 /* The library's limits, of an agent and of a clock. */
 enum { MOST_DOMAINS = 32, MOST_CLOCKS = 32, MOST_RATES = 64 };
@@ -239,50 +239,51 @@ static int32_t take_steps(unsigned int agent, uint32_t id, scmi_board_clock *clo
     return SCMI_SUCCESS;
 }
 
-/* A clock without rates, or with half of its list, has the one that it is at. */
-static void add_rates(unsigned int agent, uint32_t id, scmi_board_clock *clock)
+/* A clock without rates, or with half of its list, has the one that it is at. False if there is no room for even that. */
+static bool add_rates(unsigned int agent, uint32_t id, scmi_board_clock *clock)
 {
     int32_t status = put_list(agent, id, clock);
     uint32_t listed = clock->count;
 
     if (status == SCMI_NOT_SUPPORTED && take_steps(agent, id, clock) == SCMI_SUCCESS)
-        return;
+        return true;
     if (status != SCMI_SUCCESS || listed == 0) {
         clock->count = 0;
         WARN("SCMI: clock \"%s\" has no rates (%d), and stays at %lu Hz\n", clock->name, status,
              (unsigned long)clock->rate);
+        return put_rate(clock, clock->rate);
     }
     if (!put_rate(clock, clock->rate)) {
         WARN("SCMI: clock \"%s\" is taken to be at the lowest of its rates\n", clock->name);
         clock->rate = tables.rates[clock->first];
-    } else if (status == SCMI_SUCCESS && clock->count != listed) {
+    } else if (clock->count != listed) {
         WARN("SCMI: clock \"%s\" is at %lu Hz, which is put into its list\n", clock->name, (unsigned long)clock->rate);
     }
+    return true;
 }
 
-/* False if there is no room for even one rate. */
+/* False if there is no room for its rates. */
 static bool add_clock(unsigned int agent, uint32_t id)
 {
     scmi_board_clock *clock = &tables.clocks[id];
     const char *name = plat_scmi_clock_get_name(agent, id);
+    bool has_room;
 
     clock->first = (uint32_t)board.rate_count;
-    if (board.rate_count == SCMI_PORT_RATES) {
-        ERROR("SCMI: agent %u: SCMI_PORT_RATES, %u, is too small\n", agent, SCMI_PORT_RATES);
-        return false;
-    }
     if (name == NULL) {
         give_number(clock->name, agent, "clock", id);
         tables.closed.clocks |= 1U << id;
-        clock->count = 1;
+        has_room = put_rate(clock, 0);
     } else {
         give_name(clock->name, "clock", name);
         clock->enabled = plat_scmi_clock_get_state(agent, id) == 1;
         clock->rate = plat_scmi_clock_get_rate(agent, id);
-        add_rates(agent, id, clock);
+        has_room = add_rates(agent, id, clock);
     }
     board.rate_count += clock->count;
-    return true;
+    if (!has_room)
+        ERROR("SCMI: agent %u: SCMI_PORT_RATES, %u, is too small\n", agent, SCMI_PORT_RATES);
+    return has_room;
 }
 
 /* Protocols that the library has not: agents are answered NOT_SUPPORTED. */

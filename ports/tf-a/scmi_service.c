@@ -18,6 +18,7 @@
 
 #include "../../include/scmi_mailbox.h"
 #include "../../include/scmi_memory.h"
+#include "scmi_service_board.h"
 
 /* A core's stack in BL31 may have 1 KB; making a platform takes 9 KB, and so all is done on a stack of its own. */
 #ifndef SCMI_PORT_STACK
