@@ -17,7 +17,7 @@ ifeq ($(wildcard $(SCMI_LIBRARY)),)
 $(error SCMI: SCMI_LIBRARY names no library: '$(SCMI_LIBRARY)')
 endif
 
-# Where the repository, and where ./install, has it.
+# Where the repository, and where tools/install, has it.
 SCMI_PORT_MEMORY := $(firstword $(wildcard $(addprefix $(SCMI_PORT)../../include/,scmi_memory.c tolbjir/scmi_memory.c)))
 ifeq ($(SCMI_PORT_MEMORY),)
 $(error SCMI: $(SCMI_PORT)../../include has no scmi_memory.c)
