@@ -4,11 +4,11 @@
 #   SCMI_PORT_DEFINES := SCMI_PORT_CLOCKS=8 ..          what the platform has, for less memory; see README.md
 #   include FOLDER/ports/tf-a/port.mk
 #
-# The headers of drivers/scmi-msg stay, for the platform's own files. SCMI_PORT_BOARD names a file that knows the board in
-# place of TF-A's hooks (scmi_service_board.h).
+# The headers of drivers/scmi-msg stay, for the platform's own files. SCMI_PORT_BOARD names a file that knows the board
+# in place of TF-A's hooks (scmi_service_board.h).
 
 SCMI_PORT := $(dir $(lastword $(MAKEFILE_LIST)))
-SCMI_PORT_BOARD ?= $(SCMI_PORT)scmi_hooks.c
+SCMI_PORT_BOARD ?= $(SCMI_PORT)scmi_hooks.c $(SCMI_PORT)scmi_no_hooks.c
 
 ifneq ($(ARCH),aarch64)
 $(error SCMI: the library is for aarch64, and ARCH is $(ARCH))
@@ -26,4 +26,5 @@ endif
 BL31_SOURCES := $(filter-out drivers/scmi-msg/%.c,$(BL31_SOURCES)) \
 	$(SCMI_PORT)scmi_service.c $(SCMI_PORT)scmi_on_stack.S $(SCMI_PORT_BOARD) $(SCMI_PORT_MEMORY)
 BL31_LIBS += $(SCMI_LIBRARY)
-$(foreach it,$(SCMI_PORT_DEFINES),$(eval $(call add_define_val,$(word 1,$(subst =, ,$(it))),$(word 2,$(subst =, ,$(it))))))
+$(foreach it,$(SCMI_PORT_DEFINES),\
+	$(eval $(call add_define_val,$(word 1,$(subst =, ,$(it))),$(word 2,$(subst =, ,$(it))))))

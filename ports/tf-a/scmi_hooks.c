@@ -9,6 +9,7 @@
 #include <drivers/scmi.h>
 #include <lib/cassert.h>
 
+#include "scmi_hooks.h"
 #include "scmi_service_board.h"
 
 /* The library's limits, of an agent and of a clock. */
@@ -32,91 +33,6 @@ static struct {
     scmi_board_device closed;
 } tables;
 static scmi_board board;
-
-/* TF-A's server calls these too, but its public header lacks them. */
-size_t plat_scmi_pd_count(unsigned int agent_id);
-const char *plat_scmi_pd_get_name(unsigned int agent_id, unsigned int pd_id);
-unsigned int plat_scmi_pd_get_state(unsigned int agent_id, unsigned int pd_id);
-int32_t plat_scmi_pd_set_state(unsigned int agent_id, unsigned int flags, unsigned int pd_id, unsigned int state);
-
-/* What a platform may leave out, as in drivers/scmi-msg. */
-#pragma weak plat_scmi_pd_count
-#pragma weak plat_scmi_pd_get_name
-#pragma weak plat_scmi_pd_get_state
-#pragma weak plat_scmi_pd_set_state
-#pragma weak plat_scmi_clock_count
-#pragma weak plat_scmi_clock_get_name
-#pragma weak plat_scmi_clock_rates_array
-#pragma weak plat_scmi_clock_rates_by_step
-#pragma weak plat_scmi_clock_get_rate
-#pragma weak plat_scmi_clock_set_rate
-#pragma weak plat_scmi_clock_get_state
-#pragma weak plat_scmi_clock_set_state
-
-size_t plat_scmi_pd_count(unsigned int agent_id __unused)
-{
-    return 0;
-}
-
-const char *plat_scmi_pd_get_name(unsigned int agent_id __unused, unsigned int pd_id __unused)
-{
-    return NULL;
-}
-
-unsigned int plat_scmi_pd_get_state(unsigned int agent_id __unused, unsigned int pd_id __unused)
-{
-    return STATE_ON;
-}
-
-int32_t plat_scmi_pd_set_state(unsigned int agent_id __unused, unsigned int flags __unused, unsigned int pd_id __unused,
-                               unsigned int state __unused)
-{
-    return SCMI_NOT_SUPPORTED;
-}
-
-size_t plat_scmi_clock_count(unsigned int agent_id __unused)
-{
-    return 0;
-}
-
-const char *plat_scmi_clock_get_name(unsigned int agent_id __unused, unsigned int scmi_id __unused)
-{
-    return NULL;
-}
-
-int32_t plat_scmi_clock_rates_array(unsigned int agent_id __unused, unsigned int scmi_id __unused,
-                                    unsigned long *rates __unused, size_t *nb_elts __unused, uint32_t start_idx __unused)
-{
-    return SCMI_NOT_SUPPORTED;
-}
-
-int32_t plat_scmi_clock_rates_by_step(unsigned int agent_id __unused, unsigned int scmi_id __unused,
-                                      unsigned long *min_max_step __unused)
-{
-    return SCMI_NOT_SUPPORTED;
-}
-
-unsigned long plat_scmi_clock_get_rate(unsigned int agent_id __unused, unsigned int scmi_id __unused)
-{
-    return 0;
-}
-
-int32_t plat_scmi_clock_set_rate(unsigned int agent_id __unused, unsigned int scmi_id __unused,
-                                 unsigned long rate __unused)
-{
-    return SCMI_NOT_SUPPORTED;
-}
-
-int32_t plat_scmi_clock_get_state(unsigned int agent_id __unused, unsigned int scmi_id __unused)
-{
-    return 0;
-}
-
-int32_t plat_scmi_clock_set_state(unsigned int agent_id __unused, unsigned int scmi_id __unused,
-                                  bool enable_not_disable __unused)
-{
-    return SCMI_NOT_SUPPORTED;
-}
 
 /* A name as the library takes it: 1 to 15 bytes, none of them a blank. */
 static void give_name(char to[SCMI_NAME_ROOM], const char *what, const char *name)
@@ -234,12 +150,13 @@ static int32_t take_steps(unsigned int agent, uint32_t id, scmi_board_clock *clo
         rate = rate < clock->low ? clock->low : clock->high;
     rate -= (rate - clock->low) % clock->step;
     if (rate != clock->rate)
-        WARN("SCMI: clock \"%s\" is not in its steps, and is taken to be at %lu Hz\n", clock->name, (unsigned long)rate);
+        WARN("SCMI: clock \"%s\" is not in its steps, and is taken to be at %lu Hz\n", clock->name,
+             (unsigned long)rate);
     clock->rate = rate;
     return SCMI_SUCCESS;
 }
 
-/* A clock without rates, or with half of its list, has the one that it is at. False if there is no room for even that. */
+/* A clock without rates, or with half of its list, has the one that it is at. False if there is no room for that. */
 static bool add_rates(unsigned int agent, uint32_t id, scmi_board_clock *clock)
 {
     int32_t status = put_list(agent, id, clock);

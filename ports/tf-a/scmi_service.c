@@ -1,9 +1,9 @@
 /*
  * The service: channels, the lock, the stack, and each agent's platform.
  *
- * TF-A's hooks are given an agent, and two agents may have other clocks under the same numbers. So each of TF-A's agents
- * has a platform of its own. It is made with the agent's first message: most of TF-A's platforms make their channels
- * before their clocks have a rate.
+ * TF-A's hooks are given an agent, and two agents may have other clocks under the same numbers. So each of them has a
+ * platform of its own. It is made with the agent's first message: most of TF-A's platforms make their channels before
+ * their clocks have a rate.
  *
  * Every way ends: an agent whose message can't be served gets a channel error, and its channel is free.
  */

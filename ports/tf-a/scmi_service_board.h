@@ -1,7 +1,7 @@
 /*
- * What the service asks of the file that knows the board: scmi_hooks.c, which asks TF-A's hooks, or one of the platform's
- * own (SCMI_PORT_BOARD in its makefile). The service calls them with its lock, and on its own stack. An agent is a number
- * as TF-A counts them, from 0 to SCMI_PORT_AGENTS - 1.
+ * What the service asks of the file that knows the board: scmi_hooks.c, which asks TF-A's hooks, or one of the
+ * platform's own (SCMI_PORT_BOARD in its makefile). The service calls it with its lock, and on its own stack. An agent
+ * is a number as TF-A counts them, from 0 to SCMI_PORT_AGENTS - 1.
  */
 #ifndef TOLBJIR_SCMI_SERVICE_BOARD_H
 #define TOLBJIR_SCMI_SERVICE_BOARD_H

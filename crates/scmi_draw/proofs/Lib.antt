@@ -1,5 +1,4 @@
 mod Histories
 mod Inputs
-mod Scripts
 mod Signs
 pub mod SoFar

@@ -11,14 +11,13 @@ use Rattle.scmi_plan.specs.Board.{Board}
 use Rattle.scmi_session.proofs.Lines.{follow_more}
 use Rattle.scmi_session.proofs.Runs.{runs_none, runs_more}
 use Rattle.scmi_session.specs.SessionView.{SessionView}
-use Rattle.scmi_session.specs.Steps.{Steps}
 use Rattle.scmi_session.specs.Run.{Runs, IsNewSession}
-use Rattle.scmi_session.specs.StepLines.{AreLinesOf, IsLineOf}
+use Rattle.scmi_session.specs.StepLines.{AreLinesOf}
 use Rattle.scmi_svg.specs.declared.chart.Chart.{Chart}
 use Rattle.scmi_chart.specs.Signs.{sign_of}
 use Rattle.scmi_chart.specs.Service.{laters_after}
 use Rattle.scmi_chart.specs.Shown.{Shown, shown_after, nothing_shown, none_later, run_signs, head_of, heads_from}
-use Rattle.scmi_draw.specs.Run.{ShowsRun}
+use Rattle.scmi_draw.specs.Run.{ShowsRun, ShowsStep}
 use Rattle.scmi_draw.proofs.Signs.{laters_through, laters_more, signs_more}
 
 module _ (full : Bool) (Shows : CallerView → Result Closing CloseError → Type 0) (board : Board) where
@@ -46,14 +45,14 @@ module _ (full : Bool) (Shows : CallerView → Result Closing CloseError → Typ
       ap (λ ss. record { signs = ss; laters = laters_after (laters_through none_later steps lines) s line; board = board }) (sym (signs_more board none_later steps lines s line all))
       ∙ ap (λ ls. record { signs = run_signs board none_later (steps ++ s ∷ []) (lines ++ line ∷ []); laters = ls; board = board }) (sym (laters_more none_later steps lines s line all))
 
-  pub step_more : (steps : List Step) (i : ℕ) (s : Step) (mid new : SessionView) (before after : Shown) (line : StepLine) → i < length steps → s ≡ get_or steps i s → SoFar (take i steps) mid before → Steps full Shows s line mid new → IsLineOf s line → after ≡ shown_after s line before → SoFar (take (i + 1) steps) new after
-  step_more steps i s mid new before after line below is so_far step one more =
+  pub step_more : (steps : List Step) (i : ℕ) (s : Step) (old new : SessionView) (before after : Shown) → i < length steps → s ≡ get_or steps i s → SoFar (take i steps) old before → ShowsStep full Shows s old new before after → SoFar (take (i + 1) steps) new after
+  step_more steps i s old new before after below is so_far step =
       let taken : take i steps ++ s ∷ [] ≡ take (i + 1) steps = ap (λ x. take i steps ++ x ∷ []) is ∙ sym (take_more steps i s below) in
       subst (λ ts. SoFar ts new after) taken (record {
-        lines = so_far.lines ++ line ∷ [];
-        made = runs_more full Shows board (take i steps) so_far.lines s line mid new so_far.made step;
-        follow = follow_more (take i steps) so_far.lines s line so_far.follow one;
-        shows = more ∙ ap (shown_after s line) so_far.shows ∙ shown_more (take i steps) so_far.lines s line so_far.follow;
+        lines = so_far.lines ++ step.line ∷ [];
+        made = runs_more full Shows board (take i steps) so_far.lines s step.line old new so_far.made step.made;
+        follow = follow_more (take i steps) so_far.lines s step.line so_far.follow step.reported;
+        shows = step.shown ∙ ap (shown_after s step.line) so_far.shows ∙ shown_more (take i steps) so_far.lines s step.line so_far.follow;
       })
 
   pub all_steps : (steps : List Step) (i : ℕ) (session : SessionView) (shown : Shown) (chart : Chart) → length steps ≤ i → SoFar (take i steps) session shown → map sign_of chart.marks.items ≡ shown.signs → map head_of chart.lifelines.items ≡ heads_from 1 shown.board.agents → ShowsRun full Shows board steps chart

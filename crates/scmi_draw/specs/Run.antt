@@ -16,9 +16,11 @@ use Rattle.scmi_text.specs.declared.step.Step.{Step}
 use Rattle.scmi_text.specs.declared.step_line.StepLine.{StepLine}
 use Rattle.scmi_session.specs.SessionView.{SessionView}
 use Rattle.scmi_session.specs.Run.{Runs}
+use Rattle.scmi_session.specs.StepLines.{IsLineOf}
+use Rattle.scmi_session.specs.Steps.{Steps}
 use Rattle.scmi_svg.specs.declared.chart.Chart.{Chart}
 use Rattle.scmi_chart.specs.Signs.{sign_of}
-use Rattle.scmi_chart.specs.Shown.{run_signs, none_later, head_of, heads_from}
+use Rattle.scmi_chart.specs.Shown.{Shown, shown_after, run_signs, none_later, head_of, heads_from}
 use Rattle.scmi_draw.specs.Mode.{kind_of}
 use Rattle.scmi_modes.specs.declared.kind.Kind.{Kind}
 use Rattle.scmi_modes.specs.declared.kind.Kind.TheVariants.{Rings, Words}
@@ -42,6 +44,13 @@ pub record ShowsRun (full : Bool) (Shows : CallerView → Result Closing CloseEr
   pub made : Runs full Shows board steps lines last
   pub marks : map sign_of chart.marks.items ≡ run_signs board none_later steps lines
   pub lifelines : map head_of chart.lifelines.items ≡ heads_from 1 board.agents
+
+-- the step was made, and what a chart shows then is what it showed before, and what the line that the step gave shows
+pub record ShowsStep (full : Bool) (Shows : CallerView → Result Closing CloseError → Type 0) (step : Step) (old new : SessionView) (before after : Shown) : Type 0 where
+  pub line : StepLine
+  pub made : Steps full Shows step line old new
+  pub reported : IsLineOf step line
+  pub shown : after ≡ shown_after step line before
 
 -- a script of this mode may have the step
 abbrev pub MayHave : Mode → Step → Type 0

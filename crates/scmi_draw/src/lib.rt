@@ -11,6 +11,7 @@ mod draw;
 mod form;
 mod history;
 mod mode;
+mod record_step;
 mod run;
 mod step_text;
 mod threads;

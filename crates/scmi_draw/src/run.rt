@@ -1,5 +1,5 @@
 //! A run, and its chart.
-ghost use Rattle.std.specs.Prelude.{◌≡◌, length, IfOk, IfErr, OnOk};
+ghost use Rattle.std.specs.Prelude.{◌≡◌, length, IfOk};
 ghost use Rattle.std.specs.List.{All};
 ghost use Rattle.scmi_ends.specs.Shut.{ShowsClose};
 ghost use Rattle.scmi_plan.specs.RawPlan.{asked_board};
@@ -10,13 +10,13 @@ ghost use Rattle.scmi_modes.specs.RunError.{fault_of_plan, status_of};
 ghost use Rattle.scmi_draw.specs.Run.{MayHave, ShowsRun, ShowsScript, StandsFor, script_of_lines};
 
 use crate::mode::Mode;
+use crate::record_step::record_step;
 use scmi_board::{Lines, TextError, TextLine, read_board};
 use scmi_chart::Recorder;
-use scmi_core::Core;
 use scmi_link::{Channel, RingChannel};
 use scmi_modes::{Kind, RunError};
 use scmi_plan::{Plan, RawPlan};
-use scmi_session::{Session, Standing};
+use scmi_session::Session;
 use scmi_svg::Chart;
 use scmi_text::{Step, StepList, read_hardware_steps, read_steps};
 use scmi_words::WordChannel;
@@ -107,42 +107,32 @@ fn step_through<C: Channel>(
     let mut step = Step::Advance;
     'steps: for i in 0..steps.len() {
         steps.read_into(i, &mut step);
-        let before = Standing::of(session.core());
-        let came = session.step(&step)?;
-        recorder.record(next_text(lines), &step, &came, session.core())?;
-        record_dropped(alloc, &before, session.core(), &mut recorder)?;
+        record_step(alloc, next_text(lines), &step, &mut session, &mut recorder)?;
     }
-    let events = session.retire().len();
-    let subtitle = format!(in alloc;
-        "{}, {} step{}, a history of {events} event{}",
-        mode.line(),
-        steps.len(),
-        plural(steps.len()),
+    let subtitle = subtitle_of(alloc, mode, steps.len(), session.retire().len())?;
+    Ok(recorder.finish(title_of(alloc, board)?, subtitle)?)
+}
+
+/// The line below the title of a run of this many steps, which left this many events.
+fn subtitle_of(
+    alloc: Global,
+    mode: Mode,
+    steps: usize,
+    events: usize,
+) -> Result<Vec<u8>, AllocError> {
+    let mode = mode.line();
+    let text = format!(in alloc;
+        "{mode}, {steps} step{}, a history of {events} event{}",
+        plural(steps),
         plural(events)
     )?;
-    Ok(recorder.finish(title_of(alloc, board)?, subtitle.into_bytes())?)
+    Ok(text.into_bytes())
 }
 
 /// The title of a chart of a run on this board.
 pub(crate) fn title_of(alloc: Global, board: &RawPlan) -> Result<Vec<u8>, AllocError> {
     let title = format!(in alloc; "{} {}", board.vendor, board.sub_vendor)?;
     Ok(title.into_bytes())
-}
-
-/// Records the notifications that a platform has dropped since.
-pub(crate) fn record_dropped(
-    alloc: Global,
-    before: &Standing,
-    core: &Core,
-    recorder: &mut Recorder<'_>,
-) -> Result<(), AllocError>
-    ensures { OnOk result (recorder.new ≡ recorder.old) }
-{
-    let dropped = before.dropped(alloc, core)?;
-    'dropped: for notification in &dropped {
-        recorder.record_dropped(notification.agent, notification.domain)?;
-    }
-    Ok(())
 }
 
 /// The next line of the script.

@@ -10,14 +10,15 @@ ghost use Rattle.scmi_draw.specs.Threads.{HasScripts, ShowsScripts, ShowsThreads
 
 use crate::any_mode::threads_line;
 use crate::history::steps_of_run;
-use crate::run::{STEPS, plural, record_dropped, title_of};
+use crate::record_step::record_step;
+use crate::run::{STEPS, plural, title_of};
 use crate::step_text::StepText;
 use scmi_board::{Lines, TextLine, read_board};
 use scmi_chart::Recorder;
 use scmi_link::{Channel, RingChannel};
 use scmi_modes::{Kind, RunError};
 use scmi_plan::{Plan, RawPlan};
-use scmi_session::{Session, Standing};
+use scmi_session::Session;
 use scmi_svg::Chart;
 use scmi_text::{Step, read_scripts};
 use scmi_threads::{AgentLog, Gate, Outcome, Script, Stop, run_agents};
@@ -133,10 +134,7 @@ fn draw_steps<C: Channel>(
             number: line_number(i),
             text: text.as_bytes(),
         };
-        let before = Standing::of(session.core());
-        let came = session.step(step)?;
-        recorder.record(line, step, &came, session.core())?;
-        record_dropped(alloc, &before, session.core(), &mut recorder)?;
+        record_step(alloc, line, step, &mut session, &mut recorder)?;
     }
     Ok(recorder.finish(title_of(alloc, board)?, subtitle)?)
 }

@@ -1,6 +1,6 @@
 pub mod Inputs
 pub mod OneLine
-mod Scripts
+pub mod Scripts
 mod Examples
 mod Faults
 mod FirstLine

@@ -1,6 +1,6 @@
 /*
- * The port over hooks that each test sets: every way in which a message ends, what a restart leaves, and what the firmware
- * is told at the start. Each test is a process of its own, under the sanitizers. The last line is `N passed, M failed`.
+ * The port over hooks that each test sets: every way in which a message ends, what a restart leaves, and what BL31
+ * says at the start. Each test is a process of its own, under the sanitizers. The last line is `N passed, M failed`.
  */
 #include <stdarg.h>
 #include <stdbool.h>
@@ -256,7 +256,8 @@ static void a_message_is_answered_by_either_entry(void)
     post(1, VERSION, 4, NULL);
     scmi_smt_interrupt_entry(1);
     check("by an interrupt", areas[1][STATUS] == 1 && areas[1][PAYLOAD + 1] == 0x20000);
-    check("nothing is said", strcmp(said, "SCMI: sub-vendor \"\" is named \"-\"\nSCMI: sub-vendor \"\" is named \"-\"\n") == 0);
+    check("one thing is said, of each", strcmp(said, "SCMI: sub-vendor \"\" is named \"-\"\n"
+                                                     "SCMI: sub-vendor \"\" is named \"-\"\n") == 0);
 }
 
 static void a_free_channel_is_left_alone(void)
@@ -325,7 +326,7 @@ static void without_memory_there_is_no_platform(void)
     check("channel errors, and then service", errors > 10 && served == 1);
 }
 
-static void with_a_library_of_another_version_there_is_no_platform(void)
+static void with_another_library_there_is_no_platform(void)
 {
     is_other_version = true;
     init();
@@ -364,7 +365,7 @@ static void a_channel_that_is_not_aligned_ends_the_start(void)
     scmi_smt_init_agent_channel(&channels[0]);
 }
 
-static void an_agent_beyond_those_of_the_makefile_ends_the_start(void)
+static void an_agent_too_many_ends_the_start(void)
 {
     channels[2] = channels[0];
     scmi_smt_init_agent_channel(&channels[2]);
@@ -381,8 +382,8 @@ static void a_hook_that_refuses_changes_nothing(void)
     init();
     hook_status = SCMI_DENIED;
     check("of a rate", set_rate(0, 0, 200) == SCMI_HARDWARE_ERROR && rate_of(0, 0) == 100);
-    check("of a state", ask(0, STATE_SET, 3, (uint32_t[]){ 0, 0, ON }) == SCMI_HARDWARE_ERROR && of(STATE_GET, 0) == 0 &&
-                            areas[0][PAYLOAD + 1] == OFF);
+    check("of a state", ask(0, STATE_SET, 3, (uint32_t[]){ 0, 0, ON }) == SCMI_HARDWARE_ERROR);
+    check("which stays", of(STATE_GET, 0) == 0 && areas[0][PAYLOAD + 1] == OFF);
     check("of a bit", ask(0, CONFIG_SET, 2, (uint32_t[]){ 0, 1 }) == SCMI_HARDWARE_ERROR);
     check("each was asked", sets == 3);
     hook_status = SCMI_SUCCESS;
@@ -484,7 +485,9 @@ static void rates_are_the_hooks_as_far_as_they_can_be(void)
 
 static void steps_are_the_hooks_as_far_as_they_can_be(void)
 {
-    static const unsigned long steps[][3] = { { 100, 450, 100 }, { 200, 400, 100 }, { 100, 400, 0 }, { 400, 100, 100 } };
+    static const unsigned long steps[][3] = {
+        { 100, 450, 100 }, { 200, 400, 100 }, { 100, 400, 0 }, { 400, 100, 100 },
+    };
 
     for (unsigned int id = 0; id < 4; id++) {
         set_clock(0, id, (const char *[]){ "uneven", "low", "zero", "turned" }[id], 150);
@@ -525,12 +528,12 @@ static const struct {
     { "lengths that are none are channel errors", lengths_that_are_none_are_channel_errors, 0 },
     { "without room for rates there is no platform", without_room_for_rates_there_is_no_platform, 0 },
     { "without memory there is no platform", without_memory_there_is_no_platform, 0 },
-    { "with a library of another version there is no platform", with_a_library_of_another_version_there_is_no_platform, 0 },
+    { "with a library of another version there is no platform", with_another_library_there_is_no_platform, 0 },
     { "a channel that shrinks is in error", a_channel_that_shrinks_is_in_error, 0 },
     { "no channel at all ends the start", no_channel_at_all_ends_the_start, PANIC },
     { "a channel that is too small ends the start", a_channel_that_is_too_small_ends_the_start, PANIC },
     { "a channel that is not aligned ends the start", a_channel_that_is_not_aligned_ends_the_start, PANIC },
-    { "an agent beyond those of the makefile ends the start", an_agent_beyond_those_of_the_makefile_ends_the_start, PANIC },
+    { "an agent beyond those of the makefile ends the start", an_agent_too_many_ends_the_start, PANIC },
     { "a stack that is too small ends it", a_stack_that_is_too_small_ends_it, PANIC },
     { "a hook that refuses changes nothing", a_hook_that_refuses_changes_nothing, 0 },
     { "a restart frees the channel and keeps values", a_restart_frees_the_channel_and_keeps_values, 0 },

@@ -1,10 +1,10 @@
 /*
- * Sends scripts of messages to a server of SCMI behind include/drivers/scmi-msg.h, over a platform of TF-A's and a bank of
- * registers. Which server it is, TF-A's or the port, is what the program is linked with.
+ * Sends scripts of messages to a server of SCMI behind include/drivers/scmi-msg.h, over a platform of TF-A's and a bank
+ * of registers. Which server it is, TF-A's or the port, is what the program is linked with.
  *
- * A line of the input is AGENT LENGTH HEADER WORD.., in hexadecimal, or `wake`, and then the platform makes its channels
- * again; an empty line ends a script. Each script runs in a process of its own, from the same start. A line of the
- * output is the status word, with length, header and words if it is a reply, then ` |` and what was written to registers.
+ * A line of the input is AGENT LENGTH HEADER WORD.., in hexadecimal, or `wake`, and then the platform makes its
+ * channels again; an empty line ends a script. Each script runs in a process of its own, from the same start. A line
+ * of the output is the status word, with length, header and words if it is a reply, then ` |` and the writes.
  * With the word `warnings` it prints what the server says of each agent's first message, and reads no script.
  */
 #include <stdarg.h>

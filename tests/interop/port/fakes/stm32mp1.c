@@ -1,4 +1,4 @@
-/* ST's drivers of clocks and resets: each request is a word of the log. Three clocks belong to the secure world alone. */
+/* ST's drivers of clocks and resets: each request is a word of the log. Three clocks are the secure world's alone. */
 #include <stdbool.h>
 
 #include <dt-bindings/clock/stm32mp1-clks.h>

@@ -12,8 +12,8 @@ steps-init g c = record {
 pub steps-preserved : goal.steps-preserved
 steps-preserved g c =
     let below : c.steps.i < length c.args.steps.now = c.steps-test.true in record {
-      agents = c.step.ensures.agents ∙ c.steps.invariant.agents;
-      so_far = step_more _ _ _ _ c.steps.i c.index-steps-i.result _ _ _ _ _ below c.index-steps-i.is c.steps.invariant.so_far c.in_ok-came.ensures.steps c.in_ok-came.ensures.line (c.in_ok-record_dropped.ensures ∙ c.in_ok-record.ensures.marks);
+      agents = c.record_step.ensures.agents ∙ c.steps.invariant.agents;
+      so_far = step_more _ _ _ _ c.steps.i c.index-steps-i.result _ _ _ _ below c.index-steps-i.is c.steps.invariant.so_far c.in_ok-record_step.ensures.shown;
     }
 
 pub returns : goal.returns

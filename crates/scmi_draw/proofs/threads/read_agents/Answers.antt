@@ -7,7 +7,7 @@ use Rattle.scmi_script.specs.Scripts.{AreScriptsOf}
 use Rattle.scmi_text.specs.ScriptText.{scripts_of, with_line}
 use Rattle.scmi_text.specs.TextLines.{after_lines}
 use Rattle.scmi_draw.proofs.Inputs.{lines_same}
-use Rattle.scmi_draw.proofs.Scripts.{scripts_of_agents}
+use Rattle.scmi_modes.proofs.Scripts.{scripts_of_agents}
 use Rattle.scmi_draw.proofs.threads.read_agents.Goals as goal
 
 pub returns-clause-scripts : goal.returns-clause-scripts

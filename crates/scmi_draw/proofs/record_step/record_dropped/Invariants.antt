@@ -1,5 +1,5 @@
 use Rattle.std.proofs.Common.{◌≡◌}
-use Rattle.scmi_draw.proofs.run.record_dropped.Given as goal
+use Rattle.scmi_draw.proofs.record_step.record_dropped.Given as goal
 
 abbrev pub invariant-dropped : goal.invariant-dropped
 invariant-dropped l = l.recorder ≡ l.fn.recorder
