@@ -1,7 +1,9 @@
 -- Rows as programs print them, which the prover reads by the definitions: each has the same sixteen bytes.
-use Rattle.std.proofs.Common.{◌≡◌, ℕ, List, [], ◌∷◌, None, Some, codes, refl}
+use Rattle.std.proofs.Common.{◌≡◌, ℕ, List, [], ◌∷◌, Option, None, Some, codes, refl}
 use Rattle.hex.specs.Hex.{decode_pairs}
-use Rattle.scmi_decode.specs.Row.{RowView, row_of, parts_of, parts_row, marked_parts, address_of}
+use Rattle.std.specs.Option.{option_map}
+use Rattle.scmi_decode.specs.Cell.{settled}
+use Rattle.scmi_decode.specs.Row.{row_of, without_prefix, parts_at, parts_row, marked_parts, offset_parts, piped_parts, address_of}
 use Rattle.scmi_decode.specs.declared.form.Form.{Form}
 use Rattle.scmi_decode.specs.declared.form.Form.TheVariants.{Plain, Marked, Offset}
 
@@ -9,55 +11,133 @@ use Rattle.scmi_decode.specs.declared.form.Form.TheVariants.{Plain, Marked, Offs
 abbrev pub sixteen_bytes : List ℕ
 sixteen_bytes = 0 ∷ 0 ∷ 0 ∷ 0 ∷ 0x10 ∷ 0 ∷ 0 ∷ 0 ∷ 0x04 ∷ 0x44 ∷ 0x1C ∷ 0 ∷ 1 ∷ 0 ∷ 0 ∷ 0 ∷ []
 
-abbrev pub row_at : Form → ℕ → RowView
-row_at f address = record { form = f; address = address; bytes = sixteen_bytes }
+-- a row's form, its address, and its bytes
+pub record ReadRow : Type 0 where
+  pub form : Form
+  pub address : ℕ
+  pub bytes : Option (List ℕ)
 
-pub xxd : row_of (codes "00000010: 0000 0000 1000 0000 0444 1c00 0100 0000  .........D......") ≡ Some (row_at Marked 0x10)
-unfolding row_of parts_of parts_row marked_parts address_of decode_pairs
+abbrev pub read_row : List ℕ → Option ReadRow
+read_row line = option_map (λ r. record { form = r.form; address = r.address; bytes = settled r.order r.cells }) (row_of line)
+
+abbrev pub row_at : Form → ℕ → ReadRow
+row_at f address = record { form = f; address = address; bytes = Some sixteen_bytes }
+
+pub xxd : read_row (codes "00000010: 0000 0000 1000 0000 0444 1c00 0100 0000  .........D......") ≡ Some (row_at Marked 0x10)
+unfolding row_of without_prefix parts_at parts_row marked_parts offset_parts piped_parts address_of decode_pairs
 xxd = refl
 
-pub xxd_bytes : row_of (codes "00000010: 00 00 00 00 10 00 00 00 04 44 1c 00 01 00 00 00  .........D......") ≡ Some (row_at Marked 0x10)
-unfolding row_of parts_of parts_row marked_parts address_of decode_pairs
+pub xxd_bytes : read_row (codes "00000010: 00 00 00 00 10 00 00 00 04 44 1c 00 01 00 00 00  .........D......") ≡ Some (row_at Marked 0x10)
+unfolding row_of without_prefix parts_at parts_row marked_parts offset_parts piped_parts address_of decode_pairs
 xxd_bytes = refl
 
-pub xxd_words : row_of (codes "00000010: 00000000 00000010 001c4404 00000001  .........D......") ≡ Some (row_at Marked 0x10)
-unfolding row_of parts_of parts_row marked_parts address_of decode_pairs
+pub xxd_words : read_row (codes "00000010: 00000000 00000010 001c4404 00000001  .........D......") ≡ Some (row_at Marked 0x10)
+unfolding row_of without_prefix parts_at parts_row marked_parts offset_parts piped_parts address_of decode_pairs
 xxd_words = refl
 
-pub xxd_plain : row_of (codes "0000000010000000 04441c0001000000") ≡ Some (row_at Plain 0)
-unfolding row_of parts_of parts_row marked_parts address_of decode_pairs
+pub xxd_plain : read_row (codes "000000001000000004441c0001000000") ≡ Some (row_at Plain 0)
+unfolding row_of without_prefix parts_at parts_row marked_parts offset_parts piped_parts address_of decode_pairs
 xxd_plain = refl
 
-pub xxd_array : row_of (codes "  0x00, 0x00, 0x00, 0x00, 0x10, 0x00, 0x00, 0x00, 0x04, 0x44, 0x1c, 0x00, 0x01, 0x00, 0x00, 0x00,") ≡ Some (row_at Plain 0)
-unfolding row_of parts_of parts_row marked_parts address_of decode_pairs
+pub xxd_array : read_row (codes "  0x00, 0x00, 0x00, 0x00, 0x10, 0x00, 0x00, 0x00, 0x04, 0x44, 0x1c, 0x00, 0x01, 0x00, 0x00, 0x00,") ≡ Some (row_at Plain 0)
+unfolding row_of without_prefix parts_at parts_row marked_parts offset_parts piped_parts address_of decode_pairs
 xxd_array = refl
 
-pub hexdump : row_of (codes "00000010  00 00 00 00 10 00 00 00  04 44 1c 00 01 00 00 00  |.........D......|") ≡ Some (row_at Offset 0x10)
-unfolding row_of parts_of parts_row marked_parts address_of decode_pairs
+pub hexdump : read_row (codes "00000010  00 00 00 00 10 00 00 00  04 44 1c 00 01 00 00 00  |.........D......|") ≡ Some (row_at Offset 0x10)
+unfolding row_of without_prefix parts_at parts_row marked_parts offset_parts piped_parts address_of decode_pairs
 hexdump = refl
 
-pub od_bytes : row_of (codes "0000020 00 00 00 00 10 00 00 00 04 44 1c 00 01 00 00 00") ≡ Some (row_at Offset 16)
-unfolding row_of parts_of parts_row marked_parts address_of decode_pairs
+pub od_bytes : read_row (codes "0000020 00 00 00 00 10 00 00 00 04 44 1c 00 01 00 00 00") ≡ Some (row_at Offset 16)
+unfolding row_of without_prefix parts_at parts_row marked_parts offset_parts piped_parts address_of decode_pairs
 od_bytes = refl
 
-pub od_words : row_of (codes "000010 00000000 00000010 001c4404 00000001") ≡ Some (row_at Offset 0x10)
-unfolding row_of parts_of parts_row marked_parts address_of decode_pairs
+pub od_words : read_row (codes "000010 00000000 00000010 001c4404 00000001") ≡ Some (row_at Offset 0x10)
+unfolding row_of without_prefix parts_at parts_row marked_parts offset_parts piped_parts address_of decode_pairs
 od_words = refl
 
-pub u_boot : row_of (codes "2e000010: 00000000 00000010 001c4404 00000001    .........D......") ≡ Some (row_at Marked 0x2E000010)
-unfolding row_of parts_of parts_row marked_parts address_of decode_pairs
+pub u_boot : read_row (codes "2e000010: 00000000 00000010 001c4404 00000001    .........D......") ≡ Some (row_at Marked 0x2E000010)
+unfolding row_of without_prefix parts_at parts_row marked_parts offset_parts piped_parts address_of decode_pairs
 u_boot = refl
 
-pub gdb : row_of (codes "0x5555555580b0 <shmem+16>:\t0x00000000\t0x00000010\t0x001c4404\t0x00000001") ≡ Some (row_at Marked 0x5555555580B0)
-unfolding row_of parts_of parts_row marked_parts address_of decode_pairs
+pub gdb : read_row (codes "0x5555555580b0 <shmem+16>:\t0x00000000\t0x00000010\t0x001c4404\t0x00000001") ≡ Some (row_at Marked 0x5555555580B0)
+unfolding row_of without_prefix parts_at parts_row marked_parts offset_parts piped_parts address_of decode_pairs
 gdb = refl
 
+-- numbers of 16 and of 64 bits
+pub md_w : read_row (codes "2e000010: 0000 0000 0010 0000 4404 001c 0001 0000    .........D......") ≡ Some (row_at Marked 0x2E000010)
+unfolding row_of without_prefix parts_at parts_row marked_parts offset_parts piped_parts address_of decode_pairs
+md_w = refl
+
+pub md_q : read_row (codes "2e000010: 0000001000000000 00000001001c4404    .........D......") ≡ Some (row_at Marked 0x2E000010)
+unfolding row_of without_prefix parts_at parts_row marked_parts offset_parts piped_parts address_of decode_pairs
+md_q = refl
+
+pub crash : read_row (codes "ffff000045000010:  0000001000000000 00000001001c4404   .........D......") ≡ Some (row_at Marked 0xFFFF000045000010)
+unfolding row_of without_prefix parts_at parts_row marked_parts offset_parts piped_parts address_of decode_pairs
+crash = refl
+
+pub gdb_giants : read_row (codes "0x45000010 <shmem+16>:\t0x0000001000000000\t0x00000001001c4404") ≡ Some (row_at Marked 0x45000010)
+unfolding row_of without_prefix parts_at parts_row marked_parts offset_parts piped_parts address_of decode_pairs
+gdb_giants = refl
+
+pub od_halves : read_row (codes "0000020 0000 0000 0010 0000 4404 001c 0001 0000") ≡ Some (row_at Offset 16)
+unfolding row_of without_prefix parts_at parts_row marked_parts offset_parts piped_parts address_of decode_pairs
+od_halves = refl
+
+pub od_longs : read_row (codes "0000020 0000001000000000 00000001001c4404") ≡ Some (row_at Offset 16)
+unfolding row_of without_prefix parts_at parts_row marked_parts offset_parts piped_parts address_of decode_pairs
+od_longs = refl
+
+-- groups whose order the column of text shows
+pub xxd_fours : read_row (codes "00000010: 00000000 10000000 04441c00 01000000  .........D......") ≡ Some (row_at Marked 0x10)
+unfolding row_of without_prefix parts_at parts_row marked_parts offset_parts piped_parts address_of decode_pairs
+xxd_fours = refl
+
+pub xxd_eights : read_row (codes "00000010: 0000000010000000 04441c0001000000  .........D......") ≡ Some (row_at Marked 0x10)
+unfolding row_of without_prefix parts_at parts_row marked_parts offset_parts piped_parts address_of decode_pairs
+xxd_eights = refl
+
+pub xxd_long_words : read_row (codes "00000010: 0000001000000000 00000001001c4404  .........D......") ≡ Some (row_at Marked 0x10)
+unfolding row_of without_prefix parts_at parts_row marked_parts offset_parts piped_parts address_of decode_pairs
+xxd_long_words = refl
+
+-- the kernel's log, and debuggers
+pub kernel : read_row (codes "[   12.345678] scmi: 00000010: 00000000 00000010 001c4404 00000001  .........D......") ≡ Some (row_at Marked 0x10)
+unfolding row_of without_prefix parts_at parts_row marked_parts offset_parts piped_parts address_of decode_pairs
+kernel = refl
+
+pub j_link : read_row (codes "45000010 = 00000000 00000010 001C4404 00000001 ") ≡ Some (row_at Marked 0x45000010)
+unfolding row_of without_prefix parts_at parts_row marked_parts offset_parts piped_parts address_of decode_pairs
+j_link = refl
+
+pub lauterbach : read_row (codes " NSD:45000010|>00000000 00000010 001C4404 00000001 .........D......") ≡ Some (row_at Marked 0x45000010)
+unfolding row_of without_prefix parts_at parts_row marked_parts offset_parts piped_parts address_of decode_pairs
+lauterbach = refl
+
+pub lauterbach_bytes : read_row (codes "  SD:45000010|00 00 00 00 10 00 00 00 04 44 1C 00 01 00 00 00 .........D......") ≡ Some (row_at Marked 0x45000010)
+unfolding row_of without_prefix parts_at parts_row marked_parts offset_parts piped_parts address_of decode_pairs
+lauterbach_bytes = refl
+
+pub power_shell : read_row (codes "00000010   00 00 00 00 10 00 00 00 04 44 1C 00 01 00 00 00  .........D......") ≡ Some (row_at Offset 0x10)
+unfolding row_of without_prefix parts_at parts_row marked_parts offset_parts piped_parts address_of decode_pairs
+power_shell = refl
+
 -- an address and a value
-pub devmem : row_of (codes "0x2e000018 0x001C4404") ≡ Some (record { form = Marked; address = 0x2E000018; bytes = 0x04 ∷ 0x44 ∷ 0x1C ∷ 0 ∷ [] })
-unfolding row_of parts_of parts_row marked_parts address_of decode_pairs
+pub devmem : read_row (codes "0x2e000018 0x001C4404") ≡ Some (record { form = Marked; address = 0x2E000018; bytes = Some (0x04 ∷ 0x44 ∷ 0x1C ∷ 0 ∷ []) })
+unfolding row_of without_prefix parts_at parts_row marked_parts offset_parts piped_parts address_of decode_pairs
 devmem = refl
 
+-- groups of eight bytes without an address are numbers, as od prints them
+pub od_bare_longs : read_row (codes " 0000001000000000 00000001001c4404") ≡ Some (row_at Plain 0)
+unfolding row_of without_prefix parts_at parts_row marked_parts offset_parts piped_parts address_of decode_pairs
+od_bare_longs = refl
+
+-- groups without a column of text may be bytes or numbers
+pub unclear : read_row (codes "00000010: 0000 0000 1000 0000 0444 1c00 0100 0000") ≡ Some (record { form = Marked; address = 0x10; bytes = None })
+unfolding row_of without_prefix parts_at parts_row marked_parts offset_parts piped_parts address_of decode_pairs
+unclear = refl
+
 -- what is no row
-pub prompt : row_of (codes "=> md.l 0x2e000000 0x47") ≡ None
-unfolding row_of parts_of parts_row marked_parts address_of decode_pairs
+pub prompt : read_row (codes "=> md.l 0x2e000000 0x47") ≡ None
+unfolding row_of without_prefix parts_at parts_row marked_parts offset_parts piped_parts address_of decode_pairs
 prompt = refl

@@ -9,11 +9,13 @@ use Rattle.scmi_codec.specs.declared.channel_area.TheConstants.{LEAST_AREA_BYTES
 use Rattle.scmi_io.specs.Lines.{is_line_feed}
 use Rattle.scmi_describe.specs.Description.{described_channel}
 use Rattle.scmi_describe.specs.Text.{description_text}
-use Rattle.scmi_decode.specs.MessageLine.{alone_bytes}
-use Rattle.scmi_decode.specs.OpenDump.{DumpView, no_dump, is_area, is_open, goes_on, added, begun, beside, closed, filled, repeated, is_star, end_at}
+use Rattle.scmi_decode.specs.MessageLine.{alone_bytes, alone_lack}
+use Rattle.scmi_decode.specs.OpenDump.{DumpView, no_dump, is_area, are_area, dump_bytes, is_open, goes_on, added, begun, beside, closed, filled, repeated, is_star, end_at}
 use Rattle.scmi_decode.specs.Row.{RowView, row_of}
+use Rattle.scmi_decode.specs.declared.no_bytes.NoBytes.{NoBytes}
+use Rattle.scmi_decode.specs.declared.no_bytes.NoBytes.TheVariants.{Digits, Order}
 use Rattle.scmi_decode.specs.declared.hint.TheConstants.{HINT_START, HINT_END}
-use Rattle.scmi_decode.specs.declared.line.TheConstants.{NO_AREA, NO_DIGITS, BYTES, TO, LINE_END}
+use Rattle.scmi_decode.specs.declared.line.TheConstants.{NO_AREA, NO_DIGITS, NO_ORDER, BYTES, TO, LINE_END}
 
 -- whether a line is neither empty nor begins with `#`
 abbrev pub is_described : List ℕ → Bool
@@ -44,23 +46,23 @@ area_text area = description_text (described_channel area) ++ hint_text area
 abbrev pub bytes_text : List ℕ → List ℕ
 bytes_text bytes = if is_area bytes then area_text bytes else other_size_text (length bytes)
 
--- what a line is, if it has bytes
-abbrev pub found_text : Option (List ℕ) → List ℕ
-found_text None = NO_AREA.now ++ NO_DIGITS.now
-found_text (Some bytes) = bytes_text bytes
+-- why a dump has no bytes
+abbrev pub lack_text : NoBytes → List ℕ
+lack_text Digits = NO_DIGITS.now
+lack_text Order = NO_ORDER.now
+
+-- what a line is, by its bytes, or else by why it has none
+abbrev pub found_text : NoBytes → Option (List ℕ) → List ℕ
+found_text lack None = NO_AREA.now ++ lack_text lack
+found_text lack (Some bytes) = bytes_text bytes
 
 -- the number of a line, and what the line is
-unfoldable pub numbered_text : ℕ → Option (List ℕ) → List ℕ
-numbered_text number found = decimal number ++ codes " " ++ found_text found
+unfoldable pub numbered_text : ℕ → NoBytes → Option (List ℕ) → List ℕ
+numbered_text number lack found = decimal number ++ codes " " ++ found_text lack found
 
 -- what is written of a line that is a dump of its own
 abbrev pub line_text : ℕ → List ℕ → List ℕ
-line_text number line = if is_described line then numbered_text number (alone_bytes line) else []
-
--- whether bytes are there, and as many as an area has
-abbrev pub are_area : Option (List ℕ) → Bool
-are_area None = false
-are_area (Some bytes) = is_area bytes
+line_text number line = if is_described line then numbered_text number (alone_lack line) (alone_bytes line) else []
 
 -- whether a line that is a dump of its own is an area
 abbrev pub line_is_area : List ℕ → Bool
@@ -68,7 +70,7 @@ line_is_area line = if is_described line then are_area (alone_bytes line) else f
 
 -- what is written of a dump once it has ended
 abbrev pub dump_text : DumpView → List ℕ
-dump_text d = if is_open d then numbered_text d.first (Some d.bytes) else []
+dump_text d = if is_open d then numbered_text d.first Order (dump_bytes d) else []
 
 -- whether a line begins with `#`
 abbrev pub is_remark : List ℕ → Bool
@@ -113,7 +115,7 @@ lines_text d n (line ∷ lines) = step_text d n line ++ lines_text (dump_after d
 
 -- whether an area is found in them, or was before
 abbrev pub lines_found : DumpView → ℕ → List (List ℕ) → Bool
-lines_found d n [] = d.found || is_area d.bytes
+lines_found d n [] = d.found || are_area (dump_bytes d)
 lines_found d n (line ∷ lines) = lines_found (dump_after d n line) (n + 1) lines
 
 -- what is written of an input, whose lines are numbered from 1

@@ -21,9 +21,9 @@ bytes_of digits = result_ok (decode_of digits)
 abbrev pub number_bytes : List ℕ → Option (List ℕ)
 number_bytes digits = option_map reverse (bytes_of digits)
 
--- the bytes of an item: a number after its mark, or a word of eight digits, is its bytes from the lowest on; any other item is bytes in their order
-abbrev pub item_bytes : List ℕ → Option (List ℕ)
-item_bytes item = if has_mark item then number_bytes (drop 2 item) else if length item == 8 then number_bytes item else bytes_of item
+-- the bytes of an item: a number after its mark, or if digits are turned, is its bytes from the lowest on; any other item is bytes in their order
+abbrev pub item_bytes : (is_turned : Bool) → List ℕ → Option (List ℕ)
+item_bytes is_turned item = if has_mark item then number_bytes (drop 2 item) else if is_turned then number_bytes item else bytes_of item
 
 -- what a vector is once the bytes of an item were added, if it has some, and whether it has
 abbrev pub Adds : Option (List ℕ) → (added : Bool) → (old new : List ℕ) → Type 0
@@ -31,8 +31,8 @@ Adds None added old new = added ≡ false
 Adds (Some bytes) added old new = (added ≡ true) × (new ≡ old ++ bytes)
 
 -- whether an item is a number, of which the lowest byte comes first
-abbrev pub is_number : List ℕ → Bool
-is_number item = has_mark item || (length item == 8)
+abbrev pub is_number : (is_turned : Bool) → List ℕ → Bool
+is_number is_turned item = has_mark item || is_turned
 
 -- the digits of an item, after its mark
 abbrev pub digits_of : List ℕ → List ℕ
@@ -44,10 +44,10 @@ both_bytes (Some a) (Some b) = Some (a ++ b)
 both_bytes _ _ = None
 
 -- the bytes of items, one after the other
-abbrev pub items_bytes : List (List ℕ) → Option (List ℕ)
-items_bytes [] = Some []
-items_bytes (item ∷ items) = both_bytes (item_bytes item) (items_bytes items)
+abbrev pub items_bytes : (is_turned : Bool) → List (List ℕ) → Option (List ℕ)
+items_bytes is_turned [] = Some []
+items_bytes is_turned (item ∷ items) = both_bytes (item_bytes is_turned item) (items_bytes is_turned items)
 
 -- the bytes of a line, if each of its items has some
-abbrev pub line_bytes : List ℕ → Option (List ℕ)
-line_bytes line = items_bytes (slice_split is_gap line)
+abbrev pub line_bytes : (is_turned : Bool) → List ℕ → Option (List ℕ)
+line_bytes is_turned line = items_bytes is_turned (slice_split is_gap line)

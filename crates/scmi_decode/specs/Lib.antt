@@ -1,4 +1,5 @@
 pub mod Dump
+pub mod Cell
 pub mod Row
 pub mod OpenDump
 pub mod MessageArea

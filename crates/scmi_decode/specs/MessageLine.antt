@@ -1,10 +1,16 @@
 -- Lines that report a message: of Linux's event `scmi_msg_dump`, or of a script.
-use Rattle.std.specs.Prelude.{ℕ, ◌^◌, ◌&&◌, ◌||◌, Bool, if◌then◌else◌, List, [], ◌∷◌, Option, Some, None, is_some}
+use Rattle.std.specs.Prelude.{ℕ, ◌^◌, ◌==◌, ◌&&◌, ◌||◌, Bool, true, false, length, if◌then◌else◌, List, [], ◌∷◌, Option, Some, None, is_some}
 use Rattle.std.specs.List.{slice_split}
 use Rattle.std.specs.Str.{bytes_eq}
 use Rattle.scmi_decode.specs.Dump.{is_gap, items_bytes}
+use Rattle.scmi_decode.specs.Row.{group_of, order_of}
 use Rattle.scmi_decode.specs.Event.{digits_number, event_area}
 use Rattle.scmi_decode.specs.MessageArea.{message_area}
+use Rattle.scmi_decode.specs.declared.form.Form.TheVariants.{Plain}
+use Rattle.scmi_decode.specs.declared.no_bytes.NoBytes.{NoBytes}
+use Rattle.scmi_decode.specs.declared.no_bytes.NoBytes.TheVariants as lack
+use Rattle.scmi_decode.specs.declared.order.Order.{Order}
+use Rattle.scmi_decode.specs.declared.order.Order.TheVariants.{Straight, Turned, Unclear}
 use Rattle.scmi_decode.specs.declared.message_words.TheConstants.{EVENT, REPLY, GOT, P2A}
 
 -- what follows the name of the event, if it is among the items
@@ -31,10 +37,30 @@ abbrev pub got_area : Option (List ℕ) → Option (List ℕ)
 got_area None = None
 got_area (Some message) = message_area 1 message
 
+-- the first item that is not empty
+abbrev pub first_full : List (List ℕ) → List ℕ
+first_full [] = []
+first_full (item ∷ items) = if length item == 0 then first_full items else item
+
+-- the order of the digits of a line that has several items
+abbrev pub own_order : List (List ℕ) → Order
+own_order items = order_of Plain (group_of (first_full items)) 0 false
+
+-- bytes that are the same in either order
+abbrev pub if_alike : (straight turned : Option (List ℕ)) → Option (List ℕ)
+if_alike (Some straight) (Some turned) = if bytes_eq straight turned then Some straight else None
+if_alike _ _ = None
+
+-- the bytes of items in an order; in an unclear one only if either gives the same
+abbrev pub ordered_bytes : Order → List (List ℕ) → Option (List ℕ)
+ordered_bytes Straight items = items_bytes false items
+ordered_bytes Turned items = items_bytes true items
+ordered_bytes Unclear items = if_alike (items_bytes false items) (items_bytes true items)
+
 -- the bytes of a line without an event: the area of the message that an agent has got, or its own
 abbrev pub got_or_own : Option (List (List ℕ)) → List (List ℕ) → Option (List ℕ)
-got_or_own (Some behind) items = got_area (items_bytes behind)
-got_or_own None items = items_bytes items
+got_or_own (Some behind) items = got_area (items_bytes true behind)
+got_or_own None items = ordered_bytes (own_order items) items
 
 -- the bytes of a line: the area of the message that an event reports, or else as above
 abbrev pub event_or_own : Option (List (List ℕ)) → List (List ℕ) → Option (List ℕ)
@@ -48,3 +74,11 @@ items_alone items = event_or_own (behind_event items) items
 -- the same of a line
 abbrev pub alone_bytes : List ℕ → Option (List ℕ)
 alone_bytes line = items_alone (slice_split is_gap line)
+
+-- why items have no bytes, if they have none: they are no digits, or the order of these is unclear
+abbrev pub items_lack : List (List ℕ) → NoBytes
+items_lack items = if is_some (items_bytes false items) then lack.Order else lack.Digits
+
+-- the same of a line
+abbrev pub alone_lack : List ℕ → NoBytes
+alone_lack line = items_lack (slice_split is_gap line)

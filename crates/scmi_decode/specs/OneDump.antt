@@ -3,6 +3,9 @@ use Rattle.std.specs.Prelude.{◌≡◌, ℕ, ◌==◌, false, true, List, [], �
 use Rattle.std.specs.List.{slice_split}
 use Rattle.std.specs.Io.KnownBytes.{Appends}
 use Rattle.scmi_io.specs.Lines.{is_line_feed}
+use Rattle.scmi_decode.specs.Cell.{settled}
+use Rattle.scmi_decode.specs.declared.cell.Cell.{Cell}
+use Rattle.scmi_decode.specs.declared.no_bytes.NoBytes.TheVariants.{Order}
 use Rattle.scmi_decode.specs.OpenDump.{DumpView, no_dump, added, begun, end_at, goes_on, is_star}
 use Rattle.scmi_decode.specs.Row.{RowView, row_of}
 use Rattle.scmi_decode.specs.Decoded.{is_remark, numbered_text}
@@ -12,7 +15,7 @@ pub record IsRow (line : List ℕ) (r : RowView) : Type 0 where
   pub no_remark : is_remark line ≡ false
   pub not_empty : (length line == 0) ≡ false
   pub row : row_of line ≡ Some r
-  pub has_bytes : (length r.bytes == 0) ≡ false
+  pub has_cells : (length r.cells == 0) ≡ false
 
 -- a line is this row, and goes on with a dump
 pub record IsNextRow (d : DumpView) (line : List ℕ) (r : RowView) : Type 0 where
@@ -38,12 +41,17 @@ abbrev pub IsDumpOf : List RowView → List (List ℕ) → Type 0
 IsDumpOf (r ∷ rows) (line ∷ lines) = IsRow line r × AreRows (begun no_dump 1 r) rows lines
 IsDumpOf _ _ = ⊥
 
--- the bytes of rows, one after the other
-abbrev pub rows_bytes : List RowView → List ℕ
-rows_bytes [] = []
-rows_bytes (r ∷ rows) = r.bytes ++ rows_bytes rows
+-- the cells of rows, one after the other
+abbrev pub rows_cells : List RowView → List Cell
+rows_cells [] = []
+rows_cells (r ∷ rows) = r.cells ++ rows_cells rows
+
+-- the bytes of rows, in the order that a column of text shows, or else in that of the first row
+abbrev pub rows_bytes : List RowView → Option (List ℕ)
+rows_bytes [] = None
+rows_bytes (r ∷ rows) = settled r.order (rows_cells (r ∷ rows))
 
 -- of an input that is one dump, in whatever form, the text of its bytes is written
 abbrev pub WritesForms : (input old new : Option (List ℕ)) → Type 0
 WritesForms input old new =
-    IfSome input (λ bytes. (rows : List RowView) → IsDumpOf rows (slice_split is_line_feed bytes) → Appends old new (numbered_text 1 (Some (rows_bytes rows))))
+    IfSome input (λ bytes. (rows : List RowView) → IsDumpOf rows (slice_split is_line_feed bytes) → Appends old new (numbered_text 1 Order (rows_bytes rows)))

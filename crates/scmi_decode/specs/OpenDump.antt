@@ -1,32 +1,47 @@
 -- A dump over several lines, as far as it was read.
-use Rattle.std.specs.Prelude.{ℕ, zero, suc, ◌+◌, ◌-◌, ◌/◌, ◌%◌, ◌^◌, ◌==◌, ◌&&◌, ◌||◌, nat_le, not, Bool, true, false, if◌then◌else◌, List, [], ◌++◌, length, drop, slice_index, Option, Some, None}
+use Rattle.std.specs.Prelude.{ℕ, zero, suc, ◌+◌, ◌-◌, ◌/◌, ◌%◌, ◌^◌, ◌==◌, ◌&&◌, ◌||◌, nat_le, nat_lt, not, Bool, true, false, if◌then◌else◌, List, [], ◌++◌, length, drop, slice_index, Option, Some, None}
 use Rattle.scmi_codec.specs.ChannelArea.{is_channel_size}
 use Rattle.scmi_codec.specs.declared.area.TheConstants.{AREA_BYTES}
+use Rattle.scmi_decode.specs.Cell.{settled}
 use Rattle.scmi_decode.specs.Row.{RowView, address_of, first_item, after_item, after_gap}
+use Rattle.scmi_decode.specs.declared.cell.Cell.{Cell}
 use Rattle.scmi_decode.specs.declared.form.Form.{Form}
 use Rattle.scmi_decode.specs.declared.form.Form.TheVariants.{Plain, Marked, Offset}
+use Rattle.scmi_decode.specs.declared.order.Order.{Order}
+use Rattle.scmi_decode.specs.declared.order.Order.TheVariants.{Straight}
 
--- a dump, which has no bytes if none is open: the number of its first line, its form, the address after its last row, how many bytes its first row has, whether its rows repeat up to the next address, its bytes; and whether an area was found before
+-- a dump, which has no bytes if none is open: the number of its first line, its form, the address after its last row, how many bytes its first row has, how many digits the first group of that and their order, whether its rows repeat up to the next address, its bytes; and whether an area was found before
 pub record DumpView : Type 0 where
   pub first : ℕ
   pub form : Form
   pub next : ℕ
   pub width : ℕ
+  pub group : ℕ
+  pub order : Order
   pub repeats : Bool
-  pub bytes : List ℕ
+  pub cells : List Cell
   pub found : Bool
 
 -- no dump, and no area found
 abbrev pub no_dump : DumpView
-no_dump = record { first = 0; form = Plain; next = 0; width = 0; repeats = false; bytes = []; found = false }
+no_dump = record { first = 0; form = Plain; next = 0; width = 0; group = 0; order = Straight; repeats = false; cells = []; found = false }
 
 -- whether bytes are as many as the area of a channel may have
 abbrev pub is_area : List ℕ → Bool
 is_area bytes = is_channel_size (length bytes)
 
+-- whether bytes are there, and as many as an area has
+abbrev pub are_area : Option (List ℕ) → Bool
+are_area None = false
+are_area (Some bytes) = is_area bytes
+
+-- the bytes of a dump, in the order of its digits
+abbrev pub dump_bytes : DumpView → Option (List ℕ)
+dump_bytes d = settled d.order d.cells
+
 -- whether a dump is open
 abbrev pub is_open : DumpView → Bool
-is_open d = not (length d.bytes == 0)
+is_open d = not (length d.cells == 0)
 
 -- whether two forms are the same
 abbrev pub same_form : Form → Form → Bool
@@ -43,14 +58,19 @@ reaches d address =
 
 -- whether the rows so far have the same length
 abbrev pub is_even : DumpView → Bool
-is_even d = not (d.width == 0) && (length d.bytes % d.width == 0)
+is_even d = not (d.width == 0) && (length d.cells % d.width == 0)
 
--- whether a row goes on with a dump: it has the same form, follows the last row, and is not longer than the first; and no shorter row came before it
+-- whether the groups of a row are those of a dump's first row; those of a shorter row may be shorter
+abbrev pub has_its_groups : DumpView → RowView → Bool
+has_its_groups d r = (r.group == d.group) || (nat_lt r.group d.group && nat_lt (length r.cells) d.width)
+
+-- whether a row goes on with a dump: it has the same form and groups, follows the last row, and is not longer than the first; and no shorter row came before it
 unfoldable pub goes_on : DumpView → RowView → Bool
-goes_on d r = is_open d && same_form d.form r.form && is_even d && nat_le (length r.bytes) d.width && (same_form r.form Plain || reaches d r.address)
+goes_on d r =
+    is_open d && same_form d.form r.form && has_its_groups d r && is_even d && nat_le (length r.cells) d.width && (same_form r.form Plain || reaches d r.address)
 
 -- copies of bytes, as many as the number
-abbrev pub copies : ℕ → List ℕ → List ℕ
+abbrev pub copies : ℕ → List Cell → List Cell
 copies zero row = []
 copies (suc n) row = copies n row ++ row
 
@@ -59,16 +79,16 @@ abbrev pub rows_before : DumpView → ℕ → ℕ
 rows_before d address = if d.repeats && not (d.width == 0) then (address - d.next) / d.width else 0
 
 -- the last row
-abbrev pub last_row : DumpView → List ℕ
-last_row d = drop (length d.bytes - d.width) d.bytes
+abbrev pub last_row : DumpView → List Cell
+last_row d = drop (length d.cells - d.width) d.cells
 
 -- a dump whose last row is repeated up to an address
 unfoldable pub filled : DumpView → ℕ → DumpView
-filled d address = record d { bytes = d.bytes ++ copies (rows_before d address) (last_row d); repeats = false }
+filled d address = record d { cells = d.cells ++ copies (rows_before d address) (last_row d); repeats = false }
 
 -- a dump with one more row after it
 unfoldable pub extended : DumpView → RowView → DumpView
-extended d r = record d { bytes = d.bytes ++ r.bytes; next = (r.address + length r.bytes) % 2 ^ 64 }
+extended d r = record d { cells = d.cells ++ r.cells; next = (r.address + length r.cells) % 2 ^ 64 }
 
 -- a dump that goes on with a row
 abbrev pub added : DumpView → RowView → DumpView
@@ -79,16 +99,18 @@ unfoldable pub begun : DumpView → ℕ → RowView → DumpView
 begun d number r = record {
   first = number;
   form = r.form;
-  next = (r.address + length r.bytes) % 2 ^ 64;
-  width = length r.bytes;
+  next = (r.address + length r.cells) % 2 ^ 64;
+  width = length r.cells;
+  group = r.group;
+  order = r.order;
   repeats = false;
-  bytes = r.bytes;
+  cells = r.cells;
   found = d.found;
 }
 
 -- a dump that has ended
 unfoldable pub closed : DumpView → DumpView
-closed d = record d { bytes = []; found = d.found || is_area d.bytes }
+closed d = record d { cells = []; found = d.found || are_area (dump_bytes d) }
 
 -- a dump beside which an area was found or not
 unfoldable pub beside : DumpView → Bool → DumpView

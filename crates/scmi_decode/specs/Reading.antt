@@ -1,8 +1,7 @@
 -- How dumps are read.
-use Rattle.std.specs.Prelude.{ℕ, ◌==◌, ◌&&◌, nat_lt, Bool, true, false, if◌then◌else◌, List, [], ◌∷◌, get_or, length, map, is_some}
-use Rattle.scmi_decode.specs.Dump.{is_number}
-use Rattle.scmi_decode.specs.MessageLine.{behind_event, behind_got}
-use Rattle.scmi_decode.specs.Row.{first_item, parts_of}
+use Rattle.std.specs.Prelude.{ℕ, ◌==◌, ◌||◌, nat_lt, Bool, true, false, if◌then◌else◌, List, [], ◌∷◌, get_or, length, map, is_some}
+use Rattle.scmi_decode.specs.Dump.{has_mark}
+use Rattle.scmi_decode.specs.MessageLine.{behind_event, behind_got, first_full}
 use Rattle.scmi_decode.specs.declared.form.Form.{Form}
 use Rattle.scmi_decode.specs.declared.form.Form.TheVariants.{Plain, Marked, Offset}
 use Rattle.scmi_decode.specs.declared.reading.Reading.{Reading}
@@ -26,7 +25,7 @@ reading_text r = get_or (map (λ row. row.text.now) READINGS) (reading_place r) 
 
 -- whether an item is a number of several bytes
 abbrev pub is_wide : List ℕ → Bool
-is_wide item = is_number item && nat_lt 4 (length item)
+is_wide item = if has_mark item then nat_lt 4 (length item) else (length item == 8) || (length item == 16)
 
 -- how rows of a form are read, whose items are wide or not
 abbrev pub rows_reading : Form → Bool → Reading
@@ -36,15 +35,6 @@ rows_reading Marked false = MarkedBytes
 rows_reading Marked true = MarkedWords
 rows_reading Offset false = OffsetBytes
 rows_reading Offset true = OffsetWords
-
--- how a row of a dump is read, by its first item after the address
-unfoldable pub row_reading : List ℕ → Reading
-row_reading line = rows_reading (parts_of line).form (is_wide (first_item (parts_of line).bytes))
-
--- the first item that is not empty
-abbrev pub first_full : List (List ℕ) → List ℕ
-first_full [] = []
-first_full (item ∷ items) = if length item == 0 then first_full items else item
 
 -- how the items of a line that is an area alone are read
 abbrev pub alone_reading : List (List ℕ) → Reading

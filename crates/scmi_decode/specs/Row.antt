@@ -1,8 +1,12 @@
 -- The rows of dumps: an address, some bytes, and a column of text.
-use Rattle.std.specs.Prelude.{ℕ, ◌+◌, ◌-◌, ◌*◌, ◌^◌, ◌==◌, ◌&&◌, ◌||◌, nat_lt, not, Bool, false, if◌then◌else◌, List, [], ◌∷◌, length, take, drop, slice_index, Option, Some, None}
+use Rattle.std.specs.Prelude.{ℕ, ◌+◌, ◌-◌, ◌*◌, ◌^◌, ◌==◌, ◌&&◌, ◌||◌, nat_lt, not, Bool, true, false, if◌then◌else◌, List, [], ◌∷◌, length, take, drop, slice_index, Option, Some, None, is_some}
+use Rattle.scmi_decode.specs.Cell.{cells_of}
 use Rattle.scmi_decode.specs.Dump.{is_gap, has_mark, line_bytes}
+use Rattle.scmi_decode.specs.declared.cell.Cell.{Cell}
 use Rattle.scmi_decode.specs.declared.form.Form.{Form}
 use Rattle.scmi_decode.specs.declared.form.Form.TheVariants.{Plain, Marked, Offset}
+use Rattle.scmi_decode.specs.declared.order.Order.{Order}
+use Rattle.scmi_decode.specs.declared.order.Order.TheVariants.{Straight, Turned, Unclear}
 use Rattle.scmi_decode.specs.declared.row.TheConstants.{ROW_BYTES, ROW_LINE_BYTES}
 
 -- the value of a digit of either case, 16 for what is no hexadecimal digit
@@ -54,13 +58,15 @@ abbrev pub bar_length : List ℕ → ℕ
 bar_length [] = 0
 bar_length (b ∷ bs) = if (b == 124) || (b == 62) then 0 else 1 + bar_length bs
 
--- what comes before two spaces, apart from the gap at the beginning
-abbrev pub before_column : List ℕ → List ℕ
-before_column behind = take (column_length (after_gap behind)) (after_gap behind)
+-- how many bytes come before `|`
+abbrev pub pipe_length : List ℕ → ℕ
+pipe_length [] = 0
+pipe_length (b ∷ bs) = if b == 124 then 0 else 1 + pipe_length bs
 
--- what comes before `|` or `>`
-abbrev pub before_bar : List ℕ → List ℕ
-before_bar behind = take (bar_length behind) behind
+-- what follows the last colon, or else what is best so far
+abbrev pub behind_colon : (best text : List ℕ) → List ℕ
+behind_colon best [] = best
+behind_colon best (b ∷ bs) = behind_colon (if b == 58 then bs else best) bs
 
 -- whether an item has a colon as its last byte
 abbrev pub ends_in_colon : List ℕ → Bool
@@ -78,35 +84,90 @@ is_symbol item = ends_in_colon item && (slice_index item 0 == 60)
 abbrev pub is_pair : (first second behind : List ℕ) → Bool
 is_pair first second behind = has_mark first && has_mark second && (length (after_gap behind) == 0)
 
--- whether an item is an address before items of two or of eight digits
+-- whether an item is `=`
+abbrev pub is_equals : List ℕ → Bool
+is_equals item = (length item == 1) && (slice_index item 0 == 61)
+
+-- whether an item has a `|`
+abbrev pub has_pipe : List ℕ → Bool
+has_pipe item = nat_lt (pipe_length item) (length item)
+
+-- whether a group of digits is one byte, or a number of two, four or eight
+abbrev pub is_group : List ℕ → Bool
+is_group item = (length item == 2) || (length item == 4) || (length item == 8) || (length item == 16)
+
+-- whether an item is an address before groups of digits
 abbrev pub is_offset : (first second : List ℕ) → Bool
 is_offset first second =
-    nat_lt 5 (length first) && nat_lt (length first) 9 && ((length second == 2) || (length second == 8)) && not (length first == length second)
+    nat_lt 5 (length first) && nat_lt (length first) 9 && is_group second && not (length first == length second)
 
--- the form of a row, the digits of its address, and the place of its bytes
+-- the form of a row, the digits of its address, the place of its bytes, and what follows those
 pub record RowParts : Type 0 where
   pub form : Form
   pub digits : List ℕ
   pub bytes : List ℕ
+  pub column : List ℕ
+
+-- a row of a form, whose data are so long
+abbrev pub cut_parts : Form → (digits : List ℕ) → (size : ℕ) → (groups : List ℕ) → RowParts
+cut_parts f digits size groups = record { form = f; digits = digits; bytes = take size groups; column = drop size groups }
 
 -- a row of these digits, whose bytes follow them, before a column of text
 unfoldable pub marked_parts : (digits behind : List ℕ) → RowParts
-marked_parts digits behind = record { form = Marked; digits = digits; bytes = before_column behind }
+marked_parts digits behind = cut_parts Marked digits (column_length (after_gap behind)) (after_gap behind)
+
+-- a row of an address alone, whose bytes follow it, before `|` or `>` or two spaces
+unfoldable pub offset_parts : (digits behind : List ℕ) → RowParts
+offset_parts digits behind =
+    if nat_lt (bar_length behind) (length behind) then cut_parts Offset digits (bar_length behind) behind
+    else cut_parts Offset digits (column_length (after_gap behind)) (after_gap behind)
+
+-- how long sixteen bytes are in groups of so many digits, with a space between them
+abbrev pub sixteen_length : (group : ℕ) → ℕ
+sixteen_length group = if group == 2 then 47 else if group == 4 then 39 else if group == 8 then 35 else if group == 16 then 33 else 0
+
+-- the smaller of two
+abbrev pub smaller : ℕ → ℕ → ℕ
+smaller m n = if nat_lt m n then m else n
+
+-- how long the data of sixteen bytes are, by their first group
+abbrev pub data_length : List ℕ → ℕ
+data_length groups = smaller (sixteen_length (item_length groups)) (length groups)
+
+-- data without `>` before them
+abbrev pub after_cursor : List ℕ → List ℕ
+after_cursor [] = []
+after_cursor (b ∷ bs) = if b == 62 then bs else b ∷ bs
+
+-- the data behind `|`
+abbrev pub piped_data : List ℕ → List ℕ
+piped_data line = after_gap (after_cursor (drop (pipe_length line + 1) line))
+
+-- the digits of the address before `|`, behind a class and a colon
+abbrev pub piped_digits : List ℕ → List ℕ
+piped_digits line = behind_colon (take (pipe_length line) line) (take (pipe_length line) line)
+
+-- a row of a debugger, `CLASS:ADDRESS|DATA`, whose data are sixteen bytes
+unfoldable pub piped_parts : (line : List ℕ) → RowParts
+piped_parts line = cut_parts Marked (piped_digits line) (data_length (piped_data line)) (piped_data line)
 
 -- the parts of a line as a row; of a line that begins with no address all of it is data
-unfoldable pub parts_of : List ℕ → RowParts
-parts_of line =
+unfoldable pub parts_at : List ℕ → RowParts
+parts_at line =
     if ends_in_colon (first_item line) then marked_parts (without_last (first_item line)) (after_item line)
-    else if is_symbol (first_item (after_item line)) then marked_parts (first_item line) (after_item (after_item line))
+    else if is_symbol (first_item (after_item line)) || is_equals (first_item (after_item line)) then marked_parts (first_item line) (after_item (after_item line))
     else if is_pair (first_item line) (first_item (after_item line)) (after_item (after_item line)) then marked_parts (first_item line) (after_item line)
-    else if is_offset (first_item line) (first_item (after_item line)) then record { form = Offset; digits = first_item line; bytes = before_bar (after_item line) }
-    else record { form = Plain; digits = []; bytes = line }
+    else if has_pipe (first_item line) then piped_parts (after_gap line)
+    else if is_offset (first_item line) (first_item (after_item line)) then offset_parts (first_item line) (after_item line)
+    else record { form = Plain; digits = []; bytes = line; column = [] }
 
--- a row: its form, its address (0 for a plain one), and its bytes
+-- a row: its form, its address (0 for a plain one), how many digits its first group has, 0 of a number with its mark; in which order digits are, if no column shows it; and its bytes
 pub record RowView : Type 0 where
   pub form : Form
   pub address : ℕ
-  pub bytes : List ℕ
+  pub group : ℕ
+  pub order : Order
+  pub cells : List Cell
 
 -- the base of an address: od prints seven octal digits, all others hexadecimal ones
 abbrev pub base_of : Form → List ℕ → ℕ
@@ -121,19 +182,101 @@ without_mark digits = if has_mark digits then drop 2 digits else digits
 unfoldable pub address_of : Form → List ℕ → Option ℕ
 address_of f digits = number_from (base_of f digits) 0 (without_mark digits)
 
--- a row of bytes, if it has some and not too many
-abbrev pub row_with : Form → ℕ → List ℕ → Option RowView
-row_with f address bytes = if nat_lt 0 (length bytes) && nat_lt (length bytes) (ROW_BYTES + 1) then Some (record { form = f; address = address; bytes = bytes }) else None
+-- how many digits an item has, 0 of one with its mark
+abbrev pub group_of : List ℕ → ℕ
+group_of item = if has_mark item then 0 else length item
+
+-- how many spaces come before a column of text, 0 without one
+abbrev pub gap_before : List ℕ → ℕ
+gap_before column = if length (after_gap column) == 0 then 0 else gap_length column
+
+-- the order of groups of four digits: od and hexdump print numbers, xxd bytes and two spaces, md.w numbers and more
+abbrev pub half_order : Form → (gap : ℕ) → Order
+half_order Offset gap = Turned
+half_order Marked gap = if gap == 2 then Straight else if nat_lt 2 gap then Turned else Unclear
+half_order Plain gap = Unclear
+
+-- the order of groups of eight or sixteen digits: numbers, but one alone on a line may be bytes, as xxd -p prints them
+abbrev pub long_order : Form → (alone : Bool) → Order
+long_order Plain true = Unclear
+long_order Plain false = Turned
+long_order Marked alone = Turned
+long_order Offset alone = Turned
+
+-- the order of the digits of a row, by how many its first group has, the spaces before its column of text, and whether its group is alone
+abbrev pub order_of : Form → (group gap : ℕ) → (alone : Bool) → Order
+order_of f group gap alone = if group == 4 then half_order f gap else if (group == 8) || (group == 16) then long_order f alone else Straight
+
+-- whether a text ends in a carriage return
+abbrev pub ends_in_return : List ℕ → Bool
+ends_in_return text = not (length text == 0) && (slice_index text (length text - 1) == 13)
+
+-- a text without the carriage return at its end
+abbrev pub without_return : List ℕ → List ℕ
+without_return text = if ends_in_return text then without_last text else text
+
+-- what a column shows of so many bytes: the last characters
+abbrev pub column_text : (count : ℕ) → List ℕ → List ℕ
+column_text count column = if nat_lt count (length column) then drop (length column - count) column else []
+
+-- the cells of data in either order, and of the column after them
+abbrev pub both_cells : (straight turned : Option (List ℕ)) → (column : List ℕ) → Option (List Cell)
+both_cells (Some straight) (Some turned) column = Some (cells_of straight turned (column_text (length straight) (without_return column)))
+both_cells _ _ column = None
+
+-- the cells of data and of the column after them, if the data are digits
+abbrev pub data_cells : (groups column : List ℕ) → Option (List Cell)
+data_cells groups column = both_cells (line_bytes false groups) (line_bytes true groups) column
+
+-- the order of the digits of data, if no column shows it
+abbrev pub data_order : Form → (groups column : List ℕ) → Order
+data_order f groups column = order_of f (group_of (first_item groups)) (gap_before column) (length (after_gap (after_item groups)) == 0)
+
+-- a row of cells, if it has some and not too many
+abbrev pub row_with : Form → (address group : ℕ) → Order → List Cell → Option RowView
+row_with f address group order cells =
+    if nat_lt 0 (length cells) && nat_lt (length cells) (ROW_BYTES + 1)
+    then Some (record { form = f; address = address; group = group; order = order; cells = cells }) else None
 
 -- the same, if address and bytes are there
-abbrev pub row_if : Form → Option ℕ → Option (List ℕ) → Option RowView
-row_if f (Some address) (Some bytes) = row_with f address bytes
-row_if f _ _ = None
+abbrev pub row_if : Form → Option ℕ → (group : ℕ) → Order → Option (List Cell) → Option RowView
+row_if f (Some address) group order (Some cells) = row_with f address group order cells
+row_if f _ group order _ = None
 
--- the row of a form, the digits of an address, and the text that has its bytes
-unfoldable pub parts_row : Form → (digits bytes : List ℕ) → Option RowView
-parts_row f digits bytes = row_if f (address_of f digits) (line_bytes bytes)
+-- the row of a form, the digits of an address, the data, and the column after them
+unfoldable pub parts_row : Form → (digits groups column : List ℕ) → Option RowView
+parts_row f digits groups column = row_if f (address_of f digits) (group_of (first_item groups)) (data_order f groups column) (data_cells groups column)
+
+-- whether a text begins with an address and a colon: eight digits at least
+abbrev pub begins_with_address : List ℕ → Bool
+begins_with_address text =
+    ends_in_colon (first_item text) && nat_lt 8 (length (first_item text)) && is_some (number_from 16 0 (without_mark (without_last (first_item text))))
+
+-- a line from its first address and colon on, if it has them; and whether an item may begin
+abbrev pub from_address : (may_begin : Bool) → List ℕ → Option (List ℕ)
+from_address may_begin [] = None
+from_address may_begin (b ∷ bs) =
+    if may_begin && not (is_gap b) && begins_with_address (b ∷ bs) then Some (b ∷ bs) else from_address (is_gap b) bs
+
+-- whether an item is an address without a colon
+abbrev pub is_bare_address : List ℕ → Bool
+is_bare_address item = nat_lt 3 (length item) && is_some (number_from 16 0 item)
+
+-- the first that is there, or else the second
+abbrev pub or_line : Option (List ℕ) → List ℕ → List ℕ
+or_line None line = line
+or_line (Some text) line = text
+
+-- a line without what the kernel's log puts before an address and its colon; a line that begins with an address has nothing before it
+unfoldable pub without_prefix : List ℕ → List ℕ
+without_prefix line = if is_bare_address (first_item line) then line else or_line (from_address true line) line
+
+-- the parts of a line as a row, after what may come before its address
+abbrev pub parts_of : List ℕ → RowParts
+parts_of line = parts_at (without_prefix line)
 
 -- the row that a line is, if it is one
 unfoldable pub row_of : List ℕ → Option RowView
-row_of line = if nat_lt ROW_LINE_BYTES (length line) then None else parts_row (parts_of line).form (parts_of line).digits (parts_of line).bytes
+row_of line =
+    if nat_lt ROW_LINE_BYTES (length line) then None
+    else parts_row (parts_of line).form (parts_of line).digits (parts_of line).bytes (parts_of line).column

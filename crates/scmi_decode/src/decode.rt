@@ -103,7 +103,7 @@ fn decode_lines<R: CountedRead + Drop, W: Write, N: Readings>(
         let ended = input.read_line(&mut line)?;
         take_and_say(alloc, writer, readings, &mut dump, number, line.as_slice())?;
         if !ended {
-            close_and_say(writer, readings, &mut dump)?;
+            close_and_say(alloc, writer, readings, &mut dump)?;
             return Ok(dump.found());
         }
     }

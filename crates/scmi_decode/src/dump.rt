@@ -12,23 +12,32 @@ use std::alloc::{AllocError, Global};
 const SHORT_DIGITS: usize = 64;
 
 /// The bytes of a line, `None` if an item of it is of another form. An item is bytes of two
-/// hexadecimal digits each; or a number, its lowest byte first: eight digits, or `0x` and digits
-/// (own). The only possible error: out of memory.
-pub fn line_bytes(alloc: Global, line: &[u8]) -> Result<Option<Vec<u8>>, AllocError>
-    ensures { IfOk result (λ found. option_map (λ bytes. bytes.items) found ≡ line_bytes line.now) }
+/// hexadecimal digits each; or a number, its lowest byte first: `0x` and digits, or any digits if
+/// they are turned. The only possible error: out of memory.
+pub(crate) fn line_bytes(
+    alloc: Global,
+    turned: bool,
+    line: &[u8],
+) -> Result<Option<Vec<u8>>, AllocError>
+    ensures { IfOk result (λ found.
+        option_map (λ bytes. bytes.items) found ≡ line_bytes turned line.now) }
 {
     let items = items_of(alloc, line)?;
-    items_bytes(alloc, items.as_slice())
+    items_bytes(alloc, turned, items.as_slice())
 }
 
 /// The bytes of items, in order.
-pub(crate) fn items_bytes(alloc: Global, items: &[&[u8]]) -> Result<Option<Vec<u8>>, AllocError>
+pub(crate) fn items_bytes(
+    alloc: Global,
+    turned: bool,
+    items: &[&[u8]],
+) -> Result<Option<Vec<u8>>, AllocError>
     ensures { IfOk result (λ found. option_map (λ bytes. bytes.items) found ≡
-        items_bytes (map (λ item. item.now) items.now)) }
+        items_bytes turned (map (λ item. item.now) items.now)) }
 {
     let mut all = Vec::with_capacity(alloc, ROW_BYTES)?;
     'items: for item in items {
-        if !add_item(alloc, &mut all, *item)? {
+        if !add_item(alloc, turned, &mut all, *item)? {
             return Ok(None);
         }
     }
@@ -36,11 +45,11 @@ pub(crate) fn items_bytes(alloc: Global, items: &[&[u8]]) -> Result<Option<Vec<u
 }
 
 /// Adds the bytes of an item, and gives whether it has some.
-fn add_item(alloc: Global, all: &mut Vec<u8>, item: &[u8]) -> Result<bool, AllocError>
-    ensures { IfOk result (λ added. Adds (item_bytes item.now) added all.old.items all.new.items) }
+fn add_item(alloc: Global, turned: bool, all: &mut Vec<u8>, item: &[u8]) -> Result<bool, AllocError>
+    ensures { IfOk result (λ added. Adds (item_bytes turned item.now) added all.old.items all.new.items) }
 {
     if item.len() > SHORT_DIGITS {
-        return add_long(alloc, all, item);
+        return add_long(alloc, turned, all, item);
     }
     let mut buffer = [0; SHORT_DIGITS];
     let digits = digits_of(item);
@@ -48,7 +57,7 @@ fn add_item(alloc: Global, all: &mut Vec<u8>, item: &[u8]) -> Result<bool, Alloc
     if !decode_digits(digits, short) {
         return Ok(false);
     }
-    if is_number(item) {
+    if is_number(turned, item) {
         short.reverse();
     }
     all.extend_from_slice(short)?;
@@ -56,13 +65,13 @@ fn add_item(alloc: Global, all: &mut Vec<u8>, item: &[u8]) -> Result<bool, Alloc
 }
 
 /// Adds the bytes of an item of any length.
-fn add_long(alloc: Global, all: &mut Vec<u8>, item: &[u8]) -> Result<bool, AllocError>
-    ensures { IfOk result (λ added. Adds (item_bytes item.now) added all.old.items all.new.items) }
+fn add_long(alloc: Global, turned: bool, all: &mut Vec<u8>, item: &[u8]) -> Result<bool, AllocError>
+    ensures { IfOk result (λ added. Adds (item_bytes turned item.now) added all.old.items all.new.items) }
 {
     let Some(mut bytes) = bytes_of(alloc, digits_of(item))? else {
         return Ok(false);
     };
-    if is_number(item) {
+    if is_number(turned, item) {
         bytes.reverse();
     }
     all.extend_from_slice(&bytes)?;
@@ -77,11 +86,12 @@ fn decode_digits(digits: &[u8], bytes: &mut [u8]) -> bool
     hex::decode_to_slice(digits, bytes).is_ok()
 }
 
-/// Whether an item is a number, of which the lowest byte comes first: it has its mark, or eight digits.
-pub(crate) fn is_number(item: &[u8]) -> bool
-    ensures { result ≡ is_number item.now }
+/// Whether an item is a number, of which the lowest byte comes first: it has its mark, or digits are
+/// turned.
+fn is_number(turned: bool, item: &[u8]) -> bool
+    ensures { result ≡ is_number turned item.now }
 {
-    has_mark(item) || item.len() == 8
+    has_mark(item) || turned
 }
 
 /// The digits of an item, after its mark.

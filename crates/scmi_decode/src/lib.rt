@@ -9,6 +9,7 @@
 //! notified of how each area was read. `read_traced` reads the message of one line of ftrace.
 #![tactic(auto)]
 
+mod cell;
 mod decode;
 mod decode_error;
 mod dump;
@@ -20,9 +21,12 @@ mod lines;
 mod message_area;
 mod message_line;
 mod message_words;
+mod no_bytes;
 mod number;
 mod open_dump;
+mod order;
 mod parts;
+mod prefix;
 mod reading;
 mod readings;
 mod row;

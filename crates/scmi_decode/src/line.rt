@@ -1,17 +1,20 @@
 //! What is written of a line, and of a dump.
-ghost use Rattle.std.specs.Prelude.{◌≡◌, ◌⊎◌, OnOk, IfOk, IfErr, IfSome};
-ghost use Rattle.std.specs.Option.{is_some, option_copied, option_map};
+ghost use Rattle.std.specs.Prelude.{◌≡◌, ◌⊎◌, ◌++◌, OnOk, IfOk, IfErr, IfSome};
+ghost use Rattle.std.specs.Option.{is_some, option_map};
 ghost use Rattle.std.specs.List.{slice_split};
 ghost use Rattle.scmi_decode.specs.Dump.{is_gap};
 ghost use Rattle.scmi_decode.specs.Reading.{alone_reading};
 ghost use Rattle.std.specs.Io.KnownBytes.{Appends};
-ghost use Rattle.scmi_decode.specs.Decoded.{are_area, bytes_text, dump_text, line_is_area, line_text, numbered_text, other_size_text};
+ghost use Rattle.scmi_decode.specs.Decoded.{bytes_text, dump_text, lack_text, line_is_area, line_text, numbered_text, other_size_text};
+ghost use Rattle.scmi_decode.specs.OpenDump.{are_area, dump_bytes};
+ghost use Rattle.scmi_decode.specs.declared.line.TheConstants.{NO_AREA};
 
 use crate::decode_error::DecodeError;
 use crate::hint::write_hinted;
 use crate::lines::{is_described, items_of};
-use crate::message_line::alone_bytes;
-use crate::open_dump::{OpenDump, is_area};
+use crate::message_line::{alone_bytes, items_lack};
+use crate::no_bytes::NoBytes;
+use crate::open_dump::{OpenDump, are_area};
 use crate::reading::{Reading, alone_reading};
 use scmi_codec::{AREA_BYTES, LEAST_AREA_BYTES};
 use scmi_describe::describe_channel;
@@ -24,8 +27,12 @@ pub(crate) const NO_AREA: &str = "no area: ";
 
 pub(crate) const NO_DIGITS: &str = "not hexadecimal digits\n";
 
+pub(crate) const NO_ORDER: &str =
+    "its digits may be bytes or numbers; print single bytes (xxd -g 1, \
+    od -t x1, md.b) or mark numbers with 0x\n";
+
 /// The texts between the number of bytes and those that an area may have, and after these.
-pub(crate) const BYTES: &str = " bytes; an area has a multiple of 4, ";
+pub(crate) const BYTES: &str = " bytes; expected a multiple of 4 from ";
 
 pub(crate) const TO: &str = " to ";
 
@@ -52,71 +59,74 @@ pub fn write_line<W: Write>(
     }
     let items = items_of(alloc, line)?;
     let found = alone_bytes(alloc, items.as_slice())?;
-    if !write_found_line(writer, number, &found)? {
-        return Ok(None);
+    let lack = items_lack(alloc, items.as_slice())?;
+    write_found(writer, number, lack, &found)?;
+    if are_area(&found) {
+        Ok(Some(alone_reading(items.as_slice())))
+    } else {
+        Ok(None)
     }
-    Ok(Some(alone_reading(items.as_slice())))
 }
 
-/// Writes the text of a line, after its number, and gives whether it is an area.
-fn write_found_line<W: Write>(
+/// Writes the text of a dump, after the number of its first line; nothing if none is open. Gives
+/// whether it is an area.
+pub(crate) fn write_dump<W: Write>(
+    alloc: Global,
     writer: &mut W,
-    number: usize,
-    found: &Option<Vec<u8>>,
+    dump: &OpenDump,
 ) -> Result<bool, DecodeError>
     ensures text { OnOk result (Appends (W.contents writer.old) (W.contents writer.new) (
-        numbered_text number (option_map (λ bytes. bytes.items) found.now))) }
-    ensures area { IfOk result (λ area.
-        area ≡ are_area (option_map (λ bytes. bytes.items) found.now)) }
-    ensures errors { IfErr result (λ e. e ≡ DecodeError.Write) }
-{
-    match found {
-        Some(bytes) => {
-            write_numbered_line(writer, number, Some(bytes))?;
-            Ok(is_area(bytes))
-        }
-        None => {
-            write_numbered_line(writer, number, None)?;
-            Ok(false)
-        }
-    }
-}
-
-/// Writes the text of a dump, after the number of its first line; nothing if none is open.
-pub(crate) fn write_dump<W: Write>(writer: &mut W, dump: &OpenDump) -> Result<(), DecodeError>
-    ensures text { OnOk result (Appends (W.contents writer.old) (W.contents writer.new) (
         dump_text dump.now)) }
-    ensures errors { IfErr result (λ e. e ≡ DecodeError.Write) }
+    ensures area { IfOk result (λ area. area ≡ are_area (dump_bytes dump.now)) }
+    ensures errors { IfErr result (λ e. (e ≡ DecodeError.Memory) ⊎ (e ≡ DecodeError.Write)) }
 {
-    if !dump.is_open() {
-        return Ok(());
+    let found = dump.bytes(alloc)?;
+    if dump.is_open() {
+        write_found(writer, dump.first(), NoBytes::Order, &found)?;
     }
-    write_numbered_line(writer, dump.first(), Some(dump.bytes()))
+    Ok(are_area(&found))
 }
 
-/// Writes the text of a line, after its number.
-fn write_numbered_line<W: Write>(
+/// Writes the text of what was found, after its number.
+fn write_found<W: Write>(
     writer: &mut W,
     number: usize,
-    found: Option<&[u8]>,
+    lack: NoBytes,
+    found: &Option<Vec<u8>>,
 ) -> Result<(), DecodeError>
     ensures text { OnOk result (Appends (W.contents writer.old) (W.contents writer.new) (
-        numbered_text number (option_copied found.entry))) }
+        numbered_text number lack (option_map (λ bytes. bytes.items) found.now))) }
     ensures errors { IfErr result (λ e. e ≡ DecodeError.Write) }
 {
-    write_numbered(writer, number, found).map_err(|_| DecodeError::Write)
+    write_numbered(writer, number, lack, found).map_err(|_| DecodeError::Write)
 }
 
 /// Writes the number of a line, and what the line is.
 #[tactic(auto, unfolding(crate::specs::Decoded::numbered_text))]
-fn write_numbered<W: Write>(writer: &mut W, number: usize, found: Option<&[u8]>) -> io::Result<()>
+fn write_numbered<W: Write>(
+    writer: &mut W,
+    number: usize,
+    lack: NoBytes,
+    found: &Option<Vec<u8>>,
+) -> io::Result<()>
     ensures { OnOk result (Appends (W.contents writer.old) (W.contents writer.new) (
-        numbered_text number (option_copied found.entry))) }
+        numbered_text number lack (option_map (λ bytes. bytes.items) found.now))) }
 {
     write!(writer, "{number} ")?;
     match found {
         Some(bytes) => write_bytes(writer, bytes),
-        None => write!(writer, "{NO_AREA}{NO_DIGITS}"),
+        None => write_lack(writer, lack),
+    }
+}
+
+/// Writes why a dump has no bytes.
+fn write_lack<W: Write>(writer: &mut W, lack: NoBytes) -> io::Result<()>
+    ensures { OnOk result (Appends (W.contents writer.old) (W.contents writer.new)
+        (NO_AREA.now ++ lack_text lack)) }
+{
+    match lack {
+        NoBytes::Digits => write!(writer, "{NO_AREA}{NO_DIGITS}"),
+        NoBytes::Order => write!(writer, "{NO_AREA}{NO_ORDER}"),
     }
 }
 

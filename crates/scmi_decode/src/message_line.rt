@@ -1,12 +1,17 @@
 //! Lines that report a message: of Linux's event `scmi_msg_dump`, or of a script.
 ghost use Rattle.std.specs.Prelude.{◌≡◌, IfOk, map};
 ghost use Rattle.std.specs.Option.{option_map};
-ghost use Rattle.scmi_decode.specs.MessageLine.{behind_event, behind_got, got_or_own, is_agent, is_got, items_alone};
+ghost use Rattle.scmi_decode.specs.MessageLine.{behind_event, behind_got, first_full, got_or_own, is_agent, is_got, items_alone, items_lack, ordered_bytes, own_order};
+ghost use Rattle.scmi_decode.specs.declared.order.Order.TheVariants.{Unclear};
 
 use crate::dump::items_bytes;
 use crate::event::{digits_number, event_area};
+use crate::form::Form;
 use crate::message_area::message_area;
 use crate::message_words::{EVENT, GOT, P2A, REPLY};
+use crate::no_bytes::NoBytes;
+use crate::order::Order;
+use crate::row::{group_of, order_of};
 use std::alloc::{AllocError, Global};
 
 /// The bytes that the items of a line encode alone: the area of the message that they report, or
@@ -42,12 +47,78 @@ fn got_or_own(alloc: Global, items: &[&[u8]]) -> Result<Option<Vec<u8>>, AllocEr
         got_or_own (behind_got (map (λ item. item.now) items.now)) (map (λ item. item.now) items.now)) }
 {
     let Some(behind) = behind_got(items) else {
-        return items_bytes(alloc, items);
+        return ordered_bytes(alloc, own_order(items), items);
     };
-    match items_bytes(alloc, behind)? {
+    match items_bytes(alloc, true, behind)? {
         Some(message) => message_area(alloc, 1, message.as_slice()),
         None => Ok(None),
     }
+}
+
+/// The order of the digits of a line that has several items.
+fn own_order(items: &[&[u8]]) -> Order
+    ensures { result ≡ own_order (map (λ item. item.now) items.now) }
+{
+    order_of(Form::Plain, group_of(first_full(items)), 0, false)
+}
+
+/// The bytes of items in an order; in an unclear one only if either gives the same.
+fn ordered_bytes(
+    alloc: Global,
+    order: Order,
+    items: &[&[u8]],
+) -> Result<Option<Vec<u8>>, AllocError>
+    ensures { IfOk result (λ found. option_map (λ bytes. bytes.items) found ≡
+        ordered_bytes order (map (λ item. item.now) items.now)) }
+{
+    match order {
+        Order::Straight => items_bytes(alloc, false, items),
+        Order::Turned => items_bytes(alloc, true, items),
+        Order::Unclear => alike_bytes(alloc, items),
+    }
+}
+
+/// The bytes of items, if they are the same in either order.
+fn alike_bytes(alloc: Global, items: &[&[u8]]) -> Result<Option<Vec<u8>>, AllocError>
+    ensures { IfOk result (λ found. option_map (λ bytes. bytes.items) found ≡
+        ordered_bytes Unclear (map (λ item. item.now) items.now)) }
+{
+    let Some(straight) = items_bytes(alloc, false, items)? else {
+        return Ok(None);
+    };
+    let Some(turned) = items_bytes(alloc, true, items)? else {
+        return Ok(None);
+    };
+    if straight.as_slice() == turned.as_slice() {
+        Ok(Some(straight))
+    } else {
+        Ok(None)
+    }
+}
+
+/// Why items have no bytes, if they have none.
+pub(crate) fn items_lack(alloc: Global, items: &[&[u8]]) -> Result<NoBytes, AllocError>
+    ensures { IfOk result (λ lack. lack ≡ items_lack (map (λ item. item.now) items.now)) }
+{
+    if items_bytes(alloc, false, items)?.is_some() {
+        Ok(NoBytes::Order)
+    } else {
+        Ok(NoBytes::Digits)
+    }
+}
+
+/// The first item that is not empty; empty if there is none.
+pub(crate) fn first_full<'a>(items: &[&'a [u8]]) -> &'a [u8]
+    ensures { result.now ≡ first_full (map (λ item. item.now) items.now) }
+{
+    let mut rest = items;
+    'items: while let [item, behind @ ..] = rest {
+        if !item.is_empty() {
+            return item;
+        }
+        rest = behind;
+    }
+    &[]
 }
 
 /// What follows an agent and the word for a message that it has got.

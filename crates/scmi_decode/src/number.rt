@@ -1,6 +1,8 @@
 //! The numbers of addresses.
 ghost use Rattle.std.specs.Prelude.{◌≡◌, length};
-ghost use Rattle.scmi_decode.specs.Row.{digit_value, number_from};
+ghost use Rattle.scmi_decode.specs.Row.{digit_value, number_from, without_mark};
+
+use crate::dump::has_mark;
 
 /// The value of a digit of either case, 16 for what is no hexadecimal digit.
 fn digit_value(byte: u8) -> u64
@@ -30,4 +32,15 @@ pub(crate) fn number_from(base: u64, before: u64, digits: &[u8]) -> Option<u64>
         rest = behind;
     }
     Some(number)
+}
+
+/// Digits without the mark `0x`.
+pub(crate) fn without_mark(digits: &[u8]) -> &[u8]
+    ensures { result.now ≡ without_mark digits.now }
+{
+    if has_mark(digits) {
+        &digits[2..]
+    } else {
+        digits
+    }
 }

@@ -1,10 +1,12 @@
 //! A dump over several lines.
 ghost use Rattle.std.specs.Prelude.{◌≡◌, ◌+◌, ◌%◌, ◌^◌, length, OnOk, IfOk};
-ghost use Rattle.std.specs.Option.{is_some};
-ghost use Rattle.scmi_decode.specs.OpenDump.{no_dump, is_open, is_area, same_form, reaches, is_even, goes_on, copies, rows_before, last_row, filled, extended, added, begun, closed, beside, repeated, has_one_item, is_star, end_at};
+ghost use Rattle.std.specs.Option.{is_some, option_map};
+ghost use Rattle.scmi_decode.specs.OpenDump.{no_dump, is_open, is_area, are_area, dump_bytes, has_its_groups, same_form, reaches, is_even, goes_on, copies, rows_before, last_row, filled, extended, added, begun, closed, beside, repeated, has_one_item, is_star, end_at};
 
+use crate::cell::{Cell, order_shown, settled};
 use crate::form::Form;
-use crate::reading::Reading;
+use crate::order::Order;
+use crate::reading::{Reading, rows_reading};
 use crate::readings::{Readings, Unsaid};
 use crate::row::{Row, address_of};
 use crate::scan::{after_gap, after_item, first_item};
@@ -20,10 +22,12 @@ pub(crate) struct OpenDump {
     form: Form,
     next: u64,
     width: usize,
+    group: usize,
+    order: Order,
     repeats: bool,
-    bytes: Vec<u8>,
+    cells: Vec<Cell>,
     found: bool,
-    reading: Reading,
+    has_wide_marks: bool,
     unsaid: Unsaid,
 }
 
@@ -37,8 +41,10 @@ impl Model for OpenDump {
       form = d.form;
       next = d.next;
       width = d.width;
+      group = d.group;
+      order = d.order;
       repeats = d.repeats;
-      bytes = d.bytes.items;
+      cells = d.cells.items;
       found = d.found;
     } };
 }
@@ -53,10 +59,12 @@ impl OpenDump {
             form: Form::Plain,
             next: 0,
             width: 0,
+            group: 0,
+            order: Order::Straight,
             repeats: false,
-            bytes: Vec::new(alloc),
+            cells: Vec::new(alloc),
             found: false,
-            reading: Reading::Bytes,
+            has_wide_marks: false,
             unsaid: Unsaid::new(),
         }
     }
@@ -65,7 +73,7 @@ impl OpenDump {
     pub(crate) fn is_open(&self) -> bool
         ensures { result ≡ is_open self.now }
     {
-        !self.bytes.is_empty()
+        !self.cells.is_empty()
     }
 
     /// The number of its first line.
@@ -75,10 +83,12 @@ impl OpenDump {
         self.first
     }
 
-    pub(crate) fn bytes(&self) -> &[u8]
-        ensures { result.now ≡ self.now.bytes }
+    /// Its bytes, in the order of its digits; `None` if that is unclear.
+    pub(crate) fn bytes(&self, alloc: Global) -> Result<Option<Vec<u8>>, AllocError>
+        ensures { IfOk result (λ found.
+            option_map (λ bytes. bytes.items) found ≡ dump_bytes self.now) }
     {
-        self.bytes.as_slice()
+        settled(alloc, self.order, self.cells.as_slice())
     }
 
     /// Whether an area was found.
@@ -95,16 +105,24 @@ impl OpenDump {
     {
         self.is_open()
             && same_form(self.form, row.form())
+            && self.has_its_groups(row)
             && self.is_even()
-            && row.bytes().len() <= self.width
+            && row.cells().len() <= self.width
             && (same_form(row.form(), Form::Plain) || self.reaches(row.address()))
+    }
+
+    /// Whether the groups of a row are those of the first row; those of a shorter row may be shorter.
+    fn has_its_groups(&self, row: &Row) -> bool
+        ensures { result ≡ has_its_groups self.now row.now }
+    {
+        row.group() == self.group || row.group() < self.group && row.cells().len() < self.width
     }
 
     /// Whether the rows so far have the same length.
     fn is_even(&self) -> bool
         ensures { result ≡ is_even self.now }
     {
-        self.width != 0 && self.bytes.len() % self.width == 0
+        self.width != 0 && self.cells.len() % self.width == 0
     }
 
     /// Whether an address is the one after the last row, or, if rows repeat, whole rows after it.
@@ -133,10 +151,10 @@ impl OpenDump {
     }
 
     /// The last row.
-    fn last_row(&self) -> &[u8]
+    fn last_row(&self) -> &[Cell]
         ensures { result.now ≡ last_row self.now }
     {
-        &self.bytes[self.bytes.len().saturating_sub(self.width)..]
+        &self.cells[self.cells.len().saturating_sub(self.width)..]
     }
 
     /// Repeats the last row up to an address.
@@ -149,7 +167,7 @@ impl OpenDump {
         }
         let count = self.rows_before(address);
         let row = copies(alloc, count, self.last_row())?;
-        self.bytes.extend_from_slice(row.as_slice())?;
+        self.cells.extend_from_slice(row.as_slice())?;
         self.repeats = false;
         Ok(())
     }
@@ -159,7 +177,7 @@ impl OpenDump {
     fn extend(&mut self, row: &Row) -> Result<(), AllocError>
         ensures { OnOk result (self.new ≡ extended self.old row.now) }
     {
-        self.bytes.extend_from_slice(row.bytes())?;
+        self.cells.extend_from_slice(row.cells())?;
         self.next = end_of(row);
         Ok(())
     }
@@ -177,26 +195,36 @@ impl OpenDump {
     pub(crate) fn begin(&mut self, number: usize, row: &Row) -> Result<(), AllocError>
         ensures { OnOk result (self.new ≡ begun self.old number row.now) }
     {
-        self.bytes.clear();
-        self.bytes.extend_from_slice(row.bytes())?;
+        self.cells.clear();
+        self.cells.extend_from_slice(row.cells())?;
         self.first = number;
         self.form = row.form();
         self.next = end_of(row);
-        self.width = row.bytes().len();
+        self.width = row.cells().len();
+        self.group = row.group();
+        self.order = row.order();
         self.repeats = false;
         Ok(())
     }
 
-    /// Ends.
+    /// Ends, if it is known whether it is an area.
     #[tactic(auto, unfolding(crate::specs::OpenDump::closed))]
-    pub(crate) fn close(&mut self)
+    pub(crate) fn close(&mut self, area: bool)
+        requires area { area ≡ are_area (dump_bytes self.old) }
         ensures { self.new ≡ closed self.old }
     {
-        if is_area(self.bytes.as_slice()) {
-            self.unsaid.take_dump(self.first, self.reading);
+        if area {
+            let reading = self.reading();
+            self.unsaid.take_dump(self.first, reading);
             self.found = true;
         }
-        self.bytes.clear();
+        self.cells.clear();
+    }
+
+    /// How it is read.
+    fn reading(&self) -> Reading {
+        let is_turned = order_shown(self.order, self.cells.as_slice()) == Order::Turned;
+        rows_reading(self.form, self.has_wide_marks || is_turned)
     }
 
     /// Notes how a line beside the dump was read, if it is an area.
@@ -210,11 +238,11 @@ impl OpenDump {
         }
     }
 
-    /// Notes how it is read.
-    pub(crate) fn read_as(&mut self, reading: Reading)
+    /// Notes whether it has numbers of several bytes, with their mark.
+    pub(crate) fn mark(&mut self, has_wide_marks: bool)
         ensures { self.new ≡ self.old }
     {
-        self.reading = reading;
+        self.has_wide_marks = has_wide_marks;
     }
 
     /// Reports how the areas that have ended are read, if that differs from before.
@@ -265,9 +293,19 @@ impl OpenDump {
 
 /// The address after a row.
 fn end_of(row: &Row) -> u64
-    ensures { result ≡ (row.now.address + length row.now.bytes) % 2 ^ 64 }
+    ensures { result ≡ (row.now.address + length row.now.cells) % 2 ^ 64 }
 {
-    row.address().wrapping_add(row.bytes().len() as u64)
+    row.address().wrapping_add(row.cells().len() as u64)
+}
+
+/// Whether bytes are there, and as many as the area of a channel may have.
+pub(crate) fn are_area(found: &Option<Vec<u8>>) -> bool
+    ensures { result ≡ are_area (option_map (λ bytes. bytes.items) found.now) }
+{
+    match found {
+        Some(bytes) => is_area(bytes),
+        None => false,
+    }
 }
 
 /// Whether bytes are as many as the area of a channel may have.
@@ -295,8 +333,8 @@ fn has_one_item(line: &[u8]) -> bool
     after_gap(after_item(line)).is_empty()
 }
 
-/// Copies of bytes, as many as the number.
-fn copies(alloc: Global, count: u64, row: &[u8]) -> Result<Vec<u8>, AllocError>
+/// Copies of a row, as many as the number.
+fn copies(alloc: Global, count: u64, row: &[Cell]) -> Result<Vec<Cell>, AllocError>
     ensures { IfOk result (λ all. all.items ≡ copies count row.now) }
 {
     let mut all = Vec::new(alloc);

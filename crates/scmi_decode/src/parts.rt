@@ -1,78 +1,163 @@
 //! The parts of a row.
-ghost use Rattle.std.specs.Prelude.{◌≡◌};
-ghost use Rattle.scmi_decode.specs.Row.{ends_in_colon, without_last, is_symbol, is_pair, is_offset, parts_of, marked_parts, before_column, before_bar};
+ghost use Rattle.std.specs.Prelude.{◌≡◌, ◌≤◌, length};
+ghost use Rattle.scmi_decode.specs.Row.{cut_parts, data_length, ends_in_colon, has_pipe, is_equals, is_group, is_offset, is_pair, is_symbol, marked_parts, offset_parts, parts_at, parts_of, piped_data, piped_digits, piped_parts, sixteen_length, without_last};
 
 use crate::dump::has_mark;
 use crate::form::Form;
-use crate::scan::{after_gap, bar_length, column_length, item_and_rest};
+use crate::prefix::without_prefix;
+use crate::scan::{
+    after_cursor, after_gap, bar_length, behind_colon, column_length, item_and_rest, item_length,
+    pipe_length,
+};
 
-/// The form of a row, the digits of its address, and the place of its bytes.
+/// The form of a row, the digits of its address, the place of its bytes, and what follows those.
 #[derive(Drop)]
 pub(crate) struct Parts<'a> {
     pub(crate) form: Form,
     pub(crate) digits: &'a [u8],
     pub(crate) bytes: &'a [u8],
+    pub(crate) column: &'a [u8],
 }
 
-/// The parts of a line as a row; of a line that begins with no address all of it is data (own).
-#[tactic(auto, unfolding(crate::specs::Row::parts_of))]
+/// The parts of a line as a row, after what the kernel's log puts before its address.
 pub(crate) fn parts_of(line: &[u8]) -> Parts<'_>
     ensures form { result.form ≡ (parts_of line.now).form }
     ensures digits { result.digits.now ≡ (parts_of line.now).digits }
     ensures bytes { result.bytes.now ≡ (parts_of line.now).bytes }
+    ensures column { result.column.now ≡ (parts_of line.now).column }
+{
+    parts_at(without_prefix(line))
+}
+
+/// The parts of a line as a row; of a line that begins with no address all of it is data (own).
+#[tactic(auto, unfolding(crate::specs::Row::parts_at))]
+fn parts_at(line: &[u8]) -> Parts<'_>
+    ensures form { result.form ≡ (parts_at line.now).form }
+    ensures digits { result.digits.now ≡ (parts_at line.now).digits }
+    ensures bytes { result.bytes.now ≡ (parts_at line.now).bytes }
+    ensures column { result.column.now ≡ (parts_at line.now).column }
 {
     let (first, behind) = item_and_rest(line);
     if ends_in_colon(first) {
         return marked_parts(without_last(first), behind);
     }
     let (second, rest) = item_and_rest(behind);
-    if is_symbol(second) {
+    if is_symbol(second) || is_equals(second) {
         return marked_parts(first, rest);
     }
     if is_pair(first, second, rest) {
         return marked_parts(first, behind);
     }
+    if has_pipe(first) {
+        return piped_parts(after_gap(line));
+    }
     if is_offset(first, second) {
-        return Parts {
-            form: Form::Offset,
-            digits: first,
-            bytes: before_bar(behind),
-        };
+        return offset_parts(first, behind);
     }
     Parts {
         form: Form::Plain,
         digits: &[],
         bytes: line,
+        column: &[],
     }
 }
 
-/// A row of these digits, whose bytes follow them, before a column of text.
+/// A row of a form, whose data are so long.
+fn cut_parts<'a>(form: Form, digits: &'a [u8], size: usize, groups: &'a [u8]) -> Parts<'a>
+    requires fits { size ≤ length groups.now }
+    ensures form { result.form ≡ (cut_parts form digits.now size groups.now).form }
+    ensures digits { result.digits.now ≡ (cut_parts form digits.now size groups.now).digits }
+    ensures bytes { result.bytes.now ≡ (cut_parts form digits.now size groups.now).bytes }
+    ensures column { result.column.now ≡ (cut_parts form digits.now size groups.now).column }
+{
+    let (bytes, column) = groups.split_at(size);
+    Parts {
+        form,
+        digits,
+        bytes,
+        column,
+    }
+}
+
+/// A row of these digits, whose bytes follow them, before a column of text after two spaces.
 #[tactic(auto, unfolding(crate::specs::Row::marked_parts))]
 fn marked_parts<'a>(digits: &'a [u8], behind: &'a [u8]) -> Parts<'a>
     ensures form { result.form ≡ (marked_parts digits.now behind.now).form }
     ensures digits { result.digits.now ≡ (marked_parts digits.now behind.now).digits }
     ensures bytes { result.bytes.now ≡ (marked_parts digits.now behind.now).bytes }
+    ensures column { result.column.now ≡ (marked_parts digits.now behind.now).column }
 {
-    Parts {
-        form: Form::Marked,
-        digits,
-        bytes: before_column(behind),
+    let groups = after_gap(behind);
+    cut_parts(Form::Marked, digits, column_length(groups), groups)
+}
+
+/// A row of an address alone, whose bytes follow it, before `|` or `>` or two spaces.
+#[tactic(auto, unfolding(crate::specs::Row::offset_parts))]
+fn offset_parts<'a>(digits: &'a [u8], behind: &'a [u8]) -> Parts<'a>
+    ensures form { result.form ≡ (offset_parts digits.now behind.now).form }
+    ensures digits { result.digits.now ≡ (offset_parts digits.now behind.now).digits }
+    ensures bytes { result.bytes.now ≡ (offset_parts digits.now behind.now).bytes }
+    ensures column { result.column.now ≡ (offset_parts digits.now behind.now).column }
+{
+    let bar = bar_length(behind);
+    if bar < behind.len() {
+        return cut_parts(Form::Offset, digits, bar, behind);
     }
+    let groups = after_gap(behind);
+    cut_parts(Form::Offset, digits, column_length(groups), groups)
 }
 
-/// What comes before two spaces, apart from the gap at the beginning.
-fn before_column(behind: &[u8]) -> &[u8]
-    ensures { result.now ≡ before_column behind.now }
+/// A row of a debugger, `CLASS:ADDRESS|DATA`, whose data are sixteen bytes (own).
+#[tactic(auto, unfolding(crate::specs::Row::piped_parts))]
+fn piped_parts(line: &[u8]) -> Parts<'_>
+    ensures form { result.form ≡ (piped_parts line.now).form }
+    ensures digits { result.digits.now ≡ (piped_parts line.now).digits }
+    ensures bytes { result.bytes.now ≡ (piped_parts line.now).bytes }
+    ensures column { result.column.now ≡ (piped_parts line.now).column }
 {
-    let data = after_gap(behind);
-    &data[..column_length(data)]
+    let groups = piped_data(line);
+    cut_parts(
+        Form::Marked,
+        piped_digits(line),
+        data_length(groups),
+        groups,
+    )
 }
 
-/// What comes before `|` or `>`.
-fn before_bar(behind: &[u8]) -> &[u8]
-    ensures { result.now ≡ before_bar behind.now }
+/// The digits of the address before `|`, behind a class and a colon.
+fn piped_digits(line: &[u8]) -> &[u8]
+    ensures { result.now ≡ piped_digits line.now }
 {
-    &behind[..bar_length(behind)]
+    behind_colon(&line[..pipe_length(line)])
+}
+
+/// The data behind `|`.
+fn piped_data(line: &[u8]) -> &[u8]
+    ensures { result.now ≡ piped_data line.now }
+{
+    let start = (pipe_length(line) + 1).min(line.len());
+    after_gap(after_cursor(&line[start..]))
+}
+
+/// How long the data of sixteen bytes are, by their first group.
+fn data_length(groups: &[u8]) -> usize
+    ensures value { result ≡ data_length groups.now }
+    ensures bound { result ≤ length groups.now }
+{
+    sixteen_length(item_length(groups)).min(groups.len())
+}
+
+/// How long sixteen bytes are in groups of so many digits, with a space between them.
+fn sixteen_length(group: usize) -> usize
+    ensures { result ≡ sixteen_length group }
+{
+    match group {
+        2 => 47,
+        4 => 39,
+        8 => 35,
+        16 => 33,
+        _ => 0,
+    }
 }
 
 /// Whether an item has a colon as its last byte.
@@ -83,7 +168,7 @@ pub(crate) fn ends_in_colon(item: &[u8]) -> bool
 }
 
 /// An item without its last byte.
-fn without_last(item: &[u8]) -> &[u8]
+pub(crate) fn without_last(item: &[u8]) -> &[u8]
     ensures { result.now ≡ without_last item.now }
 {
     &item[..item.len().saturating_sub(1)]
@@ -96,6 +181,20 @@ fn is_symbol(item: &[u8]) -> bool
     ends_in_colon(item) && item[0] == b'<'
 }
 
+/// Whether an item is `=`, which J-Link prints after an address.
+fn is_equals(item: &[u8]) -> bool
+    ensures { result ≡ is_equals item.now }
+{
+    item.len() == 1 && item[0] == b'='
+}
+
+/// Whether an item has a `|`, which Lauterbach's debugger prints after an address.
+fn has_pipe(item: &[u8]) -> bool
+    ensures { result ≡ has_pipe item.now }
+{
+    pipe_length(item) < item.len()
+}
+
 /// Whether two items, with nothing after them, are an address and its value: both begin with `0x`.
 fn is_pair(first: &[u8], second: &[u8], behind: &[u8]) -> bool
     ensures { result ≡ is_pair first.now second.now behind.now }
@@ -103,13 +202,17 @@ fn is_pair(first: &[u8], second: &[u8], behind: &[u8]) -> bool
     has_mark(first) && has_mark(second) && after_gap(behind).is_empty()
 }
 
-/// Whether an item is an address before items of two or of eight digits: six to eight digits, and not
-/// as many as the next has.
+/// Whether an item is an address before groups of digits: six to eight digits, and not as many as
+/// the group has.
 fn is_offset(first: &[u8], second: &[u8]) -> bool
     ensures { result ≡ is_offset first.now second.now }
 {
-    first.len() > 5
-        && first.len() < 9
-        && (second.len() == 2 || second.len() == 8)
-        && first.len() != second.len()
+    first.len() > 5 && first.len() < 9 && is_group(second) && first.len() != second.len()
+}
+
+/// Whether a group of digits is one byte, or a number of two, four or eight.
+fn is_group(item: &[u8]) -> bool
+    ensures { result ≡ is_group item.now }
+{
+    item.len() == 2 || item.len() == 4 || item.len() == 8 || item.len() == 16
 }

@@ -1,10 +1,10 @@
 //! How dumps are read.
 ghost use Rattle.std.specs.Prelude.{◌≡◌, map};
-ghost use Rattle.scmi_decode.specs.Reading.{alone_reading, first_full, is_wide, reading_text, row_reading, rows_reading};
+ghost use Rattle.scmi_decode.specs.Reading.{alone_reading, is_wide, reading_text, rows_reading};
 
-use crate::dump::is_number;
+use crate::dump::has_mark;
 use crate::form::Form;
-use crate::message_line::{behind_event, behind_got};
+use crate::message_line::{behind_event, behind_got, first_full};
 use crate::parts::parts_of;
 use crate::scan::first_item;
 
@@ -48,14 +48,14 @@ macro_rules! rows {
 
 /// The names of all ways to read a dump, in the order of the enum.
 pub const READINGS: [ReadingRow<&'static str>; 8] = rows![
-    Bytes "bytes in their order, as xxd -p and xxd -i print them";
-    Words "words, their lowest byte first, as od -An -t x4 prints them";
-    MarkedBytes "bytes in their order behind an address, as xxd prints them";
-    MarkedWords "words, their lowest byte first, behind an address, as xxd -e, md.l, gdb and devmem print them";
-    OffsetBytes "bytes in their order behind an address, as hexdump -C and od -t x1 print them";
-    OffsetWords "words, their lowest byte first, behind an address, as od -t x4 prints them";
-    Event "a message that ftrace shows";
-    Run "a message that a run shows";
+    Bytes "bytes (xxd -p, xxd -i)";
+    Words "little-endian numbers (od -An -t x4)";
+    MarkedBytes "bytes with addresses (xxd, md.b)";
+    MarkedWords "little-endian numbers with addresses (xxd -e, md.l, gdb, devmem)";
+    OffsetBytes "bytes with addresses (hexdump -C, od -t x1)";
+    OffsetWords "little-endian numbers with addresses (od -t x4)";
+    Event "a message in ftrace";
+    Run "a message of a run";
 ];
 
 impl Reading {
@@ -67,17 +67,14 @@ impl Reading {
     }
 }
 
-/// How a row of a dump is read.
-#[tactic(auto, unfolding(crate::specs::Reading::row_reading))]
-pub(crate) fn row_reading(line: &[u8]) -> Reading
-    ensures { result ≡ row_reading line.now }
-{
-    let parts = parts_of(line);
-    rows_reading(parts.form, is_wide(first_item(parts.bytes)))
+/// Whether the data of a row are numbers of several bytes, with their mark.
+pub(crate) fn has_wide_marks(line: &[u8]) -> bool {
+    let item = first_item(parts_of(line).bytes);
+    has_mark(item) && is_wide(item)
 }
 
 /// How rows of a form are read, whose items are wide or not.
-fn rows_reading(form: Form, wide: bool) -> Reading
+pub(crate) fn rows_reading(form: Form, wide: bool) -> Reading
     ensures { result ≡ rows_reading form wide }
 {
     match (form, wide) {
@@ -103,23 +100,13 @@ pub(crate) fn alone_reading(items: &[&[u8]]) -> Reading
     rows_reading(Form::Plain, is_wide(first_full(items)))
 }
 
-/// The first item that is not empty; empty if there is none.
-fn first_full<'a>(items: &[&'a [u8]]) -> &'a [u8]
-    ensures { result.now ≡ first_full (map (λ item. item.now) items.now) }
-{
-    let mut rest = items;
-    'items: while let [item, behind @ ..] = rest {
-        if !item.is_empty() {
-            return item;
-        }
-        rest = behind;
-    }
-    &[]
-}
-
 /// Whether an item is a number of several bytes.
 fn is_wide(item: &[u8]) -> bool
     ensures { result ≡ is_wide item.now }
 {
-    is_number(item) && item.len() > 4
+    if has_mark(item) {
+        item.len() > 4
+    } else {
+        item.len() == 8 || item.len() == 16
+    }
 }

@@ -1,11 +1,15 @@
 //! A row of a dump.
 ghost use Rattle.std.specs.Prelude.{◌≡◌, IfOk};
-ghost use Rattle.scmi_decode.specs.Row.{address_of, base_of, without_mark, parts_row, row_of, row_with};
+ghost use Rattle.std.specs.Option.{option_map};
+ghost use Rattle.scmi_decode.specs.Row.{address_of, base_of, column_text, data_cells, data_order, ends_in_return, gap_before, group_of, half_order, long_order, order_of, parts_row, row_of, row_with, without_return};
 
+use crate::cell::{Cell, cells_of};
 use crate::dump::{has_mark, line_bytes};
 use crate::form::Form;
-use crate::number::number_from;
-use crate::parts::parts_of;
+use crate::number::{number_from, without_mark};
+use crate::order::Order;
+use crate::parts::{parts_of, without_last};
+use crate::scan::{after_gap, after_item, first_item, gap_length};
 use std::alloc::{AllocError, Global};
 use std::marker::Model;
 
@@ -15,12 +19,16 @@ pub const ROW_BYTES: usize = 32;
 /// The most bytes of the text of a row (own).
 pub const ROW_LINE_BYTES: usize = 512;
 
-/// A row of a dump: its form, its address (0 of a plain one), and its bytes, at most `ROW_BYTES`.
+/// A row of a dump: its form, its address (0 of a plain one), how many digits its first group has (0 of
+/// a number with its mark), in which order digits are if no column shows it, and its bytes, at most
+/// `ROW_BYTES`.
 #[derive(Drop)]
 pub(crate) struct Row {
     form: Form,
     address: u64,
-    bytes: Vec<u8>,
+    group: usize,
+    order: Order,
+    cells: Vec<Cell>,
 }
 
 impl Model for Row {
@@ -28,7 +36,13 @@ impl Model for Row {
 
     ghost Value = { RowView };
 
-    ghost view = { λ r. record { form = r.form; address = r.address; bytes = r.bytes.items } };
+    ghost view = { λ r. record {
+      form = r.form;
+      address = r.address;
+      group = r.group;
+      order = r.order;
+      cells = r.cells.items;
+    } };
 }
 
 impl Row {
@@ -44,10 +58,22 @@ impl Row {
         self.address
     }
 
-    pub(crate) fn bytes(&self) -> &[u8]
-        ensures { result.now ≡ self.now.bytes }
+    pub(crate) fn group(&self) -> usize
+        ensures { result ≡ self.now.group }
     {
-        self.bytes.as_slice()
+        self.group
+    }
+
+    pub(crate) fn order(&self) -> Order
+        ensures { result ≡ self.now.order }
+    {
+        self.order
+    }
+
+    pub(crate) fn cells(&self) -> &[Cell]
+        ensures { result.now ≡ self.now.cells }
+    {
+        self.cells.as_slice()
     }
 }
 
@@ -61,40 +87,158 @@ pub(crate) fn row_of(alloc: Global, line: &[u8]) -> Result<Option<Row>, AllocErr
         return Ok(None);
     }
     let parts = parts_of(line);
-    parts_row(alloc, parts.form, parts.digits, parts.bytes)
+    parts_row(alloc, parts.form, parts.digits, parts.bytes, parts.column)
 }
 
-/// The row of a form, the digits of an address, and the text that has its bytes.
+/// The row of a form, the digits of an address, the data, and the column after them.
 #[tactic(auto, unfolding(crate::specs::Row::parts_row))]
 fn parts_row(
     alloc: Global,
     form: Form,
     digits: &[u8],
-    bytes: &[u8],
+    groups: &[u8],
+    column: &[u8],
 ) -> Result<Option<Row>, AllocError>
-    ensures { IfOk result (λ found. found ≡ parts_row form digits.now bytes.now) }
+    ensures { IfOk result (λ found. found ≡ parts_row form digits.now groups.now column.now) }
 {
     let Some(address) = address_of(form, digits) else {
         return Ok(None);
     };
-    match line_bytes(alloc, bytes)? {
-        Some(bytes) => Ok(row_with(form, address, bytes)),
+    let group = group_of(first_item(groups));
+    let order = data_order(form, groups, column);
+    match data_cells(alloc, groups, column)? {
+        Some(cells) => Ok(row_with(form, address, group, order, cells)),
         None => Ok(None),
     }
 }
 
-/// A row of bytes, if it has some and not too many.
-fn row_with(form: Form, address: u64, bytes: Vec<u8>) -> Option<Row>
-    ensures { result ≡ row_with form address bytes.items }
+/// The cells of data in either order, and of the column after them; `None` if they are no digits.
+fn data_cells(alloc: Global, groups: &[u8], column: &[u8]) -> Result<Option<Vec<Cell>>, AllocError>
+    ensures { IfOk result (λ found.
+        option_map (λ cells. cells.items) found ≡ data_cells groups.now column.now) }
 {
-    if bytes.is_empty() || bytes.len() > ROW_BYTES {
+    let Some(straight) = line_bytes(alloc, false, groups)? else {
+        return Ok(None);
+    };
+    let Some(turned) = line_bytes(alloc, true, groups)? else {
+        return Ok(None);
+    };
+    let shown = column_text(straight.len(), without_return(column));
+    let cells = cells_of(alloc, straight.as_slice(), turned.as_slice(), shown)?;
+    Ok(Some(cells))
+}
+
+/// A row of cells, if it has some and not too many.
+fn row_with(form: Form, address: u64, group: usize, order: Order, cells: Vec<Cell>) -> Option<Row>
+    ensures { result ≡ row_with form address group order cells.items }
+{
+    if cells.is_empty() || cells.len() > ROW_BYTES {
         return None;
     }
     Some(Row {
         form,
         address,
-        bytes,
+        group,
+        order,
+        cells,
     })
+}
+
+/// The order of the digits of data, if no column shows it.
+fn data_order(form: Form, groups: &[u8], column: &[u8]) -> Order
+    ensures { result ≡ data_order form groups.now column.now }
+{
+    let group = group_of(first_item(groups));
+    let is_alone = after_gap(after_item(groups)).is_empty();
+    order_of(form, group, gap_before(column), is_alone)
+}
+
+/// How many digits an item has, 0 of one with its mark.
+pub(crate) fn group_of(item: &[u8]) -> usize
+    ensures { result ≡ group_of item.now }
+{
+    if has_mark(item) { 0 } else { item.len() }
+}
+
+/// How many spaces come before a column of text, 0 without one.
+fn gap_before(column: &[u8]) -> usize
+    ensures { result ≡ gap_before column.now }
+{
+    if after_gap(column).is_empty() {
+        0
+    } else {
+        gap_length(column)
+    }
+}
+
+/// The order of the digits of a row, by how many its first group has, the spaces before its column of
+/// text, and whether its group is alone.
+pub(crate) fn order_of(form: Form, group: usize, gap: usize, is_alone: bool) -> Order
+    ensures { result ≡ order_of form group gap is_alone }
+{
+    match group {
+        4 => half_order(form, gap),
+        8 | 16 => long_order(form, is_alone),
+        _ => Order::Straight,
+    }
+}
+
+/// The order of groups of four digits: od and hexdump print numbers, xxd bytes and two spaces, md.w
+/// numbers and more.
+fn half_order(form: Form, gap: usize) -> Order
+    ensures { result ≡ half_order form gap }
+{
+    match form {
+        Form::Offset => Order::Turned,
+        Form::Plain => Order::Unclear,
+        Form::Marked => if gap == 2 {
+            Order::Straight
+        } else if gap > 2 {
+            Order::Turned
+        } else {
+            Order::Unclear
+        },
+    }
+}
+
+/// The order of groups of eight or sixteen digits: numbers, but one alone on a line may be bytes, as
+/// xxd -p prints them.
+fn long_order(form: Form, is_alone: bool) -> Order
+    ensures { result ≡ long_order form is_alone }
+{
+    match (form, is_alone) {
+        (Form::Plain, true) => Order::Unclear,
+        _ => Order::Turned,
+    }
+}
+
+/// What a column shows of so many bytes: its last characters.
+fn column_text(count: usize, column: &[u8]) -> &[u8]
+    ensures { result.now ≡ column_text count column.now }
+{
+    if count < column.len() {
+        &column[column.len() - count..]
+    } else {
+        &[]
+    }
+}
+
+/// A text without the carriage return at its end.
+fn without_return(text: &[u8]) -> &[u8]
+    ensures { result.now ≡ without_return text.now }
+{
+    if ends_in_return(text) {
+        without_last(text)
+    } else {
+        text
+    }
+}
+
+/// Whether a text ends in a carriage return.
+fn ends_in_return(text: &[u8]) -> bool
+    ensures { result ≡ ends_in_return text.now }
+{
+    !text.is_empty() && text[text.len() - 1] == b'\r'
 }
 
 /// The address of a row, 0 of a plain one.
@@ -113,16 +257,5 @@ fn base_of(form: Form, digits: &[u8]) -> u64
         8
     } else {
         16
-    }
-}
-
-/// Digits without the mark `0x`.
-fn without_mark(digits: &[u8]) -> &[u8]
-    ensures { result.now ≡ without_mark digits.now }
-{
-    if has_mark(digits) {
-        &digits[2..]
-    } else {
-        digits
     }
 }

@@ -1,11 +1,11 @@
 //! The items of a line, from its begin on.
 ghost use Rattle.std.specs.Prelude.{◌≡◌, ◌≤◌, length};
-ghost use Rattle.scmi_decode.specs.Row.{gap_length, item_length, after_gap, first_item, after_item, column_length, bar_length, begins_with_space};
+ghost use Rattle.scmi_decode.specs.Row.{gap_length, item_length, after_gap, first_item, after_item, column_length, bar_length, begins_with_space, pipe_length, behind_colon, after_cursor};
 
 use crate::lines::is_gap;
 
 /// How many bytes of the gap at the begin.
-fn gap_length(line: &[u8]) -> usize
+pub(crate) fn gap_length(line: &[u8]) -> usize
     ensures value { result ≡ gap_length line.now }
     ensures bound { result ≤ length line.now }
 {
@@ -20,7 +20,7 @@ fn gap_length(line: &[u8]) -> usize
 }
 
 /// How many bytes come before the first gap.
-fn item_length(line: &[u8]) -> usize
+pub(crate) fn item_length(line: &[u8]) -> usize
     ensures value { result ≡ item_length line.now }
     ensures bound { result ≤ length line.now }
 {
@@ -103,4 +103,44 @@ pub(crate) fn bar_length(line: &[u8]) -> usize
         rest = behind;
     }
     line.len() - rest.len()
+}
+
+/// How many bytes come before `|`.
+pub(crate) fn pipe_length(line: &[u8]) -> usize
+    ensures value { result ≡ pipe_length line.now }
+    ensures bound { result ≤ length line.now }
+{
+    let mut rest = line;
+    'bytes: while let [byte, behind @ ..] = rest {
+        if *byte == b'|' {
+            break;
+        }
+        rest = behind;
+    }
+    line.len() - rest.len()
+}
+
+/// What follows the last colon of a text, or all of it.
+pub(crate) fn behind_colon(text: &[u8]) -> &[u8]
+    ensures { result.now ≡ behind_colon text.now text.now }
+{
+    let mut best = text;
+    let mut rest = text;
+    'bytes: while let [byte, behind @ ..] = rest {
+        if *byte == b':' {
+            best = behind;
+        }
+        rest = behind;
+    }
+    best
+}
+
+/// Data without `>` before them.
+pub(crate) fn after_cursor(groups: &[u8]) -> &[u8]
+    ensures { result.now ≡ after_cursor groups.now }
+{
+    match groups {
+        [b'>', behind @ ..] => behind,
+        _ => groups,
+    }
 }

@@ -8,7 +8,7 @@ ghost use Rattle.scmi_decode.specs.Decoded.{dump_after, dump_after_row, dump_tex
 use crate::decode_error::DecodeError;
 use crate::line::{write_dump, write_line};
 use crate::open_dump::OpenDump;
-use crate::reading::row_reading;
+use crate::reading::has_wide_marks;
 use crate::readings::Readings;
 use crate::row::{Row, row_of};
 use std::alloc::Global;
@@ -35,6 +35,7 @@ pub(crate) fn take_and_say<W: Write, N: Readings>(
 
 /// Ends the dump, writes what it was, and reports how it is read.
 pub(crate) fn close_and_say<W: Write, N: Readings>(
+    alloc: Global,
     writer: &mut W,
     readings: &mut N,
     dump: &mut OpenDump,
@@ -42,9 +43,9 @@ pub(crate) fn close_and_say<W: Write, N: Readings>(
     ensures text { OnOk result (Appends (W.contents writer.old) (W.contents writer.new) (
         dump_text dump.old)) }
     ensures dump { OnOk result (dump.new ≡ closed dump.old) }
-    ensures errors { IfErr result (λ e. e ≡ DecodeError.Write) }
+    ensures errors { IfErr result (λ e. (e ≡ DecodeError.Memory) ⊎ (e ≡ DecodeError.Write)) }
 {
-    close(writer, dump)?;
+    close(alloc, writer, dump)?;
     dump.say(readings);
     Ok(())
 }
@@ -68,7 +69,7 @@ fn take_line<W: Write>(
         return Ok(());
     }
     if line.is_empty() {
-        return close(writer, dump);
+        return close(alloc, writer, dump);
     }
     if dump.is_star(line) {
         dump.repeat();
@@ -76,7 +77,7 @@ fn take_line<W: Write>(
     }
     if let Some(address) = dump.end_at(line) {
         dump.fill(alloc, address)?;
-        return close(writer, dump);
+        return close(alloc, writer, dump);
     }
     take_row(alloc, writer, dump, number, line)
 }
@@ -120,9 +121,9 @@ fn add_row<W: Write>(
         dump.add(alloc, row)?;
         return Ok(());
     }
-    close(writer, dump)?;
+    close(alloc, writer, dump)?;
     dump.begin(number, row)?;
-    dump.read_as(row_reading(line));
+    dump.mark(has_wide_marks(line));
     Ok(())
 }
 
@@ -139,21 +140,21 @@ fn take_alone<W: Write>(
     ensures dump { OnOk result (dump.new ≡ beside (closed dump.old) (line_is_area line.now)) }
     ensures errors { IfErr result (λ e. (e ≡ DecodeError.Memory) ⊎ (e ≡ DecodeError.Write)) }
 {
-    close(writer, dump)?;
+    close(alloc, writer, dump)?;
     let read = write_line(alloc, writer, number, line)?;
     dump.note(number, read);
     Ok(())
 }
 
 /// Ends the dump, and writes what it was.
-fn close<W: Write>(writer: &mut W, dump: &mut OpenDump) -> Result<(), DecodeError>
+fn close<W: Write>(alloc: Global, writer: &mut W, dump: &mut OpenDump) -> Result<(), DecodeError>
     ensures text { OnOk result (Appends (W.contents writer.old) (W.contents writer.new) (
         dump_text dump.old)) }
     ensures dump { OnOk result (dump.new ≡ closed dump.old) }
-    ensures errors { IfErr result (λ e. e ≡ DecodeError.Write) }
+    ensures errors { IfErr result (λ e. (e ≡ DecodeError.Memory) ⊎ (e ≡ DecodeError.Write)) }
 {
-    write_dump(writer, dump)?;
-    dump.close();
+    let area = write_dump(alloc, writer, dump)?;
+    dump.close(area);
     Ok(())
 }
 

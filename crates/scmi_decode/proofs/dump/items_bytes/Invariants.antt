@@ -3,4 +3,4 @@ use Rattle.scmi_decode.specs.Dump.{items_bytes}
 use Rattle.scmi_decode.proofs.dump.items_bytes.Given as goal
 
 abbrev pub invariant-items : goal.invariant-items
-invariant-items l = items_bytes (map (λ item. item.now) (take l.item-index l.items)) ≡ Some l.all.items
+invariant-items l = items_bytes l.turned (map (λ item. item.now) (take l.item-index l.items)) ≡ Some l.all.items

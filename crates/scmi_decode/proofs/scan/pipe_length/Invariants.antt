@@ -1,0 +1,12 @@
+use Rattle.std.proofs.Common.{◌≡◌, ◌+◌, ◌≤◌, length}
+use Rattle.scmi_decode.specs.Row.{pipe_length}
+use Rattle.scmi_decode.proofs.scan.pipe_length.Given as goal
+
+abbrev pub invariant-bytes : goal.invariant-bytes
+invariant-bytes l = record {
+  value : pipe_length l.line + length l.rest ≡ length l.line + pipe_length l.rest;
+  bound : length l.rest ≤ length l.line;
+}
+
+abbrev pub decreases-bytes : goal.decreases-bytes
+decreases-bytes l = length l.rest

@@ -1,0 +1,157 @@
+//! The bytes of a dump in either order of digits, and what its column of text shows.
+ghost use Rattle.std.specs.Prelude.{◌≡◌, IfOk, map};
+ghost use Rattle.std.specs.Option.{option_map};
+ghost use Rattle.scmi_decode.specs.Cell.{are_alike, byte_in, bytes_in, cells_of, character_of, first_byte, later_bytes, order_shown, settled, shows};
+
+use crate::order::Order;
+use std::alloc::{AllocError, Global};
+
+/// What a column of text shows of a byte that is no printable character.
+const NO_CHARACTER: u8 = b'.';
+
+/// A byte of a dump: as it is if the digits of its group are straight, as it is if they are turned,
+/// and what the column of text shows there, 0 without a column.
+#[derive(Clone, Copy)]
+pub(crate) struct Cell {
+    pub(crate) straight: u8,
+    pub(crate) turned: u8,
+    pub(crate) shown: u8,
+}
+
+/// The cells of bytes in either order, and of the text that shows them.
+pub(crate) fn cells_of(
+    alloc: Global,
+    straight: &[u8],
+    turned: &[u8],
+    shown: &[u8],
+) -> Result<Vec<Cell>, AllocError>
+    ensures { IfOk result (λ cells.
+        cells.items ≡ cells_of straight.now turned.now shown.now) }
+{
+    let mut cells = Vec::with_capacity(alloc, straight.len())?;
+    let mut rest = straight;
+    let mut turned_rest = turned;
+    let mut shown_rest = shown;
+    'cells: while let [byte, behind @ ..] = rest {
+        cells.push(Cell {
+            straight: *byte,
+            turned: first_byte(turned_rest),
+            shown: first_byte(shown_rest),
+        })?;
+        rest = behind;
+        turned_rest = later_bytes(turned_rest);
+        shown_rest = later_bytes(shown_rest);
+    }
+    Ok(cells)
+}
+
+/// The first byte, 0 of none.
+fn first_byte(bytes: &[u8]) -> u8
+    ensures { result ≡ first_byte bytes.now }
+{
+    match bytes {
+        [byte, ..] => *byte,
+        [] => 0,
+    }
+}
+
+/// The bytes after the first.
+fn later_bytes(bytes: &[u8]) -> &[u8]
+    ensures { result.now ≡ later_bytes bytes.now }
+{
+    match bytes {
+        [_, behind @ ..] => behind,
+        [] => bytes,
+    }
+}
+
+/// The bytes of cells in the order that their column of text shows, or else in this order. `None` if
+/// neither is known and they differ. The only possible error: out of memory.
+pub(crate) fn settled(
+    alloc: Global,
+    order: Order,
+    cells: &[Cell],
+) -> Result<Option<Vec<u8>>, AllocError>
+    ensures { IfOk result (λ found.
+        option_map (λ bytes. bytes.items) found ≡ settled order cells.now) }
+{
+    match order_shown(order, cells) {
+        Order::Straight => Ok(Some(bytes_in(alloc, false, cells)?)),
+        Order::Turned => Ok(Some(bytes_in(alloc, true, cells)?)),
+        Order::Unclear => if are_alike(cells) {
+            Ok(Some(bytes_in(alloc, false, cells)?))
+        } else {
+            Ok(None)
+        },
+    }
+}
+
+/// The order that the column of text shows, or else this one.
+pub(crate) fn order_shown(order: Order, cells: &[Cell]) -> Order
+    ensures { result ≡ order_shown order cells.now }
+{
+    match (shows(false, cells), shows(true, cells)) {
+        (true, false) => Order::Straight,
+        (false, true) => Order::Turned,
+        _ => order,
+    }
+}
+
+/// Whether the column of text shows the bytes of one order.
+fn shows(turned: bool, cells: &[Cell]) -> bool
+    ensures { result ≡ shows turned cells.now }
+{
+    let mut rest = cells;
+    'cells: while let [cell, behind @ ..] = rest {
+        if cell.shown != character_of(byte_in(turned, cell)) {
+            return false;
+        }
+        rest = behind;
+    }
+    true
+}
+
+/// Whether both orders are the same bytes.
+fn are_alike(cells: &[Cell]) -> bool
+    ensures { result ≡ are_alike cells.now }
+{
+    let mut rest = cells;
+    'cells: while let [cell, behind @ ..] = rest {
+        if cell.straight != cell.turned {
+            return false;
+        }
+        rest = behind;
+    }
+    true
+}
+
+/// The bytes of cells in one order.
+fn bytes_in(alloc: Global, turned: bool, cells: &[Cell]) -> Result<Vec<u8>, AllocError>
+    ensures { IfOk result (λ bytes. bytes.items ≡ bytes_in turned cells.now) }
+{
+    let mut bytes = Vec::with_capacity(alloc, cells.len())?;
+    let mut rest = cells;
+    'cells: while let [cell, behind @ ..] = rest {
+        bytes.push(byte_in(turned, cell))?;
+        rest = behind;
+    }
+    Ok(bytes)
+}
+
+/// The byte of a cell in one order.
+fn byte_in(turned: bool, cell: &Cell) -> u8
+    ensures { result ≡ byte_in turned cell.now }
+{
+    if turned { cell.turned } else { cell.straight }
+}
+
+/// What a column of text shows of a byte.
+fn character_of(byte: u8) -> u8
+    ensures { result ≡ character_of byte }
+{
+    if byte > 31 && byte < 127 {
+        byte
+    } else {
+        NO_CHARACTER
+    }
+}
