@@ -79,6 +79,7 @@ static void add_domain(unsigned int agent, uint32_t id)
     const char *name = plat_scmi_pd_get_name(agent, id);
     unsigned int state;
 
+    domain->synchronous = 1;
     if (name == NULL) {
         give_number(domain->name, agent, "domain", id);
         tables.closed.domains |= 1U << id;
@@ -87,7 +88,6 @@ static void add_domain(unsigned int agent, uint32_t id)
     give_name(domain->name, "domain", name);
     state = plat_scmi_pd_get_state(agent, id);
     domain->on = state == STATE_ON;
-    domain->synchronous = 1;
     if (state != STATE_ON && state != STATE_OFF)
         WARN("SCMI: domain \"%s\" starts in state 0x%x, which is taken for off\n", domain->name, state);
 }

@@ -424,7 +424,7 @@ static void nobody_changes_what_has_no_name(void)
     init();
     check("a rate", set_rate(0, 1, 0) == SCMI_DENIED && rate_of(0, 1) == 0);
     check("a bit", ask(0, CONFIG_SET, 2, (uint32_t[]){ 1, 1 }) == SCMI_DENIED);
-    check("a state", ask(0, STATE_SET, 3, (uint32_t[]){ 0, 1, ON }) < 0);
+    check("a state", ask(0, STATE_SET, 3, (uint32_t[]){ 0, 1, ON }) == SCMI_DENIED);
     check("no hook is asked", sets == 0);
     check("the agent can't allow itself", ask(0, 0x4009, 3, (uint32_t[]){ 1, 0, 1 }) == SCMI_DENIED);
     check("what has a name it may", set_rate(0, 2, 200) == 0 && ask(0, STATE_SET, 3, (uint32_t[]){ 0, 0, ON }) == 0);
