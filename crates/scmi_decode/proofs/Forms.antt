@@ -118,10 +118,6 @@ pub lauterbach_bytes : read_row (codes "  SD:45000010|00 00 00 00 10 00 00 00 04
 unfolding row_of without_prefix parts_at parts_row marked_parts offset_parts piped_parts address_of decode_pairs
 lauterbach_bytes = refl
 
-pub power_shell : read_row (codes "00000010   00 00 00 00 10 00 00 00 04 44 1C 00 01 00 00 00  .........D......") ≡ Some (row_at Offset 0x10)
-unfolding row_of without_prefix parts_at parts_row marked_parts offset_parts piped_parts address_of decode_pairs
-power_shell = refl
-
 -- an address and a value
 pub devmem : read_row (codes "0x2e000018 0x001C4404") ≡ Some (record { form = Marked; address = 0x2E000018; bytes = Some (0x04 ∷ 0x44 ∷ 0x1C ∷ 0 ∷ []) })
 unfolding row_of without_prefix parts_at parts_row marked_parts offset_parts piped_parts address_of decode_pairs

@@ -116,11 +116,9 @@ cut_parts f digits size groups = record { form = f; digits = digits; bytes = tak
 unfoldable pub marked_parts : (digits behind : List ℕ) → RowParts
 marked_parts digits behind = cut_parts Marked digits (column_length (after_gap behind)) (after_gap behind)
 
--- a row of an address alone, whose bytes follow it, before `|` or `>` or two spaces
+-- a row of an address alone, whose bytes follow it, before `|` or `>`
 unfoldable pub offset_parts : (digits behind : List ℕ) → RowParts
-offset_parts digits behind =
-    if nat_lt (bar_length behind) (length behind) then cut_parts Offset digits (bar_length behind) behind
-    else cut_parts Offset digits (column_length (after_gap behind)) (after_gap behind)
+offset_parts digits behind = cut_parts Offset digits (bar_length behind) behind
 
 -- how long sixteen bytes are in groups of so many digits, with a space between them
 abbrev pub sixteen_length : (group : ℕ) → ℕ

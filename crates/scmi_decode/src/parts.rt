@@ -91,7 +91,7 @@ fn marked_parts<'a>(digits: &'a [u8], behind: &'a [u8]) -> Parts<'a>
     cut_parts(Form::Marked, digits, column_length(groups), groups)
 }
 
-/// A row of an address alone, whose bytes follow it, before `|` or `>` or two spaces.
+/// A row of an address alone, whose bytes follow it, before `|` or `>`.
 #[tactic(auto, unfolding(crate::specs::Row::offset_parts))]
 fn offset_parts<'a>(digits: &'a [u8], behind: &'a [u8]) -> Parts<'a>
     ensures form { result.form ≡ (offset_parts digits.now behind.now).form }
@@ -99,12 +99,7 @@ fn offset_parts<'a>(digits: &'a [u8], behind: &'a [u8]) -> Parts<'a>
     ensures bytes { result.bytes.now ≡ (offset_parts digits.now behind.now).bytes }
     ensures column { result.column.now ≡ (offset_parts digits.now behind.now).column }
 {
-    let bar = bar_length(behind);
-    if bar < behind.len() {
-        return cut_parts(Form::Offset, digits, bar, behind);
-    }
-    let groups = after_gap(behind);
-    cut_parts(Form::Offset, digits, column_length(groups), groups)
+    cut_parts(Form::Offset, digits, bar_length(behind), behind)
 }
 
 /// A row of a debugger, `CLASS:ADDRESS|DATA`, whose data are sixteen bytes (own).
