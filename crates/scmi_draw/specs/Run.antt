@@ -17,7 +17,7 @@ use Rattle.scmi_text.specs.declared.step_line.StepLine.{StepLine}
 use Rattle.scmi_session.specs.SessionView.{SessionView}
 use Rattle.scmi_session.specs.Run.{Runs}
 use Rattle.scmi_session.specs.StepLines.{IsLineOf}
-use Rattle.scmi_session.specs.Steps.{Steps}
+use Rattle.scmi_session.specs.Steps.{Steps as Makes}
 use Rattle.scmi_svg.specs.declared.chart.Chart.{Chart}
 use Rattle.scmi_chart.specs.Signs.{sign_of}
 use Rattle.scmi_chart.specs.Shown.{Shown, shown_after, run_signs, none_later, head_of, heads_from}
@@ -48,7 +48,7 @@ pub record ShowsRun (full : Bool) (Shows : CallerView → Result Closing CloseEr
 -- the step was made, and what a chart shows then is what it showed before, and what the line that the step gave shows
 pub record ShowsStep (full : Bool) (Shows : CallerView → Result Closing CloseError → Type 0) (step : Step) (old new : SessionView) (before after : Shown) : Type 0 where
   pub line : StepLine
-  pub made : Steps full Shows step line old new
+  pub made : Makes full Shows step line old new
   pub reported : IsLineOf step line
   pub shown : after ≡ shown_after step line before
 
