@@ -26,8 +26,8 @@
  * the heap. They are called by the calls that make a platform, by scmi_platform_free, and when a platform
  * that keeps its history adds to it, and by nothing else.
  */
-#ifndef SCMI_H
-#define SCMI_H
+#ifndef TOLBJIR_SCMI_H
+#define TOLBJIR_SCMI_H
 
 #include <stddef.h>
 #include <stdint.h>
@@ -43,8 +43,12 @@ extern "C" {
 #define SCMI_ALONE
 #endif
 
-/* The version of this header and of the library that came with it (scmi_version). */
-#define SCMI_VERSION "1.0.0"
+/*
+ * The version of this header and of the library that came with it (scmi_version). TF-A has a number of the other name,
+ * so tolbjir/scmi.h, as it is installed, has not its line.
+ */
+#define SCMI_LIBRARY_VERSION "1.0.0"
+#define SCMI_VERSION SCMI_LIBRARY_VERSION
 
 #define SCMI_AREA_BYTES 284
 #define SCMI_PAYLOAD_WORDS 64
@@ -406,10 +410,10 @@ void scmi_numbers(scmi_library *library);
 /* The library's version, major, minor and patch: 0x00MMmmpp. */
 uint32_t scmi_version(void);
 
-/* This header's version as scmi_version gives the library's: the numbers of SCMI_VERSION. */
+/* This header's version as scmi_version gives the library's: the numbers of SCMI_LIBRARY_VERSION. */
 static inline uint32_t scmi_header_version(void)
 {
-    const char *digit = SCMI_VERSION;
+    const char *digit = SCMI_LIBRARY_VERSION;
     uint32_t version = 0;
     int part;
 

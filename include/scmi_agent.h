@@ -16,8 +16,8 @@
  *
  * The library needs only memcpy and memset.
  */
-#ifndef SCMI_AGENT_H
-#define SCMI_AGENT_H
+#ifndef TOLBJIR_SCMI_AGENT_H
+#define TOLBJIR_SCMI_AGENT_H
 
 #include <stdint.h>
 

@@ -11,8 +11,8 @@
  * Only one thread at a time may use one side of a channel. The memory has to be coherent between the two processors.
  * If there is a doorbell, the program rings it after the call. No C library is needed.
  */
-#ifndef SCMI_MAILBOX_H
-#define SCMI_MAILBOX_H
+#ifndef TOLBJIR_SCMI_MAILBOX_H
+#define TOLBJIR_SCMI_MAILBOX_H
 
 #include "scmi.h"
 

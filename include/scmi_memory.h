@@ -2,8 +2,8 @@
  * How does a program without a heap give the library memory? From blocks of its own, by these calls: link
  * scmi_memory.c. With a heap, link scmi_heap.c instead, or write the three calls for memory yourself (scmi.h).
  */
-#ifndef SCMI_MEMORY_H
-#define SCMI_MEMORY_H
+#ifndef TOLBJIR_SCMI_MEMORY_H
+#define TOLBJIR_SCMI_MEMORY_H
 
 #include <stddef.h>
 #include <stdint.h>
