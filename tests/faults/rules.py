@@ -58,6 +58,22 @@ class Once(Session):
         return not lines
 
 
+class Whole(Once):
+    """What is written whole or not at all: a fault is on standard error alone."""
+
+    def runs_out(self, run):
+        if run.status == 0:
+            return self.succeeds(run)
+        if run.status != 4:
+            return "a status that no refusal has"
+        if run.output:
+            return "something is written before a fault"
+
+    def fails_to_read(self, run):
+        if run.status != 2 or run.output:
+            return "the run does not end with status 2 and without output"
+
+
 class Steps(Session):
     def may_precede(self, lines):
         return self.lines[:len(lines)] == lines
@@ -133,15 +149,15 @@ def decoded(crate):
 def drawn(charts, examples):
     """A session that is drawn: nothing is written before the picture stands."""
     stdin = (examples / "two_agents.in").read_bytes()
-    session = Once("a chart", stdin, (charts / "two_agents.svg").read_bytes())
+    session = Whole("a chart", stdin, (charts / "two_agents.svg").read_bytes())
     session.words = ("chart",)
     return session
 
 
 def tabled(examples):
     """A board whose tables are written: nothing is written before the board is read."""
-    session = Once("the tables of a board", (examples / "phone.board").read_bytes(),
-                   (examples / "c/phone_board.c").read_bytes())
+    session = Whole("the tables of a board", (examples / "phone.board").read_bytes(),
+                    (examples / "c/phone_board.c").read_bytes())
     session.words = ("table",)
     return session
 

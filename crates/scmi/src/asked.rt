@@ -7,6 +7,9 @@ use crate::task::Task;
 use clap::ArgMatches;
 use clap::parser::ValueSource;
 
+/// The name that standard input has among arguments.
+pub const STANDARD: &str = "-";
+
 /// What the program is asked for, with its files.
 #[derive(Clone, Copy)]
 pub struct Asked<'a> {
@@ -39,6 +42,7 @@ pub fn asked_of<'a>(matches: &ArgMatches<'a>) -> Result<Asked<'a>, Unread<'a>> {
     match below(matches) {
         None => Ok(with_no_file(Request::Do(Task::Run))),
         Some((word, inner)) if word == HELP => help_by(inner),
+        Some((word, _)) if word == VERSION => Ok(with_no_file(Request::Version)),
         Some((word, inner)) => match task_of(word) {
             Some(task) => task_by(task, inner),
             None => Err(Unread::Task(word)),
@@ -97,10 +101,10 @@ fn with_no_file<'a>(request: Request) -> Asked<'a> {
     }
 }
 
-/// Whether there is a name that begins with a dash, as no file's name may.
+/// Whether there is a name that begins with a dash, as no file's name may but that of standard input.
 fn is_no_file(name: Option<&str>) -> bool {
     match name {
-        Some(name) => begins_with_dash(name.as_bytes()),
+        Some(name) => name != STANDARD && begins_with_dash(name.as_bytes()),
         None => false,
     }
 }

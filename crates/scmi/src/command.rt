@@ -11,7 +11,7 @@ pub const NAME: &str = "scmi";
 /// The flag that asks for help, and the word that does.
 pub const HELP: &str = "help";
 
-/// The flag that asks which program this is.
+/// The flag that asks which program this is, and the word that does.
 pub const VERSION: &str = "version";
 
 /// The flag that asks for a report of the Test Anything Protocol.
@@ -34,7 +34,9 @@ pub fn program<'a>(alloc: Global) -> Result<Command<'a>, AllocError> {
     for form in &FORMS {
         command = command.subcommand(task_command(alloc, form)?)?;
     }
-    command.subcommand(topics(alloc)?)
+    command
+        .subcommand(topics(alloc)?)?
+        .subcommand(named(alloc, VERSION, "scmi version")?)
 }
 
 /// The command without its tasks.
@@ -43,7 +45,7 @@ fn bare<'a>(alloc: Global) -> Result<Command<'a>, AllocError> {
         .no_binary_name(true)
         .disable_help_flag(true)
         .disable_help_subcommand(true)
-        .subcommand_value_name("TASK");
+        .subcommand_value_name("COMMAND");
     let version = flag(alloc, VERSION).short('V');
     command.arg(help(alloc))?.arg(version)
 }
@@ -65,7 +67,7 @@ fn task_command<'a>(alloc: Global, form: &Form) -> Result<Command<'a>, AllocErro
 
 /// The subcommand that gives help on a task.
 fn topics<'a>(alloc: Global) -> Result<Command<'a>, AllocError> {
-    named(alloc, HELP, "scmi help [TASK]")?.arg(Arg::new(alloc, FIRST))
+    named(alloc, HELP, "scmi help [COMMAND]")?.arg(Arg::new(alloc, FIRST))
 }
 
 /// A subcommand of this name, with the flag for help.

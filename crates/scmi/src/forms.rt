@@ -10,8 +10,8 @@ pub const FORMS: [Form; 6] = [
         word: "run",
         operands: Operands::Input,
         usage: "scmi run [FILE]",
-        summary: "runs a session of a platform and its agents; so it does without a word",
-        about: "Runs a session of a platform and its agents, and writes a line for each step.",
+        summary: "runs a script (the default command)",
+        about: "Runs a script of a platform and its agents, and prints a line for each step.",
         details: "\
 The first line of the input is the mode: once, steps words, steps rings, threads words,
 threads rings, hardware words or hardware rings. docs/SCRIPTS.md has all lines.",
@@ -22,12 +22,13 @@ threads rings, hardware words or hardware rings. docs/SCRIPTS.md has all lines."
         word: "decode",
         operands: Operands::Input,
         usage: "scmi decode [FILE]",
-        summary: "decodes areas of shared memory",
+        summary: "decodes dumps of shared memory",
         about: "\
-Decodes areas of shared memory: busy or free, the message by its name, status and fields.",
+Decodes dumps of shared memory: busy or free, the message by its name, its status and fields.",
         details: "\
-The input has dumps of areas, of 60 to 284 bytes, in any of the forms of docs/DECODE.md, and
-lines of ftrace and of a session that show a message.",
+The input has dumps of channels of 60 to 284 bytes, as xxd, od, hexdump -C, U-Boot, gdb, crash,
+devmem, the kernel's log and debuggers print them (docs/DECODE.md), and lines of ftrace and of a
+run that show a message. Standard error says which format each dump is read in.",
         example: "scmi decode areas.hex",
     },
     Form {
@@ -35,8 +36,8 @@ lines of ftrace and of a session that show a message.",
         word: "chart",
         operands: Operands::Drawn,
         usage: "scmi chart [--mermaid] [FILE]",
-        summary: "draws a session as a picture (SVG), or as a Mermaid diagram",
-        about: "Draws a session as a sequence chart.",
+        summary: "draws a script's run as a picture (SVG), or as a Mermaid diagram",
+        about: "Draws a script's run as a sequence chart.",
         details: "\
 The input is that of scmi run in the modes steps words, steps rings, hardware words,
 hardware rings, threads words and threads rings, at most 2,000 steps. A run of agents in
@@ -50,17 +51,17 @@ GitHub and most editors draw.",
         word: "session",
         operands: Operands::Board,
         usage: "scmi session BOARD",
-        summary: "answers the lines of a session one by one, with names in place of numbers",
+        summary: "an interactive platform: type steps, see replies",
         about: "\
-Answers the lines of standard input one by one: each is a step of a session, on the board of a
-file, and its answer is written before the next line is read.",
+An interactive platform: each line of standard input is a step on the board of a file, and its
+answer is printed before the next line is read.",
         details: "\
-BOARD has the lines of a board, from board to end. A line is one of the steps of scmi run over
-words, in numbers, or with names: agents, domains and clocks by their names on the board,
-messages by theirs, on and off, and a rate in Hz as one number. Flags that are left out are 0.
-After the line 'words on' replies are described, in lines that begin with #, until 'words off'.
-A line that is no step is explained on standard error, and the session goes on. So is a
-notification that is dropped. docs/SCRIPTS.md has more.",
+BOARD has the lines of a board, from board to end. A step is written as for scmi run, in numbers
+or with names: agents, domains and clocks by their names on the board, messages by theirs, on and
+off, and a rate in Hz as one number. Flags that are left out are 0. After the line 'words on'
+replies are described, in lines that begin with #, until 'words off'. A line that is not a step
+is explained on standard error, and the session goes on. A dropped notification is reported
+there too. docs/SCRIPTS.md has more.",
         example: "echo 'do ap POWER_STATE_SET cpu on' | scmi session examples/phone.board",
     },
     Form {
@@ -68,16 +69,16 @@ notification that is dropped. docs/SCRIPTS.md has more.",
         word: "check",
         operands: Operands::BoardAndRecord,
         usage: "scmi check [--tap] BOARD [RECORD]",
-        summary: "reports where the answers of another platform, in a record, are not SCMI's",
+        summary: "checks a record of another platform's replies against SCMI",
         about: "\
-Checks a record of what went over the channels of a platform against the definitions of SCMI.",
+Checks a record of a platform's channels against the definitions of SCMI.",
         details: "\
 BOARD has the lines of the platform's board, from board to end. RECORD, or standard input, has
-the commands, each before its answer, and the messages, in the order in which they were seen.
-A line is written for each answer and each message: same, own and the rule of this project's
-own by which it may be another, or differs and what was due; and in the end how many there are
-of each. --tap writes TAP, for a test system. docs/CHECK.md has the lines and the rules.
-Status: 0 if nothing differs, 5 if something does.",
+the commands, each before its reply, and the other messages, in the order in which they were seen.
+A line is printed for each reply and each message: same; own, with the rule of this project's own
+by which another reply is possible; or differs, with what was expected. The last line counts them.
+--tap prints TAP, for a test system. docs/CHECK.md has the lines and the rules.
+Exit status: 0 if nothing differs, 5 if something does.",
         example: "scmi check phone.board phone.record",
     },
     Form {

@@ -104,15 +104,14 @@ impl Refused {
             Why::After(line) => {
                 let line = line_of_file(line);
                 let _ = eprintln!(rt;
-                    "{name}:{line}: a session's file has a board and nothing after its line end; \
-                    the steps are read from standard input"
+                    "{name}:{line}: the file of a board ends after its line end; steps are read \
+                    from standard input"
                 );
                 return;
             }
             Why::Fault(RunError::Board(0 | 1)) => {
                 let _ = eprintln!(rt;
-                    "{name}: the file has no board; its first line is board VENDOR SUBVENDOR \
-                    VERSION TRUSTED"
+                    "{name}: a board starts with \"board VENDOR SUBVENDOR VERSION TRUSTED\""
                 );
                 return;
             }

@@ -21,6 +21,6 @@ impl<T: Eprint> Readings for ReadAs<'_, T> {
         let rt = self.rt;
         let name = self.name;
         let text = reading.text();
-        let _ = eprintln!(rt; "{name}:{line}: read as {text}");
+        let _ = eprintln!(rt; "{name}:{line}: format: {text}");
     }
 }

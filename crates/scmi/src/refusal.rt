@@ -31,12 +31,12 @@ pub fn refuse_unread(rt: &impl Eprint, alloc: Global, why: Unread<'_>) -> u8 {
     let _ = match why {
         Unread::Task(word) => match nearest(alloc, &FORMS.map(|form| form.word), word) {
             Some(near) => eprintln!(rt;
-                "scmi: nothing is known of '{word}'; did you mean '{near}'? See scmi --help"
+                "scmi: no command named '{word}'; did you mean '{near}'? See scmi --help"
             ),
-            None => eprintln!(rt; "scmi: nothing is known of '{word}'; see scmi --help"),
+            None => eprintln!(rt; "scmi: no command named '{word}'; see scmi --help"),
         },
         Unread::Dash(name) => eprintln!(rt;
-            "scmi: '{name}' begins with a dash, as no file's name does here; write ./{name}"
+            "scmi: '{name}' looks like an option; write ./{name} for a file of this name"
         ),
     };
     WRONG_ARGUMENT
@@ -46,6 +46,15 @@ pub fn refuse_unread(rt: &impl Eprint, alloc: Global, why: Unread<'_>) -> u8 {
 pub fn lack_board(rt: &impl Eprint, task: Task) -> u8 {
     let word = form_of(task).word;
     let _ = eprintln!(rt; "scmi: {word} needs the file of its board; see scmi {word} --help");
+    WRONG_ARGUMENT
+}
+
+/// Reports on standard error that standard input is named for this besides what is read from it, and
+/// gives the exit status.
+pub fn refuse_standard(rt: &impl Eprint, operand: &str, other: &str) -> u8 {
+    let _ = eprintln!(rt;
+        "scmi: {other} is read from standard input; {operand} must be a file then"
+    );
     WRONG_ARGUMENT
 }
 

@@ -18,9 +18,7 @@ pub fn report_board<R: Read + Drop>(
     fault: Fault,
 ) {
     if let Err(BoardError::After(line)) = read_valid_board(alloc, board.bytes()) {
-        let _ = eprintln!(rt;
-            "{name}:{line}: a board's file has a board and nothing after its line end"
-        );
+        let _ = eprintln!(rt; "{name}:{line}: the file of a board ends after its line end");
         return;
     }
     if let Some(line) = line_for_channels(board.bytes(), fault) {

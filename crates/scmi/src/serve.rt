@@ -1,9 +1,9 @@
 //! Does what is asked for, with the files that are named.
 
 use crate::STANDARD_INPUT;
-use crate::asked::Asked;
+use crate::asked::{Asked, STANDARD};
 use crate::read_as::ReadAs;
-use crate::refusal::{lack_board, refuse_file};
+use crate::refusal::{lack_board, refuse_file, refuse_standard};
 use crate::report::{report_input, report_output};
 use crate::request::Request;
 use crate::run::run_request;
@@ -13,6 +13,7 @@ use crate::task::Task;
 use scmi_check::Style;
 use scmi_explain::{Kept, LastLine};
 use scmi_io::FAILED_OUTPUT;
+use scmi_modes::RunError;
 use std::alloc::Global;
 use std::fs::{self, Files};
 use std::io::{self, BufWriter, Eprint, Input, Print, Read, Write};
@@ -44,6 +45,12 @@ pub fn serve<T: Threads + Wait + Sync + Files + Print + Eprint + Input>(
         };
         return serve_check(rt, alloc, check);
     }
+    if name == STANDARD {
+        return match asked.request {
+            Request::Do(Task::Session) => refuse_standard(rt, "BOARD", "each step"),
+            request => serve_input(rt, alloc, request, STANDARD_INPUT, rt.reader()),
+        };
+    }
     match fs::open(rt, name) {
         Ok(file) if asked.request == Request::Do(Task::Session) => {
             serve_session(rt, alloc, name, file, rt.reader())
@@ -51,6 +58,14 @@ pub fn serve<T: Threads + Wait + Sync + Files + Print + Eprint + Input>(
         Ok(file) => serve_input(rt, alloc, asked.request, name, file),
         Err(error) => refuse_file(rt, name, &error),
     }
+}
+
+/// Whether the result of a task is a file of its own, into which no fault belongs.
+fn is_whole(request: Request) -> bool {
+    matches!(
+        request,
+        Request::Do(Task::Chart | Task::Table) | Request::Diagram
+    )
 }
 
 /// Does what is asked for with an input of this name, and gives the exit status. What is wrong with
@@ -62,6 +77,9 @@ fn serve_input<T: Threads + Wait + Sync + Print + Eprint, R: Read + Drop>(
     name: &str,
     reader: R,
 ) -> u8 {
+    if is_whole(request) {
+        return serve_whole(rt, alloc, request, name, reader);
+    }
     // If there is no memory for a buffer, the output goes straight out.
     match BufWriter::new(alloc, io::writer(rt)) {
         Ok(writer) => serve_on(rt, alloc, request, name, reader, writer),
@@ -87,4 +105,48 @@ fn serve_on<T: Threads + Wait + Sync + Eprint, R: Read + Drop, W: Write + Drop>(
         report_input(rt, alloc, request, name, &input, output.line());
     }
     status
+}
+
+/// The same for a result that is written whole or not at all.
+fn serve_whole<T: Threads + Wait + Sync + Print + Eprint, R: Read + Drop>(
+    rt: &T,
+    alloc: Global,
+    request: Request,
+    name: &str,
+    reader: R,
+) -> u8 {
+    let mut input = Kept::new(alloc, reader);
+    let mut whole = Vec::new(alloc);
+    let mut readings = ReadAs::new(rt, name);
+    match run_request(rt, alloc, request, &mut input, &mut whole, &mut readings) {
+        0 => write_whole(rt, &whole),
+        // A vector refuses bytes only if there is no memory for them.
+        FAILED_OUTPUT => {
+            let fault = RunError::Memory;
+            report_input(rt, alloc, request, name, &input, b"fault memory");
+            fault.status()
+        }
+        status => {
+            report_input(rt, alloc, request, name, &input, without_feed(&whole));
+            status
+        }
+    }
+}
+
+/// Writes a result, and gives the exit status.
+fn write_whole<T: Print + Eprint>(rt: &T, whole: &[u8]) -> u8 {
+    let mut output = LastLine::new(io::writer(rt));
+    let status = match output.write_all(whole) {
+        Ok(()) => 0,
+        Err(_) => FAILED_OUTPUT,
+    };
+    report_output(rt, &mut output, status)
+}
+
+/// A line without its line feed.
+fn without_feed(line: &[u8]) -> &[u8] {
+    match line {
+        [text @ .., b'\n'] => text,
+        _ => line,
+    }
 }

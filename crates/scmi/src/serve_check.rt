@@ -1,7 +1,8 @@
 //! A check of the program: its board from a file, and its record from another or standard input.
 
 use crate::STANDARD_INPUT;
-use crate::refusal::refuse_file;
+use crate::asked::STANDARD;
+use crate::refusal::{refuse_file, refuse_standard};
 use crate::report::report_output;
 use crate::report_board::report_board;
 use scmi_board::Items;
@@ -16,8 +17,9 @@ use std::io::{self, BufWriter, Eprint, Input, Print, Read, Write};
 #[derive(Clone, Copy)]
 pub struct AskedCheck<'a> {
     pub style: Style,
+    /// `-` if the board is standard input.
     pub board: &'a str,
-    /// `None` if the record is standard input.
+    /// `None` or `-` if the record is standard input.
     pub record: Option<&'a str>,
 }
 
@@ -27,16 +29,50 @@ pub fn serve_check<T: Files + Print + Eprint + Input>(
     alloc: Global,
     asked: AskedCheck<'_>,
 ) -> u8 {
-    let board = match fs::open(rt, asked.board) {
-        Ok(file) => file,
-        Err(error) => return refuse_file(rt, asked.board, &error),
-    };
-    let Some(name) = asked.record else {
-        return check(rt, alloc, asked, board, rt.reader());
+    if asked.board == STANDARD {
+        return serve_record(rt, alloc, asked, rt.reader());
+    }
+    match fs::open(rt, asked.board) {
+        Ok(board) => match asked.file_of_record() {
+            None => check(rt, alloc, asked, board, rt.reader()),
+            Some(_) => serve_record(rt, alloc, asked, board),
+        },
+        Err(error) => refuse_file(rt, asked.board, &error),
+    }
+}
+
+/// The same, if the record is a file, and the board was opened.
+fn serve_record<T: Files + Print + Eprint, B: Read + Drop>(
+    rt: &T,
+    alloc: Global,
+    asked: AskedCheck<'_>,
+    board: B,
+) -> u8 {
+    let Some(name) = asked.file_of_record() else {
+        return refuse_standard(rt, "RECORD", "BOARD");
     };
     match fs::open(rt, name) {
         Ok(record) => check(rt, alloc, asked, board, record),
         Err(error) => refuse_file(rt, name, &error),
+    }
+}
+
+impl<'a> AskedCheck<'a> {
+    /// The file of the record, if that is not standard input.
+    fn file_of_record(&self) -> Option<&'a str> {
+        match self.record {
+            Some(STANDARD) | None => None,
+            name => name,
+        }
+    }
+
+    /// What messages call the board.
+    fn board_name(&self) -> &'a str {
+        if self.board == STANDARD {
+            STANDARD_INPUT
+        } else {
+            self.board
+        }
     }
 }
 
@@ -71,9 +107,34 @@ fn check_on<T: Eprint, B: Read + Drop, R: Read + Drop, W: Write + Drop>(
     let status = run_check(alloc, &mut board, &mut record, &mut output, asked.style);
     let status = report_output(rt, &mut output, status);
     if status != 0 && status != DIFFERS && status != FAILED_OUTPUT {
+        if asked.file_of_record().is_some() && is_swapped(&board, &mut record) {
+            let _ = eprintln!(rt;
+                "{}: this is a record, and {} a board; scmi check takes BOARD before RECORD",
+                asked.board_name(),
+                asked.record.unwrap_or("")
+            );
+            return status;
+        }
         report(rt, alloc, asked, &board, &record, output.line());
     }
     status
+}
+
+/// What the text of a board begins with.
+const BOARD_START: &[u8] = b"board ";
+
+/// Whether a board is in the place of the record, which was not read, and none in its own place.
+fn is_swapped<B: Read + Drop, R: Read + Drop>(board: &Kept<B>, record: &mut Kept<R>) -> bool {
+    if board.bytes().starts_with(BOARD_START) || was_read(record) {
+        return false;
+    }
+    let mut start = [0; 6];
+    record.read(&mut start).is_ok() && start.as_slice() == BOARD_START
+}
+
+/// Whether something of an input was read.
+fn was_read<R: Read + Drop>(input: &Kept<R>) -> bool {
+    !input.bytes().is_empty()
 }
 
 /// Reports what is wrong with a file, if the last line is a fault.
@@ -85,16 +146,16 @@ fn report<B: Read + Drop, R: Read + Drop>(
     record: &Kept<R>,
     last_line: &[u8],
 ) {
-    let name = asked.record.unwrap_or(STANDARD_INPUT);
+    let name = asked.file_of_record().unwrap_or(STANDARD_INPUT);
     if let Some(line) = line_of_record(last_line) {
         let _ = eprintln!(rt;
-            "{name}:{line}: this is no line of a record, or a command that has no answer; \
-            docs/CHECK.md has the lines"
+            "{name}:{line}: not a line of a record (docs/CHECK.md has the forms), a reply without a \
+            command, or a command without a reply"
         );
     } else if let Some(error) = record.error() {
         let _ = eprintln!(rt; "{name}: the record can't be read: {error}");
     } else if let Some(fault) = fault_of_board(last_line, board) {
-        report_board(rt, alloc, asked.board, board, fault);
+        report_board(rt, alloc, asked.board_name(), board, fault);
     } else if Fault::of_line(last_line) == Some(Fault::Size) {
         let _ = eprintln!(rt;
             "{name}: the record is longer than {INPUT_BYTES} bytes; check a shorter one"

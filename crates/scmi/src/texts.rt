@@ -23,22 +23,19 @@ Both sides of Arm's System Control and Management Interface (SCMI, DEN0056B).
 
 Usage:
 ",
-    tail: "  scmi help [TASK]
-      prints how a task is used, as scmi TASK --help does
-  scmi --version
-      prints the version
+    tail: "  scmi help [COMMAND]
+      prints the help of a command, as scmi COMMAND --help does
+  scmi version
+      prints the version, as scmi --version does
 
-It reads FILE or standard input, and writes to standard output. A FILE that begins with a dash is
-written ./-FILE.
-Status: 0 done; 1 the output failed; 2 the input is rejected, and the last line says why;
-3 a limit was met; 4 there was no memory; 5 a record differs; 64 a wrong argument;
-66 FILE can't be opened.
-If the input is rejected, standard error says which line is wrong, what is expected, and the
-likely slip.
+FILE is read, or standard input if it is - or missing; the result goes to standard output, and
+errors to standard error, with the line that is wrong, what is expected, and the likely mistake.
+Exit status: 0 success; 1 the output failed; 2 the input is rejected; 3 a limit was reached;
+4 out of memory; 5 a record differs; 64 a wrong argument; 66 FILE can't be opened.
 
 Example: scmi run examples/two_agents.in
 ",
-    version: "Tolbjir scmi 1.0.0: SCMI 2.0 (DEN0056B), proved in Rattle where the build says so\n",
+    version: "Tolbjir scmi 1.0.0: SCMI 2.0 (DEN0056B)\n",
 };
 
 /// Writes the text that a request asks for; nothing if it asks for a task. The error is the

@@ -21,11 +21,7 @@ impl fmt::Display for UnknownText<'_, '_> {
         match self.unknown {
             Unknown::Agent(item) => write_part(f, self.board, 2, item, Part::Agent),
             Unknown::Message(item) => {
-                write!(
-                    f,
-                    "\"{}\" is no message, protocol or number",
-                    item_text(item)
-                )?;
+                write!(f, "unknown message or protocol \"{}\"", item_text(item))?;
                 match from_utf8(item)
                     .ok()
                     .and_then(|text| near_message(self.alloc, text))
@@ -71,7 +67,7 @@ fn write_part<W: fmt::Write>(
 ) -> fmt::Result {
     write!(
         f,
-        "item {number}, \"{}\", is no {}",
+        "field {number}: \"{}\" is not {}",
         item_text(item),
         text_of(part)
     )?;
@@ -88,19 +84,19 @@ fn near_message(alloc: Global, text: &str) -> Option<&'static str> {
 /// What a message has in the place of this part.
 fn text_of(part: Part) -> &'static str {
     match part {
-        Part::Agent | Part::Subject => "agent",
-        Part::Device => "device's number",
-        Part::Protocol => "protocol",
-        Part::Message => "message of the protocol",
-        Part::Domain => "domain",
-        Part::Clock => "clock",
-        Part::State => "state (on, off or a number)",
-        Part::Enable | Part::ClockAttributes => "switch (on, off or a number)",
-        Part::Rate => "rate in Hz",
+        Part::Agent | Part::Subject => "an agent",
+        Part::Device => "a device's number",
+        Part::Protocol => "a protocol",
+        Part::Message => "a message of the protocol",
+        Part::Domain => "a domain",
+        Part::Clock => "a clock",
+        Part::State => "a state (on, off or a number)",
+        Part::Enable | Part::ClockAttributes => "on, off or a number",
+        Part::Rate => "a rate in Hz",
         Part::PermitFlags | Part::ResetFlags | Part::PowerFlags | Part::RateFlags => {
-            "number, as flags are"
+            "a number, as flags are"
         }
-        _ => "number",
+        _ => "a number",
     }
 }
 
@@ -140,35 +136,34 @@ fn write_name<W: fmt::Write>(f: &mut fmt::Formatter<W>, number: usize, name: &st
     write!(f, " {number} {name}")
 }
 
-/// Writes which items a message has.
+/// Writes how a message is used.
 fn write_parts<W: fmt::Write>(
     f: &mut fmt::Formatter<W>,
     name: &str,
     parts: &[Part],
 ) -> fmt::Result {
-    write!(f, "{name} has")?;
-    let mut before = " the items ";
+    write!(f, "usage: do AGENT {name}")?;
     for part in parts {
-        write!(f, "{before}{}", name_of(*part))?;
-        before = ", ";
-    }
-    if parts.is_empty() {
-        return f.write_str(" no items");
+        write!(f, " {}", name_of(*part))?;
     }
     Ok(())
 }
 
-/// The name of a part in a list of them.
+/// The word for a part in a usage.
 fn name_of(part: Part) -> &'static str {
     match part {
-        Part::State => "state",
-        Part::Enable | Part::ClockAttributes => "on or off",
-        Part::PermitFlags | Part::ResetFlags | Part::PowerFlags | Part::RateFlags => {
-            "flags (0 where left out)"
-        }
-        Part::Index => "index",
-        Part::Skip => "how many to skip",
-        Part::Rate => "rate",
-        part => text_of(part),
+        Part::Agent | Part::Subject => "AGENT",
+        Part::Device => "DEVICE",
+        Part::Protocol => "PROTOCOL",
+        Part::Message => "MESSAGE",
+        Part::Domain => "DOMAIN",
+        Part::Clock => "CLOCK",
+        Part::State => "STATE",
+        Part::Enable | Part::ClockAttributes => "on|off",
+        Part::Rate => "RATE",
+        Part::PermitFlags | Part::ResetFlags | Part::PowerFlags | Part::RateFlags => "[FLAGS]",
+        Part::Index => "INDEX",
+        Part::Skip => "SKIP",
+        _ => "NUMBER",
     }
 }

@@ -20,16 +20,16 @@ pub struct ItemFault<'a> {
 impl fmt::Display for ItemFault<'_> {
     fn fmt<W: fmt::Write>(&self, f: &mut fmt::Formatter<W>) -> fmt::Result {
         if matches!(&self.wrong, Wrong::Missing) {
-            write!(f, "item {} {}", self.number, self.wrong)?;
+            write!(f, "field {} {}", self.number, self.wrong)?;
         } else {
             write!(
                 f,
-                "item {}, {}, {}",
+                "field {}: {} {}",
                 self.number,
                 Quoted(self.item),
                 self.wrong
             )?;
         }
-        write!(f, "; the form of the line is {}", self.form)
+        write!(f, "; expected {}", self.form)
     }
 }

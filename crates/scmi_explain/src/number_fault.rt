@@ -73,11 +73,11 @@ impl NumberFault {
             NumberFault::TooLarge(Width::Bits64) => "does not fit 64 bits",
             NumberFault::LeadingZero => "has a leading zero",
             NumberFault::UpperMark => "begins with 0X in place of 0x",
-            NumberFault::NoDigits => "has no digits behind 0x",
+            NumberFault::NoDigits => "has no digits after 0x",
             NumberFault::NoMark => "has hexadecimal digits without 0x before them",
             NumberFault::Sign => "has a sign",
             NumberFault::Separator => "has other bytes between its digits",
-            NumberFault::Form => "is no number (decimal digits, or 0x and hexadecimal digits)",
+            NumberFault::Form => "is not a number (decimal digits, or 0x and hexadecimal digits)",
         }
     }
 }

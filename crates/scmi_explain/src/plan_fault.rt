@@ -79,10 +79,16 @@ impl fmt::Display for PlanFault<'_> {
                 count,
             } => fmt_holds(f, *device, *kind, *number, *count),
             PlanFault::Trusted(0, _) => f.write_str(
-                "agent 0 is trusted; agents are numbered from 1",
+                "the trusted agent 0 does not exist; agents are numbered from 1",
             ),
+            PlanFault::Trusted(agent, 1) => {
+                write!(f, "the trusted agent {agent} does not exist (1 agent)")
+            }
             PlanFault::Trusted(agent, count) => {
-                write!(f, "agent {agent} is trusted; the board has {count}")
+                write!(
+                    f,
+                    "the trusted agent {agent} does not exist ({count} agents)"
+                )
             }
             PlanFault::Rule(rule) => write!(
                 f,
@@ -103,9 +109,10 @@ fn fmt_holds<W: fmt::Write>(
         Kind::Clocks => "clock",
         _ => "domain",
     };
-    write!(
-        f,
-        "device {device} holds {word} {number}; the board has {count} {}, numbered from 0",
-        kind.plural()
-    )
+    write!(f, "device {device} holds {word} {number}; the board has ")?;
+    match count {
+        0 => write!(f, "no {word}"),
+        1 => write!(f, "1 {word}, numbered 0"),
+        _ => write!(f, "{count} {}, numbered from 0", kind.plural()),
+    }
 }

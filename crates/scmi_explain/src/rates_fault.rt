@@ -29,27 +29,25 @@ impl fmt::Display for RatesFault {
     fn fmt<W: fmt::Write>(&self, f: &mut fmt::Formatter<W>) -> fmt::Result {
         match self {
             RatesFault::Many(count) => write!(f, "{count} rates; a list has 1 to 64"),
-            RatesFault::Falls(before, after) => write!(f, "{after} follows {before}; a list rises"),
-            RatesFault::NotListed(rate) => write!(
+            RatesFault::Falls(before, after) => write!(
                 f,
-                "the starting rate {rate} is none of the list"
+                "rates must increase: {after} after {before}"
             ),
-            RatesFault::NoStep => f.write_str("the step is 0"),
-            RatesFault::Crossed(low, high) => {
-                write!(f, "the lowest rate {low} is above the highest, {high}")
-            }
+            RatesFault::NotListed(rate) => write!(f, "the initial rate {rate} is not in the list"),
+            RatesFault::NoStep => f.write_str("STEP is 0"),
+            RatesFault::Crossed(low, high) => { write!(f, "LOW ({low}) is above HIGH ({high})") }
             RatesFault::Unmet { low, high, step } => {
                 write!(
                     f,
-                    "{high} is not {low} and a whole number of steps of {step}"
+                    "HIGH ({high}) is not LOW ({low}) plus a multiple of STEP ({step})"
                 )
             }
             RatesFault::Outside { rate, low, high } => {
-                write!(f, "the starting rate {rate} is not from {low} to {high}")
+                write!(f, "the initial rate {rate} is not from {low} to {high}")
             }
             RatesFault::Between { rate, low, step } => write!(
                 f,
-                "the starting rate {rate} is not {low} and a whole number of steps of {step}"
+                "the initial rate {rate} is not LOW ({low}) plus a multiple of STEP ({step})"
             ),
         }
     }

@@ -41,7 +41,7 @@ pub enum Slip {
     EndMissing(&'static str),
     /// It is no text, but dumps are expected.
     NoText,
-    /// It has numbers of 16 bits.
+    /// It has numbers of 16 bits after addresses of seven digits.
     Halfwords,
     /// The board has a line `board` already.
     SecondBoard,
@@ -62,29 +62,30 @@ impl Slip {
             Slip::ByteOrderMark =>
                 "it begins with a byte order mark; save it as plain text without one",
             Slip::CarriageReturn => {
-                "it ends in a carriage return, as files of Windows do; dos2unix mends them"
+                "the file has Windows line endings (CRLF); convert it with dos2unix"
             }
-            Slip::Tab => "it has a tab; items stand apart by spaces",
+            Slip::Tab => "it has a tab; separate fields with spaces",
             Slip::SpaceBefore => "it begins with a space",
             Slip::SpaceBehind => "it ends in a space",
-            Slip::Remark => "a remark stands on a line of its own, which begins with #",
+            Slip::Remark => "a comment needs a line of its own, which begins with #",
             Slip::OtherByte => "it has a byte that is not ASCII, shown as \\x and two digits",
             Slip::Case => "words are in lower case",
-            Slip::BoardFirst => "the mode stands on a line of its own before the board",
-            Slip::RemarkFirst => "remarks and empty lines stand behind the mode",
-            Slip::AreaFirst => "before an area stands the line \"once\"; scmi decode takes it so",
-            Slip::NoKind => "is \"words\" or \"rings\" missing behind it?",
+            Slip::BoardFirst => "the mode needs a line of its own before the board",
+            Slip::RemarkFirst => "comments and empty lines may only follow line 1",
+            Slip::AreaFirst =>
+                "before an area comes the line \"once\"; scmi decode takes the area alone",
+            Slip::NoKind => "is \"words\" or \"rings\" missing after it?",
             Slip::Output => "it is a line that a run writes",
             Slip::Picture => "it is a picture, or text with marks",
             Slip::OnlyRun => "that mode is run by scmi run, and not drawn",
-            Slip::SessionFirst => "it is the mode of a session, which scmi run takes",
-            Slip::NoText => "it has a byte 0, so it is no text; xxd prints what stands in it",
+            Slip::SessionFirst => "it is the mode of a script, which scmi run takes",
+            Slip::NoText => "it has a zero byte, so it is not text; print it with xxd",
             Slip::Halfwords => {
-                "it has numbers of 16 bits, which are not read; hexdump -C and od -t x1 print bytes"
+                "it looks like hexdump without -C; print it with hexdump -C or od -t x1"
             }
             Slip::SecondBoard => "a board has one line \"board\"",
-            Slip::SecondMode => "the mode stands in line 1 alone",
-            Slip::BoardEnded => "it is a row of the board, which ended before",
+            Slip::SecondMode => "a mode belongs in line 1 of a script; a board has none",
+            Slip::BoardEnded => "it belongs on the board, which ended before",
             Slip::EndMissing(_) | Slip::OtherMode(_) | Slip::Nearest(_) => "",
         }
     }

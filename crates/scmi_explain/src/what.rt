@@ -65,14 +65,9 @@ pub enum What<'a> {
 impl fmt::Display for What<'_> {
     fn fmt<W: fmt::Write>(&self, f: &mut fmt::Formatter<W>) -> fmt::Result {
         match self {
-            What::NoMode(line, Expected::Drawing) => write!(
-                f,
-                "{} is no mode of a chart; a chart is of steps, hardware or threads, as steps words",
-                Quoted(line)
-            ),
             What::NoMode(line, expected) => {
-                write!(f, "{} is no mode; ", Quoted(line))?;
-                write_wanted(f, *expected)
+                write_wanted(f, *expected)?;
+                write!(f, "; found {}", Quoted(line))
             }
             What::Empty(expected) => {
                 f.write_str("the input is empty; ")?;
@@ -80,7 +75,7 @@ impl fmt::Display for What<'_> {
             }
             What::NoStep(line, words) => write!(
                 f,
-                "{} is no line of a script; these begin with {words}",
+                "unknown line {} of a script; expected one that begins with {words}",
                 Quoted(line)
             ),
             What::Item(fault) => fmt::Display::fmt(fault, f),
@@ -95,17 +90,17 @@ fn fmt_line<W: fmt::Write>(what: &What<'_>, f: &mut fmt::Formatter<W>) -> fmt::R
     match what {
         What::NoHeading(line) => write!(
             f,
-            "{} is no first line of a board, board VENDOR SUBVENDOR VERSION TRUSTED",
+            "a board starts with \"board VENDOR SUBVENDOR VERSION TRUSTED\"; found {}",
             Quoted(line)
         ),
         What::NoRow(line) => write!(
             f,
-            "{} is no row of a board; these begin with agent, domain, clock or device, and the last is end",
+            "unknown board line {}; expected agent, domain, clock, device or end",
             Quoted(line)
         ),
         What::NoScript(line) => write!(
             f,
-            "{} stands before the first line script A, which says whose line it is",
+            "{} comes before the first line \"script A\", which says whose lines follow",
             Quoted(line)
         ),
         What::SecondScript(line) => write!(f, "the agent has a script already, at line {line}"),
@@ -115,7 +110,7 @@ fn fmt_line<W: fmt::Write>(what: &What<'_>, f: &mut fmt::Formatter<W>) -> fmt::R
         ),
         What::AreaByte(byte, place) => write!(
             f,
-            "byte {place}, {}, is no hexadecimal digit",
+            "byte {place}, {}, is not a hexadecimal digit",
             Quoted(byte)
         ),
         What::ManySteps(steps) => write!(
@@ -129,11 +124,11 @@ fn fmt_line<W: fmt::Write>(what: &What<'_>, f: &mut fmt::Formatter<W>) -> fmt::R
 fn write_wanted<W: fmt::Write>(f: &mut fmt::Formatter<W>, expected: Expected) -> fmt::Result {
     match expected {
         Expected::Drawing => f.write_str(
-            "a chart is of steps, hardware or threads, as steps words",
+            "line 1 must be the mode of steps, hardware or threads, such as steps words",
         ),
-        Expected::Dumps => f.write_str("dumps of areas are wanted, as xxd prints them"),
+        Expected::Dumps => f.write_str("expected dumps of areas, as xxd prints them"),
         Expected::Session => {
-            f.write_str("line 1 is one of")?;
+            f.write_str("line 1 must be one of")?;
             let mut before = " ";
             for mode in MODES {
                 write!(f, "{before}{mode}")?;
@@ -149,22 +144,25 @@ impl What<'_> {
     fn text(&self) -> &'static str {
         match self {
             What::NoBoard =>
-                "nothing follows the mode; a board does, board VENDOR SUBVENDOR VERSION TRUSTED and its rows",
-            What::NoEnd => "the board has no line end, which is its last one",
-            What::NoArea => "no area follows the mode, a line of 568 hexadecimal digits",
+                "the board is missing: after the mode comes \"board VENDOR SUBVENDOR VERSION TRUSTED\", and its lines",
+            What::NoEnd => "the board lacks its last line, end",
+            What::NoArea =>
+                "the area is missing: after the mode comes a line of 568 hexadecimal digits",
             What::SecondArea => "once takes one area, and this is a second line",
-            What::NoDump => "no line of the input is an area",
+            What::NoDump => {
+                "no line of the input is an area; print it as xxd, od -t x4, U-Boot's md.l or gdb's x/71xw do (docs/DECODE.md has all forms)"
+            }
             What::LongLine => "the first line is longer than 1,048,576 bytes",
             What::LongInput => "the input is longer than 1,048,576 bytes",
-            What::Long => "the input behind line 1 is longer than 1,048,576 bytes",
+            What::Long => "the input after line 1 is longer than 1,048,576 bytes",
             What::LongRun => "a chart has at most 2,000 steps, and this run has more",
             What::NotRead => "the input could not be read",
             What::Limit => {
-                "a script met a limit: its reply, message or state did not come in as many turns as docs/SCRIPTS.md says"
+                "a script reached a limit: its reply, message or state did not come in as many polls as docs/SCRIPTS.md says"
             }
-            What::Memory => "memory was refused",
+            What::Memory => "out of memory",
             What::NotKept =>
-                "the line stands behind the first 1,048,576 bytes, which are all that is kept to be explained",
+                "the line is after the first 1,048,576 bytes, which are all that is kept for explanations",
             _ => "",
         }
     }

@@ -39,8 +39,8 @@ impl fmt::Display for Wrong {
         match self {
             Wrong::Number(fault) => f.write_str(fault.text()),
             Wrong::NotRates(fault) => write!(f, "has a rate that {}", fault.text()),
-            Wrong::NoAgent(1) => f.write_str("is no agent: the board has 1 agent"),
-            Wrong::NoAgent(agents) => write!(f, "is no agent: the board has {agents} agents"),
+            Wrong::NoAgent(1) => f.write_str("is not an agent: the board has 1 agent"),
+            Wrong::NoAgent(agents) => write!(f, "is not an agent: the board has {agents} agents"),
             Wrong::NotWord(word) => write!(f, "is not \"{word}\""),
             plain => f.write_str(plain.text()),
         }
@@ -54,7 +54,7 @@ impl Wrong {
             Wrong::Missing => "is missing",
             Wrong::Extra => "is one too many",
             Wrong::TooManyWords => "is a 65th payload word; a message has at most 64",
-            Wrong::AgentZero => "is no agent: they are numbered from 1",
+            Wrong::AgentZero => "is not an agent: they are numbered from 1",
             Wrong::NotUtf8 => "is not UTF-8",
             Wrong::NotSwitch => "is not \"on\" or \"off\"",
             Wrong::NotKinds => "is not \"-\" or some of s, a and n, each at most once",
