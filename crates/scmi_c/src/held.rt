@@ -37,15 +37,17 @@ impl Model for Held {
 
 impl Held {
     /// The platform of a board, at the start.
-    #[inline(always)]
+    // Not always inlined: clang then takes a platform apart before it knows its place, and copies
+    // each part from one to the next, three times on the stack.
     pub fn new(plan: Plan, is_counted: bool) -> Held
         ensures board { board_of result ≡ plan }
         ensures start { StandsAt result [] }
         ensures counted { IsCounted result ↔ (is_counted ≡ true) }
     {
+        let events = if is_counted { Some(0) } else { None };
         Held {
             platform: Platform::new(plan),
-            events: if is_counted { Some(0) } else { None },
+            events,
         }
     }
 
