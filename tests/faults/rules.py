@@ -59,14 +59,14 @@ class Once(Session):
 
 
 class Whole(Once):
-    """What is written whole or not at all: a fault is on standard error alone."""
+    """What is written whole or not at all: a fault stands alone, or on standard error alone."""
 
     def runs_out(self, run):
         if run.status == 0:
             return self.succeeds(run)
         if run.status != 4:
             return "a status that no refusal has"
-        if run.output:
+        if run.output not in (b"", MEMORY + b"\n"):
             return "something is written before a fault"
 
     def fails_to_read(self, run):
