@@ -1,7 +1,8 @@
 -- What a history changes of the hardware.
-use Rattle.std.specs.Prelude.{ℕ, ◌==◌, Bool, if◌then◌else◌, List, Option, None, option_map, map}
+use Rattle.std.specs.Prelude.{ℕ, ◌==◌, ◌&&◌, ◌||◌, Bool, false, if◌then◌else◌, List, Option, None, option_map, map}
 use Rattle.std.specs.Option.{option_or}
 use Rattle.scmi_codec.specs.Command.{command_of}
+use Rattle.scmi_codec.specs.declared.header.Header.{Header}
 use Rattle.scmi_codec.specs.declared.message.Message.{Message}
 use Rattle.scmi_codec.specs.declared.frame.Frame.{Frame}
 use Rattle.scmi_codec.specs.declared.frame.Frame.TheVariants.{Good, Malformed}
@@ -41,6 +42,15 @@ clock_effect rate enabled = option_or (option_map (λ set. effect.Rate set.0 set
 -- the effect that an event has after a history, if it has one
 abbrev pub effect_after : Board → List Event → Event → Option Effect
 effect_after board h event = option_map effect_of (change_by board (deeds board h) (deed_after board (deeds board h) event))
+
+-- the header of a command that may change hardware: POWER_STATE_SET, CLOCK_RATE_SET or CLOCK_CONFIG_SET
+abbrev pub is_set_header : Header → Bool
+is_set_header header = header.protocol == 0x11 && header.id == 0x4 || header.protocol == 0x14 && (header.id == 0x5 || header.id == 0x7)
+
+-- a frame with such a header
+abbrev pub is_set_frame : Frame → Bool
+is_set_frame (Good m) = is_set_header m.header
+is_set_frame (Malformed _ _) = false
 
 -- the effects of a history, in order
 unfoldable pub effects : Board → List Event → List Effect

@@ -1,5 +1,5 @@
 //! What a command or a completion is to change of the hardware.
-ghost use Rattle.std.specs.Prelude.{◌≡◌, ◌==◌, ◌&&◌, ◌||◌, ℕ, List, length, false, None, Ok, option_map};
+ghost use Rattle.std.specs.Prelude.{◌≡◌, ◌==◌, ℕ, List, length, false, None, Ok, option_map};
 ghost use Rattle.scmi_codec.specs.Payload.{if_success};
 ghost use Rattle.scmi_codec.specs.declared.command.Command.TheVariants.{Power, Clock};
 ghost use Rattle.scmi_codec.specs.declared.frame.Frame.TheVariants.{Good};
@@ -8,7 +8,7 @@ ghost use Rattle.scmi_plan.specs.Board.{Board};
 ghost use Rattle.scmi_plan.specs.Plan.{IsValid};
 ghost use Rattle.scmi_power.specs.PowerTable.{set_now};
 ghost use Rattle.scmi_clock.specs.ClockTable.{rate_now, enabled_now};
-ghost use Rattle.scmi_core.specs.Effect.{effect_after, effect_in, effect_read, state_effect, clock_effect};
+ghost use Rattle.scmi_core.specs.Effect.{effect_after, effect_in, effect_read, state_effect, clock_effect, is_set_header, is_set_frame};
 ghost use Rattle.scmi_core.specs.Reply.{reply_words};
 ghost use Rattle.scmi_core.specs.Tables.{situation_in};
 ghost use Rattle.scmi_core.specs.declared.event.Event.{Event};
@@ -115,6 +115,7 @@ impl Tables {
 
 /// Whether a frame may change hardware, by its header alone, whatever came before it.
 pub fn may_change(frame: &Frame) -> bool
+    ensures exact { result ≡ is_set_frame frame.now }
     ensures none { result ≡ false → (board : Board) → (agent : ℕ) → (h : List Event)
         → effect_after board h (Called agent frame.now) ≡ None }
 {
@@ -127,8 +128,7 @@ pub fn may_change(frame: &Frame) -> bool
 /// Whether a message with this header may have an effect: POWER_STATE_SET, CLOCK_RATE_SET and
 /// CLOCK_CONFIG_SET may.
 fn may_have_effect(header: &Header) -> bool
-    ensures { result ≡ (header.now.protocol == 0x11 && header.now.id == 0x4
-        || header.now.protocol == 0x14 && (header.now.id == 0x5 || header.now.id == 0x7)) }
+    ensures { result ≡ is_set_header header.now }
 {
     matches!(
         (header.protocol(), header.id()),

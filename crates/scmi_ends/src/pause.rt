@@ -6,20 +6,22 @@ use std::sync::Wait;
 use std::thread::{Parker, yield_now};
 use std::time::Duration;
 
-/// Waits that only spin, at first. Together they are many times what an exchange takes if each
-/// thread has a processor (own).
+/// Waits that only spin, or only yield on one processor, at first. Together they are many times
+/// what an exchange takes if each thread has a processor (own).
 const SPINS: u32 = 100;
 
 /// Waits that sleep, after those: what is waited for has lost its processor to others. A thread
 /// that sleeps runs soon once it wakes; one that yields waits for its turn among all (own).
 const SLEEPS: u32 = 1_000;
 
-/// How long each of these is, at least, in microseconds (own).
+/// Of the waits after those one in so many sleeps, and the others return at once. So 1,000,000
+/// polls for what never comes end within a second, on a busy machine too (own).
+const SLEEPS_ONE_IN: u32 = 1_000;
+
+/// How long each sleep is, at least, in microseconds (own).
 const SLEEP_MICROSECONDS: u64 = 50;
 
-/// A row of waits for something that another thread does. After `SPINS` and `SLEEPS` the thread
-/// only yields, so that a wait for what never comes is not drawn out. On one processor it yields at
-/// once, since nothing is done there while it spins.
+/// A row of waits for something that another thread does.
 #[derive(Drop)]
 pub struct Pause {
     processors: Processors,
@@ -46,18 +48,15 @@ impl Pause {
 
     /// Waits a little (own). It may return early.
     pub fn wait<R: Wait>(&mut self, rt: &R) {
-        if self.processors == Processors::One {
-            yield_now();
-            return;
-        }
         self.waits = self.waits.saturating_add(1);
         if self.waits <= SPINS {
-            self.backoff.spin();
-        } else if self.waits <= SPINS + SLEEPS {
+            match self.processors {
+                Processors::One => yield_now(),
+                Processors::Several => self.backoff.spin(),
+            }
+        } else if self.waits <= SPINS + SLEEPS || self.waits % SLEEPS_ONE_IN == 0 {
             self.parker
                 .park_timeout(rt, Duration::from_micros(SLEEP_MICROSECONDS));
-        } else {
-            yield_now();
         }
     }
 }

@@ -1,8 +1,8 @@
 //! The scripts of agents of SCMI (DEN0056B, version 2.0), and what came of each of their steps.
 //!
 //! The main type is `Script`, the orders of one agent; what came of an order is a `Line`. These are
-//! values alone, so the main theorem is that of each derived `==`: it holds exactly between the
-//! same values. `AreScriptsOf` (specs/Scripts.antt) says which scripts a run may be given.
+//! values alone, without a theorem of their own: `AreScriptsOf` (specs/Scripts.antt) says which
+//! scripts a run may be given, and `orders_of` what each agent is to do.
 #![tactic(auto)]
 
 mod flushed;
