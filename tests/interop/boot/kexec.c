@@ -1,0 +1,93 @@
+/*
+ * Starts a kernel in the place of the running one, with the same device tree, and a file system where the tree has the
+ * first one's: Debian's kernels for arm64 have kexec_load, and busybox has no kexec.
+ *
+ *   kexec IMAGE CPIO
+ */
+#include <endian.h>
+#include <fcntl.h>
+#include <linux/kexec.h>
+#include <linux/reboot.h>
+#include <stdint.h>
+#include <stdio.h>
+#include <stdlib.h>
+#include <sys/reboot.h>
+#include <sys/stat.h>
+#include <sys/syscall.h>
+#include <unistd.h>
+
+/* As in the device tree (build) and where TF-A has the first kernel; the tree and the entry are beyond the file system. */
+#define KERNEL 0x40400000
+#define ROOT 0x48000000
+#define TREE 0x4e000000
+#define ENTRY 0x4e100000
+#define TEXT_OF(number) #number
+#define TEXT(number) TEXT_OF(number)
+
+enum { PAGE = 4096, IMAGE_SIZE = 16 };
+
+/* A kernel is started with its tree in x0. */
+extern const char entry[], entry_end[];
+__asm__(".pushsection .rodata\n\t.balign 8\n"
+        "entry:\tldr x0, 1f\n\tldr x4, 2f\n\tmov x1, xzr\n\tmov x2, xzr\n\tmov x3, xzr\n\tbr x4\n"
+        "1:\t.quad " TEXT(TREE) "\n2:\t.quad " TEXT(KERNEL) "\nentry_end:\n\t.popsection");
+
+struct bytes {
+    char *at;
+    size_t count;
+};
+
+static void fail(const char *what)
+{
+    perror(what);
+    exit(1);
+}
+
+static struct bytes file(const char *name)
+{
+    struct bytes bytes = { NULL, 0 };
+    size_t room = 0;
+    ssize_t got = 1;
+    int from = open(name, O_RDONLY);
+    struct stat of;
+
+    if (from < 0 || fstat(from, &of) != 0)
+        fail(name);
+    room = (size_t)of.st_size + PAGE;
+    bytes.at = malloc(room);
+    while (bytes.at && got > 0 && bytes.count < room) {
+        got = read(from, bytes.at + bytes.count, room - bytes.count);
+        bytes.count += got > 0 ? (size_t)got : 0;
+    }
+    if (!bytes.at || got != 0)
+        fail(name);
+    close(from);
+    return bytes;
+}
+
+static struct kexec_segment segment(struct bytes bytes, uintptr_t to, size_t room)
+{
+    return (struct kexec_segment){ bytes.at, bytes.count, (void *)to, ((bytes.count > room ? bytes.count : room) + PAGE - 1) & -(size_t)PAGE };
+}
+
+int main(int count, char **words)
+{
+    struct bytes image, root, tree, end, code = { (char *)entry, (size_t)(entry_end - entry) };
+    struct kexec_segment segments[4];
+
+    if (count != 3)
+        return 64;
+    image = file(words[1]);
+    root = file(words[2]);
+    tree = file("/sys/firmware/fdt");
+    end = file("/proc/device-tree/chosen/linux,initrd-end");
+    segments[0] = segment(image, KERNEL, le64toh(*(uint64_t *)(void *)(image.at + IMAGE_SIZE)));
+    segments[1] = segment(root, ROOT, be32toh(*(uint32_t *)(void *)end.at) - ROOT);
+    segments[2] = segment(tree, TREE, 0);
+    segments[3] = segment(code, ENTRY, 0);
+    if (syscall(SYS_kexec_load, ENTRY, 4, segments, KEXEC_ARCH_AARCH64) != 0)
+        fail("kexec_load");
+    reboot(LINUX_REBOOT_CMD_KEXEC);
+    fail("reboot");
+    return 1;
+}
