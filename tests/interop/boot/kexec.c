@@ -11,6 +11,8 @@
 #include <stdint.h>
 #include <stdio.h>
 #include <stdlib.h>
+#include <string.h>
+#include <sys/mman.h>
 #include <sys/reboot.h>
 #include <sys/stat.h>
 #include <sys/syscall.h>
@@ -24,7 +26,8 @@
 #define TEXT_OF(number) #number
 #define TEXT(number) TEXT_OF(number)
 
-enum { PAGE = 4096, IMAGE_SIZE = 16 };
+/* Of a page, of a file of the kernel's own at most, and where an image has its size. */
+enum { PAGE = 4096, ROOM = 1 << 20, IMAGE_SIZE = 16 };
 
 /* A kernel is started with its tree in x0. */
 extern const char entry[], entry_end[];
@@ -43,26 +46,36 @@ static void fail(const char *what)
     exit(1);
 }
 
+/* A file, which is mapped, so that it is in memory once; one of the kernel's own, which can't be, is read. */
 static struct bytes file(const char *name)
 {
-    struct bytes bytes = { NULL, 0 };
-    size_t room = 0;
+    struct bytes bytes;
     ssize_t got = 1;
     int from = open(name, O_RDONLY);
     struct stat of;
 
     if (from < 0 || fstat(from, &of) != 0)
         fail(name);
-    room = (size_t)of.st_size + PAGE;
-    bytes.at = malloc(room);
-    while (bytes.at && got > 0 && bytes.count < room) {
-        got = read(from, bytes.at + bytes.count, room - bytes.count);
+    bytes.count = (size_t)of.st_size;
+    bytes.at = mmap(NULL, bytes.count ? bytes.count : 1, PROT_READ, MAP_PRIVATE, from, 0);
+    if (bytes.at != MAP_FAILED)
+        return bytes;
+    bytes = (struct bytes){ malloc(ROOM), 0 };
+    while (bytes.at && got > 0 && bytes.count < ROOM) {
+        got = read(from, bytes.at + bytes.count, ROOM - bytes.count);
         bytes.count += got > 0 ? (size_t)got : 0;
     }
     if (!bytes.at || got != 0)
         fail(name);
-    close(from);
     return bytes;
+}
+
+/* The tree says where the file system ends: of the second one that is sooner. */
+static void end_at(struct bytes tree, uint32_t was, uint32_t is)
+{
+    for (size_t at = 0; at + sizeof(was) <= tree.count; at += sizeof(was))
+        if (memcmp(tree.at + at, &was, sizeof(was)) == 0)
+            memcpy(tree.at + at, &is, sizeof(is));
 }
 
 static struct kexec_segment segment(struct bytes bytes, uintptr_t to, size_t room)
@@ -82,7 +95,8 @@ int main(int count, char **words)
     tree = file("/sys/firmware/fdt");
     end = file("/proc/device-tree/chosen/linux,initrd-end");
     segments[0] = segment(image, KERNEL, le64toh(*(uint64_t *)(void *)(image.at + IMAGE_SIZE)));
-    segments[1] = segment(root, ROOT, be32toh(*(uint32_t *)(void *)end.at) - ROOT);
+    end_at(tree, *(uint32_t *)(void *)end.at, htobe32((uint32_t)(ROOT + root.count)));
+    segments[1] = segment(root, ROOT, 0);
     segments[2] = segment(tree, TREE, 0);
     segments[3] = segment(code, ENTRY, 0);
     if (syscall(SYS_kexec_load, ENTRY, 4, segments, KEXEC_ARCH_AARCH64) != 0)

@@ -1,7 +1,7 @@
 /* TF-A's own server, over the hooks of boot/firmware/measured/tfa.c. */
 #include <drivers/scmi-msg.h>
 
-#include "board.h"
+#include "agents.h"
 #include "scmi_service.h"
 #include "server.h"
 

@@ -2,7 +2,7 @@
 #include <drivers/scmi.h>
 #include <platform_def.h>
 
-#include "board.h"
+#include "agents.h"
 #include "hardware.h"
 #include "scmi_service.h"
 #include "scmi_service_board.h"

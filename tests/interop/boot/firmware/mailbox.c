@@ -9,7 +9,7 @@
 #include <lib/mmio.h>
 #include <plat/common/platform.h>
 
-#include "board.h"
+#include "agents.h"
 #include "scmi_service.h"
 
 /* Two channels of the mailbox: answers and messages. Linux reads the registers of one side, and writes the other's. */

@@ -9,7 +9,7 @@
 #include <plat/common/platform.h>
 #include <platform_def.h>
 
-#include "board.h"
+#include "agents.h"
 #include "measured/measure.h"
 #include "scmi_service.h"
 

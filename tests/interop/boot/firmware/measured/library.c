@@ -4,7 +4,7 @@
 #include <arch_helpers.h>
 #include <drivers/scmi-msg.h>
 
-#include "board.h"
+#include "agents.h"
 #include "measure.h"
 #include "scmi_mailbox.h"
 #include "scmi_service_board.h"

@@ -7,7 +7,7 @@
 #include <drivers/scmi.h>
 #include <lib/utils_def.h>
 
-#include "board.h"
+#include "agents.h"
 #include "hardware.h"
 #include "measure.h"
 #include "scmi_service.h"

@@ -2,8 +2,8 @@
  * The agents, as TF-A counts them; to the platform agent N is agent N + 1, as board.txt numbers it. Two have an SMC and no
  * way back, the third a mailbox and two areas. One more is the firmware's own, and the trusted one.
  */
-#ifndef BOARD_H
-#define BOARD_H
+#ifndef AGENTS_H
+#define AGENTS_H
 #include "scmi.h"
 
 enum { LINUX = 0, MODEM = 1, MAILBOX = 2, AGENTS = 3 };
