@@ -32,7 +32,7 @@ enum { PAGE = 4096, ROOM = 1 << 20, IMAGE_SIZE = 16 };
 /* A kernel is started with its tree in x0. */
 extern const char entry[], entry_end[];
 __asm__(".pushsection .rodata\n\t.balign 8\n"
-        "entry:\tldr x0, 1f\n\tldr x4, 2f\n\tmov x1, xzr\n\tmov x2, xzr\n\tmov x3, xzr\n\tbr x4\n"
+        ".global entry, entry_end\nentry:\tldr x0, 1f\n\tldr x4, 2f\n\tmov x1, xzr\n\tmov x2, xzr\n\tmov x3, xzr\n\tbr x4\n"
         "1:\t.quad " TEXT(TREE) "\n2:\t.quad " TEXT(KERNEL) "\nentry_end:\n\t.popsection");
 
 struct bytes {

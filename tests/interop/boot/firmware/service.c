@@ -2,6 +2,8 @@
  * SCMI as a service of BL31. Each agent of Linux without a mailbox has a function number: on its SMC the command in
  * its area is served.
  */
+#include <stdio.h>
+
 #include <common/runtime_svc.h>
 #include <drivers/scmi-msg.h>
 #include <lib/el3_runtime/pubsub_events.h>
@@ -47,8 +49,10 @@ static void *restart(const void *unused)
 {
     for (unsigned int agent = 0; agent < AGENTS; agent++)
         scmi_service_restart(agent);
-    if (!SCMI_MEASURED)
+    if (!SCMI_MEASURED) {
         mailbox_restart();
+        printf("SCMI: a kernel starts; of the port's stack %zu bytes were written to\n", scmi_service_stack_used());
+    }
     return NULL;
 }
 

@@ -1,16 +1,20 @@
 /* The agents answered by TF-A's own server (drivers/scmi-msg), over the same hardware: to compare with. */
 #include <string.h>
 
+#include "agents.h"
+#include "hardware.h"
+#include "measure.h"
+#include "scmi_service.h"
+
+/* TF-A has a number of this name. */
+#undef SCMI_VERSION
+
 #include <arch_helpers.h>
 #include <common.h>
 #include <drivers/scmi-msg.h>
 #include <drivers/scmi.h>
 #include <lib/utils_def.h>
-
-#include "agents.h"
-#include "hardware.h"
-#include "measure.h"
-#include "scmi_service.h"
+#include <platform_def.h>
 
 /* The server calls these too, but its public header lacks them. */
 size_t plat_scmi_pd_count(unsigned int agent_id);
@@ -57,6 +61,7 @@ bool scmi_service_serve(unsigned int agent_id)
 }
 
 void scmi_service_restart(unsigned int agent_id) { }
+size_t scmi_service_stack_used(void) { return 0; }
 
 struct scmi_msg_channel *plat_scmi_get_channel(unsigned int agent_id)
 {
