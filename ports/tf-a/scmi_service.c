@@ -41,8 +41,8 @@ struct service {
 };
 
 static struct service services[SCMI_SERVICE_PLATFORMS];
-static uint8_t memory[SCMI_SERVICE_PLATFORMS][SCMI_PLATFORM_BYTES(SCMI_SERVICE_FIRMWARE, SCMI_PORT_DOMAINS, SCMI_PORT_CLOCKS,
-                                                                  SCMI_PORT_RATES, SCMI_PORT_DEVICES)]
+static uint8_t memory[SCMI_SERVICE_PLATFORMS][SCMI_PLATFORM_BYTES(
+    SCMI_SERVICE_FIRMWARE, SCMI_PORT_DOMAINS, SCMI_PORT_CLOCKS, SCMI_PORT_RATES, SCMI_PORT_DEVICES)]
     __attribute__((aligned(16)));
 static uint64_t stack[SCMI_PORT_STACK / 8] __attribute__((aligned(16)));
 /* The copy of the message that is served. */

@@ -11,9 +11,9 @@
 #include <stdint.h>
 
 /*
- * For the code that resets an agent alone, or for an event of PSCI that means so, once it has stopped and before it runs
- * again: what it asked for ends, a message that it left is not executed, one that it did not read is gone, both its
- * channels are free, and every value stays.
+ * For the code that resets an agent alone, or for an event of PSCI that means so, once it has stopped and before it
+ * runs again: what it asked for ends, a message that it left is not executed, one that it did not read is gone, both
+ * its channels are free, and every value stays.
  */
 void scmi_service_restart(unsigned int agent_id);
 
@@ -24,8 +24,8 @@ void scmi_service_restart(unsigned int agent_id);
 bool scmi_service_serve(unsigned int agent_id);
 
 /*
- * For agents with a channel back (scmi_service_outbox), from a timer or an idle loop: completes the first pending set on
- * the hardware, and posts the first message of each such agent, if its channel is free. The agents to which one was
+ * For agents with a channel back (scmi_service_outbox), from a timer or an idle loop: completes the first pending set
+ * on the hardware, and posts the first message of each such agent, if its channel is free. The agents to which one was
  * posted, agent N as bit N: ring their doorbells.
  */
 uint32_t scmi_service_poll(void);

@@ -58,21 +58,21 @@ static inline uint32_t scmi_service_number(unsigned int agent_id)
 const scmi_board *scmi_service_board(unsigned int agent_id, const struct scmi_msg_channel *channel);
 
 /*
- * Once the platform is made: commands of the firmware's own (scmi_answer as SCMI_SERVICE_FIRMWARE), such as what an agent
- * may not use, and the hardware, which is brought to the platform's values. The handle stays where it is. False if it
- * fails: then there is no platform, and the agent gets channel errors.
+ * Once the platform is made: commands of the firmware's own (scmi_answer as SCMI_SERVICE_FIRMWARE), such as what an
+ * agent may not use, and the hardware, which is brought to the platform's values. The handle stays where it is. False
+ * if it fails: then there is no platform, and the agent gets channel errors.
  */
 bool scmi_service_start(unsigned int agent_id, scmi_platform *platform);
 
 /* Makes a change of an agent's hardware: SCMI_SUCCESS, or another status of drivers/scmi.h, and nothing has changed. */
 int32_t scmi_service_drive(unsigned int agent_id, const scmi_effect *effect);
 
-/* The channel for the platform's messages to an agent, always the same; null, which it is unless the board says other. */
+/* The channel for the platform's messages to an agent, always the same. Null if there is none, as without this call. */
 const struct scmi_msg_channel *scmi_service_outbox(unsigned int agent_id);
 
 /*
- * For scmi_service_start: calls scmi_service_drive for each state of a domain, rate of a clock, and bit of a clock, as the
- * board has them at the start. False if one fails.
+ * For scmi_service_start: calls scmi_service_drive for each state of a domain, rate of a clock, and bit of a clock, as
+ * the board has them at the start. False if one fails.
  */
 bool scmi_service_bring_up(unsigned int agent_id, scmi_platform *platform);
 

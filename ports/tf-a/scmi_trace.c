@@ -5,9 +5,9 @@
  *   SCMI: agent 0: clock 0 500000000 Hz: made
  *   SCMI: platform: on off 500000000 open
  *
- * The first is a command, header and words, and its answer: the channel's status, and the words of a reply. A status of 3
- * is a channel error. The second is a change of the hardware, made or refused; the third what domains and clocks are by
- * the library after it. `told` is a message to an agent with a channel back.
+ * The first is a command, header and words, and its answer: the channel's status, and the words of a reply. A status
+ * of 3 is a channel error. The second is a change of the hardware, made or refused; the third what domains and clocks
+ * are by the library after it. `told` is a message to an agent with a channel back.
  */
 #include "scmi_trace.h"
 

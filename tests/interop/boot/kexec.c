@@ -18,7 +18,7 @@
 #include <sys/syscall.h>
 #include <unistd.h>
 
-/* As in the device tree (build) and where TF-A has the first kernel; the tree and the entry are beyond the file system. */
+/* As in the device tree (build), and where TF-A has the first kernel; tree and entry are beyond the file system. */
 #define KERNEL 0x40400000
 #define ROOT 0x48000000
 #define TREE 0x4e000000
@@ -32,7 +32,8 @@ enum { PAGE = 4096, ROOM = 1 << 20, IMAGE_SIZE = 16 };
 /* A kernel is started with its tree in x0. */
 extern const char entry[], entry_end[];
 __asm__(".pushsection .rodata\n\t.balign 8\n"
-        ".global entry, entry_end\nentry:\tldr x0, 1f\n\tldr x4, 2f\n\tmov x1, xzr\n\tmov x2, xzr\n\tmov x3, xzr\n\tbr x4\n"
+        ".global entry, entry_end\nentry:\tldr x0, 1f\n\tldr x4, 2f\n"
+        "\tmov x1, xzr\n\tmov x2, xzr\n\tmov x3, xzr\n\tbr x4\n"
         "1:\t.quad " TEXT(TREE) "\n2:\t.quad " TEXT(KERNEL) "\nentry_end:\n\t.popsection");
 
 struct bytes {
@@ -80,7 +81,9 @@ static void end_at(struct bytes tree, uint32_t was, uint32_t is)
 
 static struct kexec_segment segment(struct bytes bytes, uintptr_t to, size_t room)
 {
-    return (struct kexec_segment){ bytes.at, bytes.count, (void *)to, ((bytes.count > room ? bytes.count : room) + PAGE - 1) & -(size_t)PAGE };
+    size_t wanted = bytes.count > room ? bytes.count : room;
+
+    return (struct kexec_segment){ bytes.at, bytes.count, (void *)to, (wanted + PAGE - 1) & -(size_t)PAGE };
 }
 
 int main(int count, char **words)

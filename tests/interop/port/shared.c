@@ -17,8 +17,10 @@
 
 enum { STATUS = 1, FLAGS = 4, LENGTH = 5, HEADER = 6, PAYLOAD = 7, AREA_BYTES = 128 };
 /* Headers without a token. */
-enum { VERSION = 0x4000, STATE_SET = 0x4404, STATE_GET = 0x4405, STATE_NOTIFY = 0x4406, RATE_SET = 0x5005, RATE_GET = 0x5006,
-       SET_DEVICE_PERMISSIONS = 0x4009, RATE_SET_COMPLETE = 0x5205, STATE_CHANGED = 0x4700 };
+enum { VERSION = 0x4000, STATE_SET = 0x4404, STATE_NOTIFY = 0x4406, RATE_SET = 0x5005, RATE_GET = 0x5006,
+       DISCOVER_AGENT = 0x4007, SET_DEVICE_PERMISSIONS = 0x4009, RATE_SET_COMPLETE = 0x5205, STATE_CHANGED = 0x4700 };
+/* The first word of the second agent's name. */
+enum { REMOTE_NAME = 0x6f6d6572 };
 enum { ON = 0, OFF = 0x40000000, ASYNCHRONOUS = 1, BUSY = 0, FREE = 1, CHANNEL_ERROR = 3, NO_ANSWER = 2 };
 /* The agents, and the areas: their commands, and the messages to the second. */
 enum { LOCAL = 0, REMOTE = 1, MESSAGES = 2 };
@@ -67,7 +69,8 @@ const scmi_board *scmi_service_board(unsigned int agent, const struct scmi_msg_c
 /* The first agent may not change the second domain. */
 bool scmi_service_start(unsigned int agent, scmi_platform *platform)
 {
-    scmi_area area = { .length = 16, .header = SET_DEVICE_PERMISSIONS, .payload = { scmi_service_number(LOCAL), 0, 0 } };
+    scmi_area area = { .length = 16, .header = SET_DEVICE_PERMISSIONS,
+                       .payload = { scmi_service_number(LOCAL), 0, 0 } };
 
     return starts && scmi_answer(platform, SCMI_SERVICE_FIRMWARE, area.bytes) == SCMI_DONE && area.payload[0] == 0 &&
            scmi_service_bring_up(agent, platform);
@@ -160,7 +163,8 @@ static void the_hardware_is_brought_up(void)
     check("not by the channels", drives == 0 && boards == 0);
     check("when the platform is made", scmi_service_make(LOCAL) && drives == 4);
     check("to its values", states[0] == OFF && states[1] == ON && rate == 200 && enabled == 1);
-    check("once, for both", scmi_service_make(REMOTE) && version(LOCAL) == 0 && version(REMOTE) == 0 && boards == 1 && drives == 4);
+    check("once, for both", scmi_service_make(REMOTE) && version(LOCAL) == 0 && version(REMOTE) == 0 && boards == 1 &&
+                                drives == 4);
     check("of no other agent", !scmi_service_make(2));
 }
 
@@ -205,7 +209,9 @@ static void without_memory_there_is_no_platform(void)
 
         if (child == 0) {
             requests_left = requests;
-            _exit(version(LOCAL) == 0 && version(REMOTE) == 0 ? 0 : version(LOCAL) == 1 && version(REMOTE) == 1 ? 3 : 1);
+            _exit(version(LOCAL) == 0 && version(REMOTE) == 0   ? 0
+                  : version(LOCAL) == 1 && version(REMOTE) == 1 ? 3
+                                                                : 1);
         }
         waitpid(child, &status, 0);
         errors += WIFEXITED(status) && WEXITSTATUS(status) == 3;
@@ -245,7 +251,8 @@ static void agents_share_the_platform(void)
     check("its values", set_rate(LOCAL, 0, 300) == 0 && rate_of(REMOTE) == 300 && rate == 300);
     check("not what is denied", set_state(LOCAL, 1, OFF) == SCMI_DENIED && set_state(REMOTE, 1, OFF) == 0);
     check("which the hardware is not asked for", states[1] == OFF);
-    check("each with its own number", ask(REMOTE, 0x4007, 1, (uint32_t[]){ 2 }) == 0 && areas[REMOTE][PAYLOAD + 2] == 0x6f6d6572);
+    check("each with its own number", ask(REMOTE, DISCOVER_AGENT, 1, (uint32_t[]){ 2 }) == 0 &&
+                                          areas[REMOTE][PAYLOAD + 2] == REMOTE_NAME);
 }
 
 static void an_interrupt_is_wanted_or_not(void)
@@ -270,9 +277,11 @@ static void sets_complete_when_the_service_polls(void)
     check("and not made", rate == 200 && areas[MESSAGES][STATUS] == FREE);
     check("is told", scmi_service_poll() == 1 << REMOTE && rate == 100 && has(RATE_SET_COMPLETE, 0));
     check("another is taken", set_rate(REMOTE, ASYNCHRONOUS, 300) == 0);
-    check("made, and waits for its channel", scmi_service_poll() == 0 && rate == 300 && areas[MESSAGES][PAYLOAD + 2] == 100);
+    check("made, and waits for its channel", scmi_service_poll() == 0 && rate == 300 &&
+                                                 areas[MESSAGES][PAYLOAD + 2] == 100);
     read_message();
-    check("is told", scmi_service_poll() == 1 << REMOTE && has(RATE_SET_COMPLETE, 0) && areas[MESSAGES][PAYLOAD + 2] == 300);
+    check("is told", scmi_service_poll() == 1 << REMOTE && has(RATE_SET_COMPLETE, 0) &&
+                         areas[MESSAGES][PAYLOAD + 2] == 300);
     read_message();
     check("and no more", scmi_service_poll() == 0 && areas[MESSAGES][STATUS] == FREE);
     check("not of an agent without a way back", set_rate(LOCAL, ASYNCHRONOUS, 100) == SCMI_NOT_SUPPORTED);
@@ -307,13 +316,15 @@ static void a_restart_leaves_nothing_that_was_asked_for(void)
 static void a_restart_is_of_one_agent(void)
 {
     init();
-    check("asked for", ask(REMOTE, STATE_NOTIFY, 2, (uint32_t[]){ 0, 1 }) == 0 && set_rate(REMOTE, ASYNCHRONOUS, 100) == 0);
+    check("asked for", ask(REMOTE, STATE_NOTIFY, 2, (uint32_t[]){ 0, 1 }) == 0 &&
+                           set_rate(REMOTE, ASYNCHRONOUS, 100) == 0);
     post(REMOTE, VERSION, 0, NULL);
     scmi_service_restart(LOCAL);
     check("the other's command is there", areas[REMOTE][STATUS] == BUSY && version(REMOTE) == 0);
     check("its set is told", scmi_service_poll() == 1 << REMOTE && has(RATE_SET_COMPLETE, 0));
     read_message();
-    check("and so are domains", set_state(LOCAL, 0, ON) == 0 && scmi_service_poll() == 1 << REMOTE && has(STATE_CHANGED, 1));
+    check("and so are domains", set_state(LOCAL, 0, ON) == 0 && scmi_service_poll() == 1 << REMOTE &&
+                                    has(STATE_CHANGED, 1));
     check("what is denied stays denied", set_state(LOCAL, 1, OFF) == SCMI_DENIED);
 }
 

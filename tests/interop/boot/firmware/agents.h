@@ -1,6 +1,6 @@
 /*
- * The agents, as TF-A counts them; to the platform agent N is agent N + 1, as board.txt numbers it. Two have an SMC and no
- * way back, the third a mailbox and two areas. One more is the firmware's own, and the trusted one.
+ * The agents, as TF-A counts them; to the platform agent N is agent N + 1, as board.txt numbers it. Two have an SMC and
+ * no way back, the third a mailbox and two areas. One more is the firmware's own, and the trusted one.
  */
 #ifndef AGENTS_H
 #define AGENTS_H

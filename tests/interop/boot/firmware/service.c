@@ -44,7 +44,7 @@ static uintptr_t handle(uint32_t id, u_register_t x1, u_register_t x2, u_registe
     SMC_RET1(context, 0);
 }
 
-/* Linux takes no core off while it runs. So one that comes on is of a kernel that starts, and that before it is gone. */
+/* Linux takes no core off while it runs. So one that comes on is of a kernel that starts, and the last one is gone. */
 static void *restart(const void *unused)
 {
     for (unsigned int agent = 0; agent < AGENTS; agent++)
