@@ -7,8 +7,8 @@
 #include "scmi_service.h"
 #include "scmi_service_board.h"
 
-/* A header without its token, and the devices: the gpu, and what agents 1 and 3 have beside it. */
-enum { SET_DEVICE_PERMISSIONS = 0x04009, GPU = 0, REST = 1 };
+/* The header of BASE_SET_DEVICE_PERMISSIONS, and the devices: the gpu, and what agents 1 and 3 have beside it. */
+enum { SET_PERMISSIONS = 0x04009, GPU = 0, REST = 1 };
 
 static const scmi_board_agent agents[] = {
     { .name = "linux", .bytes = SCMI_CHANNEL_BYTES, .one_way = 1 },
@@ -59,8 +59,7 @@ const scmi_board *scmi_service_board(unsigned int agent, const struct scmi_msg_c
 
 static bool deny(scmi_platform *platform, unsigned int agent, uint32_t device)
 {
-    scmi_area area = { .length = 16, .header = SET_DEVICE_PERMISSIONS,
-                       .payload = { scmi_service_number(agent), device, 0 } };
+    scmi_area area = { .length = 16, .header = SET_PERMISSIONS, .payload = { scmi_service_number(agent), device, 0 } };
 
     return scmi_answer(platform, SCMI_SERVICE_FIRMWARE, area.bytes) == SCMI_DONE && area.payload[0] == 0;
 }

@@ -59,13 +59,16 @@ static bool change(hardware_state *state, const scmi_effect *effect)
     return true;
 }
 
-static void say(const hardware_state *state)
+static void say(void)
 {
+    hardware_state state;
+
+    hardware_read(&state);
     printf("SCMI: hardware:");
     for (unsigned int domain = 0; domain < DOMAINS; domain++)
-        printf(" %s", state->domains[domain] ? "on" : "off");
+        printf(" %s", state.domains[domain] ? "on" : "off");
     for (unsigned int i = 0; i < CLOCKS; i++)
-        printf(" %llu %s", (unsigned long long)state->clocks[i].rate, state->clocks[i].is_open ? "open" : "closed");
+        printf(" %llu %s", (unsigned long long)state.clocks[i].rate, state.clocks[i].is_open ? "open" : "closed");
     printf("\n");
 }
 
@@ -84,12 +87,9 @@ static bool make(const scmi_effect *effect)
 
 bool hardware_make(const scmi_effect *effect)
 {
-    hardware_state state;
     bool made = make(effect);
 
-    if (!SCMI_MEASURED) {
-        hardware_read(&state);
-        say(&state);
-    }
+    if (!SCMI_MEASURED)
+        say();
     return made;
 }

@@ -6,7 +6,6 @@
 #ifndef HARDWARE_H
 #define HARDWARE_H
 #include <stdbool.h>
-#include <stdint.h>
 
 #include "scmi.h"
 

@@ -49,10 +49,9 @@ static void *restart(const void *unused)
 {
     for (unsigned int agent = 0; agent < AGENTS; agent++)
         scmi_service_restart(agent);
-    if (!SCMI_MEASURED) {
+    if (!SCMI_MEASURED)
         mailbox_restart();
-        printf("SCMI: a kernel starts; of the port's stack %zu bytes were written to\n", scmi_service_stack_used());
-    }
+    printf("SCMI: a kernel starts; of the port's stack %zu bytes were written to\n", scmi_service_stack_used());
     return NULL;
 }
 
