@@ -5,7 +5,7 @@
 #   include FOLDER/ports/tf-a/port.mk
 #
 # The headers of drivers/scmi-msg stay, for the platform's own files. SCMI_PORT_BOARD names a file that knows the board
-# in place of TF-A's hooks (scmi_service_board.h).
+# in place of TF-A's hooks (scmi_service_board.h). SCMI_PORT_TRACE := 1 prints each message and change.
 
 SCMI_PORT := $(dir $(lastword $(MAKEFILE_LIST)))
 SCMI_PORT_BOARD ?= $(SCMI_PORT)scmi_hooks.c $(SCMI_PORT)scmi_no_hooks.c
@@ -21,6 +21,11 @@ endif
 SCMI_PORT_MEMORY := $(firstword $(wildcard $(addprefix $(SCMI_PORT)../../include/,scmi_memory.c tolbjir/scmi_memory.c)))
 ifeq ($(SCMI_PORT_MEMORY),)
 $(error SCMI: $(SCMI_PORT)../../include has no scmi_memory.c)
+endif
+
+ifeq ($(SCMI_PORT_TRACE),1)
+SCMI_PORT_BOARD += $(SCMI_PORT)scmi_trace.c
+SCMI_PORT_DEFINES += SCMI_PORT_TRACE=1
 endif
 
 BL31_SOURCES := $(filter-out drivers/scmi-msg/%.c,$(BL31_SOURCES)) \

@@ -5,6 +5,7 @@
 #include <stdbool.h>
 #include <string.h>
 
+#include <cdefs.h>
 #include <common/debug.h>
 #include <drivers/scmi.h>
 #include <lib/cassert.h>
@@ -18,9 +19,12 @@ enum { MOST_DOMAINS = 32, MOST_CLOCKS = 32, MOST_RATES = 64 };
 enum { RATES_AT_A_TIME = 10 };
 /* Power states, as the standard has them. */
 enum { STATE_ON = 0, STATE_OFF = 0x40000000 };
+/* Of the command by which the firmware closes device 0. */
+enum { SET_DEVICE_PERMISSIONS = 0x04009, CLOSED_DEVICE = 0, DENY = 0 };
 /* A table has a row at least. */
 #define ROWS(count) ((count) > 0 ? (count) : 1)
 
+CASSERT(!SCMI_PORT_SHARED, scmi_port_hooks_have_a_platform_for_each_agent);
 CASSERT(SCMI_PORT_DOMAINS <= MOST_DOMAINS, scmi_port_domains_at_most_32);
 CASSERT(SCMI_PORT_CLOCKS <= MOST_CLOCKS, scmi_port_clocks_at_most_32);
 
@@ -249,6 +253,16 @@ const scmi_board *scmi_service_board(unsigned int agent_id, const struct scmi_ms
             return NULL;
     board.device_count = (tables.closed.domains | tables.closed.clocks) != 0 ? 1 : 0;
     return &board;
+}
+
+/* The firmware's own command: the agent may not change what has no name, which is in device 0. */
+bool scmi_service_start(unsigned int agent_id __unused, scmi_platform *platform)
+{
+    scmi_area area = { .length = 16, .header = SET_DEVICE_PERMISSIONS,
+                       .payload = { SCMI_SERVICE_AGENT, CLOSED_DEVICE, DENY } };
+
+    return board.device_count == 0 ||
+           (scmi_answer(platform, SCMI_SERVICE_FIRMWARE, area.bytes) == SCMI_DONE && area.payload[0] == 0);
 }
 
 int32_t scmi_service_drive(unsigned int agent_id, const scmi_effect *effect)

@@ -1,7 +1,7 @@
 /*
- * void scmi_service_on_stack(uintptr_t top, void (*call)(unsigned int), unsigned int agent)
+ * uint32_t scmi_service_on_stack(uintptr_t top, uint32_t (*call)(unsigned int), unsigned int agent)
  *
- * Makes the call on the stack that ends below `top`, which is aligned to 16 bytes.
+ * Makes the call on the stack that ends below `top`, which is aligned to 16 bytes, and gives what it gave.
  */
 #include <asm_macros.S>
 

@@ -1,9 +1,9 @@
 /*
- * The service: channels, the lock, the stack, and each agent's platform.
+ * The service: channels, the lock, the stack, and the agents' platforms.
  *
  * TF-A's hooks are given an agent, and two agents may have other clocks under the same numbers. So each of them has a
- * platform of its own. It is made with the agent's first message: most of TF-A's platforms make their channels before
- * their clocks have a rate.
+ * platform of its own, unless the makefile says that they share one. It is made with the first message: most of TF-A's
+ * platforms make their channels before their clocks have a rate.
  *
  * Every way ends: an agent whose message can't be served gets a channel error, and its channel is free.
  */
@@ -11,6 +11,7 @@
 
 #include <stdbool.h>
 
+#include <cdefs.h>
 #include <common/debug.h>
 #include <drivers/scmi.h>
 #include <lib/cassert.h>
@@ -19,6 +20,9 @@
 #include "../../include/scmi_mailbox.h"
 #include "../../include/scmi_memory.h"
 #include "scmi_service_board.h"
+#include "scmi_trace.h"
+
+#pragma weak scmi_service_outbox
 
 /* A core's stack in BL31 may have 1 KB; making a platform takes 9 KB, and so all is done on a stack of its own. */
 #ifndef SCMI_PORT_STACK
@@ -28,16 +32,17 @@
 /* What the end of that stack holds. */
 #define UNTOUCHED 0x7363616d61726b21ULL
 
-/* Of the command by which the firmware closes device 0. */
-enum { SET_DEVICE_PERMISSIONS = 0x04009, CLOSED_DEVICE = 0, DENY = 0 };
+/* Of the flags of an area. */
+enum { WANTS_INTERRUPT = 1 };
 
 struct service {
     scmi_platform platform;
     bool is_asked_for; /* the board was asked for, and there is a platform, or never one */
 };
 
-static struct service services[SCMI_PORT_AGENTS];
-static uint8_t memory[SCMI_PORT_AGENTS][SCMI_PLATFORM_BYTES(2, SCMI_PORT_DOMAINS, SCMI_PORT_CLOCKS, SCMI_PORT_RATES, 1)]
+static struct service services[SCMI_SERVICE_PLATFORMS];
+static uint8_t memory[SCMI_SERVICE_PLATFORMS][SCMI_PLATFORM_BYTES(
+    SCMI_SERVICE_FIRMWARE, SCMI_PORT_DOMAINS, SCMI_PORT_CLOCKS, SCMI_PORT_RATES, SCMI_PORT_DEVICES)]
     __attribute__((aligned(16)));
 static uint64_t stack[SCMI_PORT_STACK / 8] __attribute__((aligned(16)));
 /* The copy of the message that is served. */
@@ -45,71 +50,46 @@ static scmi_area copy;
 /* It guards all of the above, and each call of a hook. Interrupts are masked at EL3, so none comes while it is held. */
 static spinlock_t lock;
 
-CASSERT(SCMI_PORT_AGENTS >= 1, scmi_port_has_an_agent);
+CASSERT(SCMI_PORT_AGENTS >= 1 && SCMI_SERVICE_FIRMWARE <= SCMI_SERVICE_MOST_AGENTS, scmi_port_agents);
 CASSERT(SCMI_PORT_STACK % 16 == 0, scmi_port_stack_is_aligned);
 
-/* Of scmi_on_stack.S: calls on the stack that ends below `top`. */
-void scmi_service_on_stack(uintptr_t top, void (*call)(unsigned int), unsigned int agent);
+/* Of scmi_on_stack.S: calls on the stack that ends below `top`, and gives what the call gave. */
+uint32_t scmi_service_on_stack(uintptr_t top, uint32_t (*call)(unsigned int), unsigned int agent);
 
 /* With the lock, and on the stack. */
-static void enter(void (*call)(unsigned int), unsigned int agent)
+static uint32_t enter(uint32_t (*call)(unsigned int), unsigned int agent)
 {
+    uint32_t given;
+
     spin_lock(&lock);
     stack[0] = UNTOUCHED;
-    scmi_service_on_stack((uintptr_t)stack + sizeof(stack), call, agent);
+    given = scmi_service_on_stack((uintptr_t)stack + sizeof(stack), call, agent);
     if (stack[0] != UNTOUCHED) {
         ERROR("SCMI: SCMI_PORT_STACK, %u, is too small\n", SCMI_PORT_STACK);
         panic();
     }
     spin_unlock(&lock);
+    return given;
 }
 
-/* The firmware's own command: the agent may not change what is in device 0. */
-static bool close_device(scmi_platform *platform)
+size_t scmi_service_stack_used(void)
 {
-    copy = (scmi_area){ .length = 16, .header = SET_DEVICE_PERMISSIONS,
-                        .payload = { SCMI_SERVICE_AGENT, CLOSED_DEVICE, DENY } };
-    return scmi_answer(platform, SCMI_SERVICE_FIRMWARE, copy.bytes) == SCMI_DONE && copy.payload[0] == 0;
+    size_t at = 1;
+
+    while (at < sizeof(stack) / sizeof(stack[0]) && stack[at] == 0)
+        at++;
+    return sizeof(stack) - at * sizeof(stack[0]);
 }
 
-/* Once: whether there is a platform is then in its handle. */
-static void make(unsigned int agent, const struct scmi_msg_channel *channel)
+static struct service *service_of(unsigned int agent)
 {
-    scmi_platform *platform = &services[agent].platform;
-    const scmi_board *board;
-    uint32_t given = SCMI_NO_PLATFORM;
-
-    services[agent].is_asked_for = true;
-    if (!scmi_header_fits()) {
-        ERROR("SCMI: the library is of another version than its headers\n");
-        return;
-    }
-    board = scmi_service_board(agent, channel);
-    if (board != NULL)
-        given = scmi_platform_new_of_in(platform, memory[agent], sizeof(memory[agent]), board);
-    if (given == SCMI_DONE && board->device_count != 0 && !close_device(platform)) {
-        scmi_platform_free(platform);
-        given = SCMI_NO_PLATFORM;
-    }
-    if (given != SCMI_DONE)
-        ERROR("SCMI: agent %u has no platform (%u), and gets channel errors\n", agent, given);
+    return &services[SCMI_PORT_SHARED ? 0 : agent];
 }
 
-/* Executes the message in the copy, and answers it there. */
-static uint32_t execute(unsigned int agent)
+/* A mailbox over a channel. False if it is none. */
+static bool is_over(const struct scmi_msg_channel *channel, scmi_mailbox *box)
 {
-    scmi_platform *platform = &services[agent].platform;
-    scmi_effect effect;
-    uint32_t given = scmi_ask(platform, SCMI_SERVICE_AGENT, copy.bytes, &effect);
-    int32_t status;
-
-    if (given != SCMI_EFFECT)
-        return given;
-    status = scmi_service_drive(agent, &effect);
-    if (status == SCMI_SUCCESS)
-        return scmi_commit(platform, copy.bytes);
-    INFO("SCMI: agent %u: %d of the hardware is answered as HARDWARE_ERROR\n", agent, status);
-    return scmi_fail(platform, copy.bytes);
+    return channel != NULL && scmi_mailbox_over(box, (void *)channel->shm_addr, channel->shm_size) == SCMI_DONE;
 }
 
 /* The mailbox over an agent's channel. False if it has none, or one that is no channel, which is then in error. */
@@ -117,57 +97,243 @@ static bool find_box(unsigned int agent, scmi_mailbox *box)
 {
     const struct scmi_msg_channel *channel = agent < SCMI_PORT_AGENTS ? plat_scmi_get_channel(agent) : NULL;
 
+    if (is_over(channel, box))
+        return true;
     if (channel == NULL)
         return false;
-    if (scmi_mailbox_over(box, (void *)channel->shm_addr, channel->shm_size) == SCMI_DONE)
-        return true;
     box->words = (scmi_shared_word *)channel->shm_addr;
     if (channel->shm_addr % 4 == 0 && channel->shm_size > SCMI_AREA_STATUS + 3)
         scmi_shared_hand_over(box, SCMI_MAILBOX_FREE_ERROR);
     return false;
 }
 
-static void serve(unsigned int agent)
+/* Whether each agent's channels are those that its board says: if not, no message of it could be answered whole. */
+static bool channels_fit(unsigned int agent)
 {
+    scmi_channel_numbers says;
     scmi_mailbox box;
 
+    if (!is_over(plat_scmi_get_channel(agent), &box) ||
+        scmi_channel(&service_of(agent)->platform, scmi_service_number(agent), &says) != SCMI_DONE)
+        return true;
+    if (says.bytes > 4 * (SCMI_AT_PAYLOAD + box.payload_words)) {
+        ERROR("SCMI: agent %u: its channel has less than the %u bytes of its board\n", agent, says.bytes);
+        return false;
+    }
+    if (says.one_way == 0 && !is_over(scmi_service_outbox(agent), &box)) {
+        ERROR("SCMI: agent %u: its board is not one-way, and there is no channel back\n", agent);
+        return false;
+    }
+    return true;
+}
+
+/* Of one platform: that of an agent, or of all. */
+static bool all_channels_fit(unsigned int agent)
+{
+    bool fit = true;
+
+    if (!SCMI_PORT_SHARED)
+        return channels_fit(agent);
+    for (agent = 0; agent < SCMI_PORT_AGENTS; agent++)
+        fit = channels_fit(agent) && fit;
+    return fit;
+}
+
+/* Once: whether there is a platform is then in its handle. */
+static uint32_t make(unsigned int agent)
+{
+    struct service *service = service_of(agent);
+    scmi_platform *platform = &service->platform;
+    const scmi_board *board;
+    uint32_t given = SCMI_NO_PLATFORM;
+
+    if (service->is_asked_for)
+        return platform->at != NULL;
+    service->is_asked_for = true;
+    if (!scmi_header_fits()) {
+        ERROR("SCMI: the library is of another version than its headers\n");
+        return false;
+    }
+    board = scmi_service_board(agent, plat_scmi_get_channel(agent));
+    if (board != NULL)
+        given = scmi_platform_new_of_in(platform, memory[service - services], sizeof(memory[0]), board);
+    if (given == SCMI_DONE && !(all_channels_fit(agent) && scmi_service_start(agent, platform))) {
+        scmi_platform_free(platform);
+        given = SCMI_NO_PLATFORM;
+    }
+    if (given != SCMI_DONE)
+        ERROR("SCMI: agent %u has no platform (%u), and gets channel errors\n", agent, given);
+    return given == SCMI_DONE;
+}
+
+/* Makes a change of the hardware that was asked for, and has the library commit to it, or fail. */
+static void drive(unsigned int agent, const scmi_effect *effect, bool is_pending)
+{
+    scmi_platform *platform = &service_of(agent)->platform;
+    int32_t status = scmi_service_drive(agent, effect);
+
+    if (status != SCMI_SUCCESS)
+        INFO("SCMI: agent %u: %d of the hardware is answered as HARDWARE_ERROR\n", agent, status);
+    if (is_pending)
+        status == SCMI_SUCCESS ? scmi_advance(platform) : scmi_fail_advance(platform);
+    else
+        status == SCMI_SUCCESS ? scmi_commit(platform, copy.bytes) : scmi_fail(platform, copy.bytes);
+    if (SCMI_PORT_TRACE)
+        scmi_trace_change(agent, platform, effect, status == SCMI_SUCCESS);
+}
+
+/* Executes the message in the copy, and answers it there; without a platform it is answered by a channel error. */
+static void execute(unsigned int agent)
+{
+    scmi_effect effect;
+
+    if (scmi_ask(&service_of(agent)->platform, scmi_service_number(agent), copy.bytes, &effect) == SCMI_EFFECT)
+        drive(agent, &effect, false);
+    if ((copy.status & SCMI_MAILBOX_FREE) == 0)
+        copy.status = SCMI_MAILBOX_FREE_ERROR;
+}
+
+/* Whether a message was answered whose agent wants an interrupt. */
+static uint32_t serve(unsigned int agent)
+{
+    scmi_mailbox box;
+    scmi_area command;
+
     if (!find_box(agent, &box) || scmi_mailbox_is_free(&box))
-        return;
-    if (!services[agent].is_asked_for)
-        make(agent, plat_scmi_get_channel(agent));
+        return false;
+    make(agent);
     if (scmi_mailbox_take(&box, &copy) != SCMI_DONE)
-        return;
-    if (execute(agent) != SCMI_DONE || scmi_mailbox_answer(&box, &copy) == SCMI_NOTHING)
-        scmi_shared_hand_over(&box, SCMI_MAILBOX_FREE_ERROR);
+        return false;
+    if (SCMI_PORT_TRACE)
+        command = copy;
+    execute(agent);
+    if (SCMI_PORT_TRACE)
+        scmi_trace_answer(agent, &command, &copy);
+    scmi_mailbox_answer(&box, &copy);
+    return (copy.flags & WANTS_INTERRUPT) != 0;
+}
+
+/* The first pending set of a platform completes, if the hardware makes it. */
+static void complete(unsigned int at)
+{
+    scmi_effect effect;
+    uint32_t number;
+
+    if (scmi_pending(&services[at].platform, 0, &number, &effect) == SCMI_DONE)
+        drive(SCMI_PORT_SHARED ? number - 1 : at, &effect, true);
+}
+
+/* Whether a message was posted to an agent. */
+static bool tell(unsigned int agent)
+{
+    scmi_platform *platform = &service_of(agent)->platform;
+    scmi_mailbox box;
+
+    if (!is_over(scmi_service_outbox(agent), &box))
+        return false;
+    copy.status = SCMI_MAILBOX_FREE;
+    if (SCMI_PORT_TRACE && scmi_next(platform, scmi_service_number(agent), copy.bytes) != SCMI_DONE)
+        return false;
+    if (scmi_mailbox_tell(&box, platform, scmi_service_number(agent)) != SCMI_DONE)
+        return false;
+    if (SCMI_PORT_TRACE)
+        scmi_trace_message(agent, &copy);
+    return true;
+}
+
+static uint32_t poll(unsigned int first)
+{
+    uint32_t told = 0;
+    unsigned int at;
+
+    for (at = first; at < SCMI_SERVICE_PLATFORMS; at++)
+        complete(at);
+    for (at = first; at < SCMI_PORT_AGENTS; at++)
+        told |= (uint32_t)tell(at) << at;
+    return told;
+}
+
+/* No word of what was in it stays. */
+static void clear(const scmi_mailbox *box)
+{
+    uint32_t at;
+
+    for (at = 0; at < SCMI_AT_PAYLOAD; at++)
+        scmi_shared_store(box, at, 0);
 }
 
 /* What the agent asked for ends; nothing is asked of the hardware here, so this comes between two messages. */
-static void restart(unsigned int agent)
+static uint32_t restart(unsigned int agent)
 {
-    scmi_mailbox box;
-    uint32_t at;
+    scmi_mailbox commands, messages;
+    const scmi_mailbox *back;
 
-    if (!find_box(agent, &box))
-        return;
-    scmi_restart(&services[agent].platform, SCMI_SERVICE_AGENT);
-    for (at = 0; at < SCMI_AT_PAYLOAD; at++)
-        scmi_shared_store(&box, at, 0);
-    scmi_mailbox_start(&box);
+    if (!find_box(agent, &commands))
+        return 0;
+    back = is_over(scmi_service_outbox(agent), &messages) ? &messages : NULL;
+    clear(&commands);
+    if (back != NULL)
+        clear(back);
+    if (scmi_mailbox_restart(&commands, back, &service_of(agent)->platform, scmi_service_number(agent), NULL, 0) ==
+        SCMI_DONE)
+        return 0;
+    /* There is no platform yet, or never one. */
+    scmi_mailbox_start(&commands);
+    if (back != NULL)
+        scmi_mailbox_start(back);
+    return 0;
+}
+
+bool scmi_service_bring_up(unsigned int agent_id, scmi_platform *platform)
+{
+    scmi_effect effect = { .kind = SCMI_EFFECT_STATE };
+    bool made = true;
+
+    for (; made && scmi_domain_state(platform, effect.id, &effect.low) == SCMI_DONE; effect.id++)
+        made = scmi_service_drive(agent_id, &effect) == SCMI_SUCCESS;
+    effect = (scmi_effect){ .kind = SCMI_EFFECT_RATE };
+    for (; made && scmi_clock_rate(platform, effect.id, &effect.low, &effect.high) == SCMI_DONE; effect.id++)
+        made = scmi_service_drive(agent_id, &effect) == SCMI_SUCCESS;
+    effect = (scmi_effect){ .kind = SCMI_EFFECT_ENABLED };
+    for (; made && scmi_clock_enabled(platform, effect.id, &effect.low) == SCMI_DONE; effect.id++)
+        made = scmi_service_drive(agent_id, &effect) == SCMI_SUCCESS;
+    return made;
+}
+
+bool scmi_service_serve(unsigned int agent_id)
+{
+    return enter(serve, agent_id) != 0;
 }
 
 void scmi_smt_fastcall_smc_entry(unsigned int agent_id)
 {
-    enter(serve, agent_id);
+    scmi_service_serve(agent_id);
 }
 
 void scmi_smt_interrupt_entry(unsigned int agent_id)
 {
-    enter(serve, agent_id);
+    scmi_service_serve(agent_id);
+}
+
+bool scmi_service_make(unsigned int agent_id)
+{
+    return agent_id < SCMI_PORT_AGENTS && enter(make, agent_id) != 0;
+}
+
+uint32_t scmi_service_poll(void)
+{
+    return enter(poll, 0);
 }
 
 void scmi_service_restart(unsigned int agent_id)
 {
     enter(restart, agent_id);
+}
+
+/* Of a platform without channels back. */
+const struct scmi_msg_channel *scmi_service_outbox(unsigned int agent_id __unused)
+{
+    return NULL;
 }
 
 /* The agent whose channel it is: TF-A's interface does not say it here. */
@@ -185,7 +351,7 @@ void scmi_smt_init_agent_channel(struct scmi_msg_channel *chan)
 {
     scmi_mailbox box;
 
-    if (chan == NULL || scmi_mailbox_over(&box, (void *)chan->shm_addr, chan->shm_size) != SCMI_DONE) {
+    if (!is_over(chan, &box)) {
         ERROR("SCMI: a channel is missing, is not aligned to a word, or has less than %u bytes\n",
               4 * (SCMI_AT_PAYLOAD + SCMI_MAILBOX_LEAST_WORDS));
         panic();

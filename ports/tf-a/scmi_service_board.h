@@ -6,6 +6,7 @@
 #ifndef TOLBJIR_SCMI_SERVICE_BOARD_H
 #define TOLBJIR_SCMI_SERVICE_BOARD_H
 
+#include <stdbool.h>
 #include <stdint.h>
 
 #include <drivers/scmi-msg.h>
@@ -22,22 +23,57 @@
 #ifndef SCMI_PORT_CLOCKS
 #define SCMI_PORT_CLOCKS 32
 #endif
-/* Of the lists of all clocks of one agent together. */
+/* Of the lists of all clocks of one platform together. */
 #ifndef SCMI_PORT_RATES
 #define SCMI_PORT_RATES 256
 #endif
+#ifndef SCMI_PORT_DEVICES
+#define SCMI_PORT_DEVICES 1
+#endif
+/*
+ * 0: each agent has a platform of its own, of which it is agent 1, and the firmware agent 2. 1: all share one, of which
+ * agent N is agent N + 1, and the firmware the one after them. The firmware sends nothing by a channel.
+ */
+#ifndef SCMI_PORT_SHARED
+#define SCMI_PORT_SHARED 0
+#endif
+enum {
+    SCMI_SERVICE_AGENT = 1,
+    SCMI_SERVICE_FIRMWARE = SCMI_PORT_SHARED ? SCMI_PORT_AGENTS + 1 : SCMI_SERVICE_AGENT + 1,
+    SCMI_SERVICE_MOST_AGENTS = 8,
+    SCMI_SERVICE_PLATFORMS = SCMI_PORT_SHARED ? 1 : SCMI_PORT_AGENTS
+};
 
-/* The platform's agents: that which has the channel, and the firmware, which sends nothing and is the trusted one. */
-enum { SCMI_SERVICE_AGENT = 1, SCMI_SERVICE_FIRMWARE = 2 };
+/* The number of an agent on its platform. */
+static inline uint32_t scmi_service_number(unsigned int agent_id)
+{
+    return SCMI_PORT_SHARED ? agent_id + 1 : SCMI_SERVICE_AGENT;
+}
 
 /*
- * The board of an agent, once, with its first message. Its agents are those two, in this order; its device 0, if it has
- * one, is what the agent may not change. What the pointers lead to is not needed after the next call. Null if there is
- * none: then the agent gets channel errors.
+ * The board of an agent's platform, once, before its first message is served. Its agents are as SCMI_PORT_SHARED says;
+ * their channels are no larger than what plat_scmi_get_channel gives, and one-way if there is none back. What the
+ * pointers lead to is not needed after the next call. Null if there is none: then the agent gets channel errors.
  */
 const scmi_board *scmi_service_board(unsigned int agent_id, const struct scmi_msg_channel *channel);
 
+/*
+ * Once the platform is made: commands of the firmware's own (scmi_answer as SCMI_SERVICE_FIRMWARE), such as what an
+ * agent may not use, and the hardware, which is brought to the platform's values. The handle stays where it is. False
+ * if it fails: then there is no platform, and the agent gets channel errors.
+ */
+bool scmi_service_start(unsigned int agent_id, scmi_platform *platform);
+
 /* Makes a change of an agent's hardware: SCMI_SUCCESS, or another status of drivers/scmi.h, and nothing has changed. */
 int32_t scmi_service_drive(unsigned int agent_id, const scmi_effect *effect);
+
+/* The channel for the platform's messages to an agent, always the same. Null if there is none, as without this call. */
+const struct scmi_msg_channel *scmi_service_outbox(unsigned int agent_id);
+
+/*
+ * For scmi_service_start: calls scmi_service_drive for each state of a domain, rate of a clock, and bit of a clock, as
+ * the board has them at the start. False if one fails.
+ */
+bool scmi_service_bring_up(unsigned int agent_id, scmi_platform *platform);
 
 #endif

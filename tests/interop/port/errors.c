@@ -2,21 +2,19 @@
  * The port over hooks that each test sets: every way in which a message ends, what a restart leaves, and what BL31
  * says at the start. Each test is a process of its own, under the sanitizers. The last line is `N passed, M failed`.
  */
-#include <stdarg.h>
 #include <stdbool.h>
 #include <stdio.h>
-#include <stdlib.h>
 #include <string.h>
 #include <sys/wait.h>
 #include <unistd.h>
 
 #include <drivers/scmi.h>
-#include <lib/spinlock.h>
 
+#include "bl31.h"
 #include "scmi_service.h"
 #include "scmi_service_board.h"
 
-enum { STATUS = 1, LENGTH = 5, HEADER = 6, PAYLOAD = 7, AREA_BYTES = 128, PANIC = 77, SECONDS = 60 };
+enum { STATUS = 1, LENGTH = 5, HEADER = 6, PAYLOAD = 7, AREA_BYTES = 128 };
 /* Headers without a token. */
 enum { VERSION = 0x4000, STATE_SET = 0x4404, STATE_GET = 0x4405, ATTRIBUTES = 0x5003, RATES = 0x5004, RATE_SET = 0x5005,
        RATE_GET = 0x5006, CONFIG_SET = 0x5007 };
@@ -38,67 +36,6 @@ static unsigned int asked_for_vendor, sets;
 static uint32_t areas[2][AREA_BYTES / 4];
 static struct scmi_msg_channel channels[3];
 static struct scmi_msg_channel *channel_of[3] = { &channels[0], &channels[1], &channels[2] };
-static char said[1 << 14];
-static bool is_locked, overflows, is_other_version;
-static unsigned int failed_here, requests_left = UINT32_MAX;
-
-void console_flush(void) { }
-void el3_panic(void) { _exit(PANIC); }
-
-void tf_log(const char *format, ...)
-{
-    va_list arguments;
-    size_t used = strlen(said);
-
-    va_start(arguments, format);
-    vsnprintf(said + used, sizeof(said) - used, format + 1, arguments);
-    va_end(arguments);
-}
-
-void spin_lock(spinlock_t *lock)
-{
-    if (is_locked)
-        _exit(1);
-    is_locked = true;
-    lock->lock = 1;
-}
-
-void spin_unlock(spinlock_t *lock)
-{
-    is_locked = false;
-    lock->lock = 0;
-}
-
-void scmi_service_on_stack(uintptr_t top, void (*call)(unsigned int), unsigned int agent)
-{
-    call(agent);
-    if (overflows)
-        *(uint64_t *)(top - SCMI_PORT_STACK) = 0;
-}
-
-/* The linker puts these in place of the calls for memory, and of the library's version. */
-struct tried {
-    bool ok;
-    void *at;
-};
-struct tried __real_rattle_alloc(size_t bytes, size_t alignment);
-struct tried __wrap_rattle_alloc(size_t bytes, size_t alignment);
-uint32_t __real_scmi_version(void);
-uint32_t __wrap_scmi_version(void);
-
-struct tried __wrap_rattle_alloc(size_t bytes, size_t alignment)
-{
-    if (requests_left == 0)
-        return (struct tried){ false, NULL };
-    requests_left--;
-    return __real_rattle_alloc(bytes, alignment);
-}
-
-uint32_t __wrap_scmi_version(void)
-{
-    return is_other_version ? 0 : __real_scmi_version();
-}
-
 /* ---- The hooks. */
 
 struct scmi_msg_channel *plat_scmi_get_channel(unsigned int agent) { return agent < 3 ? channel_of[agent] : NULL; }
@@ -232,19 +169,6 @@ static int32_t set_rate(unsigned int agent, uint32_t id, uint32_t rate)
 static uint32_t rate_of(unsigned int agent, uint32_t id)
 {
     return ask(agent, RATE_GET, 1, &id) == 0 ? areas[agent][PAYLOAD + 1] : 0;
-}
-
-static void check(const char *what, bool holds)
-{
-    if (!holds) {
-        printf("      %s: it does not hold\n", what);
-        failed_here++;
-    }
-}
-
-static void says(const char *line)
-{
-    check(line, strstr(said, line) != NULL);
 }
 
 /* ---- Tests. */
@@ -518,11 +442,7 @@ static void steps_need_no_room_for_rates(void)
     check("all are served", rate_of(0, 2) == 100 && set_rate(0, 1, 50) == 0 && set_rate(0, 2, 300) == 0);
 }
 
-static const struct {
-    const char *what;
-    void (*test)(void);
-    int ends; /* the status of its process */
-} tests[] = {
+static const struct test tests[] = {
     { "a message is answered by either entry", a_message_is_answered_by_either_entry, 0 },
     { "a free channel is left alone", a_free_channel_is_left_alone, 0 },
     { "lengths that are none are channel errors", lengths_that_are_none_are_channel_errors, 0 },
@@ -545,36 +465,7 @@ static const struct {
     { "steps need no room for rates", steps_need_no_room_for_rates, 0 },
 };
 
-static bool passes(size_t at)
-{
-    pid_t child;
-    int status;
-
-    fflush(stdout);
-    child = fork();
-    if (child == 0) {
-        alarm(SECONDS);
-        start();
-        tests[at].test();
-        if (is_locked)
-            failed_here++;
-        fflush(stdout);
-        _exit(failed_here ? 1 : 0);
-    }
-    waitpid(child, &status, 0);
-    return WIFEXITED(status) && WEXITSTATUS(status) == tests[at].ends;
-}
-
 int main(void)
 {
-    size_t count = sizeof(tests) / sizeof(tests[0]), failed = 0;
-
-    for (size_t at = 0; at < count; at++) {
-        bool passed = passes(at);
-
-        printf("%s %s\n", passed ? "ok   " : "FAIL ", tests[at].what);
-        failed += !passed;
-    }
-    printf("%zu passed, %zu failed\n", count - failed, failed);
-    return failed != 0;
+    return run_tests(tests, sizeof(tests) / sizeof(tests[0]), start);
 }

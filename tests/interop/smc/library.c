@@ -1,46 +1,63 @@
 /*
- * The library's server, which serves an agent as boot/firmware/library.c does. Here the trusted agent has an area too,
- * so that each command of the profile can be served.
+ * The library's server, which serves an agent as ports/tf-a does. Here the trusted agent has an area too, so that each
+ * command of the profile can be served.
  */
-#include <string.h>
-
-#include "agents.h"
-#include "controller.h"
-#include "make.h"
+#include "hardware.h"
+#include "scmi_mailbox.h"
 #include "scmi_memory.h"
 #include "server.h"
 
-/* The flag of an area, and the bytes of one (board.txt). */
-enum { WANTS_INTERRUPT = 1, CHANNEL_BYTES = 156 };
+/* A header without its token, the devices of board.txt, and the bytes of an area there. */
+enum { SET_DEVICE_PERMISSIONS = 0x04009, GPU = 0, REST = 1, CHANNEL_BYTES = 156 };
 
 extern const uint8_t board_text[], board_text_end[];
 static uint8_t memory[0x4000] __attribute__((aligned(8)));
+static scmi_platform platform;
 static scmi_mailbox boxes[FIRMWARE + 1];
 
-bool make(scmi_platform *platform)
+static bool deny(uint32_t agent, uint32_t device)
 {
-    return scmi_platform_new_in(platform, memory, sizeof(memory), board_text, (size_t)(board_text_end - board_text)) ==
-           SCMI_DONE;
+    scmi_area area = { .length = 16, .header = SET_DEVICE_PERMISSIONS, .payload = { agent, device, 0 } };
+
+    return scmi_answer(&platform, FIRMWARE, area.bytes) == SCMI_DONE && area.payload[0] == 0;
 }
 
-bool server_serve(uint32_t agent, bool *interrupts)
+bool server_serve(uint32_t agent)
 {
     scmi_area area;
+    scmi_effect effect;
 
     if (scmi_mailbox_take(&boxes[agent], &area) != SCMI_DONE)
         return false;
-    *interrupts = (area.flags & WANTS_INTERRUPT) != 0;
-    if (!controller_serve(agent, &area))
-        return false;
-    scmi_mailbox_answer(&boxes[agent], &area);
-    return true;
+    if (scmi_ask(&platform, agent, area.bytes, &effect) == SCMI_EFFECT) {
+        if (hardware_make(&effect))
+            scmi_commit(&platform, area.bytes);
+        else
+            scmi_fail(&platform, area.bytes);
+    }
+    return scmi_mailbox_answer(&boxes[agent], &area) == SCMI_DONE;
+}
+
+static bool bring_up(void)
+{
+    scmi_effect effect = { .kind = SCMI_EFFECT_STATE };
+    bool made = true;
+
+    for (; scmi_domain_state(&platform, effect.id, &effect.low) == SCMI_DONE; effect.id++)
+        made &= hardware_make(&effect);
+    effect = (scmi_effect){ .kind = SCMI_EFFECT_RATE };
+    for (; scmi_clock_rate(&platform, effect.id, &effect.low, &effect.high) == SCMI_DONE; effect.id++)
+        made &= hardware_make(&effect);
+    return made;
 }
 
 bool server_start(void)
 {
-    if (!controller_start())
+    if (scmi_platform_new_in(&platform, memory, sizeof(memory), board_text, (size_t)(board_text_end - board_text)) !=
+            SCMI_DONE ||
+        !deny(MODEM_NUMBER, GPU) || !deny(MODEM_NUMBER, REST) || !bring_up())
         return false;
-    for (uint32_t agent = LINUX; agent <= FIRMWARE; agent++) {
+    for (uint32_t agent = FIRST; agent <= FIRMWARE; agent++) {
         if (scmi_mailbox_over(&boxes[agent], (void *)area_of(agent), CHANNEL_BYTES) != SCMI_DONE)
             return false;
         scmi_mailbox_start(&boxes[agent]);

@@ -10,7 +10,6 @@
 #include <stdio.h>
 #include <stdlib.h>
 
-#include "agents.h"
 #include "area.h"
 #include "server.h"
 
@@ -47,14 +46,13 @@ int main(void)
     while (fgets(line, sizeof(line), stdin)) {
         uint32_t words[MOST_WORDS];
         unsigned count = read_words(line, words);
-        bool interrupts;
         uint8_t *area;
 
-        if (count < 2 || words[0] < LINUX || words[0] > FIRMWARE)
+        if (count < 2 || words[0] < FIRST || words[0] > FIRMWARE)
             return 64;
         area = (uint8_t *)area_of(words[0]);
         area_post(area, words[1], count - 2, words + 2);
-        server_serve(words[0], &interrupts);
+        server_serve(words[0]);
         printf("%u", (unsigned)area_word(area, SCMI_AREA_STATUS));
         area_print_words(area);
     }

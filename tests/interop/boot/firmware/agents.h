@@ -1,18 +1,17 @@
 /*
- * The agents of board.txt, and where each has its area. Agents 1 and 2 have an SMC and no way back, agent 3 a
- * mailbox and two areas. The last is the firmware's own, and the trusted one; nobody else sees an area of its.
+ * The agents, as TF-A counts them; to the platform agent N is agent N + 1, as board.txt numbers it. Two have an SMC and
+ * no way back, the third a mailbox and two areas. One more is the firmware's own, and the trusted one.
  */
 #ifndef AGENTS_H
 #define AGENTS_H
-#include <stdint.h>
+#include "scmi.h"
 
-#include <platform_def.h>
+enum { LINUX = 0, MODEM = 1, MAILBOX = 2, AGENTS = 3 };
 
-enum { LINUX = 1, MODEM = 2, MAILBOX = 3, FIRMWARE = 4 };
+/* Of mailbox.c: the mailbox from its start on, and after a restart of its agent. */
+int32_t mailbox_start(void);
+void mailbox_restart(void);
 
-/* The area of an agent's commands. */
-static inline uintptr_t area_of(uint32_t agent)
-{
-    return SCMI_SHARED_BASE + (agent - LINUX) * SCMI_SHARED_EACH;
-}
+/* For measured/, which calls the library itself. */
+extern scmi_platform *board_platform;
 #endif

@@ -18,6 +18,7 @@ static bool set_switch(unsigned int domain, bool on)
 {
     int line = (int)(FIRST_SWITCH + domain);
 
+    gpio_set_direction(line, GPIO_DIR_OUT);
     gpio_set_value(line, on ? GPIO_LEVEL_HIGH : GPIO_LEVEL_LOW);
     if (is_on(domain) == on)
         return true;
@@ -42,19 +43,6 @@ void hardware_read(hardware_state *state)
         state->clocks[i] = clocks[i];
 }
 
-bool hardware_start(const hardware_state *state)
-{
-    bool is_set = true;
-
-    for (unsigned int i = 0; i < CLOCKS; i++)
-        clocks[i] = state->clocks[i];
-    for (unsigned int domain = 0; domain < DOMAINS; domain++) {
-        gpio_set_direction((int)(FIRST_SWITCH + domain), GPIO_DIR_OUT);
-        is_set &= set_switch(domain, state->domains[domain]);
-    }
-    return is_set;
-}
-
 /* The state after a change of it; false where there is no such switch. */
 static bool change(hardware_state *state, const scmi_effect *effect)
 {
@@ -71,7 +59,20 @@ static bool change(hardware_state *state, const scmi_effect *effect)
     return true;
 }
 
-bool hardware_make(const scmi_effect *effect)
+static void say(void)
+{
+    hardware_state state;
+
+    hardware_read(&state);
+    printf("SCMI: hardware:");
+    for (unsigned int domain = 0; domain < DOMAINS; domain++)
+        printf(" %s", state.domains[domain] ? "on" : "off");
+    for (unsigned int i = 0; i < CLOCKS; i++)
+        printf(" %llu %s", (unsigned long long)state.clocks[i].rate, state.clocks[i].is_open ? "open" : "closed");
+    printf("\n");
+}
+
+static bool make(const scmi_effect *effect)
 {
     hardware_state state;
 
@@ -84,23 +85,11 @@ bool hardware_make(const scmi_effect *effect)
     return true;
 }
 
-void hardware_say(const char *of, const hardware_state *state)
+bool hardware_make(const scmi_effect *effect)
 {
-    printf("%s", of);
-    for (unsigned int domain = 0; domain < DOMAINS; domain++)
-        printf(" %s", state->domains[domain] ? "on" : "off");
-    for (unsigned int i = 0; i < CLOCKS; i++)
-        printf(" %llu %s", (unsigned long long)state->clocks[i].rate, state->clocks[i].is_open ? "open" : "closed");
-}
+    bool made = make(effect);
 
-void hardware_say_change(uint32_t agent, const scmi_effect *effect, bool made)
-{
-    printf("SCMI: agent %u: ", agent);
-    if (effect->kind == SCMI_EFFECT_STATE)
-        printf("domain %u %s", effect->id, effect->low == 0 ? "on" : "off");
-    else if (effect->kind == SCMI_EFFECT_RATE)
-        printf("clock %u %llu Hz", effect->id, (unsigned long long)effect->high << 32 | effect->low);
-    else
-        printf("clock %u %s", effect->id, effect->low ? "open" : "closed");
-    printf(": %s\n", made ? "made" : "refused");
+    if (!SCMI_MEASURED)
+        say();
+    return made;
 }

@@ -1,12 +1,11 @@
 /*
  * What the platform switches. A domain's switch is a line of the secure GPIO. QEMU's machine has no clock to set, so
  * numbers stand for the clocks. The supply carries four loads, where each domain that is on is one, and the
- * processors above 1 GHz are two: a change that would be more is refused.
+ * processors above 1 GHz are two: a change that would be more is refused. Before the first change all is off.
  */
 #ifndef HARDWARE_H
 #define HARDWARE_H
 #include <stdbool.h>
-#include <stdint.h>
 
 #include "scmi.h"
 
@@ -22,15 +21,9 @@ typedef struct hardware_state {
     clock_state clocks[CLOCKS];
 } hardware_state;
 
-/* Brings the hardware to a state, once, before anything changes it. */
-bool hardware_start(const hardware_state *state);
-
 /* Makes a change, and says whether it was made; a change that was not leaves the hardware as it was. */
 bool hardware_make(const scmi_effect *effect);
 
 /* Reads the switches back. */
 void hardware_read(hardware_state *state);
-
-void hardware_say(const char *of, const hardware_state *state);
-void hardware_say_change(uint32_t agent, const scmi_effect *effect, bool made);
 #endif

@@ -1,5 +1,8 @@
-#include "mailbox.h"
-
+/*
+ * A mailbox of the kind that Linux drives as "arm,mhu" (Arm's MHU). QEMU's machine has none, so its registers are
+ * memory, which Linux writes, and an interrupt of the secure timer looks at them. The same interrupt completes
+ * pending sets and posts messages, for which nothing else runs at EL3 between two SMCs.
+ */
 #include <arch_helpers.h>
 #include <bl31/interrupt_mgmt.h>
 #include <drivers/arm/gic_common.h>
@@ -7,7 +10,7 @@
 #include <plat/common/platform.h>
 
 #include "agents.h"
-#include "server.h"
+#include "scmi_service.h"
 
 /* Two channels of the mailbox: answers and messages. Linux reads the registers of one side, and writes the other's. */
 enum { ANSWERS = 0, MESSAGES = 1, CHANNELS = 2 };
@@ -44,14 +47,12 @@ static void interrupt(unsigned int channel)
 static void look(void)
 {
     uintptr_t bell = at(FROM_LINUX, ANSWERS) + SET;
-    bool interrupts = false;
 
     if (mmio_read_32(bell) == 0)
         return;
     mmio_write_32(bell, 0);
     dsbish();
-    if (server_serve(MAILBOX, &interrupts))
-        wanted[ANSWERS] |= interrupts;
+    wanted[ANSWERS] |= scmi_service_serve(MAILBOX);
 }
 
 static void set_timer(void)
@@ -66,8 +67,7 @@ static uint64_t tick(uint32_t id, uint32_t flags, void *handle, void *cookie)
     uint32_t raw = plat_ic_acknowledge_interrupt();
 
     look();
-    library_advance();
-    wanted[MESSAGES] |= library_tell();
+    wanted[MESSAGES] |= (scmi_service_poll() >> MAILBOX & 1) != 0;
     interrupt(ANSWERS);
     interrupt(MESSAGES);
     set_timer();
@@ -75,18 +75,24 @@ static uint64_t tick(uint32_t id, uint32_t flags, void *handle, void *cookie)
     return 0;
 }
 
-bool mailbox_start(void)
+void mailbox_restart(void)
+{
+    for (unsigned int byte = 0; byte < SCMI_SHARED_EACH; byte += 4)
+        mmio_write_32(SCMI_MAILBOX_BASE + byte, 0);
+    wanted[ANSWERS] = wanted[MESSAGES] = false;
+}
+
+int32_t mailbox_start(void)
 {
     uint32_t flags = 0;
 
     set_interrupt_rm_flag(flags, NON_SECURE);
     if (register_interrupt_type_handler(INTR_TYPE_EL3, tick, flags) != 0)
-        return false;
-    for (unsigned int byte = 0; byte < SCMI_SHARED_EACH; byte += 4)
-        mmio_write_32(SCMI_MAILBOX_BASE + byte, 0);
+        return -1;
+    mailbox_restart();
     plat_ic_set_interrupt_type(TIMER, INTR_TYPE_EL3);
     plat_ic_set_interrupt_priority(TIMER, GIC_HIGHEST_SEC_PRIORITY);
     plat_ic_enable_interrupt(TIMER);
     set_timer();
-    return true;
+    return 0;
 }

@@ -86,8 +86,8 @@ static void say(const struct frame *frame)
 	stack = smc(STACK_WRITTEN, 0, 0);
 	status = (s32)readl(area + PAYLOAD);
 	post(frame);
-	answers = smc(ANSWERS, 1, ROUNDS);
-	asks = smc(ASKS, 1, ROUNDS);
+	answers = smc(ANSWERS, 0, ROUNDS);
+	asks = smc(ASKS, 0, ROUNDS);
 	writel(1, area + STATUS);
 	pr_info("measured: %s: status %d: SMC %llu, asked and committed %llu, answered %llu; stack %llu\n", frame->name, status,
 		call * PER_TICK / ROUNDS, asks * PER_TICK / ROUNDS, answers * PER_TICK / ROUNDS, stack);

@@ -8,7 +8,7 @@
 
 /* One region more than QEMU's: the shared memory. */
 #undef MAX_MMAP_REGIONS
-#define MAX_MMAP_REGIONS 13
+#define MAX_MMAP_REGIONS 15
 #undef MAX_XLAT_TABLES
 #define MAX_XLAT_TABLES 8
 
@@ -19,7 +19,6 @@
 #define SCMI_SMC_ID U(0x82000010)
 #define SCMI_SHARED_BASE ULL(0x50000000)
 #define SCMI_SHARED_EACH ULL(0x1000)
-#define SCMI_OUTBOX_BASE (SCMI_SHARED_BASE + 3 * SCMI_SHARED_EACH)
 #define SCMI_MAILBOX_BASE (SCMI_SHARED_BASE + 4 * SCMI_SHARED_EACH)
 #define SCMI_SHARED_BYTES (5 * SCMI_SHARED_EACH)
 /* As board.txt says. */
@@ -27,10 +26,4 @@
 /* The interrupt that announces an answer to agent 2, and the first of those of the mailbox. */
 #define SCMI_INTERRUPT 132
 #define SCMI_MAILBOX_INTERRUPT 133
-
-/* Secure memory that BL31 has mapped and nothing else uses, as there is no BL32. */
-#define SCMI_STACK_BASE SEC_DRAM_BASE
-#define SCMI_STACK_SIZE 0x7000
-#define SCMI_HEAP_BASE (SEC_DRAM_BASE + 0x10000)
-#define SCMI_HEAP_SIZE 0x4000
 #endif

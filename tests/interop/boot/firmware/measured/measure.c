@@ -5,7 +5,6 @@
 #include <plat/common/platform.h>
 #include <platform_def.h>
 
-#include "server.h"
 
 /* Left alone below the frame that paints, for what it calls. */
 enum { PAINT = 0xa5, BELOW = 256 };
@@ -41,7 +40,7 @@ uint64_t measure(uint32_t id, uint64_t first, uint64_t second)
         return stack_written();
     case ANSWERS:
     case ASKS:
-        return server_measure((uint32_t)first, (uint32_t)second, id == ASKS);
+        return measure_server((uint32_t)first, (uint32_t)second, id == ASKS);
     default:
         return 0;
     }

@@ -1,15 +1,20 @@
 /* The agents answered by TF-A's own server (drivers/scmi-msg), over the same hardware: to compare with. */
 #include <string.h>
 
+#include "agents.h"
+#include "hardware.h"
+#include "measure.h"
+#include "scmi_service.h"
+
+/* TF-A has a number of this name. */
+#undef SCMI_VERSION
+
 #include <arch_helpers.h>
 #include <common.h>
 #include <drivers/scmi-msg.h>
 #include <drivers/scmi.h>
 #include <lib/utils_def.h>
-
-#include "agents.h"
-#include "hardware.h"
-#include "server.h"
+#include <platform_def.h>
 
 /* The server calls these too, but its public header lacks them. */
 size_t plat_scmi_pd_count(unsigned int agent_id);
@@ -19,6 +24,7 @@ unsigned int plat_scmi_pd_get_state(unsigned int agent_id, unsigned int pd_id);
 int32_t plat_scmi_pd_set_state(unsigned int agent_id, unsigned int flags, unsigned int pd_id, unsigned int state);
 
 enum { STATE_ON = 0, STATE_OFF = 0x40000000, SETS_SYNCHRONOUS = 1 << 29 };
+enum { CAMERA = 1, CPU = 0, GPU = 1, UART = 2 };
 /* Where the header and the payload of an area are. */
 enum { LENGTH = 0x14, HEADER = 0x18, PAYLOAD = 0x1c };
 
@@ -35,34 +41,31 @@ static const struct rates rates[CLOCKS] = {
     { "gpu", 0, { 100000000, 800000000, 100000000 } },
     { "uart", 2, { 24000000, 48000000 } },
 };
-static struct scmi_msg_channel channels[MODEM];
+#define AREA(n) { .shm_addr = SCMI_SHARED_BASE + (n) * SCMI_SHARED_EACH, .shm_size = SMT_BUF_SLOT_SIZE }
+static struct scmi_msg_channel channels[AGENTS] = { AREA(0), AREA(1), AREA(2) };
 
-bool server_start(void)
+/* What the port has beside TF-A's interface. */
+bool scmi_service_make(unsigned int agent_id)
 {
-    const hardware_state state = {
-        .domains = { false, true, false, false },
-        .clocks = { { 1000000000, true }, { 400000000, false }, { 24000000, false } },
-    };
-
-    for (uint32_t agent = LINUX; agent <= MODEM; agent++) {
-        struct scmi_msg_channel *channel = &channels[agent - LINUX];
-
-        *channel = (struct scmi_msg_channel){ .shm_addr = area_of(agent), .shm_size = SMT_BUF_SLOT_SIZE };
-        scmi_smt_init_agent_channel(channel);
-    }
-    return hardware_start(&state);
+    return plat_scmi_pd_set_state(agent_id, 0, CAMERA, STATE_ON) == SCMI_SUCCESS &&
+           plat_scmi_clock_set_rate(agent_id, CPU, 1000000000) == SCMI_SUCCESS &&
+           plat_scmi_clock_set_state(agent_id, CPU, true) == SCMI_SUCCESS &&
+           plat_scmi_clock_set_rate(agent_id, GPU, 400000000) == SCMI_SUCCESS &&
+           plat_scmi_clock_set_rate(agent_id, UART, 24000000) == SCMI_SUCCESS;
 }
 
-bool server_serve(uint32_t agent, bool *interrupts)
+bool scmi_service_serve(unsigned int agent_id)
 {
-    scmi_smt_fastcall_smc_entry(agent);
-    *interrupts = agent == MODEM;
+    scmi_smt_fastcall_smc_entry(agent_id);
     return true;
 }
 
+void scmi_service_restart(unsigned int agent_id) { }
+size_t scmi_service_stack_used(void) { return 0; }
+
 struct scmi_msg_channel *plat_scmi_get_channel(unsigned int agent_id)
 {
-    return agent_id >= LINUX && agent_id <= MODEM ? &channels[agent_id - LINUX] : NULL;
+    return agent_id < AGENTS ? &channels[agent_id] : NULL;
 }
 
 const char *plat_scmi_vendor_name(void) { return "Acme"; }
@@ -105,15 +108,23 @@ int32_t plat_scmi_pd_set_state(unsigned int agent_id, unsigned int flags, unsign
 size_t plat_scmi_clock_count(unsigned int agent_id) { return CLOCKS; }
 const char *plat_scmi_clock_get_name(unsigned int agent_id, unsigned int scmi_id) { return rates[scmi_id].name; }
 
+/* TF-A 2.8 asks for all rates at once. */
+#ifdef TFA_2_8
 int32_t plat_scmi_clock_rates_array(unsigned int agent_id, unsigned int scmi_id, unsigned long *array, size_t *nb_elts)
 {
+    const uint32_t from = 0;
+#else
+int32_t plat_scmi_clock_rates_array(unsigned int agent_id, unsigned int scmi_id, unsigned long *array, size_t *nb_elts,
+                                    uint32_t from)
+{
+#endif
     const struct rates *clock = &rates[scmi_id];
 
     if (clock->count == 0)
         return SCMI_NOT_SUPPORTED;
-    *nb_elts = array ? MIN(*nb_elts, clock->count) : clock->count;
+    *nb_elts = array ? MIN(*nb_elts, clock->count - from) : clock->count;
     if (array)
-        memcpy(array, clock->of, *nb_elts * sizeof(*array));
+        memcpy(array, clock->of + from, *nb_elts * sizeof(*array));
     return SCMI_SUCCESS;
 }
 
@@ -164,9 +175,9 @@ int32_t plat_scmi_clock_set_state(unsigned int agent_id, unsigned int scmi_id, b
 }
 
 /* The server's call for a message that was copied, without its areas. */
-uint64_t server_measure(uint32_t agent, uint32_t rounds, bool asks)
+uint64_t measure_server(uint32_t agent, uint32_t rounds, bool asks)
 {
-    const volatile uint32_t *words = (const volatile uint32_t *)area_of(agent);
+    const volatile uint32_t *words = (const volatile uint32_t *)channels[agent].shm_addr;
     uint32_t header = words[HEADER / 4], in[24] = { 0 }, out[24];
     struct scmi_msg msg = { .agent_id = agent, .protocol_id = header >> 10 & 0xff, .message_id = header & 0xff,
                             .in = (char *)in, .in_size = words[LENGTH / 4] - 4, .out = (char *)out,
