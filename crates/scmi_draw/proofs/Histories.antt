@@ -88,7 +88,7 @@ module _ (board : Board) where
       All-cons OfBoard (step.Platform a platform_step.Flush) (taking_steps logs sent a) is (maybe_of_board a agent_step.P2a (nat_lt (count_by (nat_eq a) sent) (taken_by logs a)) is)
   event_of_board logs sent before (event.CommandFailed a f) may = refusal_of_board a f may.0
   event_of_board logs sent before event.AdvanceFailed may = one_of_board step.AdvanceFailed tt
-  event_of_board logs sent before (event.Restarted a) may = none_of_board
+  event_of_board logs sent before (event.Restarted a) may = one_of_board (step.Restart a) may
 
   events_of_board : (h : List Event) → IsLegal board h → (logs : List AgentLog) (sent : List ℕ) (before after : List Event) → h ≡ before ++ after → All OfBoard (steps_after logs sent after)
   events_of_board h legal logs sent before [] parted = none_of_board

@@ -1,5 +1,6 @@
 //! Lines that are not of a board.
 
+use crate::first_words::FirstWords;
 use crate::fit::{Fit, begins_as, fit_of};
 use crate::forms::{Form, HARDWARE_STEPS, HEADINGS, ORDERS, ROWS, STEPS};
 use crate::mode::is_mode;
@@ -11,9 +12,6 @@ use crate::what::What;
 use scmi_board::is_significant;
 use std::alloc::Global;
 use std::str::from_utf8;
-
-/// The first words of a board's rows.
-const ROW_WORDS: [&str; 5] = ["agent", "domain", "clock", "device", "end"];
 
 /// What is wrong with the line of a number, which is not one of a board, where one is required.
 pub(crate) fn board_cause(alloc: Global, input: &[u8], number: u32) -> (What<'_>, Option<Slip>) {
@@ -49,7 +47,10 @@ fn heading_cause(alloc: Global, line: &[u8]) -> (What<'_>, Option<Slip>) {
         Fit::Until(fault) => (What::Item(fault), None),
         Fit::Well => (What::NoEnd, None),
         Fit::Unknown if is_mode(line) => (What::NoHeading(line), Some(Slip::SecondMode)),
-        Fit::Unknown => (What::NoHeading(line), slip_of_word(alloc, &["board"], line)),
+        Fit::Unknown => (
+            What::NoHeading(line),
+            slip_of_word(alloc, FirstWords::of(&HEADINGS), line),
+        ),
     }
 }
 
@@ -61,7 +62,7 @@ fn row_cause(alloc: Global, line: &[u8]) -> (What<'_>, Option<Slip>) {
         Fit::Until(fault) => (What::Item(fault), slip_of_other_bytes(line)),
         Fit::Well => (What::NoEnd, None),
         Fit::Unknown => {
-            let slip = slip_of_step(line).or(slip_of_word(alloc, &ROW_WORDS, line));
+            let slip = slip_of_step(line).or(slip_of_word(alloc, FirstWords::of(&ROWS), line));
             (What::NoRow(line), slip)
         }
     }
@@ -89,16 +90,19 @@ fn word_of(forms: &[Form], line: &[u8]) -> Option<&'static str> {
 }
 
 /// The slip of a line whose first word is not one of these.
-pub(crate) fn slip_of_word(alloc: Global, words: &[&'static str], line: &[u8]) -> Option<Slip> {
+pub(crate) fn slip_of_word(alloc: Global, words: FirstWords, line: &[u8]) -> Option<Slip> {
     let Ok(word) = from_utf8(first_word(line)) else {
         return Some(Slip::OtherByte);
     };
-    for known in words {
+    let Ok(words) = words.listed(alloc) else {
+        return slip_of_other_bytes(line);
+    };
+    for known in &words {
         if known.as_bytes().eq_ignore_ascii_case(word.as_bytes()) {
             return Some(Slip::Case);
         }
     }
-    nearest(alloc, words, word)
+    nearest(alloc, &words, word)
         .map(Slip::Nearest)
         .or(slip_of_other_bytes(line))
 }

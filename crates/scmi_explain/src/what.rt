@@ -1,6 +1,8 @@
 //! What is wrong, in words.
 
 use crate::expected::Expected;
+use crate::first_words::FirstWords;
+use crate::forms::ROWS;
 use crate::item_fault::ItemFault;
 use crate::mode::MODES;
 use crate::plan_fault::PlanFault;
@@ -23,7 +25,7 @@ pub enum What<'a> {
     /// The last line of the input comes before the line `end`.
     NoEnd,
     /// This line is not one of a script, whose lines begin with these words.
-    NoStep(&'a [u8], &'static str),
+    NoStep(&'a [u8], FirstWords),
     /// An item of the line is wrong.
     Item(ItemFault<'a>),
     /// No script was begun before the line.
@@ -95,8 +97,9 @@ fn fmt_line<W: fmt::Write>(what: &What<'_>, f: &mut fmt::Formatter<W>) -> fmt::R
         ),
         What::NoRow(line) => write!(
             f,
-            "unknown board line {}; expected agent, domain, clock, device or end",
-            Quoted(line)
+            "unknown board line {}; expected {}",
+            Quoted(line),
+            FirstWords::of(&ROWS)
         ),
         What::NoScript(line) => write!(
             f,
