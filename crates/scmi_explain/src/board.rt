@@ -7,7 +7,7 @@ use crate::mode::is_mode;
 use crate::near::nearest;
 use crate::rows::Rows;
 use crate::slip::{Slip, slip_of_bytes, slip_of_other_bytes};
-use crate::text::{behind_first, first_word, line_at};
+use crate::text::{behind_first, first_line, first_word, line_at};
 use crate::what::What;
 use scmi_board::is_significant;
 use std::alloc::Global;
@@ -25,10 +25,40 @@ pub(crate) fn board_cause(alloc: Global, input: &[u8], number: u32) -> (What<'_>
         return (What::NoEnd, None);
     }
     if is_heading(input, number) {
-        heading_cause(alloc, line)
-    } else {
-        row_cause(alloc, line)
+        return heading_cause(alloc, line);
     }
+    if let Some(cause) = channel_cause(input, line, number) {
+        return cause;
+    }
+    row_cause(alloc, line)
+}
+
+/// The first word of a line for the channels of an agent.
+const CHANNEL: &[u8] = b"channel";
+
+/// What is wrong with the line of a number, if it is for channels, or comes after one that is.
+fn channel_cause<'a>(
+    input: &'a [u8],
+    line: &'a [u8],
+    number: u32,
+) -> Option<(What<'a>, Option<Slip>)> {
+    let takes_channels = first_word(first_line(input)) == b"hardware".as_slice();
+    if first_word(line) == CHANNEL {
+        return Some(if takes_channels {
+            (What::NoChannel, slip_of_bytes(line))
+        } else {
+            (What::NoRow(line), Some(Slip::OtherMode("hardware")))
+        });
+    }
+    if !takes_channels || !matches!(&fit_of(&ROWS, line, 0), Fit::Well) {
+        return None;
+    }
+    for row in Rows::of_board(behind_first(input)) {
+        if row.number < number && first_word(row.text) == CHANNEL {
+            return Some((What::AfterChannels, None));
+        }
+    }
+    None
 }
 
 /// Whether the line of a number is the first one of the board.
