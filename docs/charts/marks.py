@@ -29,6 +29,8 @@ def wanted(script, output):
 def marks_of(step, words):
     if step == "advance":
         return ["failed" if words[1:] == ["failed", "yes"] else "advance"]
+    if step == "restart":
+        return ["restart"]
     if step in ("serve", "flush", "shut"):
         done = {"done": "execution", "posted": "posted", "ok": "closed"}
         return [done.get(words[2], "remark")]

@@ -11,6 +11,8 @@ use std::io::{Eprint, Error, Read};
 
 /// The line of a mode before a board, with which its text is explained as an input of that mode.
 const MODE_LINE: &[u8] = b"steps words\n";
+/// The same of a mode whose boards may have lines for channels.
+const CHANNEL_MODE_LINE: &[u8] = b"hardware words\n";
 
 /// A board as its file has it, and its text after the line of a mode.
 #[derive(Drop)]
@@ -42,7 +44,7 @@ impl Opened {
     /// The board of a file.
     pub fn read<B: Read + Drop>(alloc: Global, file: &mut B) -> Result<Opened, Refused> {
         let mut text = Vec::new(alloc);
-        match fill(alloc, &mut text, file) {
+        match fill(alloc, &mut text, MODE_LINE, file) {
             Ok(()) => {}
             Err(error) => return Err(refusal_for(Why::Fault(RunError::from(error)), text)),
         }
@@ -73,10 +75,11 @@ impl Opened {
 }
 
 impl Refused {
-    /// The rejection of these bytes as a board, with this fault, whose line is one of theirs.
+    /// The rejection of these bytes as a board that may have lines for channels, with this fault,
+    /// whose line is one of theirs.
     pub fn of_bytes(alloc: Global, mut bytes: &[u8], fault: Fault) -> Refused {
         let mut text = Vec::new(alloc);
-        let _ = fill(alloc, &mut text, &mut bytes);
+        let _ = fill(alloc, &mut text, CHANNEL_MODE_LINE, &mut bytes);
         let why = match fault {
             Fault::Board(line) => RunError::Board(line.saturating_add(1)),
             Fault::Plan(rule) => RunError::Plan(rule),
@@ -140,9 +143,14 @@ fn refusal_for(why: Why, text: Vec<u8>) -> Refused {
 }
 
 /// Appends the line of a mode and a file to a text, and the line feed that its last line may lack.
-fn fill<B: Read>(alloc: Global, text: &mut Vec<u8>, file: &mut B) -> Result<(), InputError> {
+fn fill<B: Read>(
+    alloc: Global,
+    text: &mut Vec<u8>,
+    mode_line: &[u8],
+    file: &mut B,
+) -> Result<(), InputError> {
     let file = read_rest(alloc, &mut CountedReader::new(file))?;
-    let is_kept = text.extend_from_slice(MODE_LINE).is_ok()
+    let is_kept = text.extend_from_slice(mode_line).is_ok()
         && text.extend_from_slice(&file).is_ok()
         && (file.is_empty() || file.last() == Some(&b'\n') || text.push(b'\n').is_ok());
     if is_kept {

@@ -29,6 +29,7 @@ line_agent (line.Flushed a flushed) = a
 line_agent (line.P2a a frame) = a
 line_agent (line.Closed a closing) = a
 line_agent (line.Shut a closing) = a
+line_agent (line.Restarted a) = a
 line_agent _ = 0
 
 -- a lifeline, if its agent was served

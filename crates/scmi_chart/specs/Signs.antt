@@ -31,7 +31,7 @@ use Rattle.scmi_svg.specs.declared.mark.Side.{Side}
 use Rattle.scmi_svg.specs.declared.mark.Side.TheVariants as side
 use Rattle.scmi_chart.specs.Wording.{Wording, answer_wording, asked_wording, posted_wording, refused_wording, wording_of}
 
--- what a mark shows, with the words of its message: whether a command that an agent posted was executed, with its token if it has one; a post was refused; the platform executed a command; the outcome of the answer to its command that an agent read; an agent took a delayed response or a notification; the platform posted a message; it was to complete a pending set, and whether there was one; it ended one whose change the hardware refused; the hardware refused what an agent's command was to change; channels were closed; or a step of an agent's came to nothing
+-- what a mark shows, with the words of its message: whether a command that an agent posted was executed, with its token if it has one; a post was refused; the platform executed a command; the outcome of the answer to its command that an agent read; an agent took a delayed response or a notification; the platform posted a message; it was to complete a pending set, and whether there was one; it ended one whose change the hardware refused; the hardware refused what an agent's command was to change; channels were closed; an agent restarted; or a step of an agent's came to nothing
 pub data Sign : Type 0 where
   sent : Bool → ℕ → Option ℕ → Wording → Sign
   unsent : ℕ → Wording → Sign
@@ -44,6 +44,7 @@ pub data Sign : Type 0 where
   failed : Sign
   faulted : ℕ → Sign
   closed : ℕ → Side → Sign
+  restarted : ℕ → Sign
   remarked : ℕ → Sign
 
 -- what a mark shows
@@ -61,6 +62,7 @@ sign_of (mark.Closed agent slot by text) = closed agent by
 sign_of (mark.Remark agent slot beside text) = remarked agent
 sign_of (mark.Failed slot text) = failed
 sign_of (mark.Fault agent slot text) = faulted agent
+sign_of (mark.Restarted agent slot text) = restarted agent
 
 -- the lifeline of an agent: boards have 8 at most
 abbrev pub lane : ℕ → ℕ
@@ -152,7 +154,7 @@ abbrev pub shut_signs : {T : Type 0} → ℕ → Result T ShutError → List Sig
 shut_signs a (Ok u) = closed a side.Platform ∷ []
 shut_signs a (Err refusal) = remarked a ∷ []
 
--- what is shown of a step that came to this line: each command that was posted, and whether it is executed, in this step or later; each post that was refused, each execution, answer and message, each message that was posted, each advance, each refusal of the hardware and each close, by its agent, once, in the words of its message; and what came to nothing. A set of the agent's last command may be one that takes effect later
+-- what is shown of a step that came to this line: each command that was posted, and whether it is executed, in this step or later; each post that was refused, each execution, answer and message, each message that was posted, each advance, each refusal of the hardware, each restart and each close, by its agent, once, in the words of its message; and what came to nothing. A set of the agent's last command may be one that takes effect later
 abbrev pub signs_of : Board → Bool → Bool → Step → StepLine → List Sign
 signs_of board x later s (line.Token a token) = sent_sign board x s (lane a) (Some token) ∷ []
 signs_of board x later s (line.Posted a) = sent_sign board x s (lane a) (raw_token s) ∷ []
@@ -169,4 +171,5 @@ signs_of board x later s (line.Flushed a flushed) = flushed_signs (lane a) flush
 signs_of board x later s (line.P2a a frame) = taken_signs board (lane a) frame
 signs_of board x later s (line.Closed a closing) = closed_signs (lane a) closing
 signs_of board x later s (line.Shut a closing) = shut_signs (lane a) closing
+signs_of board x later s (line.Restarted a) = restarted (lane a) ∷ []
 signs_of board x later s (line.Trace events) = []

@@ -33,6 +33,7 @@ mod posts;
 mod recorder;
 mod remark_marks;
 mod reply_label;
+mod restart_marks;
 mod sign;
 mod subject;
 mod value;

@@ -145,6 +145,7 @@ impl<'a> Recorder<'a> {
                 agent,
                 result: closing,
             } => self.record_shut(lane(*agent), slot, closing),
+            StepLine::Restarted { agent } => self.record_restart(lane(*agent), slot),
             StepLine::Trace { .. } => Ok(()),
         }
     }

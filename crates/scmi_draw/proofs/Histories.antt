@@ -88,7 +88,7 @@ module _ (board : Board) where
       All-cons OfBoard (step.Platform a platform_step.Flush) (taking_steps logs sent a) is (maybe_of_board a agent_step.P2a (nat_lt (count_by (nat_eq a) sent) (taken_by logs a)) is)
   event_of_board logs sent before (event.CommandFailed a f) may = refusal_of_board a f may.0
   event_of_board logs sent before event.AdvanceFailed may = one_of_board step.AdvanceFailed tt
-  event_of_board logs sent before (event.Restarted a) may = none_of_board
+  event_of_board logs sent before (event.Restarted a) may = one_of_board (step.Restart a) may
 
   events_of_board : (h : List Event) → IsLegal board h → (logs : List AgentLog) (sent : List ℕ) (before after : List Event) → h ≡ before ++ after → All OfBoard (steps_after logs sent after)
   events_of_board h legal logs sent before [] parted = none_of_board
@@ -113,7 +113,7 @@ module _ (board : Board) where
       (closes_of_board 1 logs (omega arith) (omega (arith, few)))
 
 -- a chart of the steps of what a run left shows that
-pub shows_outcome : (full : Bool) (Shows : CallerView → Result Closing CloseError → Type 0) (plan again board : Board) (scripts : List Script) (outcome : Outcome) (logs : List AgentLog) (steps drawn : List Step) (r : Result Chart RunError) → plan ≡ board → again ≡ board → IsLegal plan outcome.trace.events → vec_len outcome.logs ≡ length plan.agents → AllFrom (λ a log. IsScriptLog full (orders_of scripts a) log) 1 outcome.logs.items → AllFrom (λ a log. LogHeadline plan outcome.trace.events a log) 1 outcome.logs.items → logs ≡ outcome.logs.items → steps ≡ steps_of_run outcome.trace.events logs → drawn ≡ steps → length steps ≤ 2000 → IfOk r (ShowsRun full Shows again drawn) → IfOk r (ShowsScripts full Shows board scripts)
+pub shows_outcome : (full : Bool) (Shows : CallerView → Result Closing CloseError → Type 0) (plan again board : Board) (scripts : List Script) (outcome : Outcome) (logs : List AgentLog) (steps drawn : List Step) (r : Result Chart RunError) → plan ≡ board → again ≡ board → IsLegal plan outcome.trace.events → vec_len outcome.logs ≡ length plan.agents → AllFrom (λ a log. IsScriptLog full (orders_of scripts a) log) 1 outcome.logs.items → AllFrom (λ a log. LogHeadline plan outcome.trace.events a log) 1 outcome.logs.items → logs ≡ outcome.logs.items → steps ≡ steps_of_run outcome.trace.events logs → drawn ≡ steps → length steps ≤ 2000 → IfOk r (ShowsRun full Shows again board drawn) → IfOk r (ShowsScripts full Shows board scripts)
 shows_outcome full Shows plan again board scripts outcome logs steps drawn (Err e) same twice legal count follow headline are made passed few shown = tt
 shows_outcome full Shows plan again board scripts outcome logs steps drawn (Ok chart) same twice legal count follow headline are made passed few shown =
     let whole : drawn ≡ steps_of_run outcome.trace.events outcome.logs.items = passed ∙ made ∙ ap (λ ls. steps_of_run outcome.trace.events ls) are in
@@ -123,7 +123,7 @@ shows_outcome full Shows plan again board scripts outcome logs steps drawn (Ok c
       follow = follow;
       headline = subst (λ (b : Board). AllFrom (λ a log. LogHeadline b outcome.trace.events a log) 1 outcome.logs.items) same headline;
       few = subst (λ (ss : List Step). length ss ≤ 2000) (sym passed ∙ whole) few;
-      shown = subst (λ (b : Board). ShowsRun full Shows b (steps_of_run outcome.trace.events outcome.logs.items) chart) twice (subst (λ (ss : List Step). ShowsRun full Shows again ss chart) whole shown);
+      shown = subst (λ (b : Board). ShowsRun full Shows b board (steps_of_run outcome.trace.events outcome.logs.items) chart) twice (subst (λ (ss : List Step). ShowsRun full Shows again board ss chart) whole shown);
     } in
     (outcome, shows)
 

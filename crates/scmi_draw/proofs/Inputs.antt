@@ -1,7 +1,14 @@
 -- The first line of an input, and the lines after it.
 use Rattle.std.proofs.Common.{◌≡◌, ℕ, ◌≤◌, ◌<◌, List, take, length, Option, None, Some, IfSome, sym, ap, ◌∙◌, subst, arith}
 use Rattle.std.proofs.lemmas.List.{length-take, take_all}
+use Rattle.std.specs.List.{All}
+use Rattle.scmi_board.specs.Channels.{Described}
 use Rattle.scmi_board.specs.Lines.{LinesView}
+use Rattle.scmi_board.specs.ValidBoard.{with_its_channels}
+use Rattle.scmi_modes.proofs.Inputs.{agents_kept}
+use Rattle.scmi_plan.specs.Board.{Board}
+use Rattle.scmi_text.specs.Step.{IsStepOf}
+use Rattle.scmi_text.specs.declared.step.Step.{Step}
 use Rattle.scmi_io.specs.Lines.{after_line, first_line}
 use Rattle.scmi_io.specs.declared.input.TheConstants.{KEPT_BYTES}
 use Rattle.scmi_draw.specs.AnyMode.{any_line_of}
@@ -42,3 +49,7 @@ named_line (Some input) kept m is mode = named (first_line input) kept m is mode
 pub behind_line : (known left : Option (List ℕ)) (all : List ℕ) → IfSome known (λ input. left ≡ Some (after_line input)) → IfSome left (λ rest. all ≡ rest) → IfSome known (λ input. after_line input ≡ all)
 behind_line None left all is read = tt
 behind_line (Some input) left all is read = sym (subst (λ (l : Option (List ℕ)). IfSome l (λ rest. all ≡ rest)) is read)
+
+-- steps of a board's agents are of the same board with its channels
+pub steps_of_plan : (said : Described) (plan : Board) (steps : List Step) → plan ≡ with_its_channels said → All (IsStepOf (length said.0.agents)) steps → All (IsStepOf (length plan.agents)) steps
+steps_of_plan said plan steps is all = subst (λ (n : ℕ). All (IsStepOf n) steps) (sym (ap (λ (b : Board). length b.agents) is ∙ ap length (agents_kept said.0 said.1))) all

@@ -76,6 +76,9 @@ turned_by board b x later step.Advance (line.Collected a (collected.Got answer))
 turned_by board b x later step.AdvanceFailed (line.Collected a collected.Nothing) = refl
 turned_by board b x later step.AdvanceFailed (line.Collected a collected.Closed) = refl
 turned_by board b x later step.AdvanceFailed (line.Collected a (collected.Got answer)) = refl
+turned_by board b x later (step.Restart c) (line.Collected a collected.Nothing) = refl
+turned_by board b x later (step.Restart c) (line.Collected a collected.Closed) = refl
+turned_by board b x later (step.Restart c) (line.Collected a (collected.Got answer)) = refl
 turned_by board b x later s (line.Advanced more) = refl
 turned_by board b x later s (line.AdvanceFailed true) = refl
 turned_by board b x later s (line.AdvanceFailed false) = refl
@@ -90,6 +93,7 @@ turned_by board b x later s (line.Closed a (Ok closing)) = refl
 turned_by board b x later s (line.Closed a (Err refusal)) = refl
 turned_by board b x later s (line.Shut a (Ok closing)) = refl
 turned_by board b x later s (line.Shut a (Err refusal)) = refl
+turned_by board b x later s (line.Restarted a) = refl
 turned_by board b x later s (line.Trace events) = refl
 
 turned : (board : Board) (by : Option ℕ) (x later : Bool) (s : Step) (l : StepLine) → signs_of board (x || is_lane (lane (line_agent l)) by) later s l ≡ served_so_far by (signs_of board x later s l)

@@ -40,14 +40,14 @@ taken_by logs a = elim (slice_get logs (a - 1)) [ None ↦ 0 | Some log ↦ leng
 abbrev pub taking_steps : List AgentLog → List ℕ → ℕ → List Step
 taking_steps logs sent a = if nat_lt (count_by (nat_eq a) sent) (taken_by logs a) then step.Agent a agent_step.P2a ∷ [] else []
 
--- the steps of an event, after messages were posted to these agents: a command is posted, served and collected; an advance is one; a message that is posted is a flush, and the agent takes it if its log has it; the restart of an agent is no step
+-- the steps of an event, after messages were posted to these agents: a command is posted, served and collected; an advance is one; a message that is posted is a flush, and the agent takes it if its log has it; the restart of an agent is one
 abbrev pub steps_of_event : List AgentLog → List ℕ → Event → List Step
 steps_of_event logs sent (event.Command a frame) = command_steps a frame
 steps_of_event logs sent (event.CommandFailed a frame) = refusal_steps a frame
 steps_of_event logs sent event.Advance = step.Advance ∷ []
 steps_of_event logs sent event.AdvanceFailed = step.AdvanceFailed ∷ []
 steps_of_event logs sent (event.Sent a) = step.Platform a platform_step.Flush ∷ taking_steps logs sent a
-steps_of_event logs sent (event.Restarted a) = []
+steps_of_event logs sent (event.Restarted a) = step.Restart a ∷ []
 
 -- the agent to which an event posted a message, if it did
 abbrev pub receivers : Event → List ℕ

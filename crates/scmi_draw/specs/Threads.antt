@@ -33,7 +33,7 @@ pub record ShowsOutcome (full : Bool) (Shows : CallerView → Result Closing Clo
   pub follow : AllFrom (λ a log. IsScriptLog full (orders_of scripts a) log) 1 outcome.logs.items
   pub headline : AllFrom (λ a log. LogHeadline board outcome.trace.events a log) 1 outcome.logs.items
   pub few : length (steps_of_run outcome.trace.events outcome.logs.items) ≤ 2000
-  pub shown : ShowsRun full Shows board (steps_of_run outcome.trace.events outcome.logs.items) chart
+  pub shown : ShowsRun full Shows board board (steps_of_run outcome.trace.events outcome.logs.items) chart
 
 -- the chart shows what some run of these scripts on this board left
 abbrev pub ShowsScripts : (full : Bool) (Shows : CallerView → Result Closing CloseError → Type 0) → Board → List Script → Chart → Type 0

@@ -57,7 +57,7 @@ fn add_event(
         Event::Advance => add(steps, Step::Advance),
         Event::AdvanceFailed => add(steps, Step::AdvanceFailed),
         Event::Sent(agent) => add_message(steps, sent, logs, *agent),
-        Event::Restarted(_) => Ok(()),
+        Event::Restarted(agent) => add(steps, Step::Restart { agent: *agent }),
     }
 }
 

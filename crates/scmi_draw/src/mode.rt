@@ -1,9 +1,9 @@
 //! The mode of a run, which is the first line of the input.
 ghost use Rattle.std.specs.Prelude.{◌≡◌, ◌≢◌, IfSome, IfNone};
-ghost use Rattle.scmi_draw.specs.Mode.{line_of};
+ghost use Rattle.scmi_draw.specs.Mode.{line_of, script_kind};
 ghost use Rattle.scmi_draw.specs.declared.mode.Mode.{Mode};
 
-use scmi_modes::{HARDWARE_RINGS, HARDWARE_WORDS, Kind, STEPS_RINGS, STEPS_WORDS};
+use scmi_modes::{HARDWARE_RINGS, HARDWARE_WORDS, Kind, STEPS_RINGS, STEPS_WORDS, ScriptKind};
 
 /// Which steps a script on one thread may have, and what its channels are made of.
 #[derive(Clone, Copy)]
@@ -30,6 +30,16 @@ impl Mode {
             Some(Mode::Hardware(Kind::Words))
         } else {
             None
+        }
+    }
+
+    /// Which steps, and which board, its script may have.
+    pub fn script(self) -> ScriptKind
+        ensures { result ≡ script_kind self }
+    {
+        match self {
+            Mode::Steps(_) => ScriptKind::Plain,
+            Mode::Hardware(_) => ScriptKind::Hardware,
         }
     }
 

@@ -3,6 +3,7 @@ ghost use Rattle.std.specs.Prelude.{◌≡◌, length, IfOk};
 ghost use Rattle.std.specs.List.{All};
 ghost use Rattle.scmi_ends.specs.Shut.{ShowsClose};
 ghost use Rattle.scmi_plan.specs.RawPlan.{asked_board};
+ghost use Rattle.scmi_board.specs.Channels.{IsLineOf, described};
 ghost use Rattle.scmi_board.specs.Lines.{lines_left};
 ghost use Rattle.scmi_text.specs.Step.{IsStepOf};
 ghost use Rattle.scmi_text.specs.TextLines.{GivesScript};
@@ -11,10 +12,10 @@ ghost use Rattle.scmi_draw.specs.Run.{MayHave, ShowsRun, ShowsScript, StandsFor,
 
 use crate::mode::Mode;
 use crate::record_step::record_step;
-use scmi_board::{Lines, TextError, TextLine, read_board};
+use scmi_board::{BoardWithChannels, Lines, TextError, TextLine};
 use scmi_chart::Recorder;
 use scmi_link::{Channel, RingChannel};
-use scmi_modes::{Kind, RunError};
+use scmi_modes::{Kind, RunError, plan_of, read_described};
 use scmi_plan::{Plan, RawPlan};
 use scmi_session::Session;
 use scmi_svg::Chart;
@@ -27,36 +28,43 @@ pub const STEPS: usize = 2_000;
 
 /// The chart of the run of a board and a script in this mode. `Board`, `Script`, `Size` and `Plan`,
 /// in this order, if the input is rejected; `Memory` if out of memory.
+#[tactic(auto, using(crate::proofs::Inputs::steps_of_plan))]
 pub fn chart_of(alloc: Global, mode: Mode, bytes: &[u8]) -> Result<Chart, RunError>
     ensures shown { IfOk result (ShowsScript mode bytes.now) }
 {
-    let (board, steps) = read_input(alloc, mode, bytes)?;
+    let (said, steps) = read_input(alloc, mode, bytes)?;
     if steps.len() > STEPS {
         return Err(RunError::Size);
     }
-    let plan = Plan::check(alloc, &board)?;
+    let plan = plan_of(alloc, &said)?;
     let mut lines = behind_board(bytes);
     match mode {
         Mode::Steps(Kind::Rings) | Mode::Hardware(Kind::Rings) => {
-            step_through::<RingChannel>(alloc, mode, plan, &board, &steps, &mut lines)
+            step_through::<RingChannel>(alloc, mode, plan, &said.board, &steps, &mut lines)
         }
         Mode::Steps(Kind::Words) | Mode::Hardware(Kind::Words) => {
-            step_through::<WordChannel>(alloc, mode, plan, &board, &steps, &mut lines)
+            step_through::<WordChannel>(alloc, mode, plan, &said.board, &steps, &mut lines)
         }
     }
 }
 
 /// The board and the steps after the first line, in a script of this mode.
-fn read_input(alloc: Global, mode: Mode, bytes: &[u8]) -> Result<(RawPlan, StepList), RunError>
+fn read_input(
+    alloc: Global,
+    mode: Mode,
+    bytes: &[u8],
+) -> Result<(BoardWithChannels, StepList), RunError>
     ensures agents { IfOk result (λ read.
-        All (IsStepOf (length (asked_board read.0).agents)) read.1) }
+        All (IsStepOf (length (described read.0).0.agents)) read.1) }
+    ensures channels { IfOk result (λ read.
+        All (IsLineOf (described read.0).0) (described read.0).1) }
     ensures kinds { IfOk result (λ read. All (MayHave mode) read.1) }
-    ensures input { IfOk result (λ read. StandsFor mode bytes.now (asked_board read.0) read.1) }
+    ensures input { IfOk result (λ read. StandsFor mode bytes.now (described read.0) read.1) }
 {
     let mut lines = Lines::new(bytes);
-    let board = read_board(alloc, &mut lines)?;
-    let steps = read_script(alloc, mode, &mut lines, board.agent_count()?)?;
-    Ok((board, steps))
+    let said = read_described(alloc, &mut lines, mode.script())?;
+    let steps = read_script(alloc, mode, &mut lines, said.board.agent_count()?)?;
+    Ok((said, steps))
 }
 
 /// The steps of all lines that are left, in a script of this mode.
@@ -98,9 +106,8 @@ fn step_through<C: Channel>(
     lines: &mut Lines<'_>,
 ) -> Result<Chart, RunError>
     requires agents { All (IsStepOf (length plan.agents)) steps.now }
-    requires board { asked_board board.now ≡ plan }
     ensures { IfOk result (ShowsRun C.FULL (ShowsClose C.caller_view C.close_shows) plan
-        steps.now) }
+        (asked_board board.now) steps.now) }
 {
     let mut session = Session::<C>::open(alloc, plan)?;
     let mut recorder = Recorder::new(alloc, board, session.core())?;

@@ -19,6 +19,7 @@ impl fmt::Display for StepText<'_> {
             Step::Advance => f.write_str("advance"),
             Step::Fail { agent, call } => write_call(f, "fail", *agent, call),
             Step::AdvanceFailed => f.write_str("advance failed"),
+            Step::Restart { agent } => write!(f, "restart {agent}"),
         }
     }
 }

@@ -121,9 +121,8 @@ fn draw_steps<C: Channel>(
     subtitle: Vec<u8>,
 ) -> Result<Chart, RunError>
     requires agents { All (IsStepOf (length plan.agents)) steps.now }
-    requires board { asked_board board.now ≡ plan }
     ensures { IfOk result (ShowsRun C.FULL (ShowsClose C.caller_view C.close_shows) plan
-        steps.now) }
+        (asked_board board.now) steps.now) }
 {
     let mut session = Session::<C>::open(alloc, plan)?;
     let mut recorder = Recorder::new(alloc, board, session.core())?;

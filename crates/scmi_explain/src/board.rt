@@ -1,19 +1,17 @@
 //! Lines that are not of a board.
 
+use crate::first_words::FirstWords;
 use crate::fit::{Fit, begins_as, fit_of};
 use crate::forms::{Form, HARDWARE_STEPS, HEADINGS, ORDERS, ROWS, STEPS};
 use crate::mode::is_mode;
 use crate::near::nearest;
 use crate::rows::Rows;
 use crate::slip::{Slip, slip_of_bytes, slip_of_other_bytes};
-use crate::text::{behind_first, first_word, line_at};
+use crate::text::{behind_first, first_line, first_word, line_at};
 use crate::what::What;
 use scmi_board::is_significant;
 use std::alloc::Global;
 use std::str::from_utf8;
-
-/// The first words of a board's rows.
-const ROW_WORDS: [&str; 5] = ["agent", "domain", "clock", "device", "end"];
 
 /// What is wrong with the line of a number, which is not one of a board, where one is required.
 pub(crate) fn board_cause(alloc: Global, input: &[u8], number: u32) -> (What<'_>, Option<Slip>) {
@@ -27,10 +25,40 @@ pub(crate) fn board_cause(alloc: Global, input: &[u8], number: u32) -> (What<'_>
         return (What::NoEnd, None);
     }
     if is_heading(input, number) {
-        heading_cause(alloc, line)
-    } else {
-        row_cause(alloc, line)
+        return heading_cause(alloc, line);
     }
+    if let Some(cause) = channel_cause(input, line, number) {
+        return cause;
+    }
+    row_cause(alloc, line)
+}
+
+/// The first word of a line for the channels of an agent.
+const CHANNEL: &[u8] = b"channel";
+
+/// What is wrong with the line of a number, if it is for channels, or comes after one that is.
+fn channel_cause<'a>(
+    input: &'a [u8],
+    line: &'a [u8],
+    number: u32,
+) -> Option<(What<'a>, Option<Slip>)> {
+    let takes_channels = first_word(first_line(input)) == b"hardware".as_slice();
+    if first_word(line) == CHANNEL {
+        return Some(if takes_channels {
+            (What::NoChannel, slip_of_bytes(line))
+        } else {
+            (What::NoRow(line), Some(Slip::OtherMode("hardware")))
+        });
+    }
+    if !takes_channels || !matches!(&fit_of(&ROWS, line, 0), Fit::Well) {
+        return None;
+    }
+    for row in Rows::of_board(behind_first(input)) {
+        if row.number < number && first_word(row.text) == CHANNEL {
+            return Some((What::AfterChannels, None));
+        }
+    }
+    None
 }
 
 /// Whether the line of a number is the first one of the board.
@@ -49,7 +77,10 @@ fn heading_cause(alloc: Global, line: &[u8]) -> (What<'_>, Option<Slip>) {
         Fit::Until(fault) => (What::Item(fault), None),
         Fit::Well => (What::NoEnd, None),
         Fit::Unknown if is_mode(line) => (What::NoHeading(line), Some(Slip::SecondMode)),
-        Fit::Unknown => (What::NoHeading(line), slip_of_word(alloc, &["board"], line)),
+        Fit::Unknown => (
+            What::NoHeading(line),
+            slip_of_word(alloc, FirstWords::of(&HEADINGS), line),
+        ),
     }
 }
 
@@ -61,7 +92,7 @@ fn row_cause(alloc: Global, line: &[u8]) -> (What<'_>, Option<Slip>) {
         Fit::Until(fault) => (What::Item(fault), slip_of_other_bytes(line)),
         Fit::Well => (What::NoEnd, None),
         Fit::Unknown => {
-            let slip = slip_of_step(line).or(slip_of_word(alloc, &ROW_WORDS, line));
+            let slip = slip_of_step(line).or(slip_of_word(alloc, FirstWords::of(&ROWS), line));
             (What::NoRow(line), slip)
         }
     }
@@ -89,16 +120,19 @@ fn word_of(forms: &[Form], line: &[u8]) -> Option<&'static str> {
 }
 
 /// The slip of a line whose first word is not one of these.
-pub(crate) fn slip_of_word(alloc: Global, words: &[&'static str], line: &[u8]) -> Option<Slip> {
+pub(crate) fn slip_of_word(alloc: Global, words: FirstWords, line: &[u8]) -> Option<Slip> {
     let Ok(word) = from_utf8(first_word(line)) else {
         return Some(Slip::OtherByte);
     };
-    for known in words {
+    let Ok(words) = words.listed(alloc) else {
+        return slip_of_other_bytes(line);
+    };
+    for known in &words {
         if known.as_bytes().eq_ignore_ascii_case(word.as_bytes()) {
             return Some(Slip::Case);
         }
     }
-    nearest(alloc, words, word)
+    nearest(alloc, &words, word)
         .map(Slip::Nearest)
         .or(slip_of_other_bytes(line))
 }

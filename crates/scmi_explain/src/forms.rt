@@ -67,10 +67,11 @@ pub(crate) const STEPS: [Form; 11] = forms![
     "shut" [Field::Agent] false "shut A";
 ];
 
-/// Its lines beside hardware that refuses.
-pub(crate) const HARDWARE_STEPS: [Form; 2] = forms![
+/// Its lines in the modes `hardware` alone.
+pub(crate) const HARDWARE_STEPS: [Form; 3] = forms![
     "fail" [Field::Agent, BYTE, BYTE] true "fail A P M W..";
     "advance" [Field::Word("failed")] false "advance failed";
+    "restart" [Field::Agent] false "restart A";
 ];
 
 /// The lines of the scripts of agents in threads.

@@ -1,6 +1,7 @@
 //! Lines that are not of a script.
 
 use crate::board::slip_of_word;
+use crate::first_words::FirstWords;
 use crate::fit::{Fit, begins_as, fit_of, fits_well};
 use crate::forms::{Form, HARDWARE_STEPS, HEADINGS, ORDERS, ROWS, STEPS};
 use crate::rows::Rows;
@@ -16,22 +17,11 @@ use std::alloc::Global;
 enum Script {
     /// One on one thread.
     Steps,
-    /// One on one thread, beside hardware that refuses.
+    /// One on one thread, beside hardware that refuses, and of agents that restart.
     Hardware,
     /// One for each agent.
     Orders,
 }
-
-const STEP_WORDS: [&str; 11] = [
-    "call", "raw", "bad", "serve", "collect", "do", "advance", "flush", "p2a", "close", "shut",
-];
-
-const HARDWARE_WORDS: [&str; 12] = [
-    "call", "raw", "bad", "serve", "collect", "do", "advance", "flush", "p2a", "close", "shut",
-    "fail",
-];
-
-const ORDER_WORDS: [&str; 5] = ["script", "call", "until", "p2a", "close"];
 
 impl Script {
     /// The scripts of the mode that is the first line.
@@ -58,23 +48,15 @@ impl Script {
         }
     }
 
-    fn words(self) -> &'static [&'static str] {
+    /// The words that its lines begin with.
+    fn words(self) -> FirstWords {
         match self {
-            Script::Steps => &STEP_WORDS,
-            Script::Hardware => &HARDWARE_WORDS,
-            Script::Orders => &ORDER_WORDS,
-        }
-    }
-
-    /// The words in a sentence.
-    fn list(self) -> &'static str {
-        match self {
-            Script::Steps =>
-                "call, raw, bad, serve, collect, do, advance, flush, p2a, close or shut",
-            Script::Hardware => {
-                "call, raw, bad, serve, collect, do, advance, flush, p2a, close, shut or fail"
-            }
-            Script::Orders => "script, call, until, p2a or close",
+            Script::Steps => FirstWords::of(&STEPS),
+            Script::Hardware => FirstWords {
+                forms: &STEPS,
+                more: &HARDWARE_STEPS,
+            },
+            Script::Orders => FirstWords::of(&ORDERS),
         }
     }
 }
@@ -92,7 +74,7 @@ pub(crate) fn script_cause(alloc: Global, input: &[u8], number: u32) -> (What<'_
         return (What::NotKept, None);
     };
     let script = Script::of_mode(first_line(input));
-    let no_step = What::NoStep(line, script.list());
+    let no_step = What::NoStep(line, script.words());
     if let Some(slip) = slip_of_bytes(line) {
         return (no_step, Some(slip));
     }

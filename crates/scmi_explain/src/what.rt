@@ -1,6 +1,8 @@
 //! What is wrong, in words.
 
 use crate::expected::Expected;
+use crate::first_words::FirstWords;
+use crate::forms::ROWS;
 use crate::item_fault::ItemFault;
 use crate::mode::MODES;
 use crate::plan_fault::PlanFault;
@@ -20,10 +22,14 @@ pub enum What<'a> {
     NoHeading(&'a [u8]),
     /// This line is no row of a board.
     NoRow(&'a [u8]),
+    /// It is no line for the channels of an agent that the board has.
+    NoChannel,
+    /// It comes after a line for channels.
+    AfterChannels,
     /// The last line of the input comes before the line `end`.
     NoEnd,
     /// This line is not one of a script, whose lines begin with these words.
-    NoStep(&'a [u8], &'static str),
+    NoStep(&'a [u8], FirstWords),
     /// An item of the line is wrong.
     Item(ItemFault<'a>),
     /// No script was begun before the line.
@@ -95,8 +101,9 @@ fn fmt_line<W: fmt::Write>(what: &What<'_>, f: &mut fmt::Formatter<W>) -> fmt::R
         ),
         What::NoRow(line) => write!(
             f,
-            "unknown board line {}; expected agent, domain, clock, device or end",
-            Quoted(line)
+            "unknown board line {}; expected {}",
+            Quoted(line),
+            FirstWords::of(&ROWS)
         ),
         What::NoScript(line) => write!(
             f,
@@ -145,6 +152,11 @@ impl What<'_> {
         match self {
             What::NoBoard =>
                 "the board is missing: after the mode comes \"board VENDOR SUBVENDOR VERSION TRUSTED\", and its lines",
+            What::NoChannel => {
+                "a line for channels is channel AGENT BYTES or channel AGENT BYTES one-way, after all other lines and once for an agent; BYTES is 60 to 284, in steps of 4"
+            }
+            What::AfterChannels =>
+                "lines for channels come after all other lines, right before end",
             What::NoEnd => "the board lacks its last line, end",
             What::NoArea =>
                 "the area is missing: after the mode comes a line of 568 hexadecimal digits",

@@ -1,19 +1,21 @@
 -- What an input encodes, as it is read part by part.
-use Rattle.std.proofs.Common.{ℕ, ◌^◌, ◌<◌, ◌≤◌, ◌≡◌, ◌≢◌, nat_le, Bool, true, false, cond, List, length, Option, Some, None, IfSome, IfErr, Result, Ok, Err, refl, sym, ap, ◌∙◌, ◌⊎◌, inl, inr, subst, arith}
+use Rattle.std.proofs.Common.{ℕ, ◌^◌, ◌<◌, ◌≤◌, ◌≡◌, ◌≢◌, nat_le, Bool, true, false, cond, List, [], ◌∷◌, length, Option, Some, None, IfSome, IfErr, Result, Ok, Err, refl, sym, ap, ◌∙◌, ◌⊎◌, inl, inr, subst, arith}
 use Rattle.std.proofs.lemmas.Bool.Decides.{nat_tests}
-use Rattle.scmi_board.specs.BoardText.{FailsBoard, board_left}
+use Rattle.scmi_board.specs.BoardText.{FailsBoard}
+use Rattle.scmi_board.specs.Channels.{Described, with_channels}
 use Rattle.scmi_board.specs.Lines.{Line, LinesView}
+use Rattle.scmi_board.specs.declared.channel_line.ChannelLine.{ChannelLine}
 use Rattle.scmi_board.specs.declared.text_error.TextError.{TextError}
 use Rattle.scmi_board.specs.declared.text_error.TextError.TheVariants as text
 use Rattle.scmi_io.specs.declared.input.TheConstants.{INPUT_BYTES}
 use Rattle.scmi_io.specs.declared.input_error.InputError.{InputError}
 use Rattle.scmi_io.specs.declared.input_error.InputError.TheVariants as input
-use Rattle.scmi_plan.specs.Board.{Board}
+use Rattle.scmi_plan.specs.Board.{Board, with_channel}
 use Rattle.scmi_plan.specs.PlanError.{first_fault, number}
 use Rattle.scmi_plan.specs.declared.plan_error.PlanError.{PlanError}
 use Rattle.scmi_plan.specs.declared.plan_error.PlanError.TheVariants as plan
 use Rattle.scmi_text.specs.TextLines.{FailsScript}
-use Rattle.scmi_modes.specs.Input.{FailsInput, IsFaultOf, IsFaultOrLimit, behind_mode, input_of, valid, with_scripts}
+use Rattle.scmi_modes.specs.Input.{FailsInput, IsFaultOf, IsFaultOrLimit, behind_mode, input_of, valid, with_scripts, without_channels}
 use Rattle.scmi_modes.specs.RunError.{fault_of_input, fault_of_plan, fault_of_text, status_of}
 use Rattle.scmi_modes.specs.declared.run_error.RunError.{RunError}
 use Rattle.scmi_modes.specs.declared.run_error.RunError.TheVariants.{Mode, Size, Read, Area, Board as BoardFault, Script as ScriptFault, Plan as PlanFault, Limit, Memory, Write}
@@ -31,61 +33,73 @@ known_so (Some bytes) holds then = then bytes holds
 pub few_agents : (n m : ℕ) → (2 ^ 32 ≤ n → ⊥) → m ≡ n → m < 2 ^ 32
 few_agents n m not_many same = omega (arith, not_many, same)
 
-module _ {A : Type 0} (scripts : ℕ → List Line → Result A ℕ) where
-  abbrev from_scripts : Board → Result A ℕ → Result (Board × A) RunError
-  from_scripts board read = elim read [ Err line ↦ Err (ScriptFault line) | Ok script ↦ valid board script ]
+-- channels leave a board's agents as they are
+pub agents_kept : (board : Board) (lines : List ChannelLine) → (with_channels board lines).agents ≡ board.agents
+agents_kept board [] = refl
+agents_kept board (line ∷ lines) = agents_kept (with_channel board line.agent line.channel) lines
 
-  abbrev from_board : Result (Board × List Line) ℕ → Result (Board × A) RunError
+-- a board without channels fails as its lines do
+pub plain_fails : (error : TextError) (there : Result (Board × List Line) ℕ) → FailsBoard error there → FailsBoard error (without_channels there)
+plain_fails (text.Board line) there is = ap without_channels is
+plain_fails (text.Script line) there is = absurd is
+plain_fails text.Memory there is = tt
+
+-- what a text of these lines encodes
+module _ {A : Type 0} (boards : LinesView → Result (Described × List Line) ℕ) (scripts : ℕ → List Line → Result A ℕ) where
+  abbrev from_scripts : Described → Result A ℕ → Result (Board × A) RunError
+  from_scripts said read = elim read [ Err line ↦ Err (ScriptFault line) | Ok script ↦ valid said script ]
+
+  abbrev from_board : Result (Described × List Line) ℕ → Result (Board × A) RunError
   from_board found = elim found [ Err line ↦ Err (BoardFault line) | Ok found ↦ with_scripts scripts found.0 found.1 ]
 
-  input_is : (bytes : List ℕ) (found : Result (Board × List Line) ℕ) → board_left (behind_mode bytes) ≡ found → input_of scripts bytes ≡ from_board found
+  input_is : (bytes : List ℕ) (found : Result (Described × List Line) ℕ) → boards (behind_mode bytes) ≡ found → input_of boards scripts bytes ≡ from_board found
   unfolding input_of
   input_is bytes found is = ap from_board is
 
-  scripts_are : (board : Board) (lines : List Line) → with_scripts scripts board lines ≡ cond (nat_le (2 ^ 32) (length board.agents)) (Err (PlanFault 1)) (from_scripts board (scripts (length board.agents) lines))
+  scripts_are : (said : Described) (lines : List Line) → with_scripts scripts said lines ≡ cond (nat_le (2 ^ 32) (length said.0.agents)) (Err (PlanFault 1)) (from_scripts said (scripts (length said.0.agents) lines))
   unfolding with_scripts
-  scripts_are board lines = refl
+  scripts_are said lines = refl
 
-  too_many : (board : Board) (lines : List Line) → 2 ^ 32 ≤ length board.agents → with_scripts scripts board lines ≡ Err (PlanFault 1)
-  too_many board lines many =
-      let test : nat_le (2 ^ 32) (length board.agents) ≡ true = grind (arith, nat_tests) in
-      scripts_are board lines ∙ ap (λ (b : Bool). cond b (Err (PlanFault 1)) (from_scripts board (scripts (length board.agents) lines))) test
+  too_many : (said : Described) (lines : List Line) → 2 ^ 32 ≤ length said.0.agents → with_scripts scripts said lines ≡ Err (PlanFault 1)
+  too_many said lines many =
+      let test : nat_le (2 ^ 32) (length said.0.agents) ≡ true = grind (arith, nat_tests) in
+      scripts_are said lines ∙ ap (λ (b : Bool). cond b (Err (PlanFault 1)) (from_scripts said (scripts (length said.0.agents) lines))) test
 
-  few_enough : (board : Board) (lines : List Line) (read : Result A ℕ) → length board.agents < 2 ^ 32 → scripts (length board.agents) lines ≡ read → with_scripts scripts board lines ≡ from_scripts board read
-  few_enough board lines read few is =
-      let test : nat_le (2 ^ 32) (length board.agents) ≡ false = grind (arith, nat_tests) in
-      scripts_are board lines ∙ ap (λ (b : Bool). cond b (Err (PlanFault 1)) (from_scripts board (scripts (length board.agents) lines))) test ∙ ap (from_scripts board) is
+  few_enough : (said : Described) (lines : List Line) (read : Result A ℕ) → length said.0.agents < 2 ^ 32 → scripts (length said.0.agents) lines ≡ read → with_scripts scripts said lines ≡ from_scripts said read
+  few_enough said lines read few is =
+      let test : nat_le (2 ^ 32) (length said.0.agents) ≡ false = grind (arith, nat_tests) in
+      scripts_are said lines ∙ ap (λ (b : Bool). cond b (Err (PlanFault 1)) (from_scripts said (scripts (length said.0.agents) lines))) test ∙ ap (from_scripts said) is
 
   -- a line that is none of a board
-  pub board_fails : (bytes : List ℕ) (error : TextError) → FailsBoard error (board_left (behind_mode bytes)) → FailsInput (fault_of_text error) (input_of scripts bytes)
+  pub board_fails : (bytes : List ℕ) (error : TextError) → FailsBoard error (boards (behind_mode bytes)) → FailsInput (fault_of_text error) (input_of boards scripts bytes)
   board_fails bytes (text.Board line) is = input_is bytes (Err line) is
   board_fails bytes (text.Script line) is = absurd is
   board_fails bytes text.Memory is = tt
 
-  module _ (bytes : List ℕ) (board : Board) (lines : List Line) (found : board_left (behind_mode bytes) ≡ Ok (board, lines)) where
+  module _ (bytes : List ℕ) (said : Described) (lines : List Line) (found : boards (behind_mode bytes) ≡ Ok (said, lines)) where
     -- more agents than a number says
-    pub count_fails : 2 ^ 32 ≤ length board.agents → FailsInput (PlanFault 1) (input_of scripts bytes)
-    count_fails many = input_is bytes (Ok (board, lines)) found ∙ too_many board lines many
+    pub count_fails : 2 ^ 32 ≤ length said.0.agents → FailsInput (PlanFault 1) (input_of boards scripts bytes)
+    count_fails many = input_is bytes (Ok (said, lines)) found ∙ too_many said lines many
 
-    module _ (few : length board.agents < 2 ^ 32) where
-      reads : (read : Result A ℕ) → scripts (length board.agents) lines ≡ read → input_of scripts bytes ≡ from_scripts board read
-      reads read is = input_is bytes (Ok (board, lines)) found ∙ few_enough board lines read few is
+    module _ (few : length said.0.agents < 2 ^ 32) where
+      reads : (read : Result A ℕ) → scripts (length said.0.agents) lines ≡ read → input_of boards scripts bytes ≡ from_scripts said read
+      reads read is = input_is bytes (Ok (said, lines)) found ∙ few_enough said lines read few is
 
       -- a line that is none of a script
-      pub script_fails : (error : TextError) → FailsScript error (scripts (length board.agents) lines) → FailsInput (fault_of_text error) (input_of scripts bytes)
+      pub script_fails : (error : TextError) → FailsScript error (scripts (length said.0.agents) lines) → FailsInput (fault_of_text error) (input_of boards scripts bytes)
       script_fails (text.Board line) is = absurd is
       script_fails (text.Script line) is = reads (Err line) is
       script_fails text.Memory is = tt
 
-      broken : (script : A) (rule : Option PlanError) → first_fault board ≡ rule → valid board script ≡ elim rule [ None ↦ Ok (board, script) | Some rule ↦ Err (PlanFault (number rule)) ]
+      broken : (script : A) (rule : Option PlanError) → first_fault said.0 ≡ rule → valid said script ≡ elim rule [ None ↦ Ok (with_channels said.0 said.1, script) | Some rule ↦ Err (PlanFault (number rule)) ]
       unfolding valid
-      broken script rule is = ap (λ (o : Option PlanError). elim o as (λ o. Result (Board × A) RunError) [ None ↦ Ok (board, script) | Some rule ↦ Err (PlanFault (number rule)) ]) is
+      broken script rule is = ap (λ (o : Option PlanError). elim o as (λ o. Result (Board × A) RunError) [ None ↦ Ok (with_channels said.0 said.1, script) | Some rule ↦ Err (PlanFault (number rule)) ]) is
 
-      breaks : (script : A) (rule : PlanError) → scripts (length board.agents) lines ≡ Ok script → first_fault board ≡ Some rule → input_of scripts bytes ≡ Err (PlanFault (number rule))
+      breaks : (script : A) (rule : PlanError) → scripts (length said.0.agents) lines ≡ Ok script → first_fault said.0 ≡ Some rule → input_of boards scripts bytes ≡ Err (PlanFault (number rule))
       breaks script rule is first = reads (Ok script) is ∙ broken script (Some rule) first
 
       -- a rule that the board breaks
-      pub rule_fails : (script : A) (error : PlanError) → scripts (length board.agents) lines ≡ Ok script → (error ≢ plan.Memory → first_fault board ≡ Some error) → FailsInput (fault_of_plan error) (input_of scripts bytes)
+      pub rule_fails : (script : A) (error : PlanError) → scripts (length said.0.agents) lines ≡ Ok script → (error ≢ plan.Memory → first_fault said.0 ≡ Some error) → FailsInput (fault_of_plan error) (input_of boards scripts bytes)
       rule_fails script plan.Count is first = breaks script plan.Count is (first (λ same. absurd cc))
       rule_fails script plan.Name is first = breaks script plan.Name is (first (λ same. absurd cc))
       rule_fails script plan.Rates is first = breaks script plan.Rates is (first (λ same. absurd cc))
@@ -94,7 +108,7 @@ module _ {A : Type 0} (scripts : ℕ → List Line → Result A ℕ) where
       rule_fails script plan.Memory is first = tt
 
       -- a board that keeps every rule
-      pub stands : (script : A) → scripts (length board.agents) lines ≡ Ok script → first_fault board ≡ None → input_of scripts bytes ≡ Ok (board, script)
+      pub stands : (script : A) → scripts (length said.0.agents) lines ≡ Ok script → first_fault said.0 ≡ None → input_of boards scripts bytes ≡ Ok (with_channels said.0 said.1, script)
       stands script is none = reads (Ok script) is ∙ broken script None none
 
 module _ {A : Type 0} (bytes : List ℕ) (there : Result A RunError) where

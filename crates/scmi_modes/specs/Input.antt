@@ -1,6 +1,7 @@
 -- What follows the first line of an input: a board and its scripts.
 use Rattle.std.specs.Prelude.{◌≡◌, ℕ, ◌^◌, ◌<◌, nat_le, ⊤, if◌then◌else◌, List, [], length, Some, None, Result, Ok, Err}
 use Rattle.scmi_board.specs.BoardText.{board_left}
+use Rattle.scmi_board.specs.Channels.{Described, described_left, with_channels}
 use Rattle.scmi_board.specs.Lines.{Line, LinesView}
 use Rattle.scmi_io.specs.declared.input.TheConstants.{INPUT_BYTES}
 use Rattle.scmi_plan.specs.Board.{Board}
@@ -18,22 +19,31 @@ use Rattle.scmi_modes.specs.declared.script_kind.ScriptKind.TheVariants.{Plain, 
 abbrev pub behind_mode : List ℕ → LinesView
 behind_mode input = record { rest = input; number = 1 }
 
+-- a board whose text says nothing of channels, and the lines after it
+abbrev pub without_channels : Result (Board × List Line) ℕ → Result (Described × List Line) ℕ
+without_channels (Err line) = Err line
+without_channels (Ok found) = Ok ((found.0, []), found.1)
+
+-- the board that the lines describe, and the lines after it
+abbrev pub plain_board : LinesView → Result (Described × List Line) ℕ
+plain_board lines = without_channels (board_left lines)
+
 module _ {A : Type 0} where
-  -- a board with what follows it, if it keeps every rule; else the first rule that it breaks
-  unfoldable pub valid : Board → A → Result (Board × A) RunError
-  valid board script = elim (first_fault board) [ None ↦ Ok (board, script) | Some rule ↦ Err (PlanFault (number rule)) ]
+  -- a board, with the channels that its text gives, and what follows it, if it keeps every rule; else the first rule that it breaks
+  unfoldable pub valid : Described → A → Result (Board × A) RunError
+  valid said script = elim (first_fault said.0) [ None ↦ Ok (with_channels said.0 said.1, script) | Some rule ↦ Err (PlanFault (number rule)) ]
 
   -- a board with its scripts, as the lines say for its number of agents; else the first line that is part of no script. A board of 2 ^ 32 agents, which no input has, breaks rule 1 before its scripts are read
-  unfoldable pub with_scripts : (ℕ → List Line → Result A ℕ) → Board → List Line → Result (Board × A) RunError
-  with_scripts scripts board lines =
-      if nat_le (2 ^ 32) (length board.agents) then Err (PlanFault 1) else elim (scripts (length board.agents) lines) [
+  unfoldable pub with_scripts : (ℕ → List Line → Result A ℕ) → Described → List Line → Result (Board × A) RunError
+  with_scripts scripts said lines =
+      if nat_le (2 ^ 32) (length said.0.agents) then Err (PlanFault 1) else elim (scripts (length said.0.agents) lines) [
         | Err line ↦ Err (ScriptFault line)
-        | Ok script ↦ valid board script
+        | Ok script ↦ valid said script
       ]
 
-  -- the board and the scripts of an input; else its first fault
-  unfoldable pub input_of : (ℕ → List Line → Result A ℕ) → List ℕ → Result (Board × A) RunError
-  input_of scripts input = elim (board_left (behind_mode input)) [
+  -- the board and the scripts of an input, as its lines describe them; else its first fault
+  unfoldable pub input_of : (LinesView → Result (Described × List Line) ℕ) → (ℕ → List Line → Result A ℕ) → List ℕ → Result (Board × A) RunError
+  input_of boards scripts input = elim (boards (behind_mode input)) [
     | Err line ↦ Err (BoardFault line)
     | Ok found ↦ with_scripts scripts found.0 found.1
   ]
@@ -58,6 +68,11 @@ module _ {A : Type 0} where
   IsFaultOrLimit input there Limit = (value : A) × (there ≡ Ok value)
   IsFaultOrLimit input there fault = IsFaultOf input there fault
 
+-- the board that lines describe before a script of this kind, and the lines after it: beside hardware with its agents' channels
+abbrev pub board_of_lines : ScriptKind → LinesView → Result (Described × List Line) ℕ
+board_of_lines Plain lines = plain_board lines
+board_of_lines Hardware lines = described_left lines
+
 -- the steps of the lines of a script of this kind; else the number of the first invalid line
 abbrev pub script_of_lines : ScriptKind → ℕ → List Line → Result (List Step) ℕ
 script_of_lines Plain agents lines = steps_of_lines agents lines
@@ -69,8 +84,8 @@ scripts_of_lines agents lines = after_lines (with_line agents) [] lines
 
 -- the board and the steps that an input encodes; else its first fault
 abbrev pub steps_of_input : ScriptKind → List ℕ → Result (Board × List Step) RunError
-steps_of_input script input = input_of (script_of_lines script) input
+steps_of_input script input = input_of (board_of_lines script) (script_of_lines script) input
 
 -- the board and the scripts that an input encodes; else its first fault
 abbrev pub scripts_of_input : List ℕ → Result (Board × List AgentScript) RunError
-scripts_of_input input = input_of scripts_of_lines input
+scripts_of_input input = input_of plain_board scripts_of_lines input

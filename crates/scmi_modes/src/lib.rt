@@ -14,6 +14,7 @@
 mod agents;
 mod answer;
 mod any_mode;
+mod described;
 mod kind;
 mod lines;
 mod mode;
@@ -29,6 +30,7 @@ mod threads;
 pub use agents::run_agents;
 pub use answer::answer_area;
 pub use any_mode::{AnyMode, Modes};
+pub use described::{plan_of, read_described};
 pub use kind::Kind;
 pub use mode::Mode;
 pub use mode_lines::{
@@ -38,5 +40,6 @@ pub use once::{run_once, run_once_counted};
 pub use program::{run, run_input, run_program};
 pub use run_error::RunError;
 pub use scmi_threads::{AgentLog, Gate, Line, OpenGate, Order, Outcome, Script, Stop};
+pub use script_kind::ScriptKind;
 pub use steps::{run_hardware_counted, run_steps, run_steps_counted};
 pub use threads::{run_threads, run_threads_counted};

@@ -2,9 +2,9 @@
 
 /// Which steps a script on one thread may have.
 #[derive(Clone, Copy, Debug, PartialEq, Eq)]
-pub(crate) enum ScriptKind {
-    /// Those without hardware.
+pub enum ScriptKind {
+    /// Those without hardware and restarts.
     Plain,
-    /// Those beside hardware that refuses, too.
+    /// Those beside hardware that refuses, and restarts, too. Its board may have lines `channel`.
     Hardware,
 }

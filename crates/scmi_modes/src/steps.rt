@@ -14,10 +14,11 @@ ghost use Rattle.scmi_modes.specs.Runs.{may_be_full};
 ghost use Rattle.scmi_modes.specs.Steps.{AreStepLines, IsTextOfSteps, MayHave, WritesFirstSteps, WritesHardware, WritesScript, WritesSteps, shows_close};
 ghost use Rattle.scmi_io.specs.declared.input.TheConstants.{INPUT_BYTES};
 
+use crate::described::{plan_of, read_described};
 use crate::kind::Kind;
 use crate::run_error::RunError;
 use crate::script_kind::ScriptKind;
-use scmi_board::{Lines, TextError, read_board};
+use scmi_board::{Lines, TextError};
 use scmi_io::{CountedRead, CountedReader, read_rest};
 use scmi_link::{Channel, RingChannel};
 use scmi_plan::Plan;
@@ -133,9 +134,9 @@ fn read_input(alloc: Global, bytes: &[u8], script: ScriptKind) -> Result<(Plan, 
         (λ e. FailsInput e (steps_of_input script bytes.now)) }
 {
     let mut lines = Lines::new(bytes);
-    let board = read_board(alloc, &mut lines)?;
-    let steps = read_script(alloc, &mut lines, board.agent_count()?, script)?;
-    let plan = Plan::check(alloc, &board)?;
+    let said = read_described(alloc, &mut lines, script)?;
+    let steps = read_script(alloc, &mut lines, said.board.agent_count()?, script)?;
+    let plan = plan_of(alloc, &said)?;
     Ok((plan, steps))
 }
 

@@ -32,7 +32,7 @@ use Rattle.scmi_text.specs.declared.step.AgentStep.TheVariants as agent
 use Rattle.scmi_text.specs.declared.step.PlatformStep.{PlatformStep}
 use Rattle.scmi_text.specs.declared.step.PlatformStep.TheVariants as platform
 use Rattle.scmi_text.specs.declared.step.Step.{Step}
-use Rattle.scmi_text.specs.declared.step.Step.TheVariants.{Agent, Platform, Do, Advance, Fail, AdvanceFailed}
+use Rattle.scmi_text.specs.declared.step.Step.TheVariants.{Agent, Platform, Do, Advance, Fail, AdvanceFailed, Restart}
 use Rattle.scmi_text.specs.declared.step_line.StepLine.{StepLine}
 use Rattle.scmi_text.specs.declared.step_line.StepLine.TheVariants as line
 use Rattle.scmi_session.specs.SessionView.{SessionView}
@@ -95,6 +95,10 @@ Advances old false new = (pending_sets old.board (deeds old.board old.history) �
 abbrev pub AdvancesRefused : ControllerView → Bool → ControllerView → Type 0
 AdvancesRefused old true new = (0 < length (pending_sets old.board (deeds old.board old.history))) × (new ≡ record old { history = old.history ++ event.AdvanceFailed ∷ []; room = new.room })
 AdvancesRefused old false new = (pending_sets old.board (deeds old.board old.history) ≡ []) × (new ≡ old)
+
+-- what agent a asked for has ended, since it restarted without the platform; its channels stay as they were
+abbrev pub Restarts : ℕ → ControllerView → ControllerView → Type 0
+Restarts a old new = new ≡ record old { history = old.history ++ event.Restarted a ∷ []; room = new.room }
 
 -- agent a is served beside hardware that refuses each change: a command that is then in the history was to make none, and one that failed was to make one
 pub record ServesRefused (a : ℕ) (old : ControllerView) (served : Served) (new : ControllerView) : Type 0 where
@@ -160,6 +164,7 @@ module _ (full : Bool) (Shows : CallerView → Result Closing CloseError → Typ
   Steps (Fail a call) (line.NotPosted b refusal) old new = (b ≡ a) × AtAgent a (λ before after. IsRefusedAt full before refusal after) old new
   Steps (Fail a call) (line.Collected b answer) old new = (b ≡ a) × Exchanges (ServesRefused a) a call answer old new
   Steps AdvanceFailed (line.AdvanceFailed more) old new = AtPlatform (λ before after. AdvancesRefused before more after) old new
+  Steps (Restart a) (line.Restarted b) old new = (b ≡ a) × AtPlatform (λ before after. Restarts a before after) old new
   Steps _ _ old new = ⊥
 
 -- agent a calls and is given a token, and nothing else is done
@@ -175,4 +180,5 @@ StopsFor (Platform a platform.Serve) old new = new ≡ old
 StopsFor (Platform a platform.Flush) old new = new ≡ old
 StopsFor Advance old new = new ≡ old
 StopsFor AdvanceFailed old new = new ≡ old
+StopsFor (Restart a) old new = new ≡ old
 StopsFor _ old new = ⊥

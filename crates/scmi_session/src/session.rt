@@ -65,8 +65,8 @@ impl<C: Channel> Session<C> {
     }
 
     /// Makes one step, and gives its line of output. After an error nothing was taken, executed or
-    /// posted by the call of the step that was refused. A step without hardware adds commands,
-    /// advances and postings alone to the history.
+    /// posted by the call of the step that was refused. A step without hardware that is no restart
+    /// adds commands, advances and postings alone to the history.
     pub fn step(&mut self, step: &Step) -> Result<StepLine, AllocError>
         requires { IsStepOf (length self.old.agents) step.now }
         ensures agents { length self.new.agents ≡ length self.old.agents }
@@ -88,6 +88,7 @@ impl<C: Channel> Session<C> {
             Step::Advance => self.advance(),
             Step::Fail { agent, call } => self.exchange_refused(*agent, call),
             Step::AdvanceFailed => self.advance_refused(),
+            Step::Restart { agent } => self.restart(*agent),
         }
     }
 
@@ -219,6 +220,19 @@ impl<C: Channel> Session<C> {
     {
         let more = refused_steps::advance(&mut self.controller)?;
         Ok(StepLine::AdvanceFailed { more })
+    }
+
+    fn restart(&mut self, agent: u32) -> Result<StepLine, AllocError>
+        requires { IsAgent (length self.old.agents) agent }
+        ensures agents { length self.new.agents ≡ length self.old.agents }
+        ensures step { IfOk result (λ line.
+            Steps C.FULL (ShowsClose C.caller_view C.close_shows) (Step.Restart agent) line self.old self.new) }
+        ensures err { OnErr result (self.new ≡ self.old) }
+    {
+        match self.controller.restart(agent) {
+            Ok(()) => Ok(StepLine::Restarted { agent }),
+            Err(_) => Err(AllocError),
+        }
     }
 
     fn collect(&mut self, agent: u32) -> StepLine

@@ -4,7 +4,7 @@ use Rattle.scmi_io.specs.Filled.{filled}
 use Rattle.scmi_svg.specs.DiagramValue.{label_text, shown_text}
 use Rattle.scmi_svg.specs.declared.chart.Chart.{Chart}
 use Rattle.scmi_svg.specs.declared.chart.Lifeline.{Lifeline}
-use Rattle.scmi_svg.specs.declared.diagram.TheConstants.{ADVANCE, AGENT, BESIDE_AGENT, BESIDE_PLATFORM, COMMAND, HEAD, PLATFORM, POSTED, REFUSED, REPLY, WITHDRAWN}
+use Rattle.scmi_svg.specs.declared.diagram.TheConstants.{ADVANCE, AGENT, BESIDE_AGENT, BESIDE_PLATFORM, COMMAND, HEAD, PLATFORM, POSTED, REFUSED, REPLY, RESTARTED, WITHDRAWN}
 use Rattle.scmi_svg.specs.declared.mark.Mark.{Mark}
 use Rattle.scmi_svg.specs.declared.mark.Mark.TheVariants as mark
 use Rattle.scmi_svg.specs.declared.mark.Message.{Message}
@@ -33,6 +33,7 @@ mark_text (mark.Failed slot text) = filled ADVANCE.now (shown_text text.items �
 mark_text (mark.Closed agent slot by text) = beside_text by agent text.items
 mark_text (mark.Remark agent slot beside text) = beside_text beside agent text.items
 mark_text (mark.Fault agent slot text) = filled BESIDE_PLATFORM.now (shown_text text.items ∷ [])
+mark_text (mark.Restarted agent slot text) = filled RESTARTED.now (decimal agent ∷ shown_text text.items ∷ [])
 mark_text (mark.Execution slot until) = []
 mark_text (mark.Posted slot) = []
 

@@ -32,6 +32,8 @@ const ADVANCE: &str = "  Note over P: advance %\n";
 const BESIDE_AGENT: &str = "  Note over A%: %\n";
 
 const BESIDE_PLATFORM: &str = "  Note over P: %\n";
+/// The restart of an agent, which the platform was notified of: number and name.
+const RESTARTED: &str = "  Note over A%,P: restart %\n";
 
 /// Writes a chart as a diagram: a line for each agent, and one for each mark, in order. It has no
 /// states and no slots. The error is the writer's; some lines may then be written.
@@ -102,6 +104,11 @@ fn write_mark<W: Write>(writer: &mut W, mark: &Mark) -> io::Result<()>
         Mark::Fault { text, .. } => {
             write_filled(writer, BESIDE_PLATFORM, &[Value::Outside(text)])
         }
+        Mark::Restarted { agent, text, .. } => write_filled(
+            writer,
+            RESTARTED,
+            &[Value::Number(u32::from(*agent)), Value::Outside(text)],
+        ),
         Mark::Execution { .. } | Mark::Posted { .. } => Ok(()),
     }
 }

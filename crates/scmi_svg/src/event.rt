@@ -1,4 +1,5 @@
-//! What is no message: executions, advances, closes, faults, and other words beside a lifeline.
+//! What is no message: executions, advances, restarts, closes, faults, and other words beside a
+//! lifeline.
 
 use crate::escape::write_escaped;
 use crate::mark::Side;
@@ -39,6 +40,33 @@ pub(crate) fn write_advance<W: Write>(
     slot: u16,
     text: &[u8],
 ) -> io::Result<()> {
+    write_pill(writer, place, slot, "advance", text)
+}
+
+/// Writes the restart of an agent: a bar across its lifeline, and a pill on the platform's.
+pub(crate) fn write_restart<W: Write>(
+    writer: &mut W,
+    place: Place<'_>,
+    agent: u8,
+    slot: u16,
+    text: &[u8],
+) -> io::Result<()> {
+    let corner = Point {
+        x: place.agent_x(agent).saturating_sub(9),
+        y: place.line_y(slot) - 6,
+    };
+    write_box(writer, "again", corner, 18, 5)?;
+    write_pill(writer, place, slot, "restart", text)
+}
+
+/// Writes a pill on the platform's lifeline, with a word and what it is about.
+fn write_pill<W: Write>(
+    writer: &mut W,
+    place: Place<'_>,
+    slot: u16,
+    word: &str,
+    text: &[u8],
+) -> io::Result<()> {
     let width = 76 + width_in(text, 11);
     let (x, y) = (place.platform_x(), place.line_y(slot));
     let corner = Point {
@@ -48,7 +76,7 @@ pub(crate) fn write_advance<W: Write>(
     write_box(writer, "pill", corner, width, 23)?;
     write!(
         writer,
-        "<text class=\"sign\" x=\"{x}\" y=\"{y}\"><tspan class=\"name\">advance</tspan><tspan class=\"object\" dx=\"6\">"
+        "<text class=\"sign\" x=\"{x}\" y=\"{y}\"><tspan class=\"name\">{word}</tspan><tspan class=\"object\" dx=\"6\">"
     )?;
     write_escaped(writer, text)?;
     writer.write_all(b"</tspan></text>\n")

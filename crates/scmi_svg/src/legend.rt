@@ -40,6 +40,8 @@ const RING: &str = "<circle class=\"post\" cx=\"5\" cy=\"12\" r=\"4\"/>";
 const TOKEN: &str = "<circle class=\"token\" cx=\"10\" cy=\"12\" r=\"8\"/>\
 <text class=\"number\" x=\"7\" y=\"15\">0</text>";
 
+const RESTART: &str = "<rect x=\"2\" y=\"10\" width=\"18\" height=\"5\"/>";
+
 const HELD: &str = "<rect class=\"held\" x=\"5\" y=\"5\" width=\"6\" height=\"14\"/>";
 
 macro_rules! entries {
@@ -56,7 +58,7 @@ macro_rules! entries {
 }
 
 /// All lines and signs, in order.
-const ENTRIES: [Entry; 13] = entries![
+const ENTRIES: [Entry; 14] = entries![
     Where::Mark("command"), 103 "command" ARROW 34 "command";
     Where::Lost, 108 "sign" CROSS 22 "not executed";
     Where::Mark("reply"), 91 "reply" ARROW 34 "reply";
@@ -68,6 +70,7 @@ const ENTRIES: [Entry; 13] = entries![
     Where::Mark("posted"), 146 "sign" RING 15 "posted to the agent";
     Where::Mark("fault"), 126 "sign" CROSS 22 "hardware refused";
     Where::Mark("closed"), 122 "sign" SHUT 22 "channels closed";
+    Where::Mark("restart"), 109 "sign" RESTART 26 "agent restarts";
     Where::Held, 96 "sign" HELD 17 "set pending";
     Where::Dropped, 150 "sign" CROSS 22 "notification dropped";
 ];

@@ -109,4 +109,10 @@ pub enum Mark {
         slot: u16,
         text: Vec<u8>,
     },
+    /// An agent restarted, and the platform ended what it asked for.
+    Restarted {
+        agent: u8,
+        slot: u16,
+        text: Vec<u8>,
+    },
 }

@@ -3,6 +3,7 @@
 use crate::escape::write_escaped;
 use crate::event::{
     write_advance, write_closed, write_execution, write_fault, write_post, write_remark,
+    write_restart,
 };
 use crate::mark::{Mark, Outcome};
 use crate::message::{write_answer, write_command, write_refused, write_withdrawn};
@@ -47,6 +48,7 @@ pub(crate) fn class_of(mark: &Mark) -> &'static str {
         Mark::Remark { .. } => "remark",
         Mark::Failed { .. } => "advance refusal",
         Mark::Fault { .. } => "fault",
+        Mark::Restarted { .. } => "restart",
     }
 }
 
@@ -95,5 +97,8 @@ fn write_shapes<W: Write>(writer: &mut W, place: Place<'_>, mark: &Mark) -> io::
             text,
         } => write_remark(writer, place, *agent, *slot, *beside, text),
         Mark::Fault { agent, slot, text } => write_fault(writer, place, *agent, *slot, text),
+        Mark::Restarted { agent, slot, text } => {
+            write_restart(writer, place, *agent, *slot, text)
+        }
     }
 }

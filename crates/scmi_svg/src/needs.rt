@@ -58,7 +58,9 @@ fn mark_width(mark: &Mark) -> u32 {
             MARGIN + width_in(text, 11)
         }
         Mark::Execution { .. } | Mark::Posted { .. } => 0,
-        Mark::Advance { text, .. } | Mark::Failed { text, .. } => width_in(text, 11) / 2,
+        Mark::Advance { text, .. } | Mark::Failed { text, .. } | Mark::Restarted { text, .. } => {
+            width_in(text, 11) / 2
+        }
     }
 }
 

@@ -11,7 +11,7 @@ use Rattle.scmi_text.specs.TextLines.{after_each_line}
 use Rattle.scmi_text.specs.declared.step.AgentStep.TheVariants as agent
 use Rattle.scmi_text.specs.declared.step.PlatformStep.TheVariants.{Serve, Flush, Shut}
 use Rattle.scmi_text.specs.declared.step.Step.{Step}
-use Rattle.scmi_text.specs.declared.step.Step.TheVariants.{Agent, Platform, Do, Advance, Fail, AdvanceFailed}
+use Rattle.scmi_text.specs.declared.step.Step.TheVariants.{Agent, Platform, Do, Advance, Fail, AdvanceFailed, Restart}
 use Rattle.scmi_text.specs.declared.step_kinds.StepKinds.TheVariants.{WithoutHardware, All}
 
 -- the step of a line where hardware may refuse, on a board of two agents
@@ -25,18 +25,18 @@ each_line : map step (
 unfolding behind_spaces first_number item_at items_up_to number_of first_agent first_message payload_behind with_word agent_head command_head first_head head_of payload_of step_of_line
 each_line = refl
 
-each_platform_line : map step (codes "serve 1" ∷ codes "flush 2" ∷ codes "shut 1" ∷ codes "advance" ∷ codes "advance failed" ∷ codes "fail 1 0x11 4" ∷ [])
-    ≡ Some (Platform 1 Serve) ∷ Some (Platform 2 Flush) ∷ Some (Platform 1 Shut) ∷ Some Advance ∷ Some AdvanceFailed ∷ Some (Fail 1 (call_with 0x11 4 [])) ∷ []
+each_platform_line : map step (codes "serve 1" ∷ codes "flush 2" ∷ codes "shut 1" ∷ codes "advance" ∷ codes "advance failed" ∷ codes "fail 1 0x11 4" ∷ codes "restart 2" ∷ [])
+    ≡ Some (Platform 1 Serve) ∷ Some (Platform 2 Flush) ∷ Some (Platform 1 Shut) ∷ Some Advance ∷ Some AdvanceFailed ∷ Some (Fail 1 (call_with 0x11 4 [])) ∷ Some (Restart 2) ∷ []
 unfolding behind_spaces first_number item_at items_up_to number_of first_agent first_message payload_behind with_word advance_head agent_head command_head first_head head_of payload_of step_of_line
 each_platform_line = refl
 
 -- agents that the board lacks, a missing item, one too many, another word, a number that does not fit, and a space at the end
-refused_lines : map step (codes "serve 0" ∷ codes "serve 3" ∷ codes "do 1 16" ∷ codes "serve 1 1" ∷ codes "wait 1" ∷ codes "do 1 256 0" ∷ codes "advance now" ∷ codes "flush 1 " ∷ []) ≡ replicate 8 None
+refused_lines : map step (codes "serve 0" ∷ codes "serve 3" ∷ codes "do 1 16" ∷ codes "serve 1 1" ∷ codes "wait 1" ∷ codes "do 1 256 0" ∷ codes "advance now" ∷ codes "flush 1 " ∷ codes "restart 1 2" ∷ []) ≡ replicate 9 None
 unfolding behind_spaces first_number item_at items_up_to number_of first_agent first_message payload_behind with_word advance_head agent_head command_head first_head head_of payload_of step_of_line
 refused_lines = refl
 
 -- lines that only a script beside hardware has
-beside_hardware : map (step_of_line WithoutHardware 2) (codes "fail 1 0x11 4" ∷ codes "advance failed" ∷ codes "advance" ∷ []) ≡ None ∷ None ∷ Some Advance ∷ []
+beside_hardware : map (step_of_line WithoutHardware 2) (codes "fail 1 0x11 4" ∷ codes "advance failed" ∷ codes "restart 2" ∷ codes "advance" ∷ []) ≡ None ∷ None ∷ None ∷ Some Advance ∷ []
 unfolding behind_spaces first_number item_at items_up_to number_of first_agent first_message payload_behind with_word advance_head agent_head command_head first_head head_of payload_of step_of_line
 beside_hardware = refl
 

@@ -2,7 +2,7 @@
 use Rattle.std.specs.Prelude.{◌≡◌, ℕ, List, [], ◌∷◌, ◌++◌, Option, Some, None, IfSome}
 use Rattle.scmi_plan.specs.Agent.{IsAgent}
 use Rattle.scmi_text.specs.declared.step.Step.{Step}
-use Rattle.scmi_text.specs.declared.step.Step.TheVariants.{Agent, Platform, Do, Advance, Fail, AdvanceFailed}
+use Rattle.scmi_text.specs.declared.step.Step.TheVariants.{Agent, Platform, Do, Advance, Fail, AdvanceFailed, Restart}
 use Rattle.scmi_text.specs.declared.step_kinds.StepKinds.{StepKinds}
 use Rattle.scmi_text.specs.declared.step_kinds.StepKinds.TheVariants.{WithoutHardware}
 
@@ -14,15 +14,17 @@ step_agent (Do agent call) = Some agent
 step_agent Advance = None
 step_agent (Fail agent call) = Some agent
 step_agent AdvanceFailed = None
+step_agent (Restart agent) = Some agent
 
 -- the agent that a step names is one of the board's
 abbrev pub IsStepOf : ℕ → Step → Type 0
 IsStepOf agents step = IfSome (step_agent step) (IsAgent agents)
 
--- a step is not one beside hardware that refuses
+-- a step is neither one beside hardware that refuses nor the restart of an agent
 abbrev pub IsWithoutHardware : Step → Type 0
 IsWithoutHardware (Fail agent call) = ⊥
 IsWithoutHardware AdvanceFailed = ⊥
+IsWithoutHardware (Restart agent) = ⊥
 IsWithoutHardware step = Unit {0}
 
 -- a script of these kinds of steps may have the step

@@ -9,7 +9,7 @@ use Rattle.scmi_text.specs.TextLines.{after_lines}
 use Rattle.scmi_text.specs.WordRow.{form_in}
 use Rattle.scmi_text.specs.declared.word_row.WordRow.{WordRow}
 use Rattle.scmi_text.specs.declared.packed_step.Head.{Head}
-use Rattle.scmi_text.specs.declared.packed_step.Head.TheVariants.{Do, Call, Raw, Malformed, Collect, P2a, Close, Platform, Advance, Fail, AdvanceFailed}
+use Rattle.scmi_text.specs.declared.packed_step.Head.TheVariants.{Do, Call, Raw, Malformed, Collect, P2a, Close, Platform, Advance, Fail, AdvanceFailed, Restart}
 use Rattle.scmi_text.specs.declared.step.Step.{Step}
 use Rattle.scmi_text.specs.declared.step_form.AgentForm.{AgentForm}
 use Rattle.scmi_text.specs.declared.step_form.AgentForm.TheVariants as form
@@ -21,7 +21,7 @@ use Rattle.scmi_text.specs.declared.step_form.TheConstants.{FAILED, STEP_FORMS}
 use Rattle.scmi_text.specs.declared.step_kinds.StepKinds.{StepKinds}
 use Rattle.scmi_text.specs.declared.step_kinds.StepKinds.TheVariants.{WithoutHardware, All}
 
--- a line beside hardware that refuses is one of a script that may have such lines
+-- a line beside hardware that refuses, or of a restart, is one of a script that may have such lines
 abbrev pub with_hardware : StepKinds → Option (Unit {0})
 with_hardware WithoutHardware = None
 with_hardware All = Some tt
@@ -63,6 +63,9 @@ agent_head kinds form.Collect agent view = Some (Collect agent, view)
 agent_head kinds form.P2a agent view = Some (P2a agent, view)
 agent_head kinds form.Close agent view = Some (Close agent, view)
 agent_head kinds (form.Platform call) agent view = Some (Platform agent call, view)
+agent_head kinds form.Restart agent view = do
+  may ← with_hardware kinds
+  Some (Restart agent, view)
 
 -- what follows the first word
 unfoldable pub head_of : StepKinds → ℕ → StepForm → ItemsView → Option (Head × ItemsView)

@@ -109,6 +109,10 @@ fn read_agent_head(
         AgentForm::P2a => Ok(Head::P2a { agent }),
         AgentForm::Close => Ok(Head::Close { agent }),
         AgentForm::Platform(step) => Ok(Head::Platform { agent, step }),
+        AgentForm::Restart => {
+            kinds.need_hardware()?;
+            Ok(Head::Restart { agent })
+        }
     }
 }
 

@@ -35,6 +35,8 @@ pub(crate) const CLOSE: &str = "% close %\n";
 
 pub(crate) const SHUT: &str = "shut % %\n";
 
+pub(crate) const RESTARTED: &str = "restart % done\n";
+
 pub(crate) const TRACE: &str = "trace %\n";
 
 pub(crate) const GOT: &str = "% got%\n";

@@ -50,6 +50,9 @@ pub(crate) enum Head {
         message: u8,
     },
     AdvanceFailed,
+    Restart {
+        agent: u32,
+    },
 }
 
 /// A step whose payload is this many words of a list, from an index on.
@@ -179,6 +182,7 @@ fn step_with(head: Head, payload: &[u32]) -> Step
             call: call_with(protocol, message, payload),
         },
         Head::AdvanceFailed => Step::AdvanceFailed,
+        Head::Restart { agent } => Step::Restart { agent },
     }
 }
 

@@ -16,6 +16,8 @@ pub enum Step {
     Fail { agent: u32, call: Call },
     /// The platform ends one pending set, whose change the hardware refuses.
     AdvanceFailed,
+    /// The platform ends what this agent asked for, which has restarted without it.
+    Restart { agent: u32 },
 }
 
 /// A call that an agent makes.

@@ -20,6 +20,7 @@ pub(crate) enum AgentForm {
     P2a,
     Close,
     Platform(PlatformStep),
+    Restart,
 }
 
 /// The form of the line of a command.
@@ -37,7 +38,7 @@ macro_rules! rows {
 }
 
 /// The first words of the lines of steps.
-pub(crate) const STEP_FORMS: [HeldRow<StepForm>; 12] = rows![
+pub(crate) const STEP_FORMS: [HeldRow<StepForm>; 13] = rows![
     b"do" StepForm::Of(AgentForm::Command(CommandForm::Do));
     b"call" StepForm::Of(AgentForm::Command(CommandForm::Call));
     b"fail" StepForm::Of(AgentForm::Command(CommandForm::Fail));
@@ -49,6 +50,7 @@ pub(crate) const STEP_FORMS: [HeldRow<StepForm>; 12] = rows![
     b"serve" StepForm::Of(AgentForm::Platform(PlatformStep::Serve));
     b"flush" StepForm::Of(AgentForm::Platform(PlatformStep::Flush));
     b"shut" StepForm::Of(AgentForm::Platform(PlatformStep::Shut));
+    b"restart" StepForm::Of(AgentForm::Restart);
     b"advance" StepForm::Advance;
 ];
 

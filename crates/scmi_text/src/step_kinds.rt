@@ -5,7 +5,7 @@ ghost use Rattle.scmi_text.specs.StepText.{with_hardware};
 
 use scmi_board::LineError;
 
-/// Which kinds of steps a script may have: those without hardware, or all.
+/// Which kinds of steps a script may have: those without hardware and restarts, or all.
 #[derive(Clone, Copy, PartialEq, Eq, Debug)]
 pub(crate) enum StepKinds {
     WithoutHardware,
@@ -13,7 +13,7 @@ pub(crate) enum StepKinds {
 }
 
 impl StepKinds {
-    /// `Form` if a script of these kinds has no step beside hardware that refuses.
+    /// `Form` if a script of these kinds has no step beside hardware that refuses, and no restart.
     pub fn need_hardware(self) -> Result<(), LineError>
         ensures allowed { OnOk result (self ≡ StepKinds.All) }
         ensures hardware { Gives (λ _. tt) result (with_hardware self) }

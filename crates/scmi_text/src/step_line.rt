@@ -4,7 +4,8 @@ ghost use Rattle.std.specs.Io.KnownBytes.{Appends};
 ghost use Rattle.scmi_text.specs.StepLine.{step_text};
 
 use crate::lines::{
-    ADVANCE_FAILED, ADVANCED, CLOSE, FLUSHED, NOT_POSTED, POSTED, SERVED, SHUT, TOKEN, TRACE,
+    ADVANCE_FAILED, ADVANCED, CLOSE, FLUSHED, NOT_POSTED, POSTED, RESTARTED, SERVED, SHUT, TOKEN,
+    TRACE,
 };
 use crate::names::{close_name, flushed_name, refusal_name, served_name, shut_name, yes_or_no};
 use crate::received::{write_collected, write_p2a};
@@ -73,6 +74,10 @@ pub enum StepLine {
         agent: u32,
         result: Result<(), ShutError>,
     },
+    /// The platform ended what the agent asked for, which has restarted.
+    Restarted {
+        agent: u32,
+    },
     /// The run has ended, with this many events in its trace.
     Trace {
         events: usize,
@@ -112,6 +117,7 @@ pub fn write_step_line<W: Write>(writer: &mut W, line: &StepLine) -> io::Result<
             agent,
             result: closing,
         } => { write_agent_line(writer, SHUT, *agent, Name(shut_name(closing))) }
+        StepLine::Restarted { agent } => write_filled(writer, RESTARTED, &[Number(*agent)]),
         StepLine::Trace { events } => write_filled(writer, TRACE, &[Count(*events)]),
     }
 }

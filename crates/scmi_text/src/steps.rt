@@ -20,7 +20,7 @@ use scmi_board::{Items, LineError, Lines, TextError};
 use std::alloc::Global;
 
 /// The steps that all remaining lines encode (own). Each names an agent of the board, which has
-/// this many, numbered from 1, and no step is one beside hardware.
+/// this many, numbered from 1, and no step is one beside hardware or a restart.
 ///
 /// `Script` gives the number of the first line of another form, with more payload words than
 /// `PAYLOAD_WORDS`, or of an agent that the board lacks. `Memory` if memory is refused.
@@ -35,7 +35,7 @@ pub fn read_steps(alloc: Global, lines: &mut Lines<'_>, agents: u32) -> Result<S
 }
 
 /// The steps of all lines that are left, as `read_steps` gives them, and those beside hardware that
-/// refuses too (own).
+/// refuses and restarts too (own).
 pub fn read_hardware_steps(
     alloc: Global,
     lines: &mut Lines<'_>,
@@ -50,8 +50,8 @@ pub fn read_hardware_steps(
 }
 
 /// The step of one line, of a board that has this many agents (own). `Form` if the line is not a
-/// step, has more payload words than `PAYLOAD_WORDS`, or is one beside hardware; `Memory` if memory
-/// is refused.
+/// step, has more payload words than `PAYLOAD_WORDS`, or is one beside hardware or a restart;
+/// `Memory` if memory is refused.
 pub fn read_one_step(alloc: Global, text: &[u8], agents: u32) -> Result<Step, LineError>
     ensures agent { IfOk result (IsStepOf agents) }
     ensures step { GivesUnless (λ step. step) result
