@@ -1,9 +1,13 @@
 pub mod Agents
 pub mod Alike
+pub mod Among
 pub mod Changes
+pub mod Copies
 pub mod Corrections
 pub mod Ending
+pub mod Exactness
 pub mod Examples
+pub mod Guessing
 pub mod Histories
 pub mod Laws
 pub mod PlainRecords

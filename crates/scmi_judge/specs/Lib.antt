@@ -1,4 +1,8 @@
+pub mod Behind
+pub mod Copied
 pub mod Correction
+pub mod Exact
+pub mod Guess
 pub mod Kept
 pub mod Law
 pub mod Record

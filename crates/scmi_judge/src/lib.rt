@@ -12,6 +12,7 @@
 mod correction;
 mod endings;
 mod entry;
+mod exact_sets;
 mod judge;
 mod judging;
 mod legal_record;
@@ -22,6 +23,7 @@ mod set_shown;
 mod verdict;
 
 pub use entry::Entry;
+pub use exact_sets::every_exact_set;
 pub use judge::Judge;
 pub use legal_record::every_record;
 pub use record::judge_record;

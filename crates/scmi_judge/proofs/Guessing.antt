@@ -1,0 +1,324 @@
+-- What an event, or an entry, leaves of a platform that may be behind a record.
+use Rattle.std.proofs.Common.{◌≡◌, ◌≢◌, ◌⊎◌, inl, inr, ◌==◌, ℕ, zero, suc, ◌+◌, ◌-◌, ◌<◌, ◌≤◌, Bool, true, false, List, [], ◌∷◌, ◌++◌, length, slice_get, get_or, Option, Some, None, refl, sym, ap, ◌∙◌, subst, arith, if◌then◌else◌}
+use Rattle.std.specs.Prelude.{set}
+use Rattle.std.specs.Option.{option_to_list}
+use Rattle.std.proofs.lemmas.List.{append-nil, append_cancel_left, get_or-set_same, get_or-set_other, length-append}
+use Rattle.std.proofs.lemmas.Bool.{eq-eqb, eqb-false, eqb-true, ne_eqb}
+use Rattle.scmi_plan.specs.Agent.{IsAgent}
+use Rattle.scmi_plan.specs.Board.{Board}
+use Rattle.scmi_codec.specs.declared.message.Message.{Message}
+use Rattle.scmi_codec.specs.declared.frame.Frame.{Frame}
+use Rattle.scmi_codec.specs.declared.frame.Answer.{Answer}
+use Rattle.scmi_core.specs.declared.event.Event.{Event}
+use Rattle.scmi_core.specs.declared.event.Event.TheVariants.{Command, Advance, Sent, CommandFailed, AdvanceFailed, Restarted}
+use Rattle.scmi_core.specs.Effect.{effect_after}
+use Rattle.scmi_core.specs.History.{answer_to, delivered_messages, outbox}
+use Rattle.scmi_core.specs.Legal.{CanFollow, IsLegal}
+use Rattle.scmi_core.specs.Outbox.{is_sent_by}
+use Rattle.scmi_core.specs.Pending.{is_advance}
+use Rattle.scmi_core.specs.Reply.{failed_answer}
+use Rattle.scmi_core.specs.Standing.{MovesOn, Standing, StandsAfter}
+use Rattle.scmi_core.proofs.Laws.{delivered_empty, delivered_kept, delivered_other, delivered_sent}
+use Rattle.scmi_core.proofs.Legal.{IsLegal-last}
+use Rattle.scmi_judge.specs.Behind.{Behind, Fits, IsUnseen, OneInChannel, taken_by}
+use Rattle.scmi_judge.specs.Guess.{CanShow, CannotCome, Gives, GivesNot, GoesOn, Guess, IsGuess, IsSameGuess, posted_to}
+use Rattle.scmi_judge.specs.Copied.{IsSamePlatform}
+use Rattle.scmi_judge.specs.declared.entry.Entry.{Entry}
+use Rattle.scmi_judge.specs.declared.entry.Entry.TheVariants.{Answered, Delivered}
+
+-- the end of a pending set is unseen, and posts nothing
+pub end-unseen : (e : Event) → is_advance e ≡ true → IsUnseen e
+end-unseen Advance is = tt
+end-unseen AdvanceFailed is = tt
+end-unseen (Sent a) is = absurd (let no : false ≡ true = is in cc)
+end-unseen (Command a f) is = absurd (let no : false ≡ true = is in cc)
+end-unseen (CommandFailed a f) is = absurd (let no : false ≡ true = is in cc)
+end-unseen (Restarted a) is = absurd (let no : false ≡ true = is in cc)
+
+end-one : (board : Board) (entries : List Entry) (h : List Event) (e : Event) → is_advance e ≡ true → OneInChannel board entries h e
+end-one board entries h Advance is = tt
+end-one board entries h AdvanceFailed is = tt
+end-one board entries h (Sent a) is = absurd (let no : false ≡ true = is in cc)
+end-one board entries h (Command a f) is = tt
+end-one board entries h (CommandFailed a f) is = tt
+end-one board entries h (Restarted a) is = tt
+
+end-unsent : (a : ℕ) (e : Event) → is_advance e ≡ true → is_sent_by a e ≡ false
+end-unsent a Advance is = refl
+end-unsent a AdvanceFailed is = refl
+end-unsent a (Sent b) is = absurd (let no : false ≡ true = is in cc)
+end-unsent a (Command b f) is = refl
+end-unsent a (CommandFailed b f) is = refl
+end-unsent a (Restarted b) is = refl
+
+-- a guess's history is legal
+pub guess-legal : (board : Board) (g : Guess) (entries : List Entry) (h : List Event) → IsGuess board g entries h → IsLegal board h
+guess-legal board g entries h guess = subst (λ b. IsLegal b h) guess.of_board guess.stands.legal
+
+-- and so is that of what it moves on to
+pub moved-legal : (board : Board) (p new : Standing) (e : Event) (h : List Event) → p.board ≡ board → new.board ≡ p.board → MovesOn p e new → StandsAfter p h → IsLegal board (h ++ e ∷ [])
+moved-legal board p new e h is same moves stands = subst (λ b. IsLegal b (h ++ e ∷ [])) (same ∙ is) (moves h stands).legal
+
+-- the end of a set moves a guess on
+pub goes-by-end : (g new : Guess) (e : Event) → is_advance e ≡ true → MovesOn g.platform e new.platform → new.platform.board ≡ g.platform.board → new.posted ≡ g.posted → GoesOn g e new
+goes-by-end g new e is moves same posted board entries h guess =
+    record {
+      of_board = same ∙ guess.of_board;
+      behind = Behind.unseen guess.behind e (end-unseen e is) (end-one board entries h e is);
+      stands = moves h guess.stands;
+      channels = λ a agent.
+          delivered_kept board a h e (guess-legal board g entries h guess) (end-unsent a e is) ∙ guess.channels a agent
+          ∙ ap (λ ps. taken_by a entries ++ option_to_list (get_or ps (a - 1) None)) (sym posted);
+    }
+
+-- what is in a channel
+channel-of : (taken given : List Message) (posted : Option Message) → given ≡ taken ++ option_to_list posted → posted ≡ None → given ≡ taken
+channel-of taken given posted is none = is ∙ ap (λ p. taken ++ option_to_list p) none ∙ append-nil taken
+
+pub channel-full : (taken given : List Message) (posted : Option Message) (m : Message) → given ≡ taken ++ option_to_list posted → posted ≡ Some m → given ≢ taken
+channel-full taken given posted m is some empty =
+    let more : taken ++ m ∷ [] ≡ taken = ap (λ p. taken ++ option_to_list p) (sym some) ∙ sym is ∙ empty in
+    let lengths : length taken + 1 ≡ length taken = sym (length-append taken (m ∷ [])) ∙ ap length more in
+    absurd (omega (arith, lengths))
+
+only-one : (posted : Option Message) (m : Message) → option_to_list posted ≡ m ∷ [] → posted ≡ Some m
+only-one None m is = absurd (cc)
+only-one (Some n) m is = ap (λ ms. slice_get ms 0) is
+
+pub channel-has : (taken given : List Message) (posted : Option Message) (m : Message) → given ≡ taken ++ option_to_list posted → given ≡ taken ++ m ∷ [] → posted ≡ Some m
+channel-has taken given posted m is has = only-one posted m (append_cancel_left taken (option_to_list posted) (m ∷ []) (sym is ∙ has))
+
+-- two agents have two places
+other-place : (a b : ℕ) → 1 ≤ a → 1 ≤ b → b ≢ a → b - 1 ≢ a - 1
+other-place a b some more differ same = differ (omega (arith, some, more, same))
+
+pub decide : (b a : ℕ) → (b ≡ a) ⊎ (b ≢ a)
+decide b a = by (b == a) refl where
+  by : (is : Bool) → (b == a) ≡ is → (b ≡ a) ⊎ (b ≢ a)
+  by true is = inl (eqb-true b a is)
+  by false is = inr (eqb-false b a is)
+
+-- a posting moves a guess on
+pub goes-by-posting : (g new : Guess) (a : ℕ) (m : Message) → IsAgent (length g.platform.board.agents) a → a - 1 < length g.posted → posted_to g a ≡ None
+    → ((h : List Event) → StandsAfter g.platform h → slice_get (outbox g.platform.board a h) 0 ≡ Some m)
+    → MovesOn g.platform (Sent a) new.platform → new.platform.board ≡ g.platform.board → new.posted ≡ set g.posted (a - 1) (Some m) → GoesOn g (Sent a) new
+goes-by-posting g new a m agent within empty first moves same posted board entries h guess =
+    let here : IsAgent (length board.agents) a = subst (λ b. IsAgent (length b.agents) a) guess.of_board agent in
+    let none = channel-of (taken_by a entries) (delivered_messages board a h) (posted_to g a) (guess.channels a here) empty in
+    let front : slice_get (outbox board a h) 0 ≡ Some m = subst (λ b. slice_get (outbox b a h) 0 ≡ Some m) guess.of_board (first h guess.stands) in
+    record {
+      of_board = same ∙ guess.of_board;
+      behind = Behind.unseen guess.behind (Sent a) tt none;
+      stands = moves h guess.stands;
+      channels = λ b is. at none front b is (decide b a);
+    } where
+      at : delivered_messages board a h ≡ taken_by a entries → slice_get (outbox board a h) 0 ≡ Some m → (b : ℕ) → IsAgent (length board.agents) b → (b ≡ a) ⊎ (b ≢ a)
+          → delivered_messages board b (h ++ Sent a ∷ []) ≡ taken_by b entries ++ option_to_list (posted_to new b)
+      at none front b is (inl own) =
+          subst (λ x. delivered_messages board x (h ++ Sent a ∷ []) ≡ taken_by x entries ++ option_to_list (posted_to new x)) (sym own)
+          (delivered_sent board a h m front ∙ ap (λ ms. ms ++ m ∷ []) none
+          ∙ ap (λ p. taken_by a entries ++ option_to_list p) (sym (ap (λ ps. get_or ps (a - 1) None) posted ∙ get_or-set_same g.posted (a - 1) (Some m) None within)))
+      at none front b is (inr other) =
+          delivered_other board b a h (guess-legal board g entries h guess) other ∙ guess.channels b is
+          ∙ ap (λ p. taken_by b entries ++ option_to_list p)
+          (sym (ap (λ ps. get_or ps (b - 1) None) posted ∙ get_or-set_other g.posted (a - 1) (b - 1) (Some m) None (other-place a b agent.0 is.0 other)))
+
+-- no posting into a channel that is not empty
+pub full-cannot : (g : Guess) (a : ℕ) (m : Message) → IsAgent (length g.platform.board.agents) a → posted_to g a ≡ Some m → CannotCome g (Sent a)
+full-cannot g a m agent full board entries h guess can =
+    channel-full (taken_by a entries) (delivered_messages board a h) (posted_to g a) m
+    (guess.channels a (subst (λ b. IsAgent (length b.agents) a) guess.of_board agent)) full can.one
+
+-- nor of a message that the platform can't post
+pub cannot-follow : (g : Guess) (e : Event) → ((h : List Event) → StandsAfter g.platform h → ¬ (CanFollow g.platform.board h e)) → CannotCome g e
+cannot-follow g e cannot board entries h guess can = cannot h guess.stands (subst (λ b. CanFollow b h e) (sym guess.of_board) can.follows)
+
+-- an agent that takes what was posted to it
+module _ (g new : Guess) (a : ℕ) (m : Message) (agent : IsAgent (length g.platform.board.agents) a) (within : a - 1 < length g.posted) (full : posted_to g a ≡ Some m)
+    (same : new.platform ≡ g.platform) (posted : new.posted ≡ set g.posted (a - 1) None) where
+  taken-at : (board : Board) (entries : List Entry) (h : List Event) → IsGuess board g entries h → (b : ℕ) → IsAgent (length board.agents) b → (b ≡ a) ⊎ (b ≢ a)
+      → delivered_messages board b h ≡ (taken_by b entries ++ option_to_list (if b == a then Some m else None)) ++ option_to_list (posted_to new b)
+  taken-at board entries h guess b is (inl own) =
+      subst (λ x. delivered_messages board x h ≡ (taken_by x entries ++ option_to_list (if x == a then Some m else None)) ++ option_to_list (posted_to new x)) (sym own)
+      (guess.channels a (subst (λ b. IsAgent (length b.agents) a) guess.of_board agent) ∙ ap (λ p. taken_by a entries ++ option_to_list p) full
+      ∙ sym (ap (λ p. (taken_by a entries ++ option_to_list (if a == a then Some m else None)) ++ option_to_list p)
+      (ap (λ ps. get_or ps (a - 1) None) posted ∙ get_or-set_same g.posted (a - 1) None None within)
+      ∙ append-nil (taken_by a entries ++ option_to_list (if a == a then Some m else None))
+      ∙ ap (λ c. taken_by a entries ++ option_to_list (if c then Some m else None)) (eq-eqb a a refl)))
+  taken-at board entries h guess b is (inr other) =
+      guess.channels b is
+      ∙ ap (λ p. taken_by b entries ++ option_to_list p)
+      (sym (ap (λ ps. get_or ps (b - 1) None) posted ∙ get_or-set_other g.posted (a - 1) (b - 1) None None (other-place a b agent.0 is.0 other)))
+      ∙ ap (λ ms. ms ++ option_to_list (posted_to new b))
+      (sym (ap (λ c. taken_by b entries ++ option_to_list (if c then Some m else None)) (ne_eqb b a other) ∙ append-nil (taken_by b entries)))
+
+  taken-each : (board : Board) (entries : List Entry) (h events : List Event) → IsGuess board g entries h → CanShow board entries h (Delivered a m) events
+      → IsGuess board new (Delivered a m ∷ entries) (h ++ events)
+  taken-each board entries h events guess can =
+      let nothing : h ++ events ≡ h = ap (λ es. h ++ es) can.fits.1 ∙ append-nil h in
+      record {
+        of_board = ap (λ (p : Standing). p.board) same ∙ guess.of_board;
+        behind = Behind.shown guess.behind (Delivered a m) events can.fits;
+        stands = subst (λ p. StandsAfter p (h ++ events)) (sym same) (subst (λ k. StandsAfter g.platform k) (sym nothing) guess.stands);
+        channels = λ b is. ap (λ k. delivered_messages board b k) nothing ∙ taken-at board entries h guess b is (decide b a);
+      }
+
+  pub gives-message : Gives g (Delivered a m) new
+  gives-message =
+      record {
+        some = λ board entries h guess. (
+          [],
+          record {
+            fits = (
+              subst (λ b. IsAgent (length b.agents) a) guess.of_board agent,
+              refl,
+              guess.channels a (subst (λ b. IsAgent (length b.agents) a) guess.of_board agent) ∙ ap (λ p. taken_by a entries ++ option_to_list p) full,
+            );
+            legal = subst (λ k. IsLegal board k) (sym (append-nil h)) (guess-legal board g entries h guess);
+          },
+        );
+        each = taken-each;
+      }
+
+-- an agent does not take what was not posted to it
+pub other-message : (g : Guess) (a : ℕ) (m : Message) → posted_to g a ≢ Some m → GivesNot g (Delivered a m)
+other-message g a m other board entries h events guess can =
+    other (channel-has (taken_by a entries) (delivered_messages board a h) (posted_to g a) m (guess.channels a can.fits.0) can.fits.2)
+
+-- nor one that the board lacks
+pub stranger-message : (g : Guess) (a : ℕ) (m : Message) → ¬ (IsAgent (length g.platform.board.agents) a) → GivesNot g (Delivered a m)
+stranger-message g a m away board entries h events guess can = away (subst (λ b. IsAgent (length b.agents) a) (sym guess.of_board) can.fits.0)
+
+-- a platform that answers a command, executed or refused by the hardware
+module _ (g new : Guess) (a : ℕ) (f : Frame) (x : Answer) (e : Event) where
+  answered-each : is_sent_by a e ≡ false → ((b : ℕ) → is_sent_by b e ≡ false) → MovesOn g.platform e new.platform → new.platform.board ≡ g.platform.board → new.posted ≡ g.posted
+      → (board : Board) (entries : List Entry) (h events : List Event) → events ≡ e ∷ [] → IsGuess board g entries h → Fits board entries h (Answered a f x) events
+      → IsGuess board new (Answered a f x ∷ entries) (h ++ events)
+  answered-each own unsent moves same posted board entries h events are guess fits =
+      record {
+        of_board = same ∙ guess.of_board;
+        behind = Behind.shown guess.behind (Answered a f x) events fits;
+        stands = subst (λ es. StandsAfter new.platform (h ++ es)) (sym are) (moves h guess.stands);
+        channels = λ b is.
+            ap (λ es. delivered_messages board b (h ++ es)) are ∙ delivered_kept board b h e (guess-legal board g entries h guess) (unsent b) ∙ guess.channels b is
+            ∙ ap (λ ps. taken_by b entries ++ option_to_list (get_or ps (b - 1) None)) (sym posted)
+            ∙ ap (λ ms. ms ++ option_to_list (posted_to new b)) (sym (nothing-taken b entries));
+      } where
+        nothing-taken : (b : ℕ) (entries : List Entry) → taken_by b (Answered a f x ∷ entries) ≡ taken_by b entries
+        nothing-taken b entries = append-nil (taken_by b entries)
+
+-- a command is no posting
+pub gives-done : (g new : Guess) (a : ℕ) (f : Frame) (x : Answer) → MovesOn g.platform (Command a f) new.platform → new.platform.board ≡ g.platform.board → new.posted ≡ g.posted
+    → ((h : List Event) → StandsAfter g.platform h → x ≡ answer_to g.platform.board a f h)
+    → ((h : List Event) → StandsAfter g.platform h → effect_after g.platform.board h (Command a f) ≢ None → x ≢ failed_answer f)
+    → Gives g (Answered a f x) new
+gives-done g new a f x moves same posted due only =
+    record {
+      some = λ board entries h guess. (
+        Command a f ∷ [],
+        record {
+          fits = inl (refl, subst (λ b. x ≡ answer_to b a f h) guess.of_board (due h guess.stands));
+          legal = moved-legal board g.platform new.platform (Command a f) h guess.of_board same moves guess.stands;
+        },
+      );
+      each = λ board entries h events guess can. by board entries h events guess can.legal can.fits;
+    } where
+      by : (board : Board) (entries : List Entry) (h events : List Event) → IsGuess board g entries h → IsLegal board (h ++ events) → Fits board entries h (Answered a f x) events
+          → IsGuess board new (Answered a f x ∷ entries) (h ++ events)
+      by board entries h events guess legal (inl fits) =
+          answered-each g new a f x (Command a f) refl (λ b. refl) moves same posted board entries h events fits.0 guess (inl fits)
+      by board entries h events guess legal (inr fits) =
+          absurd (only h guess.stands
+          (subst (λ b. effect_after b h (Command a f) ≢ None) (sym guess.of_board)
+          (IsLegal-last board h (CommandFailed a f) (subst (λ es. IsLegal board (h ++ es)) fits.0 legal)).1) fits.1)
+
+pub gives-failed : (g new : Guess) (a : ℕ) (f : Frame) (x : Answer) → MovesOn g.platform (CommandFailed a f) new.platform → new.platform.board ≡ g.platform.board → new.posted ≡ g.posted
+    → x ≡ failed_answer f → ((h : List Event) → StandsAfter g.platform h → x ≢ answer_to g.platform.board a f h)
+    → Gives g (Answered a f x) new
+gives-failed g new a f x moves same posted due only =
+    record {
+      some = λ board entries h guess. (
+        CommandFailed a f ∷ [],
+        record {
+          fits = inr (refl, due);
+          legal = moved-legal board g.platform new.platform (CommandFailed a f) h guess.of_board same moves guess.stands;
+        },
+      );
+      each = λ board entries h events guess can. by board entries h events guess can.fits;
+    } where
+      by : (board : Board) (entries : List Entry) (h events : List Event) → IsGuess board g entries h → Fits board entries h (Answered a f x) events
+          → IsGuess board new (Answered a f x ∷ entries) (h ++ events)
+      by board entries h events guess (inr fits) =
+          answered-each g new a f x (CommandFailed a f) refl (λ b. refl) moves same posted board entries h events fits.0 guess (inr fits)
+      by board entries h events guess (inl fits) = absurd (only h guess.stands (subst (λ b. x ≡ answer_to b a f h) (sym guess.of_board) fits.1))
+
+pub other-answer : (g : Guess) (a : ℕ) (f : Frame) (x : Answer) → ((h : List Event) → StandsAfter g.platform h → x ≢ answer_to g.platform.board a f h)
+    → ((h : List Event) → StandsAfter g.platform h → effect_after g.platform.board h (Command a f) ≢ None → x ≢ failed_answer f)
+    → GivesNot g (Answered a f x)
+other-answer g a f x undone unfailed board entries h events guess can = by can.fits where
+  by : Fits board entries h (Answered a f x) events → ⊥
+  by (inl fits) = undone h guess.stands (subst (λ b. x ≡ answer_to b a f h) (sym guess.of_board) fits.1)
+  by (inr fits) =
+      unfailed h guess.stands
+      (subst (λ b. effect_after b h (Command a f) ≢ None) (sym guess.of_board)
+      (IsLegal-last board h (CommandFailed a f) (subst (λ es. IsLegal board (h ++ es)) fits.0 can.legal)).1) fits.1
+
+pub stranger-answer : (g : Guess) (a : ℕ) (f : Frame) (x : Answer) → ¬ (IsAgent (length g.platform.board.agents) a) → GivesNot g (Answered a f x)
+stranger-answer g a f x away board entries h events guess can = by can.fits where
+  here : IsAgent (length board.agents) a → ⊥
+  here is = away (subst (λ b. IsAgent (length b.agents) a) (sym guess.of_board) is)
+
+  by : Fits board entries h (Answered a f x) events → ⊥
+  by (inl fits) = here (IsLegal-last board h (Command a f) (subst (λ es. IsLegal board (h ++ es)) fits.0 can.legal))
+  by (inr fits) = here (IsLegal-last board h (CommandFailed a f) (subst (λ es. IsLegal board (h ++ es)) fits.0 can.legal)).0
+
+-- at the start nothing was posted
+eight_none : List (Option Message)
+eight_none = None ∷ None ∷ None ∷ None ∷ None ∷ None ∷ None ∷ None ∷ []
+
+none-at : (i : ℕ) → get_or eight_none i None ≡ None
+unfolding eight_none
+none-at zero = refl
+none-at (suc zero) = refl
+none-at (suc (suc zero)) = refl
+none-at (suc (suc (suc zero))) = refl
+none-at (suc (suc (suc (suc zero)))) = refl
+none-at (suc (suc (suc (suc (suc zero))))) = refl
+none-at (suc (suc (suc (suc (suc (suc zero)))))) = refl
+none-at (suc (suc (suc (suc (suc (suc (suc zero))))))) = refl
+none-at (suc (suc (suc (suc (suc (suc (suc (suc i)))))))) = refl
+
+pub guess-start : (board : Board) (g : Guess) → g.platform.board ≡ board → StandsAfter g.platform [] → g.posted ≡ None ∷ None ∷ None ∷ None ∷ None ∷ None ∷ None ∷ None ∷ []
+    → IsGuess board g [] []
+unfolding eight_none
+guess-start board g same stands none =
+    record {
+      of_board = same;
+      behind = Behind.nothing;
+      stands = stands;
+      channels = λ a agent. delivered_empty board a ∙ ap option_to_list (sym (ap (λ ps. get_or ps (a - 1) None) none ∙ none-at (a - 1)));
+    }
+
+-- a copy is the same guess
+pub same-guess : (g new : Guess) → IsSamePlatform g.platform new.platform → new.posted ≡ g.posted → IsSameGuess g new
+same-guess g new same posted board entries h guess =
+    record {
+      of_board = same.board ∙ guess.of_board;
+      behind = guess.behind;
+      stands = same.stands h guess.stands;
+      channels = λ a agent. guess.channels a agent ∙ ap (λ ps. taken_by a entries ++ option_to_list (get_or ps (a - 1) None)) (sym posted);
+    }
+
+-- eight items are the items at eight places
+pub eight : {X : Type 0} (xs : List X) (d : X) → length xs ≡ 8
+    → xs ≡ get_or xs 0 d ∷ get_or xs 1 d ∷ get_or xs 2 d ∷ get_or xs 3 d ∷ get_or xs 4 d ∷ get_or xs 5 d ∷ get_or xs 6 d ∷ get_or xs 7 d ∷ []
+eight (a ∷ b ∷ c ∷ e ∷ f ∷ g ∷ h ∷ i ∷ []) d is = refl
+eight [] d is = absurd (omega (arith, is))
+eight (a ∷ []) d is = absurd (omega (arith, is))
+eight (a ∷ b ∷ []) d is = absurd (omega (arith, is))
+eight (a ∷ b ∷ c ∷ []) d is = absurd (omega (arith, is))
+eight (a ∷ b ∷ c ∷ e ∷ []) d is = absurd (omega (arith, is))
+eight (a ∷ b ∷ c ∷ e ∷ f ∷ []) d is = absurd (omega (arith, is))
+eight (a ∷ b ∷ c ∷ e ∷ f ∷ g ∷ []) d is = absurd (omega (arith, is))
+eight (a ∷ b ∷ c ∷ e ∷ f ∷ g ∷ h ∷ []) d is = absurd (omega (arith, is))
+eight (a ∷ b ∷ c ∷ e ∷ f ∷ g ∷ h ∷ i ∷ j ∷ more) d is = absurd (omega (arith, is))
