@@ -1,10 +1,10 @@
--- Answers and messages in an area of the size of their agent's channel.
-use Rattle.std.proofs.Common.{rules, ◌≡◌, ℕ, ◌-◌, ◌/◌, ◌%◌, ◌==◌, ◌≤◌, ◌&&◌, Bool, true, false, if◌then◌else◌, List, [], ◌∷◌, length, slice_get, nat_le, Option, Some, None, Result, Ok, Err, OnOk, is_none, sym, subst, ap, refl, ◌∙◌, arith}
+-- Answers and messages in an area that is whole or of the size of its agent's channel.
+use Rattle.std.proofs.Common.{rules, ◌≡◌, ◌⊎◌, inl, inr, ℕ, ◌-◌, ◌/◌, ◌%◌, ◌==◌, ◌≤◌, ◌&&◌, Bool, true, false, if◌then◌else◌, List, [], ◌∷◌, length, slice_get, nat_le, Option, Some, None, Result, Ok, Err, OnOk, is_none, sym, subst, ap, refl, ◌∙◌, arith}
 use Rattle.std.specs.Prelude.{⊤}
 use Rattle.std.specs.List.{All}
 use Rattle.std.proofs.lemmas.Bool.{and_from, and_parts, eq-eqb, le-leb, leb-true}
 use Rattle.std.proofs.lemmas.List.Elements.{All-head, All-drop}
-use Rattle.scmi_codec.specs.Area.{area_after_answer, header_at, length_at, message_of, status_at, is_well_formed_within, waiting_within}
+use Rattle.scmi_codec.specs.Area.{area_after_answer, frame_waiting, header_at, length_at, message_of, status_at, is_well_formed_within, waiting_within}
 use Rattle.scmi_codec.specs.declared.channel_area.ChannelAreaError.{ChannelAreaError}
 use Rattle.scmi_codec.specs.declared.channel_area.ChannelAreaError.TheVariants.{TooLong, WrongSize}
 use Rattle.scmi_codec.specs.ChannelArea.{capacity, channel_bytes, channel_waiting, channel_words, is_channel_size, room_for}
@@ -27,7 +27,9 @@ use Rattle.scmi_core.specs.declared.answered.Answered.{Answered}
 use Rattle.scmi_core.specs.declared.answered.Answered.TheVariants as answered
 use Rattle.scmi_core.specs.declared.event.Event.{Event}
 use Rattle.scmi_core.proofs.Channels.{channels}
-use Rattle.scmi_core.proofs.Room.{reply-within}
+use Rattle.scmi_core.proofs.Room.{reply-within, valid_channel}
+use Rattle.scmi_c.specs.Channel.{IsAreaOf}
+use Rattle.scmi_c.specs.Standing.{Held, board_of}
 use Rattle.scmi_c.proofs.Answering.{reply-header}
 
 -- AREAS OF A CHANNEL
@@ -63,11 +65,24 @@ free-is (Some frame) r b said is free =
     absurd (cc)
 
 -- and so is a message that has room
-pub not-refused : (r : Result ⊤ ChannelAreaError) (e : ChannelAreaError) (words room : ℕ) (area : List ℕ) → is_channel_size (length area) ≡ true → capacity area ≡ room → words ≤ room
+pub not-refused : (r : Result ⊤ ChannelAreaError) (e : ChannelAreaError) (words : ℕ) (area : List ℕ) → is_channel_size (length area) ≡ true → words ≤ capacity area
     → r ≡ room_for words area → r ≡ Err e → ⊥
-not-refused r e words room area size same few is err =
-    let fits : ◌≡◌ {A = Result ⊤ ChannelAreaError} (Ok tt) (Err e) = sym (room-is words area size (subst (λ (n : ℕ). words ≤ n) (sym same) few)) ∙ sym is ∙ err in
+not-refused r e words area size few is err =
+    let fits : ◌≡◌ {A = Result ⊤ ChannelAreaError} (Ok tt) (Err e) = sym (room-is words area size few) ∙ sym is ∙ err in
     absurd (cc)
+
+-- an area of an agent has room for what the agent's channel has
+pub has-room : (p : Held) (agent bytes : ℕ) → IsValid (board_of p) → IsAreaOf agent bytes p → (channel_of (board_of p) agent).words ≤ channel_words bytes
+has-room p agent bytes law (inl whole) =
+    let most = (valid_channel (board_of p) agent law).1 in
+    omega (arith, most, whole)
+has-room p agent bytes law (inr size) =
+    let same = size.1 in
+    omega (arith, same)
+
+-- a frame that waits in a whole area
+pub whole_waits : (area : List ℕ) → length area ≡ 284 → channel_waiting area ≡ frame_waiting area
+whole_waits area is = ap (λ (n : ℕ). waiting_within (channel_words n) area) is
 
 -- ANSWERS
 
@@ -83,7 +98,7 @@ waiting-header words area m = by (status_at area % 2 == 1) (is_well_formed_withi
   by false true p = search rules
   by false false p = search rules
 
-answer-within : (board : Board) (a : ℕ) (frame : Frame) (h : List Event) → IsValid board → IsAnswerWithin board a (answer_to board a frame h)
+pub answer-within : (board : Board) (a : ℕ) (frame : Frame) (h : List Event) → IsValid board → IsAnswerWithin board a (answer_to board a frame h)
 answer-within board a (Good m) h law = by (fits_channel board a m) where
   by : (short : Bool) → IsAnswerWithin board a (if short then Reply (message_with m.header (reply_words board a (situation_after board a (deeds board h)) (command_of m))) else ChannelError)
   by true = reply-within board a (situation_after board a (deeds board h)) (command_of m) law
@@ -101,13 +116,13 @@ of-header area reply head = ap (λ header. area_after_answer (Reply (record { he
 
 -- what a frame was answered with, written over it
 pub answered-in : (board : Board) (a : ℕ) (h : List Event) (area new : List ℕ) (frame : Frame) (x : Answered) (reply : Message)
-    → IsValid board → capacity area ≡ (channel_of board a).words → channel_waiting area ≡ Some frame → answer_with x reply ≡ answer_to board a frame h
+    → IsValid board → (channel_of board a).words ≤ capacity area → channel_waiting area ≡ Some frame → answer_with x reply ≡ answer_to board a frame h
     → (x ≡ answered.Reply → length reply.payload.items ≤ capacity area → new ≡ area_after_answer (Reply (message_of (header_at area) reply.payload.items)) area)
     → (x ≡ answered.ChannelError → new ≡ area_after_answer ChannelError area)
     → new ≡ area_after_answer (answer_to board a frame h) area
 answered-in board a h area new frame answered.Reply reply law room waits is written error =
     let short : IsAnswerWithin board a (Reply reply) = subst (IsAnswerWithin board a) (sym is) (answer-within board a frame h law) in
-    written refl (subst (λ (n : ℕ). length reply.payload.items ≤ n) (sym room) short)
+    written refl (omega (arith, short, room))
     ∙ of-header area reply (answer-header board a (capacity area) area frame reply (situation_after board a (deeds board h)) waits is)
     ∙ ap (λ answer. area_after_answer answer area) is
 answered-in board a h area new frame answered.ChannelError reply law room waits is written error = error refl ∙ ap (λ answer. area_after_answer answer area) is
@@ -124,7 +139,7 @@ committed-in board a h area new frame answered.Reply reply law room is written e
 committed-in board a h area new frame answered.ChannelError reply law room is written error = error refl ∙ ap (λ answer. area_after_answer answer area) is
 
 -- a reply of a status alone has room in each area
-one-word : (frame : Frame) (reply : Message) → Reply reply ≡ failed_answer frame → length reply.payload.items ≡ 1
+pub one-word : (frame : Frame) (reply : Message) → Reply reply ≡ failed_answer frame → length reply.payload.items ≡ 1
 one-word (Good m) reply is =
     let same : reply ≡ message_with m.header failed_words = search rules in
     ap (λ (r : Message). length r.payload.items) same

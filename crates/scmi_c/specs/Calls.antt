@@ -1,6 +1,7 @@
 -- What calls leave, and when they leave all as it was.
 use Rattle.std.specs.Prelude.{◌≡◌, ◌≢◌, ◌↔◌, ℕ, List, [], ◌∷◌, ◌++◌, length, Some, None, slice_get}
-use Rattle.scmi_codec.specs.Area.{area_after_answer, area_after_post, frame_waiting}
+use Rattle.scmi_codec.specs.Area.{area_after_answer, area_after_post}
+use Rattle.scmi_codec.specs.ChannelArea.{channel_waiting}
 use Rattle.scmi_codec.specs.declared.frame.Frame.{Frame}
 use Rattle.scmi_codec.specs.declared.message.Message.{Message}
 use Rattle.scmi_plan.specs.Agent.{IsAgent}
@@ -39,7 +40,7 @@ pub record HasFailed (p k : Held) (agent : ℕ) (frame : Frame) (before after : 
 pub record HasPosted (p : Held) (agent : ℕ) (before after : List ℕ) : Type 0 where
   pub message : Message
   pub first : (h : List Event) → StandsAt p h → slice_get (outbox (board_of p) agent h) 0 ≡ Some message
-  pub free : frame_waiting before ≡ None
+  pub free : channel_waiting before ≡ None
   pub area : after ≡ area_after_post message before
 
 -- no message waits for an agent of the board after a history

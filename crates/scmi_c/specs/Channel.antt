@@ -1,16 +1,13 @@
 -- Areas of the size of an agent's channel.
-use Rattle.std.specs.Prelude.{◌≡◌, ◌≢◌, ℕ, List, length, slice_get, Some, None}
+use Rattle.std.specs.Prelude.{◌≡◌, ◌≢◌, ◌⊎◌, ℕ, List, length, None}
 use Rattle.scmi_codec.specs.ChannelArea.{channel_bytes, channel_waiting}
-use Rattle.scmi_codec.specs.Area.{area_after_post}
-use Rattle.scmi_codec.specs.declared.message.Message.{Message}
+use Rattle.scmi_codec.specs.declared.area.TheConstants.{AREA_BYTES}
 use Rattle.scmi_plan.specs.Agent.{IsAgent}
 use Rattle.scmi_plan.specs.Board.{channel_of}
 use Rattle.scmi_plan.specs.declared.agent_channel.AgentChannel.{AgentChannel}
-use Rattle.scmi_core.specs.History.{outbox}
 use Rattle.scmi_core.specs.Value.{bit_value}
-use Rattle.scmi_core.specs.declared.event.Event.{Event}
 use Rattle.scmi_c.specs.declared.channel.ChannelNumbers.{ChannelNumbers}
-use Rattle.scmi_c.specs.Standing.{Held, StandsAt, board_of}
+use Rattle.scmi_c.specs.Standing.{Held, board_of}
 
 -- the size in bytes of the areas of an agent's channels
 abbrev pub bytes_of : ℕ → Held → ℕ
@@ -28,12 +25,9 @@ HasAnotherSize agent bytes p = IsAgent (length (board_of p).agents) agent × (by
 abbrev pub IsFreeOf : ℕ → List ℕ → Held → Type 0
 IsFreeOf agent area p = HasSize agent (length area) p × (channel_waiting area ≡ None)
 
--- the first message of an agent's outbox is in the area as posted, whose channel was free before
-pub record HasPostedIn (p : Held) (agent : ℕ) (before after : List ℕ) : Type 0 where
-  pub message : Message
-  pub first : (h : List Event) → StandsAt p h → slice_get (outbox (board_of p) agent h) 0 ≡ Some message
-  pub free : channel_waiting before ≡ None
-  pub area : after ≡ area_after_post message before
+-- an area of this many bytes is whole, or has the size of its agent's channel: it has room for each reply to the agent
+abbrev pub IsAreaOf : ℕ → ℕ → Held → Type 0
+IsAreaOf agent bytes p = (bytes ≡ AREA_BYTES) ⊎ HasSize agent bytes p
 
 -- a channel, as numbers for C
 abbrev pub numbers_of_channel : AgentChannel → ChannelNumbers

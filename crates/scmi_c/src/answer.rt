@@ -19,6 +19,7 @@ use std::alloc::Global;
 /// Executes the frame in an agent's area, and answers it in place. `DONE`; `NO_PLATFORM`; `ASKED`
 /// if a command waits to be committed or to fail; `NOTHING` if the channel is free; `NO_AGENT`. After
 /// another number than `DONE` nothing changed.
+#[tactic(auto, using(crate::proofs::AreaIn::whole_waits))]
 #[unsafe(no_mangle)]
 pub extern "C" fn scmi_answer(
     alloc: Global,

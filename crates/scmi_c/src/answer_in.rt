@@ -2,9 +2,9 @@
 ghost use Rattle.std.specs.Prelude.{◌≡◌, ◌≢◌, ◌↔◌, ◌⊎◌, ◌≤◌, None, IsSomeAnd, IfSome, List, length};
 ghost use Rattle.scmi_codec.specs.ChannelArea.{channel_waiting};
 ghost use Rattle.scmi_core.specs.declared.event.Event.{Event};
-ghost use Rattle.scmi_c.specs.Calls.{HasAnswered, HasNext, LacksNext};
+ghost use Rattle.scmi_c.specs.Calls.{HasAnswered, HasNext, HasPosted, LacksNext};
 ghost use Rattle.scmi_c.specs.Kept.{IsAsked, IsUnasked};
-ghost use Rattle.scmi_c.specs.Channel.{HasAnotherSize, HasPostedIn, HasSize, IsFreeOf};
+ghost use Rattle.scmi_c.specs.Channel.{HasAnotherSize, HasSize, IsFreeOf};
 ghost use Rattle.scmi_c.specs.Standing.{LacksAgent, StandsAt, board_of};
 ghost use Rattle.scmi_c.specs.declared.code.TheConstants.{ASKED, DONE, NOTHING, MEMORY, NO_AGENT, NOT_FREE, NO_PLATFORM, WRONG_SIZE};
 
@@ -61,7 +61,7 @@ pub extern "C" fn scmi_next_in(
     area: &mut [u8],
 ) -> u32
     ensures done { result ≡ DONE →
-        IsSomeAnd platform.old.value (λ p. HasPostedIn p.held agent area.old area.new) }
+        IsSomeAnd platform.old.value (λ p. HasPosted p.held agent area.old area.new) }
     ensures platform { platform.new.value ≡ platform.old.value }
     ensures no_platform { (result ≡ NO_PLATFORM) ↔ (platform.old.value ≡ None) }
     ensures no_agent { (result ≡ NO_AGENT) ↔ IsSomeAnd platform.old.value (λ p. LacksAgent agent p.held) }

@@ -1,44 +1,52 @@
-//! Areas that a platform answers and fills.
-ghost use Rattle.std.specs.Prelude.{◌≡◌, ◌≢◌, ◌↔◌, Some, None, List, length, IsSomeAnd, IfOk, IfErr, OnOk, OnErr, Ok, Err, ◌⊎◌};
-ghost use Rattle.scmi_codec.specs.Area.{area_after_answer, frame_waiting, header_at, message_of};
+//! Areas that a platform answers and fills: whole ones, and those of the size of their agent's
+//! channel.
+ghost use Rattle.std.specs.Prelude.{◌≡◌, ◌≢◌, ◌↔◌, ◌≤◌, Some, None, List, length, true, IsSomeAnd, IfOk, IfErr, OnOk, OnErr, Ok, Err, ◌⊎◌};
+ghost use Rattle.scmi_codec.specs.Area.{area_after_answer, header_at, message_of};
+ghost use Rattle.scmi_codec.specs.ChannelArea.{capacity, channel_waiting, is_channel_size};
 ghost use Rattle.scmi_codec.specs.declared.frame.Answer.TheVariants as frame_answer;
 ghost use Rattle.scmi_plan.specs.Agent.{IsAgent};
+ghost use Rattle.scmi_plan.specs.Board.{channel_of};
+ghost use Rattle.scmi_plan.specs.Plan.{IsValid};
 ghost use Rattle.scmi_core.specs.Effect.{effect_after};
 ghost use Rattle.scmi_core.specs.declared.answered.Answered.TheVariants as answered_by;
 ghost use Rattle.scmi_core.specs.declared.event.Event.{Event};
 ghost use Rattle.scmi_core.specs.declared.event.Event.TheVariants.{Command as Called};
 ghost use Rattle.scmi_c.specs.Standing.{LacksAgent, StandsAt, board_of};
 ghost use Rattle.scmi_c.specs.Calls.{HasAnswered, HasPosted, HasNext, IsAskedAbout, LacksNext};
+ghost use Rattle.scmi_c.specs.Channel.{IsAreaOf};
 
 use crate::desk::Exchange;
 use crate::held::Held;
 use crate::refusal::Refusal;
 use scmi_codec::{
-    AREA_BYTES, Answer, Payload, is_free, read_area_into, write_answer, write_message,
-    write_response,
+    Answer, Payload, is_channel_free, read_channel_area_into, write_channel_answer,
+    write_channel_message, write_channel_response,
 };
 use scmi_core::{Answered, Effect};
 
 /// Executes the frame in an agent's area, and answers it in place. `Nothing` if the channel is
 /// free; else `NoAgent` if the board lacks the agent. Then nothing changed.
+#[inline(always)]
 pub fn answer(
     held: &mut Held,
     exchange: &mut Exchange,
     agent: u32,
-    area: &mut [u8; AREA_BYTES],
+    area: &mut [u8],
 ) -> Result<(), Refusal>
+    requires size { is_channel_size (length area.old) ≡ true }
+    requires room { IsAreaOf agent (length area.old) held.old }
     ensures ok { OnOk result
         (IsSomeAnd
-        (frame_waiting area.old)
+        (channel_waiting area.old)
         (λ frame. HasAnswered held.old held.new agent frame area.old area.new)) }
-    ensures free { (result ≡ Err Refusal.Nothing) ↔ (frame_waiting area.old ≡ None) }
+    ensures free { (result ≡ Err Refusal.Nothing) ↔ (channel_waiting area.old ≡ None) }
     ensures no_agent { (result ≡ Err Refusal.NoAgent) ↔
-        ((frame_waiting area.old ≢ None) × LacksAgent agent held.old) }
+        ((channel_waiting area.old ≢ None) × LacksAgent agent held.old) }
     ensures errors { IfErr result (λ e. (e ≡ Refusal.Nothing) ⊎ (e ≡ Refusal.NoAgent)) }
     ensures err { OnErr result (held.new ≡ held.old) }
     ensures kept { OnErr result (area.new ≡ area.old) }
 {
-    let Ok(true) = read_area_into(area, &mut exchange.frame) else {
+    let Ok(true) = read_channel_area_into(area, &mut exchange.frame) else {
         return Err(Refusal::Nothing);
     };
     held.check_agent(agent)?;
@@ -48,9 +56,12 @@ pub fn answer(
 
 /// Executes the frame that was read from an agent's area, and writes the answer over it.
 #[inline(always)]
-fn execute(held: &mut Held, exchange: &mut Exchange, agent: u32, area: &mut [u8; AREA_BYTES])
+fn execute(held: &mut Held, exchange: &mut Exchange, agent: u32, area: &mut [u8])
     requires agent { IsAgent (length (board_of held.old).agents) agent }
-    requires waits { frame_waiting area.old ≡ Some exchange.old.frame }
+    requires valid { IsValid (board_of held.old) }
+    requires size { is_channel_size (length area.old) ≡ true }
+    requires room { IsAreaOf agent (length area.old) held.old }
+    requires waits { channel_waiting area.old ≡ Some exchange.old.frame }
     ensures answered { HasAnswered held.old held.new agent exchange.old.frame area.old area.new }
     ensures frame { exchange.new.frame ≡ exchange.old.frame }
 {
@@ -59,43 +70,48 @@ fn execute(held: &mut Held, exchange: &mut Exchange, agent: u32, area: &mut [u8;
 }
 
 /// Writes the answer to a frame over it: the reply's header is the frame's, which is in the area.
-fn put_answer(area: &mut [u8; AREA_BYTES], answered: Answered, payload: &Payload)
-    ensures reply { answered ≡ answered_by.Reply → area.new ≡ area_after_answer
+fn put_answer(area: &mut [u8], answered: Answered, payload: &Payload)
+    requires size { is_channel_size (length area.old) ≡ true }
+    ensures reply { answered ≡ answered_by.Reply → length payload.now.items ≤ capacity area.old →
+        area.new ≡ area_after_answer
         (frame_answer.Reply (message_of (header_at area.old) payload.now.items)) area.old }
     ensures error { answered ≡ answered_by.ChannelError →
         area.new ≡ area_after_answer frame_answer.ChannelError area.old }
 {
     let _ = match answered {
-        Answered::Reply => write_response(area, payload),
-        Answered::ChannelError => write_answer(area, &Answer::ChannelError),
+        Answered::Reply => write_channel_response(area, payload),
+        Answered::ChannelError => write_channel_answer(area, &Answer::ChannelError),
     };
 }
 
 /// Executes the frame in an agent's area and answers it in place, if it changes no hardware. Else
 /// gives what it is to change, and keeps the frame. `NoFrame` if the channel is free; else
 /// `NoAgent` if the board lacks the agent. Then nothing changed.
+#[inline(always)]
 pub fn ask(
     held: &mut Held,
     exchange: &mut Exchange,
     agent: u32,
-    area: &mut [u8; AREA_BYTES],
+    area: &mut [u8],
 ) -> Result<Option<Effect>, Refusal>
-    ensures effect { IfOk result (λ effect. IsSomeAnd (frame_waiting area.old) (λ frame.
+    requires size { is_channel_size (length area.old) ≡ true }
+    requires room { IsAreaOf agent (length area.old) held.old }
+    ensures effect { IfOk result (λ effect. IsSomeAnd (channel_waiting area.old) (λ frame.
         (h : List Event) → StandsAt held.old h →
         effect ≡ effect_after (board_of held.old) h (Called agent frame))) }
-    ensures answered { result ≡ Ok None → IsSomeAnd (frame_waiting area.old) (λ frame.
+    ensures answered { result ≡ Ok None → IsSomeAnd (channel_waiting area.old) (λ frame.
         HasAnswered held.old held.new agent frame area.old area.new) }
     ensures asked { IfOk result (λ effect. effect ≢ None →
-        (frame_waiting area.old ≡ Some exchange.new.frame) × (area.new ≡ area.old)
+        (channel_waiting area.old ≡ Some exchange.new.frame) × (area.new ≡ area.old)
         × IsAskedAbout held.old held.new agent) }
-    ensures no_frame { (result ≡ Err Refusal.NoFrame) ↔ (frame_waiting area.old ≡ None) }
+    ensures no_frame { (result ≡ Err Refusal.NoFrame) ↔ (channel_waiting area.old ≡ None) }
     ensures no_agent { (result ≡ Err Refusal.NoAgent) ↔
-        ((frame_waiting area.old ≢ None) × LacksAgent agent held.old) }
+        ((channel_waiting area.old ≢ None) × LacksAgent agent held.old) }
     ensures errors { IfErr result (λ e. (e ≡ Refusal.NoFrame) ⊎ (e ≡ Refusal.NoAgent)) }
     ensures err { OnErr result (held.new ≡ held.old) }
     ensures kept { OnErr result (area.new ≡ area.old) }
 {
-    let Ok(true) = read_area_into(area, &mut exchange.frame) else {
+    let Ok(true) = read_channel_area_into(area, &mut exchange.frame) else {
         return Err(Refusal::NoFrame);
     };
     let effect = held.effect_of(agent, &exchange.frame)?;
@@ -108,14 +124,17 @@ pub fn ask(
 /// Writes the first message of an agent's outbox into an area, as a caller posts it. `NoAgent` if
 /// the board lacks the agent, `Nothing` if its outbox is empty, and `NotFree` if the channel still
 /// holds a message. Then nothing changed.
-pub fn post_next(held: &Held, agent: u32, area: &mut [u8; AREA_BYTES]) -> Result<(), Refusal>
+#[inline(always)]
+pub fn post_next(held: &Held, agent: u32, area: &mut [u8]) -> Result<(), Refusal>
+    requires size { is_channel_size (length area.old) ≡ true }
+    requires room { IsAreaOf agent (length area.old) held.now }
     ensures ok { OnOk result (HasPosted held.now agent area.old area.new) }
     ensures no_agent { (result ≡ Err Refusal.NoAgent) ↔ LacksAgent agent held.now }
     ensures nothing { (h : List Event) → StandsAt held.now h →
         (result ≡ Err Refusal.Nothing) ↔ LacksNext (board_of held.now) agent h }
     ensures not_free { (h : List Event) → StandsAt held.now h →
         (result ≡ Err Refusal.NotFree) ↔
-        (HasNext (board_of held.now) agent h × (frame_waiting area.old ≢ None)) }
+        (HasNext (board_of held.now) agent h × (channel_waiting area.old ≢ None)) }
     ensures errors { IfErr result (λ e.
         (e ≡ Refusal.Nothing) ⊎ (e ≡ Refusal.NoAgent) ⊎ (e ≡ Refusal.NotFree)) }
     ensures kept { OnErr result (area.new ≡ area.old) }
@@ -124,9 +143,12 @@ pub fn post_next(held: &Held, agent: u32, area: &mut [u8; AREA_BYTES]) -> Result
     let Some(message) = held.platform.first(agent) else {
         return Err(Refusal::Nothing);
     };
-    let Ok(true) = is_free(area) else {
+    let Ok(true) = is_channel_free(area) else {
         return Err(Refusal::NotFree);
     };
-    let _ = write_message(area, message);
-    Ok(())
+    // A message of an outbox fits its agent's channel, so it is always written.
+    match write_channel_message(area, message) {
+        Ok(()) => Ok(()),
+        Err(_) => Err(Refusal::NotFree),
+    }
 }

@@ -1,29 +1,23 @@
-//! Areas of the size of their agent's channel, which a platform answers and fills.
-ghost use Rattle.std.specs.Prelude.{◌≡◌, ◌≢◌, ◌↔◌, ◌≤◌, ◌⊎◌, Some, None, IsSomeAnd, IfErr, IfOk, OnOk, OnErr, Ok, Err, List, length, true};
-ghost use Rattle.scmi_codec.specs.Area.{area_after_answer, header_at, message_of};
-ghost use Rattle.scmi_codec.specs.ChannelArea.{capacity, channel_waiting, channel_words, is_channel_size};
-ghost use Rattle.scmi_codec.specs.declared.frame.Answer.TheVariants as frame_answer;
-ghost use Rattle.scmi_plan.specs.Agent.{IsAgent};
-ghost use Rattle.scmi_plan.specs.Board.{channel_of};
+//! Areas that have to be of the size of their agent's channel: the check, and then the path of all
+//! areas.
+ghost use Rattle.std.specs.Prelude.{◌≡◌, ◌≢◌, ◌↔◌, ◌⊎◌, Some, None, IsSomeAnd, IfErr, IfOk, OnOk, OnErr, Ok, Err, List, length};
+ghost use Rattle.scmi_codec.specs.ChannelArea.{channel_waiting};
 ghost use Rattle.scmi_core.specs.Effect.{effect_after};
-ghost use Rattle.scmi_core.specs.declared.answered.Answered.TheVariants as answered_by;
 ghost use Rattle.scmi_core.specs.declared.event.Event.{Event};
 ghost use Rattle.scmi_core.specs.declared.event.Event.TheVariants.{Command as Called};
-ghost use Rattle.scmi_c.specs.Calls.{HasAnswered, HasNext, IsAskedAbout, LacksNext};
-ghost use Rattle.scmi_c.specs.Channel.{HasAnotherSize, HasPostedIn, HasSize, IsFreeOf};
+ghost use Rattle.scmi_c.specs.Calls.{HasAnswered, HasNext, HasPosted, IsAskedAbout, LacksNext};
+ghost use Rattle.scmi_c.specs.Channel.{HasAnotherSize, HasSize, IsFreeOf};
 ghost use Rattle.scmi_c.specs.Standing.{LacksAgent, StandsAt, board_of};
 
+use crate::area;
 use crate::desk::Exchange;
 use crate::held::Held;
 use crate::refusal::Refusal;
-use scmi_codec::{
-    Answer, Payload, is_channel_free, read_channel_area_into, write_channel_answer,
-    write_channel_message, write_channel_response,
-};
-use scmi_core::{Answered, Effect};
+use scmi_core::Effect;
 
 /// As `area::answer`, in an area of the size of its agent's channel. `NoAgent`, and then `WrongSize`,
 /// come before all else.
+#[inline(always)]
 pub fn answer(
     held: &mut Held,
     exchange: &mut Exchange,
@@ -44,45 +38,12 @@ pub fn answer(
     ensures kept { OnErr result (area.new ≡ area.old) }
 {
     held.check_size(agent, area.len())?;
-    let Ok(true) = read_channel_area_into(area, &mut exchange.frame) else {
-        return Err(Refusal::Nothing);
-    };
-    execute(held, exchange, agent, area);
-    Ok(())
-}
-
-/// Executes the frame that was read from an area of its agent's channel, and writes the answer over
-/// it.
-fn execute(held: &mut Held, exchange: &mut Exchange, agent: u32, area: &mut [u8])
-    requires agent { IsAgent (length (board_of held.old).agents) agent }
-    requires waits { channel_waiting area.old ≡ Some exchange.old.frame }
-    requires size { is_channel_size (length area.old) ≡ true }
-    requires words { channel_words (length area.old) ≡ (channel_of (board_of held.old) agent).words }
-    ensures answered { HasAnswered held.old held.new agent exchange.old.frame area.old area.new }
-    ensures frame { exchange.new.frame ≡ exchange.old.frame }
-{
-    let _agents = held.platform.agents();
-    let answered = held.command(agent, &exchange.frame, &mut exchange.reply);
-    put_answer(area, answered, &exchange.reply.payload);
-}
-
-/// Writes the answer to a frame over it: the reply's header is the frame's, which is in the area.
-fn put_answer(area: &mut [u8], answered: Answered, payload: &Payload)
-    requires size { is_channel_size (length area.old) ≡ true }
-    ensures reply { answered ≡ answered_by.Reply → length payload.now.items ≤ capacity area.old →
-        area.new ≡ area_after_answer
-        (frame_answer.Reply (message_of (header_at area.old) payload.now.items)) area.old }
-    ensures error { answered ≡ answered_by.ChannelError →
-        area.new ≡ area_after_answer frame_answer.ChannelError area.old }
-{
-    let _ = match answered {
-        Answered::Reply => write_channel_response(area, payload),
-        Answered::ChannelError => write_channel_answer(area, &Answer::ChannelError),
-    };
+    area::answer(held, exchange, agent, area)
 }
 
 /// As `area::ask`, in an area of the size of its agent's channel. `NoAgent`, and then `WrongSize`, come
 /// before all else.
+#[inline(always)]
 pub fn ask(
     held: &mut Held,
     exchange: &mut Exchange,
@@ -108,20 +69,14 @@ pub fn ask(
     ensures kept { OnErr result (area.new ≡ area.old) }
 {
     held.check_size(agent, area.len())?;
-    let Ok(true) = read_channel_area_into(area, &mut exchange.frame) else {
-        return Err(Refusal::NoFrame);
-    };
-    let effect = held.effect_of(agent, &exchange.frame)?;
-    if effect.is_none() {
-        execute(held, exchange, agent, area);
-    }
-    Ok(effect)
+    area::ask(held, exchange, agent, area)
 }
 
 /// As `area::post_next`, in an area of the size of its agent's channel. `NoAgent`, and then
 /// `WrongSize`, come before all else.
+#[inline(always)]
 pub fn post_next(held: &Held, agent: u32, area: &mut [u8]) -> Result<(), Refusal>
-    ensures ok { OnOk result (HasPostedIn held.now agent area.old area.new) }
+    ensures ok { OnOk result (HasPosted held.now agent area.old area.new) }
     ensures no_agent { (result ≡ Err Refusal.NoAgent) ↔ LacksAgent agent held.now }
     ensures wrong_size { (result ≡ Err Refusal.WrongSize)
         ↔ HasAnotherSize agent (length area.old) held.now }
@@ -136,15 +91,5 @@ pub fn post_next(held: &Held, agent: u32, area: &mut [u8]) -> Result<(), Refusal
     ensures kept { OnErr result (area.new ≡ area.old) }
 {
     held.check_size(agent, area.len())?;
-    let Some(message) = held.platform.first(agent) else {
-        return Err(Refusal::Nothing);
-    };
-    let Ok(true) = is_channel_free(area) else {
-        return Err(Refusal::NotFree);
-    };
-    // A message of an outbox fits its agent's channel, so it is always written.
-    match write_channel_message(area, message) {
-        Ok(()) => Ok(()),
-        Err(_) => Err(Refusal::NotFree),
-    }
+    area::post_next(held, agent, area)
 }

@@ -8,7 +8,6 @@ use crate::desk::Desk;
 use crate::loose::Loose;
 use std::alloc::Global;
 use std::marker::Model;
-use std::mem;
 use std::ptr::null_mut;
 
 /// A boxed platform as its pointer, or nothing, which is null.
@@ -28,36 +27,34 @@ impl Model for Handle {
 }
 
 impl Handle {
-    /// Nothing.
-    fn empty() -> Handle
-        ensures { result.value ≡ None }
+    /// Takes the platform out as its pointer, and leaves nothing. The pointer is read and written as
+    /// a field, since a handle is copied byte by byte.
+    #[inline(always)]
+    fn take_loose(&mut self, alloc: Global) -> Option<Loose<Desk, Global>>
+        ensures { MatchOption result
+            (self.old.value ≡ None) (λ loose. self.old.value ≡ Some loose.value)
+            × (self.new.value ≡ None) }
     {
-        Handle { at: null_mut() }
-    }
-
-    /// A platform as its pointer.
-    fn of(loose: Loose<Desk, Global>) -> Handle
-        ensures { result.value ≡ Some loose.value }
-    {
-        let Loose { at, alloc: _ } = loose;
-        Handle {
-            at: at.cast::<u8>(),
-        }
-    }
-
-    /// The platform again, if there is one.
-    fn into_loose(self, alloc: Global) -> Option<Loose<Desk, Global>>
-        ensures { MatchOption result (self.value ≡ None) (λ loose. self.value ≡ Some loose.value) }
-    {
-        let Handle { at } = self;
+        let at = self.at;
         if at.is_null() {
             None
         } else {
+            self.at = null_mut();
             Some(Loose {
                 at: at.cast::<Desk>(),
                 alloc,
             })
         }
+    }
+
+    /// Holds a platform by its pointer, if nothing was held.
+    #[inline(always)]
+    fn put_loose(&mut self, loose: Loose<Desk, Global>)
+        requires { self.old.value ≡ None }
+        ensures { self.new.value ≡ Some loose.value }
+    {
+        let Loose { at, alloc: _ } = loose;
+        self.at = at.cast::<u8>();
     }
 
     /// Takes the platform out, and leaves nothing.
@@ -66,7 +63,7 @@ impl Handle {
             (self.old.value ≡ None) (λ desk. self.old.value ≡ Some desk.value) }
         ensures left { self.new.value ≡ None }
     {
-        match mem::replace(self, Handle::empty()).into_loose(alloc) {
+        match self.take_loose(alloc) {
             Some(loose) => Some(loose.into_box()),
             None => None,
         }
@@ -98,6 +95,6 @@ impl Handle {
         requires { self.old.value ≡ None }
         ensures { self.new.value ≡ Some desk.value }
     {
-        *self = Handle::of(Loose::of(desk));
+        self.put_loose(Loose::of(desk));
     }
 }

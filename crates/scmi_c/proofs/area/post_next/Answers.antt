@@ -1,5 +1,24 @@
-use Rattle.std.proofs.Common.{rules}
+use Rattle.std.proofs.Common.{rules, ◌≡◌, None, length, arith}
+use Rattle.scmi_codec.specs.ChannelArea.{channel_waiting}
+use Rattle.scmi_c.specs.Standing.{board_of}
+use Rattle.scmi_c.proofs.AreaIn.{first-within, free-is, has-room, not-refused}
 use Rattle.scmi_c.proofs.area.post_next.Goals as goal
 
-pub returns-clause-ok : goal.returns-clause-ok
-returns-clause-ok c = record { message = c.in-Some.message.now; first = λ h at. search rules; free = search rules; area = search rules }
+pub returns-in-Ok-clause-ok : goal.returns-in-Ok-clause-ok
+returns-in-Ok-clause-ok c = record { message = c.in-Some.message.now; first = λ h at. search rules; free = free-is (channel_waiting c.args.area.now) c.is_channel_free.result c.in-Ok-true.field-0 (c.is_channel_free.ensures.ok c.requires.size) c.in-Ok-true.is (search rules); area = search rules }
+
+pub returns-in-Ok-clause-not_free : goal.returns-in-Ok-clause-not_free
+returns-in-Ok-clause-not_free c = λ h at.
+    let free : channel_waiting c.args.area.now ≡ None = free-is (channel_waiting c.args.area.now) c.is_channel_free.result c.in-Ok-true.field-0 (c.is_channel_free.ensures.ok c.requires.size) c.in-Ok-true.is (search rules) in
+    ((λ e. absurd (cc)), (λ both. absurd (both.1 free)))
+
+pub returns-in-Err-clause-not_free : goal.returns-in-Err-clause-not_free
+returns-in-Err-clause-not_free c = λ h at.
+    let board = board_of c.args.held.now in
+    let message = c.in-Some.message.now in
+    let valid = c.in_ok-check_agent.ensures.valid in
+    let within = first-within board c.args.agent h message valid at.0.legal (search rules) in
+    let room = has-room c.args.held.now c.args.agent (length c.args.area.now) valid c.requires.room in
+    absurd
+    (not-refused c.write_channel_message.result c.in-Err.field-0 (length message.payload.items) c.args.area.now
+    c.requires.size (omega (arith, within, room)) c.write_channel_message.ensures.size c.in-Err.is)

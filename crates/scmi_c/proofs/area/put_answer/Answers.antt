@@ -1,6 +1,6 @@
 use Rattle.std.proofs.Common.{length, ◌∙◌}
 use Rattle.scmi_c.proofs.AreaIn.{room-is, was-written}
-use Rattle.scmi_c.proofs.area_in.put_answer.Goals as goal
+use Rattle.scmi_c.proofs.area.put_answer.Goals as goal
 
 pub returns-in-Reply-clause-reply : goal.returns-in-Reply-clause-reply
 returns-in-Reply-clause-reply c = λ is few.
