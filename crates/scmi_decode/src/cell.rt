@@ -101,7 +101,9 @@ pub(crate) fn order_shown(order: Order, cells: &[Cell]) -> Order
 fn shows(turned: bool, cells: &[Cell]) -> bool
     ensures { result ≡ shows turned cells.now }
 {
-    cells.iter().all(|cell| cell.shown == character_of(byte_in(turned, cell)))
+    cells
+        .iter()
+        .all(|cell| cell.shown == character_of(byte_in(turned, cell)))
 }
 
 /// Whether both orders are the same bytes.
@@ -115,7 +117,10 @@ fn are_alike(cells: &[Cell]) -> bool
 fn bytes_in(alloc: Global, turned: bool, cells: &[Cell]) -> Result<Vec<u8>, AllocError>
     ensures { IfOk result (λ bytes. bytes.items ≡ bytes_in turned cells.now) }
 {
-    cells.iter().map(|cell| byte_in(turned, cell)).collect(alloc)
+    cells
+        .iter()
+        .map(|cell| byte_in(turned, cell))
+        .collect(alloc)
 }
 
 /// The byte of a cell in one order.
