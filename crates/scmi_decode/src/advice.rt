@@ -71,8 +71,9 @@ fn is_hexadecimal(item: &[u8]) -> bool {
 }
 
 fn is_base64(item: &[u8]) -> bool {
-    item.iter().all(|byte| byte.is_ascii_alphanumeric()
-        || *byte == b'+'
-        || *byte == b'/'
-        || *byte == b'=')
+    !is_hexadecimal(item)
+        && item.iter().all(|byte| byte.is_ascii_alphanumeric()
+            || *byte == b'+'
+            || *byte == b'/'
+            || *byte == b'=')
 }
