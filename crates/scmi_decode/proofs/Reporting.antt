@@ -100,5 +100,5 @@ at_end p line bytes rest old now end has has' so_far short here area =
     let whole : so_far.done ++ last ≡ parts_found (Each p) line bytes =
     ap (λ (fs : List Finding). so_far.done ++ fs) (sym (ap (λ (m : ℕ). rest_found p line (length bytes) m rest) is ∙ rest-last p line (length bytes) most rest short)) ∙ so_far.all in (
       subst (λ (fs : List Finding). Reported old end fs) whole (reported_trans old now end so_far.done last so_far.taken here),
-      ap (λ (b : Bool). b || is_area) so_far.area ∙ ap (λ (b : Bool). any_area so_far.done || b) area ∙ sym (any_area-both so_far.done last) ∙ ap any_area whole,
+      area ∙ ap (λ (b : Bool). b || any_area last) so_far.area ∙ sym (any_area-both so_far.done last) ∙ ap any_area whole,
     )

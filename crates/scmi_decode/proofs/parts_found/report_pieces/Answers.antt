@@ -16,7 +16,7 @@ parts-init g c =
 pub parts-preserved : goal.parts-preserved
 parts-preserved g c =
     let room : size_of c.args.pieces ≤ length c.parts.rest.now = grind (arith, nat_tests) in
-    let is = c.behind_first.ensures in
+    let is = c.behind_first-rest.ensures in
     record {
       within = omega (arith, ap length is, c.parts.invariant.within, length-drop (size_of c.args.pieces) c.parts.rest.now, length-drop c.args.pieces.gap (drop (size_of c.args.pieces) c.parts.rest.now));
       reported = subst (λ (r : List ℕ). AreReported c.args.pieces c.args.line c.args.bytes.now r (g.S.Findings.taken c.args.sink.now) (g.S.Findings.taken c.report_first.new.sink) c.in_ok-is_found.is_found)
