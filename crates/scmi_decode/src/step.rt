@@ -146,11 +146,13 @@ fn take_alone<S: Findings>(
 ) -> Result<(), DecodeError>
     ensures taken { OnOk result (Reported (S.taken sink.old) (S.taken sink.new) (
         row_found dump.old number line.now None)) }
-    ensures dump { OnOk result (dump.new ≡ beside (closed dump.old) (line_is_area dump.old.layout number line.now)) }
+    ensures dump { OnOk result (dump.new ≡
+        beside (closed dump.old) (line_is_area dump.old.layout number line.now)) }
     ensures errors { IfErr result (λ e. (e ≡ DecodeError.Memory) ⊎ (e ≡ DecodeError.Write)) }
 {
+    let layout = dump.layout();
     close(alloc, sink, dump)?;
-    let read = report_line(alloc, sink, dump.layout(), number, line)?;
+    let read = report_line(alloc, sink, layout, number, line)?;
     dump.note(number, read);
     Ok(())
 }

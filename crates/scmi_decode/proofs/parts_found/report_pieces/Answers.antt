@@ -1,4 +1,4 @@
-use Rattle.std.proofs.Common.{◌≡◌, ◌≤◌, ◌<◌, ℕ, List, false, length, drop, subst, sym, ap, arith, length-drop}
+use Rattle.std.proofs.Common.{◌≤◌, ◌<◌, ℕ, List, false, length, drop, subst, sym, ap, arith, length-drop}
 use Rattle.std.proofs.lemmas.Bool.Decides.{nat_tests}
 use Rattle.scmi_decode.specs.Layout.{size_of}
 use Rattle.scmi_decode.proofs.Reporting.{AreReported, at_begin, at_end, one_more}
@@ -8,7 +8,7 @@ pub parts-init : goal.parts-init
 parts-init g c =
     let is = c.bytes_from-rest.ensures in
     record {
-      within = omega (arith, ap length is, length-drop c.args.pieces.offset c.args.bytes.now);
+      within = omega (arith, ap length {y = drop c.args.pieces.offset c.args.bytes.now} is, length-drop c.args.pieces.offset c.args.bytes.now);
       reported = subst (λ (r : List ℕ). AreReported c.args.pieces c.args.line c.args.bytes.now r (g.S.Findings.taken c.args.sink.now) (g.S.Findings.taken c.args.sink.now) false)
           (sym is) (at_begin c.args.pieces c.args.line c.args.bytes.now (g.S.Findings.taken c.args.sink.now));
     }
@@ -18,9 +18,9 @@ parts-preserved g c =
     let room : size_of c.args.pieces ≤ length c.parts.rest.now = grind (arith, nat_tests) in
     let is = c.behind_first-rest.ensures in
     record {
-      within = omega (arith, ap length is, c.parts.invariant.within, length-drop (size_of c.args.pieces) c.parts.rest.now, length-drop c.args.pieces.gap (drop (size_of c.args.pieces) c.parts.rest.now));
+      within = omega (arith, ap length {y = drop c.args.pieces.gap (drop (size_of c.args.pieces) c.parts.rest.now)} is, c.parts.invariant.within, length-drop (size_of c.args.pieces) c.parts.rest.now, length-drop c.args.pieces.gap (drop (size_of c.args.pieces) c.parts.rest.now));
       reported = subst (λ (r : List ℕ). AreReported c.args.pieces c.args.line c.args.bytes.now r (g.S.Findings.taken c.args.sink.now) (g.S.Findings.taken c.report_first.new.sink) c.in_ok-is_found.is_found)
-          (sym is) (one_more c.args.pieces c.args.line c.args.bytes.now c.parts.rest.now (g.S.Findings.taken c.args.sink.now) (g.S.Findings.taken c.parts.sink) (g.S.Findings.taken c.report_first.new.sink)
+          (sym {b = drop c.args.pieces.gap (drop (size_of c.args.pieces) c.parts.rest.now)} is) (one_more c.args.pieces c.args.line c.args.bytes.now c.parts.rest.now (g.S.Findings.taken c.args.sink.now) (g.S.Findings.taken c.parts.sink) (g.S.Findings.taken c.report_first.new.sink)
           c.parts.has_area c.in_ok-is_found.is_found c.parts.invariant.reported room c.in_ok-is_found.ensures.taken c.in_ok-is_found.ensures.area);
     }
 

@@ -1,5 +1,4 @@
-use Rattle.std.proofs.Common.{◌≡◌, ◌≤◌, length}
-use Rattle.scmi_decode.specs.Layout.{size_of}
+use Rattle.std.proofs.Common.{◌≤◌, length}
 use Rattle.scmi_decode.proofs.Reporting.{AreReported}
 use Rattle.scmi_decode.proofs.parts_found.report_pieces.Given as goal
 
