@@ -1,5 +1,5 @@
 -- Findings that are reported one after the other.
-use Rattle.std.proofs.Common.{◌≡◌, List, [], ◌++◌, Option, None, Some, ◌∙◌, sym, ap, append_assoc, append-nil}
+use Rattle.std.proofs.Common.{List, [], ◌++◌, Option, None, Some, ◌∙◌, sym, ap, append_assoc, append-nil}
 use Rattle.scmi_decode.specs.Reported.{Reported}
 use Rattle.scmi_decode.specs.declared.finding.Finding.{Finding}
 

@@ -1,10 +1,10 @@
 -- The areas of one size in a dump, which are reported one after the other.
-use Rattle.std.proofs.Common.{◌≡◌, ℕ, zero, suc, ◌+◌, ◌<◌, ◌≤◌, Bool, true, false, List, [], ◌∷◌, ◌++◌, length, map, drop, take, Option, None, Some, ◌∙◌, sym, ap, refl, subst, arith, append_assoc, append-nil, length-drop}
-use Rattle.std.specs.Prelude.{◌||◌, nat_lt}
+use Rattle.std.proofs.Common.{◌≡◌, ℕ, zero, suc, ◌+◌, ◌<◌, ◌≤◌, Bool, true, false, List, [], ◌∷◌, ◌++◌, length, map, drop, take, Option, ◌∙◌, sym, ap, refl, subst, arith, append_assoc, length-drop}
+use Rattle.std.specs.Prelude.{◌||◌}
 use Rattle.std.proofs.lemmas.Bool.Decides.{nat_tests}
 use Rattle.scmi_decode.proofs.Reported.{reported_nil, reported_trans}
 use Rattle.scmi_decode.specs.Finding.{any_area, is_area_found, part_finding, part_found, parts_found}
-use Rattle.scmi_decode.specs.Layout.{Part, last_part, part_at, parts_from, size_of}
+use Rattle.scmi_decode.specs.Layout.{last_part, part_at, parts_from, size_of}
 use Rattle.scmi_decode.specs.Reported.{Reported}
 use Rattle.scmi_decode.specs.declared.finding.Finding.{Finding}
 use Rattle.scmi_decode.specs.declared.layout.Layout.TheVariants.{Each}

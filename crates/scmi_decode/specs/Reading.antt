@@ -1,5 +1,5 @@
 -- How dumps are read.
-use Rattle.std.specs.Prelude.{ℕ, ◌==◌, ◌||◌, nat_lt, Bool, true, false, if◌then◌else◌, List, [], ◌∷◌, get_or, length, map, is_some}
+use Rattle.std.specs.Prelude.{ℕ, ◌==◌, ◌||◌, nat_lt, Bool, true, false, if◌then◌else◌, List, [], get_or, length, map, is_some}
 use Rattle.scmi_decode.specs.Dump.{has_mark}
 use Rattle.scmi_decode.specs.MessageLine.{behind_event, behind_got, first_full}
 use Rattle.scmi_decode.specs.declared.form.Form.{Form}
