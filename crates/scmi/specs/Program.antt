@@ -1,17 +1,26 @@
 -- What the program writes.
-use Rattle.std.specs.Prelude.{ℕ, List, Option, ⊤}
+use Rattle.std.specs.Prelude.{ℕ, List, Option, None, IfSome, IsTrue, ⊤}
 use Rattle.scmi_modes.specs.Program.{AnswersOnce, RunsHardware, RunsSteps, RunsThreads}
-use Rattle.scmi_decode.specs.Decoded.{IsDecoded}
+use Rattle.scmi_decode.specs.Decoded.{has_area}
+use Rattle.scmi_decode.specs.Finding.{any_area, parts_found}
+use Rattle.scmi_decode.specs.declared.layout.Layout.{Layout}
+use Rattle.scmi_decode.specs.declared.layout.Layout.TheVariants.{Whole}
 use Rattle.scmi_draw.specs.Picture.{IsDiagram}
 use Rattle.scmi_table.specs.Run.{WritesTable}
 use Rattle.scmi.specs.declared.request.Request.{Request}
-use Rattle.scmi.specs.declared.request.Request.TheVariants.{Do, Diagram}
+use Rattle.scmi.specs.declared.request.Request.TheVariants.{Do, Dumps, Bytes, Diagram}
 use Rattle.scmi.specs.declared.task.Task.TheVariants.{Run, Decode, Chart, Session, Check, Table}
 
--- what is written for a request, if its task writes a text that is proved. A session needs the file of its board, and without one nothing is answered
+-- an input has an area, if it is known
+abbrev pub HasArea : Layout → Option (List ℕ) → Type 0
+HasArea l input = IfSome input (λ bytes. IsTrue (has_area l bytes))
+
+-- what is written for a request, if its task writes a text that is proved; of dumps and bytes, that an area is found. A session needs the file of its board, and without one nothing is answered
 abbrev pub Answers : Request → Option (List ℕ) → Option (List ℕ) → Option (List ℕ) → Type 0
 Answers (Do Run) input old new = AnswersOnce input old new × RunsThreads input old new × RunsSteps input old new × RunsHardware input old new
-Answers (Do Decode) input old new = IsDecoded input old new
+Answers (Do Decode) input old new = HasArea Whole input
+Answers (Dumps l) input old new = HasArea l input
+Answers (Bytes l) input old new = IfSome input (λ bytes. IsTrue (any_area (parts_found l None bytes)))
 Answers (Do Session) input old new = ⊥
 Answers (Do Check) input old new = ⊥
 Answers (Do Table) input old new = WritesTable input old new

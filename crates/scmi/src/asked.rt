@@ -1,11 +1,12 @@
 //! What the matches of a command line ask for.
 
-use crate::command::{FIRST, HELP, MERMAID, SECOND, TAP, VERSION};
+use crate::command::{BINARY, FIRST, HELP, MERMAID, OFFSET, SECOND, SIZE, STRIDE, TAP, VERSION};
 use crate::form::task_of;
 use crate::request::Request;
 use crate::task::Task;
 use clap::ArgMatches;
 use clap::parser::ValueSource;
+use scmi_decode::{Layout, LayoutError};
 
 /// The name that standard input has among arguments.
 pub const STANDARD: &str = "-";
@@ -29,6 +30,10 @@ pub enum Unread<'a> {
     Task(&'a str),
     /// The name of a file begins with a dash.
     Dash(&'a str),
+    /// The value of this option is no number.
+    Number(&'static str, &'a str),
+    /// These are not the places of areas.
+    Layout(LayoutError),
 }
 
 /// What the matches of a command line ask for.
@@ -78,10 +83,10 @@ fn task_by<'a>(task: Task, matches: &ArgMatches<'a>) -> Result<Asked<'a>, Unread
     if is_no_file(second) {
         return Err(Unread::Dash(second.unwrap_or("")));
     }
-    let request = if is_used(matches, MERMAID) {
-        Request::Diagram
-    } else {
-        Request::Do(task)
+    let request = match task {
+        Task::Decode => decode_by(matches)?,
+        _ if is_used(matches, MERMAID) => Request::Diagram,
+        _ => Request::Do(task),
     };
     Ok(Asked {
         request,
@@ -89,6 +94,40 @@ fn task_by<'a>(task: Task, matches: &ArgMatches<'a>) -> Result<Asked<'a>, Unread
         first,
         second,
     })
+}
+
+/// What the options of decode ask for.
+fn decode_by<'a>(matches: &ArgMatches<'a>) -> Result<Request, Unread<'a>> {
+    let offset = number_by(matches, OFFSET)?;
+    let size = number_by(matches, SIZE)?;
+    let stride = number_by(matches, STRIDE)?;
+    match Layout::new(offset, size, stride) {
+        Ok(layout) if is_used(matches, BINARY) => Ok(Request::Bytes(layout)),
+        Ok(layout) => Ok(Request::Dumps(layout)),
+        Err(error) => Err(Unread::Layout(error)),
+    }
+}
+
+/// The number of bytes that an option has, if it is used.
+fn number_by<'a>(
+    matches: &ArgMatches<'a>,
+    option: &'static str,
+) -> Result<Option<usize>, Unread<'a>> {
+    match value_of(matches, option) {
+        None => Ok(None),
+        Some(word) => match number_of(word) {
+            Some(number) => Ok(Some(number)),
+            None => Err(Unread::Number(option, word)),
+        },
+    }
+}
+
+/// The number that a word is: decimal, or hexadecimal after `0x`.
+fn number_of(word: &str) -> Option<usize> {
+    match word.strip_prefix("0x") {
+        Some(digits) => usize::from_str_radix(digits, 16).ok(),
+        None => word.parse::<usize>().ok(),
+    }
 }
 
 /// A request that names no file.

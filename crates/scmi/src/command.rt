@@ -20,6 +20,16 @@ pub const TAP: &str = "tap";
 /// The flag that asks for a diagram in the text of Mermaid.
 pub const MERMAID: &str = "mermaid";
 
+/// The flag that asks to read an input as bytes, and the options that say which of a dump's bytes are
+/// areas.
+pub const BINARY: &str = "binary";
+
+pub const OFFSET: &str = "offset";
+
+pub const SIZE: &str = "size";
+
+pub const STRIDE: &str = "stride";
+
 /// The name of the first word after a task; `SECOND` is that of the second.
 pub const FIRST: &str = "first";
 
@@ -55,6 +65,12 @@ fn task_command<'a>(alloc: Global, form: &Form) -> Result<Command<'a>, AllocErro
     let command = named(alloc, form.word, form.usage)?;
     match form.operands {
         Operands::Input | Operands::Board => command.arg(Arg::new(alloc, FIRST)),
+        Operands::Dumps => command
+            .arg(flag(alloc, BINARY).short('b'))?
+            .arg(option(alloc, OFFSET))?
+            .arg(option(alloc, SIZE))?
+            .arg(option(alloc, STRIDE))?
+            .arg(Arg::new(alloc, FIRST)),
         Operands::Drawn => command
             .arg(flag(alloc, MERMAID))?
             .arg(Arg::new(alloc, FIRST)),
@@ -80,6 +96,11 @@ fn named<'a>(alloc: Global, name: &'a str, usage: &'a str) -> Result<Command<'a>
 /// The flag `--help`, or `-h`.
 fn help<'a>(alloc: Global) -> Arg<'a> {
     flag(alloc, HELP).short('h')
+}
+
+/// An option of this name, with a value.
+fn option<'a>(alloc: Global, name: &'a str) -> Arg<'a> {
+    Arg::new(alloc, name).long(name)
 }
 
 /// A flag of this name.

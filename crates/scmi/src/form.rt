@@ -8,6 +8,8 @@ use crate::task::Task;
 pub enum Operands {
     /// The input's, or none for standard input.
     Input,
+    /// The same; `-b`, `--offset`, `--size` and `--stride` may come before it.
+    Dumps,
     /// The same; `--mermaid` may come before it.
     Drawn,
     /// A board's.

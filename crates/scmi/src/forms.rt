@@ -20,15 +20,18 @@ threads rings, hardware words or hardware rings. docs/SCRIPTS.md has all lines."
     Form {
         task: Task::Decode,
         word: "decode",
-        operands: Operands::Input,
-        usage: "scmi decode [FILE]",
+        operands: Operands::Dumps,
+        usage: "scmi decode [-b] [--offset N] [--size N] [--stride N] [FILE]",
         summary: "decodes dumps of shared memory",
         about: "\
 Decodes dumps of shared memory: busy or free, the message by its name, its status and fields.",
         details: "\
 The input has dumps of channels of 60 to 284 bytes, as xxd, od, hexdump -C, U-Boot, gdb, crash,
 devmem, the kernel's log and debuggers print them (docs/DECODE.md), and lines of ftrace and of a
-run that show a message. Standard error says which format each dump is read in.",
+run that show a message. Standard error says which format each dump is read in.
+A dump is one area. --size N reads areas of N bytes one after the other, --stride N one each N
+bytes, and --offset N begins at byte N of each dump; N is decimal, or hexadecimal after 0x.
+-b, or --binary, reads bytes instead of a dump, as dd copies them.",
         example: "scmi decode areas.hex",
     },
     Form {

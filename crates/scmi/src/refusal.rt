@@ -5,6 +5,8 @@ use crate::form::form_of;
 use crate::forms::FORMS;
 use crate::task::Task;
 use clap::Error as ClapError;
+use scmi_codec::{AREA_BYTES, LEAST_AREA_BYTES};
+use scmi_decode::LayoutError;
 use scmi_explain::nearest;
 use std::alloc::Global;
 use std::fs::{self, Files};
@@ -35,6 +37,18 @@ pub fn refuse_unread(rt: &impl Eprint, alloc: Global, why: Unread<'_>) -> u8 {
             ),
             None => eprintln!(rt; "scmi: no command named '{word}'; see scmi --help"),
         },
+        Unread::Number(option, word) => eprintln!(rt;
+            "scmi: --{option} needs a number of bytes, decimal or 0x..; '{word}' is none"
+        ),
+        Unread::Layout(LayoutError::Size) => eprintln!(rt;
+            "scmi: no area has this --size; give a multiple of 4 from {LEAST_AREA_BYTES} to {AREA_BYTES}"
+        ),
+        Unread::Layout(LayoutError::NoSize) => eprintln!(rt;
+            "scmi: --stride needs --size; give the size of each area too"
+        ),
+        Unread::Layout(LayoutError::Stride) => eprintln!(rt;
+            "scmi: --stride is less than --size, so areas would overlap; give at least the size"
+        ),
         Unread::Dash(name) => eprintln!(rt;
             "scmi: '{name}' looks like an option; write ./{name} for a file of this name"
         ),

@@ -21,6 +21,13 @@ pub fn report_input<R: Read + Drop>(
     let Some(fault) = fault_of(request, last_line) else {
         return;
     };
+    if fault == Fault::Area && matches!(request, Request::Bytes(_)) {
+        let _ = eprintln!(rt;
+            "{name}: none of the bytes are an area; --size N gives the size of each, \
+            --offset N the place of the first"
+        );
+        return;
+    }
     if request == Request::Do(Task::Table) {
         return report_board(rt, alloc, name, input, fault);
     }
@@ -32,9 +39,17 @@ pub fn report_input<R: Read + Drop>(
 /// has no line of a fault.
 fn fault_of(request: Request, last_line: &[u8]) -> Option<Fault> {
     match Fault::of_line(last_line) {
-        None if request == Request::Do(Task::Decode) => Some(Fault::Area),
+        None if is_decode(request) => Some(Fault::Area),
         fault => fault,
     }
+}
+
+/// Whether dumps or bytes are decoded.
+fn is_decode(request: Request) -> bool {
+    matches!(
+        request,
+        Request::Do(Task::Decode) | Request::Dumps(_) | Request::Bytes(_)
+    )
 }
 
 /// Flushes the output of a run that ends with this status, and gives the exit status: the same, or
@@ -59,7 +74,7 @@ pub fn report_output<W: Write + Drop>(
 /// What the input of a task should be.
 fn expected_of(request: Request) -> Expected {
     match request {
-        Request::Do(Task::Decode) => Expected::Dumps,
+        _ if is_decode(request) => Expected::Dumps,
         Request::Do(Task::Chart) | Request::Diagram => Expected::Drawing,
         _ => Expected::Session,
     }

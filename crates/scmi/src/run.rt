@@ -6,7 +6,7 @@ use crate::refusal::WRONG_ARGUMENT;
 use crate::request::Request;
 use crate::task::Task;
 use crate::texts::write_text;
-use scmi_decode::{Readings, run_decode};
+use scmi_decode::{Layout, Readings, run_bytes, run_decode};
 use scmi_draw::{Form, run_draw};
 use scmi_modes::{Modes, RunError, run_program};
 use scmi_table::run_table;
@@ -39,7 +39,9 @@ pub fn run_request<T: Threads + Wait + Sync, R: Read, W: Write, N: Readings>(
             reader,
             writer,
         ),
-        Request::Do(Task::Decode) => run_decode(alloc, reader, writer, readings),
+        Request::Do(Task::Decode) => run_decode(alloc, Layout::Whole, reader, writer, readings),
+        Request::Dumps(layout) => run_decode(alloc, layout, reader, writer, readings),
+        Request::Bytes(layout) => run_bytes(alloc, layout, reader, writer),
         Request::Do(Task::Chart) => run_draw(rt, alloc, &OpenGate, reader, writer, Form::Svg),
         Request::Diagram => run_draw(rt, alloc, &OpenGate, reader, writer, Form::Mermaid),
         Request::Do(Task::Table) => run_table(alloc, reader, writer),

@@ -45,7 +45,7 @@ pub fn write_text<W: Write>(writer: &mut W, request: Request) -> io::Result<()> 
         Request::Help => write_help(writer),
         Request::HelpOn(task) => write_form(writer, &form_of(task)),
         Request::Version => write_fixed(writer, TEXTS.version),
-        Request::Do(_) | Request::Diagram => Ok(()),
+        Request::Do(_) | Request::Dumps(_) | Request::Bytes(_) | Request::Diagram => Ok(()),
     }
 }
 

@@ -1,11 +1,13 @@
 -- Rows as programs print them, which the prover reads by the definitions: each has the same sixteen bytes.
-use Rattle.std.proofs.Common.{◌≡◌, ℕ, List, [], ◌∷◌, Option, None, Some, codes, refl}
+use Rattle.std.proofs.Common.{◌≡◌, ℕ, List, [], ◌∷◌, Option, None, Some, true, codes, refl}
 use Rattle.hex.specs.Hex.{decode_pairs}
 use Rattle.std.specs.Option.{option_map}
 use Rattle.scmi_decode.specs.Cell.{settled}
+use Rattle.scmi_decode.specs.Decoded.{is_remark}
+use Rattle.scmi_decode.specs.declared.open_dump.TheConstants.{REPEATED_BYTES}
 use Rattle.scmi_decode.specs.Row.{row_of, without_prefix, parts_at, parts_row, marked_parts, offset_parts, piped_parts, address_of}
 use Rattle.scmi_decode.specs.declared.form.Form.{Form}
-use Rattle.scmi_decode.specs.declared.form.Form.TheVariants.{Plain, Marked, Offset}
+use Rattle.scmi_decode.specs.declared.form.Form.TheVariants.{Plain, Marked, Offset, Equals, Value}
 
 -- the second row of an area with a POWER_STATE_SET: 0, a length of 16, the header word 0x001c4404, and 1
 abbrev pub sixteen_bytes : List ℕ
@@ -106,9 +108,13 @@ pub kernel : read_row (codes "[   12.345678] scmi: 00000010: 00000000 00000010 0
 unfolding row_of without_prefix parts_at parts_row marked_parts offset_parts piped_parts address_of decode_pairs
 kernel = refl
 
-pub j_link : read_row (codes "45000010 = 00000000 00000010 001C4404 00000001 ") ≡ Some (row_at Marked 0x45000010)
+pub j_link : read_row (codes "45000010 = 00000000 00000010 001C4404 00000001 ") ≡ Some (row_at Equals 0x45000010)
 unfolding row_of without_prefix parts_at parts_row marked_parts offset_parts piped_parts address_of decode_pairs
 j_link = refl
+
+pub j_link_halves : read_row (codes "45000010 = 0000 0000 0010 0000 4404 001C 0001 0000 ") ≡ Some (row_at Equals 0x45000010)
+unfolding row_of without_prefix parts_at parts_row marked_parts offset_parts piped_parts address_of decode_pairs
+j_link_halves = refl
 
 pub lauterbach : read_row (codes " NSD:45000010|>00000000 00000010 001C4404 00000001 .........D......") ≡ Some (row_at Marked 0x45000010)
 unfolding row_of without_prefix parts_at parts_row marked_parts offset_parts piped_parts address_of decode_pairs
@@ -122,6 +128,11 @@ lauterbach_bytes = refl
 pub devmem : read_row (codes "0x2e000018 0x001C4404") ≡ Some (record { form = Marked; address = 0x2E000018; bytes = Some (0x04 ∷ 0x44 ∷ 0x1C ∷ 0 ∷ []) })
 unfolding row_of without_prefix parts_at parts_row marked_parts offset_parts piped_parts address_of decode_pairs
 devmem = refl
+
+-- a number without leading zeros
+pub devmem2 : read_row (codes "Value at address 0x45000018 (0xffff8018): 0x1C4404") ≡ Some (record { form = Value; address = 0x45000018; bytes = Some (0x04 ∷ 0x44 ∷ 0x1C ∷ 0 ∷ []) })
+unfolding row_of without_prefix parts_at parts_row marked_parts offset_parts piped_parts address_of decode_pairs
+devmem2 = refl
 
 -- groups of eight bytes without an address are numbers, as od prints them
 pub od_bare_longs : read_row (codes " 0000001000000000 00000001001c4404") ≡ Some (row_at Plain 0)
@@ -137,3 +148,14 @@ unclear = refl
 pub prompt : read_row (codes "=> md.l 0x2e000000 0x47") ≡ None
 unfolding row_of without_prefix parts_at parts_row marked_parts offset_parts piped_parts address_of decode_pairs
 prompt = refl
+
+-- the lines that devmem2 prints beside each number
+pub devmem2_opened : is_remark (codes "/dev/mem opened.") ≡ true
+devmem2_opened = refl
+
+pub devmem2_mapped : is_remark (codes "Memory mapped at address 0xffff8000.") ≡ true
+devmem2_mapped = refl
+
+-- 64 KiB
+pub repeated_bytes : REPEATED_BYTES ≡ 65536
+repeated_bytes = refl

@@ -2,5 +2,7 @@ mod Forms
 mod Items
 mod Messages
 mod OneDump
+mod Reporting
+pub mod Reported
 mod UnderWay
 pub mod Words

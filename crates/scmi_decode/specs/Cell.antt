@@ -1,5 +1,6 @@
 -- The bytes of a dump in either order of digits, and what its column of text shows.
-use Rattle.std.specs.Prelude.{ℕ, ◌==◌, ◌&&◌, nat_lt, Bool, true, false, if◌then◌else◌, List, [], ◌∷◌, Option, Some, None}
+use Rattle.std.specs.Prelude.{ℕ, ◌==◌, ◌&&◌, nat_lt, Bool, true, false, if◌then◌else◌, List, [], ◌∷◌, map, Option, Some, None}
+use Rattle.std.specs.List.{list_all}
 use Rattle.scmi_decode.specs.declared.cell.Cell.{Cell}
 use Rattle.scmi_decode.specs.declared.order.Order.{Order}
 use Rattle.scmi_decode.specs.declared.order.Order.TheVariants.{Straight, Turned, Unclear}
@@ -31,18 +32,15 @@ character_of b = if nat_lt 31 b && nat_lt b 127 then b else 46
 
 -- whether the column of text shows the bytes of one order
 abbrev pub shows : (is_turned : Bool) → List Cell → Bool
-shows is_turned [] = true
-shows is_turned (c ∷ cs) = (c.shown == character_of (byte_in is_turned c)) && shows is_turned cs
+shows is_turned cells = list_all (λ c. c.shown == character_of (byte_in is_turned c)) cells
 
 -- whether both orders are the same bytes
 abbrev pub are_alike : List Cell → Bool
-are_alike [] = true
-are_alike (c ∷ cs) = (c.straight == c.turned) && are_alike cs
+are_alike cells = list_all (λ c. c.straight == c.turned) cells
 
 -- the bytes of cells in one order
 abbrev pub bytes_in : (is_turned : Bool) → List Cell → List ℕ
-bytes_in is_turned [] = []
-bytes_in is_turned (c ∷ cs) = byte_in is_turned c ∷ bytes_in is_turned cs
+bytes_in is_turned cells = map (byte_in is_turned) cells
 
 -- the order that is shown, or else this one, if the column of text shows straight bytes, and if it shows turned ones
 abbrev pub order_by : (straight turned : Bool) → Order → Order

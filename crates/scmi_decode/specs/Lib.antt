@@ -1,6 +1,9 @@
 pub mod Dump
 pub mod Cell
 pub mod Row
+pub mod Layout
+pub mod Finding
+pub mod Reported
 pub mod OpenDump
 pub mod MessageArea
 pub mod Event

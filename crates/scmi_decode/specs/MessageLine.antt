@@ -7,6 +7,8 @@ use Rattle.scmi_decode.specs.Row.{group_of, order_of}
 use Rattle.scmi_decode.specs.Event.{digits_number, event_area}
 use Rattle.scmi_decode.specs.MessageArea.{message_area}
 use Rattle.scmi_decode.specs.declared.form.Form.TheVariants.{Plain}
+use Rattle.scmi_decode.specs.declared.layout.Layout.{Layout}
+use Rattle.scmi_decode.specs.declared.layout.Layout.TheVariants.{Whole}
 use Rattle.scmi_decode.specs.declared.no_bytes.NoBytes.{NoBytes}
 use Rattle.scmi_decode.specs.declared.no_bytes.NoBytes.TheVariants as lack
 use Rattle.scmi_decode.specs.declared.order.Order.{Order}
@@ -74,6 +76,10 @@ items_alone items = event_or_own (behind_event items) items
 -- the same of a line
 abbrev pub alone_bytes : List ℕ → Option (List ℕ)
 alone_bytes line = items_alone (slice_split is_gap line)
+
+-- which bytes of a line that is a dump of its own are areas: a message that is reported is one area, whatever the layout of dumps
+abbrev pub items_layout : Layout → List (List ℕ) → Layout
+items_layout l items = if is_some (behind_event items) || is_some (behind_got items) then Whole else l
 
 -- why items have no bytes, if they have none: they are no digits, or the order of these is unclear
 abbrev pub items_lack : List (List ℕ) → NoBytes

@@ -1,14 +1,17 @@
 -- Inputs that are one dump.
 use Rattle.std.specs.Prelude.{◌≡◌, ℕ, ◌==◌, false, true, List, [], ◌∷◌, ◌++◌, length, Option, Some, None, IfSome}
 use Rattle.std.specs.List.{slice_split}
-use Rattle.std.specs.Io.KnownBytes.{Appends}
 use Rattle.scmi_io.specs.Lines.{is_line_feed}
 use Rattle.scmi_decode.specs.Cell.{settled}
 use Rattle.scmi_decode.specs.declared.cell.Cell.{Cell}
 use Rattle.scmi_decode.specs.declared.no_bytes.NoBytes.TheVariants.{Order}
 use Rattle.scmi_decode.specs.OpenDump.{DumpView, no_dump, added, begun, end_at, goes_on, is_star}
 use Rattle.scmi_decode.specs.Row.{RowView, row_of}
-use Rattle.scmi_decode.specs.Decoded.{is_remark, numbered_text}
+use Rattle.scmi_decode.specs.Decoded.{is_remark}
+use Rattle.scmi_decode.specs.Finding.{dump_findings}
+use Rattle.scmi_decode.specs.Reported.{Reported}
+use Rattle.scmi_decode.specs.declared.finding.Finding.{Finding}
+use Rattle.scmi_decode.specs.declared.layout.Layout.{Layout}
 
 -- a line is this row
 pub record IsRow (line : List ℕ) (r : RowView) : Type 0 where
@@ -37,9 +40,9 @@ AreRows d (r ∷ rows) [] = ⊥
 AreRows d (r ∷ rows) (line ∷ lines) = IsNextRow d line r × AreRows (added d r) rows lines
 
 -- the rows of one dump are these lines
-abbrev pub IsDumpOf : List RowView → List (List ℕ) → Type 0
-IsDumpOf (r ∷ rows) (line ∷ lines) = IsRow line r × AreRows (begun no_dump 1 r) rows lines
-IsDumpOf _ _ = ⊥
+abbrev pub IsDumpOf : Layout → List RowView → List (List ℕ) → Type 0
+IsDumpOf l (r ∷ rows) (line ∷ lines) = IsRow line r × AreRows (begun (no_dump l) 1 r) rows lines
+IsDumpOf l _ _ = ⊥
 
 -- the cells of rows, one after the other
 abbrev pub rows_cells : List RowView → List Cell
@@ -51,7 +54,7 @@ abbrev pub rows_bytes : List RowView → Option (List ℕ)
 rows_bytes [] = None
 rows_bytes (r ∷ rows) = settled r.order (rows_cells (r ∷ rows))
 
--- of an input that is one dump, in whatever form, the text of its bytes is written
-abbrev pub WritesForms : (input old new : Option (List ℕ)) → Type 0
-WritesForms input old new =
-    IfSome input (λ bytes. (rows : List RowView) → IsDumpOf rows (slice_split is_line_feed bytes) → Appends old new (numbered_text 1 Order (rows_bytes rows)))
+-- of an input that is one dump, in whatever form, what is found in its bytes is reported
+abbrev pub ReportsForms : Layout → (input : Option (List ℕ)) → (old new : Option (List Finding)) → Type 0
+ReportsForms l input old new =
+    IfSome input (λ bytes. (rows : List RowView) → IsDumpOf l rows (slice_split is_line_feed bytes) → Reported old new (dump_findings l 1 Order (rows_bytes rows)))

@@ -1,17 +1,21 @@
 -- A dump over several lines, as far as it was read.
 use Rattle.std.specs.Prelude.{ℕ, zero, suc, ◌+◌, ◌-◌, ◌/◌, ◌%◌, ◌^◌, ◌==◌, ◌&&◌, ◌||◌, nat_le, nat_lt, not, Bool, true, false, if◌then◌else◌, List, [], ◌++◌, length, drop, slice_index, Option, Some, None}
-use Rattle.scmi_codec.specs.ChannelArea.{is_channel_size}
-use Rattle.scmi_codec.specs.declared.area.TheConstants.{AREA_BYTES}
 use Rattle.scmi_decode.specs.Cell.{settled}
+use Rattle.scmi_decode.specs.Finding.{any_area, dump_findings}
 use Rattle.scmi_decode.specs.Row.{RowView, address_of, first_item, after_item, after_gap}
 use Rattle.scmi_decode.specs.declared.cell.Cell.{Cell}
+use Rattle.scmi_decode.specs.declared.finding.Finding.{Finding}
 use Rattle.scmi_decode.specs.declared.form.Form.{Form}
-use Rattle.scmi_decode.specs.declared.form.Form.TheVariants.{Plain, Marked, Offset}
+use Rattle.scmi_decode.specs.declared.form.Form.TheVariants.{Plain, Marked, Offset, Equals, Value}
+use Rattle.scmi_decode.specs.declared.layout.Layout.{Layout}
+use Rattle.scmi_decode.specs.declared.no_bytes.NoBytes.TheVariants as lack
+use Rattle.scmi_decode.specs.declared.open_dump.TheConstants.{REPEATED_BYTES}
 use Rattle.scmi_decode.specs.declared.order.Order.{Order}
 use Rattle.scmi_decode.specs.declared.order.Order.TheVariants.{Straight}
 
--- a dump, which has no bytes if none is open: the number of its first line, its form, the address after its last row, how many bytes its first row has, how many digits the first group of that and their order, whether its rows repeat up to the next address, its bytes; and whether an area was found before
+-- a dump, which has no bytes if none is open: which bytes of it are areas; the number of its first line, its form, the address after its last row, how many bytes its first row has, how many digits the first group of that and their order, whether its rows repeat up to the next address, its bytes; and whether an area was found before
 pub record DumpView : Type 0 where
+  pub layout : Layout
   pub first : ℕ
   pub form : Form
   pub next : ℕ
@@ -23,17 +27,8 @@ pub record DumpView : Type 0 where
   pub found : Bool
 
 -- no dump, and no area found
-abbrev pub no_dump : DumpView
-no_dump = record { first = 0; form = Plain; next = 0; width = 0; group = 0; order = Straight; repeats = false; cells = []; found = false }
-
--- whether bytes are as many as the area of a channel may have
-abbrev pub is_area : List ℕ → Bool
-is_area bytes = is_channel_size (length bytes)
-
--- whether bytes are there, and as many as an area has
-abbrev pub are_area : Option (List ℕ) → Bool
-are_area None = false
-are_area (Some bytes) = is_area bytes
+abbrev pub no_dump : Layout → DumpView
+no_dump l = record { layout = l; first = 0; form = Plain; next = 0; width = 0; group = 0; order = Straight; repeats = false; cells = []; found = false }
 
 -- the bytes of a dump, in the order of its digits
 abbrev pub dump_bytes : DumpView → Option (List ℕ)
@@ -43,17 +38,23 @@ dump_bytes d = settled d.order d.cells
 abbrev pub is_open : DumpView → Bool
 is_open d = not (length d.cells == 0)
 
+-- what is found in a dump once it has ended
+abbrev pub dump_found : DumpView → List Finding
+dump_found d = if is_open d then dump_findings d.layout d.first lack.Order (dump_bytes d) else []
+
 -- whether two forms are the same
 abbrev pub same_form : Form → Form → Bool
 same_form Plain Plain = true
 same_form Marked Marked = true
 same_form Offset Offset = true
+same_form Equals Equals = true
+same_form Value Value = true
 same_form f g = false
 
 -- whether an address is the one after the last row, or, if rows repeat, whole rows after it
 unfoldable pub reaches : DumpView → ℕ → Bool
 reaches d address =
-    if d.repeats then not (d.width == 0) && nat_le d.next address && nat_le (address - d.next) AREA_BYTES && ((address - d.next) % d.width == 0)
+    if d.repeats then not (d.width == 0) && nat_le d.next address && nat_le (address - d.next) REPEATED_BYTES && ((address - d.next) % d.width == 0)
     else address == d.next
 
 -- whether the rows so far have the same length
@@ -97,6 +98,7 @@ added d r = extended (filled d r.address) r
 -- a dump that begins with a row, at a line of this number
 unfoldable pub begun : DumpView → ℕ → RowView → DumpView
 begun d number r = record {
+  layout = d.layout;
   first = number;
   form = r.form;
   next = (r.address + length r.cells) % 2 ^ 64;
@@ -110,7 +112,7 @@ begun d number r = record {
 
 -- a dump that has ended
 unfoldable pub closed : DumpView → DumpView
-closed d = record d { cells = []; found = d.found || are_area (dump_bytes d) }
+closed d = record d { cells = []; found = d.found || any_area (dump_found d) }
 
 -- a dump beside which an area was found or not
 unfoldable pub beside : DumpView → Bool → DumpView

@@ -1,9 +1,9 @@
 -- How dumps are read.
-use Rattle.std.specs.Prelude.{ℕ, ◌==◌, ◌||◌, nat_lt, Bool, true, false, if◌then◌else◌, List, [], ◌∷◌, get_or, length, map, is_some}
+use Rattle.std.specs.Prelude.{ℕ, ◌==◌, ◌||◌, nat_lt, Bool, true, false, if◌then◌else◌, List, [], get_or, length, map, is_some}
 use Rattle.scmi_decode.specs.Dump.{has_mark}
 use Rattle.scmi_decode.specs.MessageLine.{behind_event, behind_got, first_full}
 use Rattle.scmi_decode.specs.declared.form.Form.{Form}
-use Rattle.scmi_decode.specs.declared.form.Form.TheVariants.{Plain, Marked, Offset}
+use Rattle.scmi_decode.specs.declared.form.Form.TheVariants.{Plain, Marked, Offset, Equals, Value}
 use Rattle.scmi_decode.specs.declared.reading.Reading.{Reading}
 use Rattle.scmi_decode.specs.declared.reading.Reading.TheVariants.{Bytes, Words, MarkedBytes, MarkedWords, OffsetBytes, OffsetWords, Event, Run}
 use Rattle.scmi_decode.specs.declared.reading.TheConstants.{READINGS}
@@ -33,6 +33,9 @@ rows_reading Plain false = Bytes
 rows_reading Plain true = Words
 rows_reading Marked false = MarkedBytes
 rows_reading Marked true = MarkedWords
+rows_reading Equals false = MarkedBytes
+rows_reading Equals true = MarkedWords
+rows_reading Value wide = MarkedWords
 rows_reading Offset false = OffsetBytes
 rows_reading Offset true = OffsetWords
 

@@ -1,12 +1,16 @@
 -- The rows of dumps: an address, some bytes, and a column of text.
-use Rattle.std.specs.Prelude.{ℕ, ◌+◌, ◌-◌, ◌*◌, ◌^◌, ◌==◌, ◌&&◌, ◌||◌, nat_lt, not, Bool, true, false, if◌then◌else◌, List, [], ◌∷◌, length, take, drop, slice_index, Option, Some, None, is_some}
+use Rattle.std.specs.Prelude.{ℕ, ◌+◌, ◌-◌, ◌*◌, ◌^◌, ◌==◌, ◌&&◌, ◌||◌, nat_eq, nat_lt, not, Bool, true, false, if◌then◌else◌, List, [], ◌∷◌, length, take, drop, slice_index, Option, Some, None, is_some}
+use Rattle.std.specs.Int.{to_le_bytes, w32}
+use Rattle.std.specs.List.{starts_with}
+use Rattle.std.specs.Option.{option_map}
 use Rattle.scmi_decode.specs.Cell.{cells_of}
 use Rattle.scmi_decode.specs.Dump.{is_gap, has_mark, line_bytes}
 use Rattle.scmi_decode.specs.declared.cell.Cell.{Cell}
 use Rattle.scmi_decode.specs.declared.form.Form.{Form}
-use Rattle.scmi_decode.specs.declared.form.Form.TheVariants.{Plain, Marked, Offset}
+use Rattle.scmi_decode.specs.declared.form.Form.TheVariants.{Plain, Marked, Offset, Equals, Value}
 use Rattle.scmi_decode.specs.declared.order.Order.{Order}
 use Rattle.scmi_decode.specs.declared.order.Order.TheVariants.{Straight, Turned, Unclear}
+use Rattle.scmi_decode.specs.declared.parts.TheConstants.{VALUE_AT}
 use Rattle.scmi_decode.specs.declared.row.TheConstants.{ROW_BYTES, ROW_LINE_BYTES}
 
 -- the value of a digit of either case, 16 for what is no hexadecimal digit
@@ -113,8 +117,8 @@ abbrev pub cut_parts : Form → (digits : List ℕ) → (size : ℕ) → (groups
 cut_parts f digits size groups = record { form = f; digits = digits; bytes = take size groups; column = drop size groups }
 
 -- a row of these digits, whose bytes follow them, before a column of text
-unfoldable pub marked_parts : (digits behind : List ℕ) → RowParts
-marked_parts digits behind = cut_parts Marked digits (column_length (after_gap behind)) (after_gap behind)
+unfoldable pub marked_parts : Form → (digits behind : List ℕ) → RowParts
+marked_parts f digits behind = cut_parts f digits (column_length (after_gap behind)) (after_gap behind)
 
 -- a row of an address alone, whose bytes follow it, before `|` or `>`
 unfoldable pub offset_parts : (digits behind : List ℕ) → RowParts
@@ -152,9 +156,10 @@ piped_parts line = cut_parts Marked (piped_digits line) (data_length (piped_data
 -- the parts of a line as a row; of a line that begins with no address all of it is data
 unfoldable pub parts_at : List ℕ → RowParts
 parts_at line =
-    if ends_in_colon (first_item line) then marked_parts (without_last (first_item line)) (after_item line)
-    else if is_symbol (first_item (after_item line)) || is_equals (first_item (after_item line)) then marked_parts (first_item line) (after_item (after_item line))
-    else if is_pair (first_item line) (first_item (after_item line)) (after_item (after_item line)) then marked_parts (first_item line) (after_item line)
+    if ends_in_colon (first_item line) then marked_parts Marked (without_last (first_item line)) (after_item line)
+    else if is_symbol (first_item (after_item line)) then marked_parts Marked (first_item line) (after_item (after_item line))
+    else if is_equals (first_item (after_item line)) then marked_parts Equals (first_item line) (after_item (after_item line))
+    else if is_pair (first_item line) (first_item (after_item line)) (after_item (after_item line)) then marked_parts Marked (first_item line) (after_item line)
     else if has_pipe (first_item line) then piped_parts (after_gap line)
     else if is_offset (first_item line) (first_item (after_item line)) then offset_parts (first_item line) (after_item line)
     else record { form = Plain; digits = []; bytes = line; column = [] }
@@ -188,11 +193,13 @@ group_of item = if has_mark item then 0 else length item
 abbrev pub gap_before : List ℕ → ℕ
 gap_before column = if length (after_gap column) == 0 then 0 else gap_length column
 
--- the order of groups of four digits: od and hexdump print numbers, xxd bytes and two spaces, md.w numbers and more
+-- the order of groups of four digits: od and J-Link print numbers, xxd bytes and two spaces, md.w numbers and more
 abbrev pub half_order : Form → (gap : ℕ) → Order
 half_order Offset gap = Turned
 half_order Marked gap = if gap == 2 then Straight else if nat_lt 2 gap then Turned else Unclear
 half_order Plain gap = Unclear
+half_order Equals gap = Turned
+half_order Value gap = Turned
 
 -- the order of groups of eight or sixteen digits: numbers, but one alone on a line may be bytes, as xxd -p prints them
 abbrev pub long_order : Form → (alone : Bool) → Order
@@ -200,6 +207,8 @@ long_order Plain true = Unclear
 long_order Plain false = Turned
 long_order Marked alone = Turned
 long_order Offset alone = Turned
+long_order Equals alone = Turned
+long_order Value alone = Turned
 
 -- the order of the digits of a row, by how many its first group has, the spaces before its column of text, and whether its group is alone
 abbrev pub order_of : Form → (group gap : ℕ) → (alone : Bool) → Order
@@ -222,9 +231,24 @@ abbrev pub both_cells : (straight turned : Option (List ℕ)) → (column : List
 both_cells (Some straight) (Some turned) column = Some (cells_of straight turned (column_text (length straight) (without_return column)))
 both_cells _ _ column = None
 
+-- the bytes of a number below 2^32, the lowest first
+abbrev pub word_bytes_of : Option ℕ → Option (List ℕ)
+word_bytes_of None = None
+word_bytes_of (Some n) = if nat_lt n (2 ^ 32) then Some (to_le_bytes w32 n) else None
+
+-- the cells of a number of four bytes that is printed without leading zeros
+abbrev pub word_cells : List ℕ → Option (List Cell)
+word_cells item =
+    if has_mark item then option_map (λ bytes. cells_of bytes bytes []) (word_bytes_of (number_from 16 0 (drop 2 item))) else None
+
 -- the cells of data and of the column after them, if the data are digits
 abbrev pub data_cells : (groups column : List ℕ) → Option (List Cell)
 data_cells groups column = both_cells (line_bytes false groups) (line_bytes true groups) column
+
+-- the cells of data of a form
+abbrev pub form_cells : Form → (groups column : List ℕ) → Option (List Cell)
+form_cells Value groups column = word_cells (first_item groups)
+form_cells f groups column = data_cells groups column
 
 -- the order of the digits of data, if no column shows it
 abbrev pub data_order : Form → (groups column : List ℕ) → Order
@@ -243,7 +267,7 @@ row_if f _ group order _ = None
 
 -- the row of a form, the digits of an address, the data, and the column after them
 unfoldable pub parts_row : Form → (digits groups column : List ℕ) → Option RowView
-parts_row f digits groups column = row_if f (address_of f digits) (group_of (first_item groups)) (data_order f groups column) (data_cells groups column)
+parts_row f digits groups column = row_if f (address_of f digits) (group_of (first_item groups)) (data_order f groups column) (form_cells f groups column)
 
 -- whether a text begins with an address and a colon: eight digits at least
 abbrev pub begins_with_address : List ℕ → Bool
@@ -269,9 +293,22 @@ or_line (Some text) line = text
 unfoldable pub without_prefix : List ℕ → List ℕ
 without_prefix line = if is_bare_address (first_item line) then line else or_line (from_address true line) line
 
--- the parts of a line as a row, after what may come before its address
+-- what follows the words of `devmem2`, if a line begins with them
+abbrev pub behind_value : List ℕ → Option (List ℕ)
+behind_value line = if starts_with nat_eq line VALUE_AT.now then Some (drop (length VALUE_AT.now) line) else None
+
+-- a row of `devmem2`: an address, where that is mapped, and a number
+abbrev pub value_parts : (behind : List ℕ) → RowParts
+value_parts behind = record { form = Value; digits = first_item behind; bytes = after_item (after_item behind); column = [] }
+
+-- the row of `devmem2`, if it is one, or else the parts of a line after what may come before its address
+abbrev pub value_or : Option (List ℕ) → (line : List ℕ) → RowParts
+value_or (Some behind) line = value_parts behind
+value_or None line = parts_at (without_prefix line)
+
+-- the parts of a line as a row
 abbrev pub parts_of : List ℕ → RowParts
-parts_of line = parts_at (without_prefix line)
+parts_of line = value_or (behind_value line) line
 
 -- the row that a line is, if it is one
 unfoldable pub row_of : List ℕ → Option RowView

@@ -1,5 +1,5 @@
 //! The bytes of a dump in either order of digits, and what its column of text shows.
-ghost use Rattle.std.specs.Prelude.{◌≡◌, IfOk, map};
+ghost use Rattle.std.specs.Prelude.{◌≡◌, IfOk};
 ghost use Rattle.std.specs.Option.{option_map};
 ghost use Rattle.scmi_decode.specs.Cell.{are_alike, byte_in, bytes_in, cells_of, character_of, first_byte, later_bytes, order_shown, settled, shows};
 
@@ -101,41 +101,26 @@ pub(crate) fn order_shown(order: Order, cells: &[Cell]) -> Order
 fn shows(turned: bool, cells: &[Cell]) -> bool
     ensures { result ≡ shows turned cells.now }
 {
-    let mut rest = cells;
-    'cells: while let [cell, behind @ ..] = rest {
-        if cell.shown != character_of(byte_in(turned, cell)) {
-            return false;
-        }
-        rest = behind;
-    }
-    true
+    cells
+        .iter()
+        .all(|cell| cell.shown == character_of(byte_in(turned, cell)))
 }
 
 /// Whether both orders are the same bytes.
 fn are_alike(cells: &[Cell]) -> bool
     ensures { result ≡ are_alike cells.now }
 {
-    let mut rest = cells;
-    'cells: while let [cell, behind @ ..] = rest {
-        if cell.straight != cell.turned {
-            return false;
-        }
-        rest = behind;
-    }
-    true
+    cells.iter().all(|cell| cell.straight == cell.turned)
 }
 
 /// The bytes of cells in one order.
 fn bytes_in(alloc: Global, turned: bool, cells: &[Cell]) -> Result<Vec<u8>, AllocError>
     ensures { IfOk result (λ bytes. bytes.items ≡ bytes_in turned cells.now) }
 {
-    let mut bytes = Vec::with_capacity(alloc, cells.len())?;
-    let mut rest = cells;
-    'cells: while let [cell, behind @ ..] = rest {
-        bytes.push(byte_in(turned, cell))?;
-        rest = behind;
-    }
-    Ok(bytes)
+    cells
+        .iter()
+        .map(|cell| byte_in(turned, cell))
+        .collect(alloc)
 }
 
 /// The byte of a cell in one order.

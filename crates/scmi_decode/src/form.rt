@@ -10,4 +10,9 @@ pub enum Form {
     Marked,
     /// An address alone, and a column of text after `|` or `>`: `hexdump -C`, `od`.
     Offset,
+    /// An address, `=`, and bytes or numbers: J-Link's `mem8`, `mem16` and `mem32`.
+    Equals,
+    /// `Value at address`, the address, another in parentheses, and a number without leading zeros:
+    /// `devmem2`.
+    Value,
 }

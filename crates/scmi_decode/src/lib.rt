@@ -1,21 +1,26 @@
-//! Decodes dumps of areas of shared memory: dumps in, their texts out.
+//! Decodes dumps of areas of shared memory: dumps in, what is found in them out.
 //!
-//! The main type is `Form`, how a row of a dump marks the place of its bytes. The main theorem is
-//! the contract of `run_decode`: if the status is 0, what was written is the text of each dump of
-//! the input, in order and after the number of its first line, and that text is what
-//! `scmi_describe` writes of the dump's area, or that it is no area. `decode` adds that the text of
-//! a dump is that of its bytes, in whatever form they are (`forms`). A line that reports a message,
-//! of Linux's ftrace or of a run of a script, has the bytes of that message's area. `Readings` is
-//! notified of how each area was read. `read_traced` reads the message of one line of ftrace.
+//! The main type is `Finding`, what is found and where; `Layout` says which bytes of a dump are areas.
+//! The main theorem is the contract of `decode_input`: a sink (`Findings`) is given what is found in
+//! the dumps of the input, in order and nothing else, and what is found in a dump is that of its
+//! bytes, in whatever form they are (`forms`). A line that reports a message, of Linux's ftrace or of
+//! a run of a script, has the bytes of that message's area. `decode_bytes` is the same of an input of
+//! bytes. `run_decode` and `run_bytes` write the findings, which tests compare, and give a status.
+//! `Readings` is notified of how each area was read. `read_traced` reads the message of one line of
+//! ftrace.
 #![tactic(auto)]
 
+mod advice;
+mod bytes;
 mod cell;
 mod decode;
 mod decode_error;
 mod dump;
 mod event;
+mod finding;
+mod findings;
 mod form;
-mod hint;
+mod layout;
 mod line;
 mod lines;
 mod message_area;
@@ -26,18 +31,26 @@ mod number;
 mod open_dump;
 mod order;
 mod parts;
+mod parts_found;
 mod prefix;
+mod printed;
 mod reading;
 mod readings;
 mod row;
 mod scan;
 mod step;
+mod swapped;
 mod traced;
 
-pub use decode::{run_counted, run_decode};
+pub use bytes::{decode_bytes, run_bytes};
+pub use decode::{decode_input, run_counted, run_decode};
 pub use decode_error::DecodeError;
 pub use event::EventKind;
+pub use finding::{Finding, Found};
+pub use findings::Findings;
 pub use form::Form;
+pub use layout::{Layout, LayoutError, Pieces};
+pub use no_bytes::NoBytes;
 pub use reading::{READINGS, Reading, ReadingRow};
 pub use readings::Readings;
 pub use row::{ROW_BYTES, ROW_LINE_BYTES};

@@ -1,12 +1,13 @@
 //! Lines that report a message: of Linux's event `scmi_msg_dump`, or of a script.
 ghost use Rattle.std.specs.Prelude.{◌≡◌, IfOk, map};
 ghost use Rattle.std.specs.Option.{option_map};
-ghost use Rattle.scmi_decode.specs.MessageLine.{behind_event, behind_got, first_full, got_or_own, is_agent, is_got, items_alone, items_lack, ordered_bytes, own_order};
+ghost use Rattle.scmi_decode.specs.MessageLine.{behind_event, behind_got, first_full, got_or_own, is_agent, is_got, items_alone, items_lack, items_layout, ordered_bytes, own_order};
 ghost use Rattle.scmi_decode.specs.declared.order.Order.TheVariants.{Unclear};
 
 use crate::dump::items_bytes;
 use crate::event::{digits_number, event_area};
 use crate::form::Form;
+use crate::layout::Layout;
 use crate::message_area::message_area;
 use crate::message_words::{EVENT, GOT, P2A, REPLY};
 use crate::no_bytes::NoBytes;
@@ -93,6 +94,18 @@ fn alike_bytes(alloc: Global, items: &[&[u8]]) -> Result<Option<Vec<u8>>, AllocE
         Ok(Some(straight))
     } else {
         Ok(None)
+    }
+}
+
+/// Which bytes of a line that is a dump of its own are areas: a message that is reported is one area,
+/// whatever the layout of dumps.
+pub(crate) fn items_layout(layout: Layout, items: &[&[u8]]) -> Layout
+    ensures { result ≡ items_layout layout (map (λ item. item.now) items.now) }
+{
+    if behind_event(items).is_some() || behind_got(items).is_some() {
+        Layout::Whole
+    } else {
+        layout
     }
 }
 

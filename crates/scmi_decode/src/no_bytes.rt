@@ -2,7 +2,7 @@
 
 /// Why a dump has no bytes.
 #[derive(Clone, Copy, PartialEq, Eq)]
-pub(crate) enum NoBytes {
+pub enum NoBytes {
     /// It has other items than hexadecimal digits.
     Digits,
     /// Its groups of digits may be bytes or numbers.

@@ -1,23 +1,28 @@
 //! A dump over several lines.
 ghost use Rattle.std.specs.Prelude.{◌≡◌, ◌+◌, ◌%◌, ◌^◌, length, OnOk, IfOk};
 ghost use Rattle.std.specs.Option.{is_some, option_map};
-ghost use Rattle.scmi_decode.specs.OpenDump.{no_dump, is_open, is_area, are_area, dump_bytes, has_its_groups, same_form, reaches, is_even, goes_on, copies, rows_before, last_row, filled, extended, added, begun, closed, beside, repeated, has_one_item, is_star, end_at};
+ghost use Rattle.scmi_decode.specs.Finding.{any_area};
+ghost use Rattle.scmi_decode.specs.OpenDump.{no_dump, is_open, dump_bytes, dump_found, has_its_groups, same_form, reaches, is_even, goes_on, copies, rows_before, last_row, filled, extended, added, begun, closed, beside, repeated, has_one_item, is_star, end_at};
 
 use crate::cell::{Cell, order_shown, settled};
 use crate::form::Form;
+use crate::layout::Layout;
 use crate::order::Order;
 use crate::reading::{Reading, rows_reading};
 use crate::readings::{Readings, Unsaid};
 use crate::row::{Row, address_of};
 use crate::scan::{after_gap, after_item, first_item};
-use scmi_codec::{AREA_BYTES, is_channel_size};
 use std::alloc::{AllocError, Global};
 use std::marker::Model;
+
+/// The most bytes that `*` repeats (own).
+pub(crate) const REPEATED_BYTES: u64 = 0x1_0000;
 
 /// A dump over several lines, as far as it was read, and whether an area was found before it. How it is
 /// read is beside what a contract sees.
 #[derive(Drop)]
 pub(crate) struct OpenDump {
+    layout: Layout,
     first: usize,
     form: Form,
     next: u64,
@@ -37,6 +42,7 @@ impl Model for OpenDump {
     ghost Value = { DumpView };
 
     ghost view = { λ d. record {
+      layout = d.layout;
       first = d.first;
       form = d.form;
       next = d.next;
@@ -50,11 +56,12 @@ impl Model for OpenDump {
 }
 
 impl OpenDump {
-    /// No dump, and no area found.
-    pub(crate) fn new(alloc: Global) -> OpenDump
-        ensures { result ≡ no_dump }
+    /// No dump, and no area found. Dumps have their areas as the layout says.
+    pub(crate) fn new(alloc: Global, layout: Layout) -> OpenDump
+        ensures { result ≡ no_dump layout }
     {
         OpenDump {
+            layout,
             first: 0,
             form: Form::Plain,
             next: 0,
@@ -74,6 +81,13 @@ impl OpenDump {
         ensures { result ≡ is_open self.now }
     {
         !self.cells.is_empty()
+    }
+
+    /// Which of its bytes are areas.
+    pub(crate) fn layout(&self) -> Layout
+        ensures { result ≡ self.now.layout }
+    {
+        self.layout
     }
 
     /// The number of its first line.
@@ -135,7 +149,7 @@ impl OpenDump {
         }
         self.width != 0
             && self.next <= address
-            && address - self.next <= AREA_BYTES as u64
+            && address - self.next <= REPEATED_BYTES
             && (address - self.next) % self.width as u64 == 0
     }
 
@@ -207,10 +221,10 @@ impl OpenDump {
         Ok(())
     }
 
-    /// Ends, if it is known whether it is an area.
+    /// Ends, if it is known whether it has an area.
     #[tactic(auto, unfolding(crate::specs::OpenDump::closed))]
     pub(crate) fn close(&mut self, area: bool)
-        requires area { area ≡ are_area (dump_bytes self.old) }
+        requires area { area ≡ any_area (dump_found self.old) }
         ensures { self.new ≡ closed self.old }
     {
         if area {
@@ -298,30 +312,16 @@ fn end_of(row: &Row) -> u64
     row.address().wrapping_add(row.cells().len() as u64)
 }
 
-/// Whether bytes are there, and as many as the area of a channel may have.
-pub(crate) fn are_area(found: &Option<Vec<u8>>) -> bool
-    ensures { result ≡ are_area (option_map (λ bytes. bytes.items) found.now) }
-{
-    match found {
-        Some(bytes) => is_area(bytes),
-        None => false,
-    }
-}
-
-/// Whether bytes are as many as the area of a channel may have.
-pub(crate) fn is_area(bytes: &[u8]) -> bool
-    ensures { result ≡ is_area bytes.now }
-{
-    is_channel_size(bytes.len())
-}
-
 /// Whether two forms are the same.
 fn same_form(first: Form, second: Form) -> bool
     ensures { result ≡ same_form first second }
 {
     match (first, second) {
-        (Form::Plain, Form::Plain) | (Form::Marked, Form::Marked) | (Form::Offset, Form::Offset) =>
-            true,
+        (Form::Plain, Form::Plain)
+        | (Form::Marked, Form::Marked)
+        | (Form::Offset, Form::Offset)
+        | (Form::Equals, Form::Equals)
+        | (Form::Value, Form::Value) => true,
         _ => false,
     }
 }

@@ -1,6 +1,7 @@
 //! The parts of a row.
 ghost use Rattle.std.specs.Prelude.{◌≡◌, ◌≤◌, length};
-ghost use Rattle.scmi_decode.specs.Row.{cut_parts, data_length, ends_in_colon, has_pipe, is_equals, is_group, is_offset, is_pair, is_symbol, marked_parts, offset_parts, parts_at, parts_of, piped_data, piped_digits, piped_parts, sixteen_length, without_last};
+ghost use Rattle.std.specs.Option.{option_copied};
+ghost use Rattle.scmi_decode.specs.Row.{behind_value, cut_parts, data_length, ends_in_colon, has_pipe, is_equals, is_group, is_offset, is_pair, is_symbol, marked_parts, offset_parts, parts_at, parts_of, piped_data, piped_digits, piped_parts, sixteen_length, value_parts, without_last};
 
 use crate::dump::has_mark;
 use crate::form::Form;
@@ -9,6 +10,9 @@ use crate::scan::{
     after_cursor, after_gap, bar_length, behind_colon, column_length, item_and_rest, item_length,
     pipe_length,
 };
+
+/// What comes before the address of a number that `devmem2` prints.
+pub(crate) const VALUE_AT: &[u8] = b"Value at address ";
 
 /// The form of a row, the digits of its address, the place of its bytes, and what follows those.
 #[derive(Drop)]
@@ -26,7 +30,34 @@ pub(crate) fn parts_of(line: &[u8]) -> Parts<'_>
     ensures bytes { result.bytes.now ≡ (parts_of line.now).bytes }
     ensures column { result.column.now ≡ (parts_of line.now).column }
 {
-    parts_at(without_prefix(line))
+    match behind_value(line) {
+        Some(behind) => value_parts(behind),
+        None => parts_at(without_prefix(line)),
+    }
+}
+
+/// What follows the words of `devmem2`, if a line begins with them.
+fn behind_value(line: &[u8]) -> Option<&[u8]>
+    ensures { option_copied result ≡ behind_value line.now }
+{
+    line.strip_prefix(VALUE_AT)
+}
+
+/// A row of `devmem2`: an address, where that is mapped, and a number.
+fn value_parts(behind: &[u8]) -> Parts<'_>
+    ensures form { result.form ≡ (value_parts behind.now).form }
+    ensures digits { result.digits.now ≡ (value_parts behind.now).digits }
+    ensures bytes { result.bytes.now ≡ (value_parts behind.now).bytes }
+    ensures column { result.column.now ≡ (value_parts behind.now).column }
+{
+    let (digits, rest) = item_and_rest(behind);
+    let (_mapped, bytes) = item_and_rest(rest);
+    Parts {
+        form: Form::Value,
+        digits,
+        bytes,
+        column: &[],
+    }
 }
 
 /// The parts of a line as a row; of a line that begins with no address all of it is data (own).
@@ -39,14 +70,17 @@ fn parts_at(line: &[u8]) -> Parts<'_>
 {
     let (first, behind) = item_and_rest(line);
     if ends_in_colon(first) {
-        return marked_parts(without_last(first), behind);
+        return marked_parts(Form::Marked, without_last(first), behind);
     }
     let (second, rest) = item_and_rest(behind);
-    if is_symbol(second) || is_equals(second) {
-        return marked_parts(first, rest);
+    if is_symbol(second) {
+        return marked_parts(Form::Marked, first, rest);
+    }
+    if is_equals(second) {
+        return marked_parts(Form::Equals, first, rest);
     }
     if is_pair(first, second, rest) {
-        return marked_parts(first, behind);
+        return marked_parts(Form::Marked, first, behind);
     }
     if has_pipe(first) {
         return piped_parts(after_gap(line));
@@ -81,14 +115,14 @@ fn cut_parts<'a>(form: Form, digits: &'a [u8], size: usize, groups: &'a [u8]) ->
 
 /// A row of these digits, whose bytes follow them, before a column of text after two spaces.
 #[tactic(auto, unfolding(crate::specs::Row::marked_parts))]
-fn marked_parts<'a>(digits: &'a [u8], behind: &'a [u8]) -> Parts<'a>
-    ensures form { result.form ≡ (marked_parts digits.now behind.now).form }
-    ensures digits { result.digits.now ≡ (marked_parts digits.now behind.now).digits }
-    ensures bytes { result.bytes.now ≡ (marked_parts digits.now behind.now).bytes }
-    ensures column { result.column.now ≡ (marked_parts digits.now behind.now).column }
+fn marked_parts<'a>(form: Form, digits: &'a [u8], behind: &'a [u8]) -> Parts<'a>
+    ensures form { result.form ≡ (marked_parts form digits.now behind.now).form }
+    ensures digits { result.digits.now ≡ (marked_parts form digits.now behind.now).digits }
+    ensures bytes { result.bytes.now ≡ (marked_parts form digits.now behind.now).bytes }
+    ensures column { result.column.now ≡ (marked_parts form digits.now behind.now).column }
 {
     let groups = after_gap(behind);
-    cut_parts(Form::Marked, digits, column_length(groups), groups)
+    cut_parts(form, digits, column_length(groups), groups)
 }
 
 /// A row of an address alone, whose bytes follow it, before `|` or `>`.

@@ -80,8 +80,9 @@ pub(crate) fn rows_reading(form: Form, wide: bool) -> Reading
     match (form, wide) {
         (Form::Plain, false) => Reading::Bytes,
         (Form::Plain, true) => Reading::Words,
-        (Form::Marked, false) => Reading::MarkedBytes,
-        (Form::Marked, true) => Reading::MarkedWords,
+        (Form::Marked | Form::Equals, false) => Reading::MarkedBytes,
+        (Form::Marked | Form::Equals, true) => Reading::MarkedWords,
+        (Form::Value, _) => Reading::MarkedWords,
         (Form::Offset, false) => Reading::OffsetBytes,
         (Form::Offset, true) => Reading::OffsetWords,
     }

@@ -1,7 +1,7 @@
 //! A row of a dump.
 ghost use Rattle.std.specs.Prelude.{◌≡◌, IfOk};
 ghost use Rattle.std.specs.Option.{option_map};
-ghost use Rattle.scmi_decode.specs.Row.{address_of, base_of, column_text, data_cells, data_order, ends_in_return, gap_before, group_of, half_order, long_order, order_of, parts_row, row_of, row_with, without_return};
+ghost use Rattle.scmi_decode.specs.Row.{address_of, base_of, column_text, data_cells, data_order, form_cells, ends_in_return, gap_before, group_of, half_order, long_order, order_of, parts_row, row_of, row_with, without_return, word_bytes_of, word_cells};
 
 use crate::cell::{Cell, cells_of};
 use crate::dump::{has_mark, line_bytes};
@@ -106,9 +106,52 @@ fn parts_row(
     };
     let group = group_of(first_item(groups));
     let order = data_order(form, groups, column);
-    match data_cells(alloc, groups, column)? {
+    match form_cells(alloc, form, groups, column)? {
         Some(cells) => Ok(row_with(form, address, group, order, cells)),
         None => Ok(None),
+    }
+}
+
+/// The cells of data of a form.
+fn form_cells(
+    alloc: Global,
+    form: Form,
+    groups: &[u8],
+    column: &[u8],
+) -> Result<Option<Vec<Cell>>, AllocError>
+    ensures { IfOk result (λ found.
+        option_map (λ cells. cells.items) found ≡ form_cells form groups.now column.now) }
+{
+    match form {
+        Form::Value => word_cells(alloc, first_item(groups)),
+        Form::Plain | Form::Marked | Form::Offset | Form::Equals => {
+            data_cells(alloc, groups, column)
+        }
+    }
+}
+
+/// The cells of a number of four bytes that is printed without leading zeros.
+fn word_cells(alloc: Global, item: &[u8]) -> Result<Option<Vec<Cell>>, AllocError>
+    ensures { IfOk result (λ found.
+        option_map (λ cells. cells.items) found ≡ word_cells item.now) }
+{
+    if !has_mark(item) {
+        return Ok(None);
+    }
+    let Some(bytes) = word_bytes_of(number_from(16, 0, &item[2..])) else {
+        return Ok(None);
+    };
+    let cells = cells_of(alloc, &bytes, &bytes, &[])?;
+    Ok(Some(cells))
+}
+
+/// The bytes of a number below 2^32, the lowest first.
+fn word_bytes_of(number: Option<u64>) -> Option<[u8; 4]>
+    ensures { result ≡ word_bytes_of number }
+{
+    match number {
+        Some(number) if number < 1 << 32 => Some((number as u32).to_le_bytes()),
+        _ => None,
     }
 }
 
@@ -183,13 +226,13 @@ pub(crate) fn order_of(form: Form, group: usize, gap: usize, is_alone: bool) -> 
     }
 }
 
-/// The order of groups of four digits: od and hexdump print numbers, xxd bytes and two spaces, md.w
+/// The order of groups of four digits: od and J-Link print numbers, xxd bytes and two spaces, md.w
 /// numbers and more.
 fn half_order(form: Form, gap: usize) -> Order
     ensures { result ≡ half_order form gap }
 {
     match form {
-        Form::Offset => Order::Turned,
+        Form::Offset | Form::Equals | Form::Value => Order::Turned,
         Form::Plain => Order::Unclear,
         Form::Marked => if gap == 2 {
             Order::Straight

@@ -1,67 +1,74 @@
 //! A line of an input, by what comes before it.
 ghost use Rattle.std.specs.Prelude.{◌≡◌, ◌⊎◌, OnOk, IfErr};
-ghost use Rattle.std.specs.Io.KnownBytes.{Appends};
-ghost use Rattle.scmi_decode.specs.OpenDump.{beside, closed};
+ghost use Rattle.scmi_decode.specs.OpenDump.{beside, closed, dump_found};
 ghost use Rattle.scmi_decode.specs.Row.{row_of};
-ghost use Rattle.scmi_decode.specs.Decoded.{dump_after, dump_after_row, dump_text, is_remark, line_is_area, line_text, row_text, step_text};
+ghost use Rattle.scmi_decode.specs.Reported.{Reported};
+ghost use Rattle.scmi_decode.specs.Decoded.{dump_after, dump_after_row, is_remark, line_is_area, line_found, row_found, step_found};
 
 use crate::decode_error::DecodeError;
-use crate::line::{write_dump, write_line};
+use crate::findings::Findings;
+use crate::line::{report_line, report_open};
 use crate::open_dump::OpenDump;
 use crate::reading::has_wide_marks;
 use crate::readings::Readings;
 use crate::row::{Row, row_of};
 use std::alloc::Global;
-use std::io::Write;
+
+/// How the lines begin that are skipped: a comment, and what `devmem2` prints beside each number.
+pub(crate) const REMARK: &[u8] = b"#";
+
+pub(crate) const OPENED: &[u8] = b"/dev/mem opened.";
+
+pub(crate) const MAPPED: &[u8] = b"Memory mapped at address ";
 
 /// Takes a line, and reports how the areas that it ends are read.
-pub(crate) fn take_and_say<W: Write, N: Readings>(
+pub(crate) fn take_and_say<S: Findings, N: Readings>(
     alloc: Global,
-    writer: &mut W,
+    sink: &mut S,
     readings: &mut N,
     dump: &mut OpenDump,
     number: usize,
     line: &[u8],
 ) -> Result<(), DecodeError>
-    ensures text { OnOk result (Appends (W.contents writer.old) (W.contents writer.new) (
-        step_text dump.old number line.now)) }
+    ensures taken { OnOk result (Reported (S.taken sink.old) (S.taken sink.new) (
+        step_found dump.old number line.now)) }
     ensures dump { OnOk result (dump.new ≡ dump_after dump.old number line.now) }
     ensures errors { IfErr result (λ e. (e ≡ DecodeError.Memory) ⊎ (e ≡ DecodeError.Write)) }
 {
-    take_line(alloc, writer, dump, number, line)?;
+    take_line(alloc, sink, dump, number, line)?;
     dump.say(readings);
     Ok(())
 }
 
-/// Ends the dump, writes what it was, and reports how it is read.
-pub(crate) fn close_and_say<W: Write, N: Readings>(
+/// Ends the dump, reports what is found in it, and how it is read.
+pub(crate) fn close_and_say<S: Findings, N: Readings>(
     alloc: Global,
-    writer: &mut W,
+    sink: &mut S,
     readings: &mut N,
     dump: &mut OpenDump,
 ) -> Result<(), DecodeError>
-    ensures text { OnOk result (Appends (W.contents writer.old) (W.contents writer.new) (
-        dump_text dump.old)) }
+    ensures taken { OnOk result (Reported (S.taken sink.old) (S.taken sink.new) (
+        dump_found dump.old)) }
     ensures dump { OnOk result (dump.new ≡ closed dump.old) }
     ensures errors { IfErr result (λ e. (e ≡ DecodeError.Memory) ⊎ (e ≡ DecodeError.Write)) }
 {
-    close(alloc, writer, dump)?;
+    close(alloc, sink, dump)?;
     dump.say(readings);
     Ok(())
 }
 
 /// Takes a line: a row that goes on with the dump is added to it; any other line but a comment ends
-/// it, and what it was is written. `Memory` when out of memory, `Write` if the output fails.
-#[tactic(auto, unfolding(crate::specs::Decoded::step_text, crate::specs::Decoded::dump_after))]
-fn take_line<W: Write>(
+/// it, and what is found in it is reported. `Memory` when out of memory, `Write` if the output fails.
+#[tactic(auto, using(crate::proofs::Reported::reported_nil), unfolding(crate::specs::Decoded::step_found, crate::specs::Decoded::dump_after))]
+fn take_line<S: Findings>(
     alloc: Global,
-    writer: &mut W,
+    sink: &mut S,
     dump: &mut OpenDump,
     number: usize,
     line: &[u8],
 ) -> Result<(), DecodeError>
-    ensures text { OnOk result (Appends (W.contents writer.old) (W.contents writer.new) (
-        step_text dump.old number line.now)) }
+    ensures taken { OnOk result (Reported (S.taken sink.old) (S.taken sink.new) (
+        step_found dump.old number line.now)) }
     ensures dump { OnOk result (dump.new ≡ dump_after dump.old number line.now) }
     ensures errors { IfErr result (λ e. (e ≡ DecodeError.Memory) ⊎ (e ≡ DecodeError.Write)) }
 {
@@ -69,7 +76,7 @@ fn take_line<W: Write>(
         return Ok(());
     }
     if line.is_empty() {
-        return close(alloc, writer, dump);
+        return close(alloc, sink, dump);
     }
     if dump.is_star(line) {
         dump.repeat();
@@ -77,42 +84,43 @@ fn take_line<W: Write>(
     }
     if let Some(address) = dump.end_at(line) {
         dump.fill(alloc, address)?;
-        return close(alloc, writer, dump);
+        return close(alloc, sink, dump);
     }
-    take_row(alloc, writer, dump, number, line)
+    take_row(alloc, sink, dump, number, line)
 }
 
 /// Takes a line by the row that it is, if it is one.
-fn take_row<W: Write>(
+fn take_row<S: Findings>(
     alloc: Global,
-    writer: &mut W,
+    sink: &mut S,
     dump: &mut OpenDump,
     number: usize,
     line: &[u8],
 ) -> Result<(), DecodeError>
-    ensures text { OnOk result (Appends (W.contents writer.old) (W.contents writer.new) (
-        row_text dump.old number line.now (row_of line.now))) }
+    ensures taken { OnOk result (Reported (S.taken sink.old) (S.taken sink.new) (
+        row_found dump.old number line.now (row_of line.now))) }
     ensures dump { OnOk result
         (dump.new ≡ dump_after_row dump.old number line.now (row_of line.now)) }
     ensures errors { IfErr result (λ e. (e ≡ DecodeError.Memory) ⊎ (e ≡ DecodeError.Write)) }
 {
     match row_of(alloc, line)? {
-        None => take_alone(alloc, writer, dump, number, line),
-        Some(row) => add_row(alloc, writer, dump, number, line, &row),
+        None => take_alone(alloc, sink, dump, number, line),
+        Some(row) => add_row(alloc, sink, dump, number, line, &row),
     }
 }
 
 /// Adds a row to the dump, or begins another with it.
-fn add_row<W: Write>(
+#[tactic(auto, using(crate::proofs::Reported::reported_nil))]
+fn add_row<S: Findings>(
     alloc: Global,
-    writer: &mut W,
+    sink: &mut S,
     dump: &mut OpenDump,
     number: usize,
     line: &[u8],
     row: &Row,
 ) -> Result<(), DecodeError>
-    ensures text { OnOk result (Appends (W.contents writer.old) (W.contents writer.new) (
-        row_text dump.old number line.now (Some row.now))) }
+    ensures taken { OnOk result (Reported (S.taken sink.old) (S.taken sink.new) (
+        row_found dump.old number line.now (Some row.now))) }
     ensures dump { OnOk result
         (dump.new ≡ dump_after_row dump.old number line.now (Some row.now)) }
     ensures errors { IfErr result (λ e. (e ≡ DecodeError.Memory) ⊎ (e ≡ DecodeError.Write)) }
@@ -121,46 +129,50 @@ fn add_row<W: Write>(
         dump.add(alloc, row)?;
         return Ok(());
     }
-    close(alloc, writer, dump)?;
+    close(alloc, sink, dump)?;
     dump.begin(number, row)?;
     dump.mark(has_wide_marks(line));
     Ok(())
 }
 
 /// Takes a line that is a dump of its own.
-fn take_alone<W: Write>(
+#[tactic(auto, using(crate::proofs::Reported::reported_trans))]
+fn take_alone<S: Findings>(
     alloc: Global,
-    writer: &mut W,
+    sink: &mut S,
     dump: &mut OpenDump,
     number: usize,
     line: &[u8],
 ) -> Result<(), DecodeError>
-    ensures text { OnOk result (Appends (W.contents writer.old) (W.contents writer.new) (
-        row_text dump.old number line.now None)) }
-    ensures dump { OnOk result (dump.new ≡ beside (closed dump.old) (line_is_area line.now)) }
+    ensures taken { OnOk result (Reported (S.taken sink.old) (S.taken sink.new) (
+        row_found dump.old number line.now None)) }
+    ensures dump { OnOk result (dump.new ≡
+        beside (closed dump.old) (line_is_area dump.old.layout number line.now)) }
     ensures errors { IfErr result (λ e. (e ≡ DecodeError.Memory) ⊎ (e ≡ DecodeError.Write)) }
 {
-    close(alloc, writer, dump)?;
-    let read = write_line(alloc, writer, number, line)?;
+    let layout = dump.layout();
+    close(alloc, sink, dump)?;
+    let read = report_line(alloc, sink, layout, number, line)?;
     dump.note(number, read);
     Ok(())
 }
 
-/// Ends the dump, and writes what it was.
-fn close<W: Write>(alloc: Global, writer: &mut W, dump: &mut OpenDump) -> Result<(), DecodeError>
-    ensures text { OnOk result (Appends (W.contents writer.old) (W.contents writer.new) (
-        dump_text dump.old)) }
+/// Ends the dump, and reports what is found in it.
+fn close<S: Findings>(alloc: Global, sink: &mut S, dump: &mut OpenDump) -> Result<(), DecodeError>
+    ensures taken { OnOk result (Reported (S.taken sink.old) (S.taken sink.new) (
+        dump_found dump.old)) }
     ensures dump { OnOk result (dump.new ≡ closed dump.old) }
     ensures errors { IfErr result (λ e. (e ≡ DecodeError.Memory) ⊎ (e ≡ DecodeError.Write)) }
 {
-    let area = write_dump(alloc, writer, dump)?;
+    let area = report_open(alloc, sink, dump)?;
     dump.close(area);
     Ok(())
 }
 
-/// Whether a line begins with `#`.
+/// Whether a line is skipped: it begins with `#`, or as the lines that `devmem2` prints beside each
+/// number.
 fn is_remark(line: &[u8]) -> bool
     ensures { result ≡ is_remark line.now }
 {
-    !line.is_empty() && line[0] == b'#'
+    line.starts_with(REMARK) || line.starts_with(OPENED) || line.starts_with(MAPPED)
 }

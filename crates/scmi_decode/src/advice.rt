@@ -1,0 +1,79 @@
+//! What to do about a line that is no dump.
+
+use crate::scan::{after_gap, after_item, first_item};
+
+/// The most digits of a number of 64 bits.
+const NUMBER_DIGITS: usize = 16;
+
+/// What a line is whose items are not hexadecimal digits, and what to do about it, if it is known
+/// which program printed it.
+pub(crate) fn advice_for(text: &[u8]) -> &'static str {
+    let line = after_gap(text);
+    let first = first_item(line);
+    if line.starts_with(b":") && line.iter().skip(1).all(|byte| is_digit_or_end(*byte)) {
+        "Intel HEX; make bytes of it (objcopy -I ihex -O binary) and decode these with -b"
+    } else if line.starts_with(b"b'\\x")
+        || line.starts_with(b"b\"\\x")
+        || line.starts_with(b"\"\\x")
+    {
+        "a text of Python or C; print its digits (Python: bytes.hex())"
+    } else if line.starts_with(b"$") {
+        "gdb's print does not show how wide a number is; use x/71xw ADDRESS"
+    } else if first.len() == 7 && is_hexadecimal(first) {
+        "its base is unclear; print it as od -t x1 or hexdump -C do"
+    } else if first.len() == 8 && is_hexadecimal(first) && text_is_bare(line) {
+        "PowerShell's Format-Hex; decode the file itself with -b"
+    } else if line.len() > 40 && after_gap(after_item(line)).is_empty() && is_base64(first) {
+        "Base64; make bytes of it (base64 -d) and decode these with -b"
+    } else if has_short_numbers(line) {
+        "numbers without leading zeros do not show how wide they are; print 8 digits each (%08x)"
+    } else {
+        "not hexadecimal digits"
+    }
+}
+
+/// Whether all items are numbers, but for what comes before an `=`.
+fn has_short_numbers(line: &[u8]) -> bool {
+    let mut rest = match line.iter().position(|byte| *byte == b'=') {
+        Some(place) if place < line.len() => &line[place + 1..],
+        _ => line,
+    };
+    let mut has_number = false;
+    for _ in 0..line.len() {
+        let item = first_item(rest);
+        if item.is_empty() {
+            return has_number;
+        }
+        let digits = match item {
+            [b'0', b'x', digits @ ..] => digits,
+            _ => item,
+        };
+        if digits.is_empty() || digits.len() > NUMBER_DIGITS || !is_hexadecimal(digits) {
+            return false;
+        }
+        has_number = true;
+        rest = after_item(rest);
+    }
+    false
+}
+
+/// Whether no bar is before a column of text.
+fn text_is_bare(line: &[u8]) -> bool {
+    line.iter().all(|byte| *byte != b'|' && *byte != b'>')
+}
+
+fn is_digit_or_end(byte: u8) -> bool {
+    byte.is_ascii_hexdigit() || byte == b'\r'
+}
+
+fn is_hexadecimal(item: &[u8]) -> bool {
+    item.iter().all(|byte| byte.is_ascii_hexdigit())
+}
+
+fn is_base64(item: &[u8]) -> bool {
+    !is_hexadecimal(item)
+        && item.iter().all(|byte| byte.is_ascii_alphanumeric()
+            || *byte == b'+'
+            || *byte == b'/'
+            || *byte == b'=')
+}
