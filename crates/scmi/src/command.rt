@@ -20,6 +20,9 @@ pub const TAP: &str = "tap";
 /// The flag that asks for a diagram in the text of Mermaid.
 pub const MERMAID: &str = "mermaid";
 
+/// The option that names the file into which a session is saved.
+pub const SAVE: &str = "save";
+
 /// The name of the first word after a task; `SECOND` is that of the second.
 pub const FIRST: &str = "first";
 
@@ -54,7 +57,10 @@ fn bare<'a>(alloc: Global) -> Result<Command<'a>, AllocError> {
 fn task_command<'a>(alloc: Global, form: &Form) -> Result<Command<'a>, AllocError> {
     let command = named(alloc, form.word, form.usage)?;
     match form.operands {
-        Operands::Input | Operands::Board => command.arg(Arg::new(alloc, FIRST)),
+        Operands::Input => command.arg(Arg::new(alloc, FIRST)),
+        Operands::Board => command
+            .arg(Arg::new(alloc, SAVE).long(SAVE).value_name("FILE"))?
+            .arg(Arg::new(alloc, FIRST)),
         Operands::Drawn => command
             .arg(flag(alloc, MERMAID))?
             .arg(Arg::new(alloc, FIRST)),
