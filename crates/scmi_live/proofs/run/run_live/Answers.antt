@@ -44,10 +44,10 @@ returns-then-not-goes_on-clause-session g c =
     subst (λ (l : List ℕ). IfSome c.lines.input.left (λ input. l ≡ first_line input)) (sym same) c.in_ok-ended.ensures.line in
     let is_off : c.in_ok-goes_on.goes_on ≡ false = first_of (search (rules, tests), grind (arith, nat_tests), cc) in
     let off : goes_on (line_meant c.lines.live.board c.lines.live.agents c.as_slice.result.now) ≡ false = sym c.in_ok-goes_on.ensures.goes_on ∙ is_off in
-    on_ok c.end-then-not-goes_on.result c.end-then-not-goes_on.ensures.heard (λ heard.
+    on_ok c.end.result c.end.ensures.heard (λ heard.
     at_quit g.C.Channel.FULL (ShowsClose g.C.Channel.caller_view g.C.Channel.close_shows) (asked_board c.args.board.now) c.args.input.now.left c.lines.input.left c.as_slice.result.now c.lines.live c.answer.new.self c.in_ok-ended.ended
-    (g.L.Listener.heard c.args.listener.now) (g.L.Listener.heard c.lines.listener) (g.L.Listener.heard c.answer.new.listener) (g.L.Listener.heard c.end-then-not-goes_on.new.listener)
-    c.lines.invariant.way first c.in_ok-ended.ensures.ended off (at_ready g.C.Channel.FULL (ShowsClose g.C.Channel.caller_view g.C.Channel.close_shows) c.as_slice.result.now c.lines.live c.answer.new.self (g.L.Listener.heard c.lines.listener) (g.L.Listener.heard c.ready.new.self) (g.L.Listener.heard c.answer.new.listener) c.ready.ensures c.in_ok-goes_on.ensures.answers) c.end-then-not-goes_on.ensures.gathered heard)
+    (g.L.Listener.heard c.args.listener.now) (g.L.Listener.heard c.lines.listener) (g.L.Listener.heard c.answer.new.listener) (g.L.Listener.heard c.end.new.listener)
+    c.lines.invariant.way first c.in_ok-ended.ensures.ended off (at_ready g.C.Channel.FULL (ShowsClose g.C.Channel.caller_view g.C.Channel.close_shows) c.as_slice.result.now c.lines.live c.answer.new.self (g.L.Listener.heard c.lines.listener) (g.L.Listener.heard c.ready.new.self) (g.L.Listener.heard c.answer.new.listener) c.ready.ensures c.in_ok-goes_on.ensures.answers) c.end.ensures.gathered heard)
 
 pub returns-then-not-ended-clause-session : goal.returns-then-not-ended-clause-session
 returns-then-not-ended-clause-session g c =
