@@ -1,6 +1,8 @@
 //! What the matches of a command line ask for.
 
-use crate::command::{BINARY, FIRST, HELP, MERMAID, OFFSET, SECOND, SIZE, STRIDE, TAP, VERSION};
+use crate::command::{
+    BINARY, FIRST, HELP, MERMAID, OFFSET, SAVE, SECOND, SIZE, STRIDE, TAP, VERSION,
+};
 use crate::form::task_of;
 use crate::request::Request;
 use crate::task::Task;
@@ -21,6 +23,8 @@ pub struct Asked<'a> {
     pub first: Option<&'a str>,
     /// The file of a record.
     pub second: Option<&'a str>,
+    /// The file into which a session is saved.
+    pub save: Option<&'a str>,
 }
 
 /// Why a command line that clap takes asks for nothing.
@@ -77,11 +81,15 @@ fn task_by<'a>(task: Task, matches: &ArgMatches<'a>) -> Result<Asked<'a>, Unread
     let is_tap = is_used(matches, TAP);
     let first = value_of(matches, FIRST);
     let second = value_of(matches, SECOND);
+    let save = value_of(matches, SAVE);
     if is_no_file(first) {
         return Err(Unread::Dash(first.unwrap_or("")));
     }
     if is_no_file(second) {
         return Err(Unread::Dash(second.unwrap_or("")));
+    }
+    if is_no_file(save) || is_standard(save) {
+        return Err(Unread::Dash(save.unwrap_or("")));
     }
     let request = match task {
         Task::Decode => decode_by(matches)?,
@@ -93,6 +101,7 @@ fn task_by<'a>(task: Task, matches: &ArgMatches<'a>) -> Result<Asked<'a>, Unread
         is_tap,
         first,
         second,
+        save,
     })
 }
 
@@ -137,6 +146,7 @@ fn with_no_file<'a>(request: Request) -> Asked<'a> {
         is_tap: false,
         first: None,
         second: None,
+        save: None,
     }
 }
 
@@ -144,6 +154,14 @@ fn with_no_file<'a>(request: Request) -> Asked<'a> {
 fn is_no_file(name: Option<&str>) -> bool {
     match name {
         Some(name) => name != STANDARD && begins_with_dash(name.as_bytes()),
+        None => false,
+    }
+}
+
+/// Whether there is a name that is that of standard input.
+fn is_standard(name: Option<&str>) -> bool {
+    match name {
+        Some(name) => name == STANDARD,
         None => false,
     }
 }

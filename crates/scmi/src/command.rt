@@ -30,6 +30,9 @@ pub const SIZE: &str = "size";
 
 pub const STRIDE: &str = "stride";
 
+/// The option that names the file into which a session is saved.
+pub const SAVE: &str = "save";
+
 /// The name of the first word after a task; `SECOND` is that of the second.
 pub const FIRST: &str = "first";
 
@@ -64,12 +67,15 @@ fn bare<'a>(alloc: Global) -> Result<Command<'a>, AllocError> {
 fn task_command<'a>(alloc: Global, form: &Form) -> Result<Command<'a>, AllocError> {
     let command = named(alloc, form.word, form.usage)?;
     match form.operands {
-        Operands::Input | Operands::Board => command.arg(Arg::new(alloc, FIRST)),
+        Operands::Input => command.arg(Arg::new(alloc, FIRST)),
         Operands::Dumps => command
             .arg(flag(alloc, BINARY).short('b'))?
             .arg(option(alloc, OFFSET))?
             .arg(option(alloc, SIZE))?
             .arg(option(alloc, STRIDE))?
+            .arg(Arg::new(alloc, FIRST)),
+        Operands::Board => command
+            .arg(Arg::new(alloc, SAVE).long(SAVE).value_name("FILE"))?
             .arg(Arg::new(alloc, FIRST)),
         Operands::Drawn => command
             .arg(flag(alloc, MERMAID))?

@@ -12,7 +12,7 @@ pub enum Operands {
     Dumps,
     /// The same; `--mermaid` may come before it.
     Drawn,
-    /// A board's.
+    /// A board's; `--save FILE` may come before it.
     Board,
     /// A board's, and a record's or none for standard input; `--tap` may come before them.
     BoardAndRecord,

@@ -53,7 +53,7 @@ GitHub and most editors draw.",
         task: Task::Session,
         word: "session",
         operands: Operands::Board,
-        usage: "scmi session BOARD",
+        usage: "scmi session [--save FILE] BOARD",
         summary: "an interactive platform: type steps, see replies",
         about: "\
 An interactive platform: each line of standard input is a step on the board of a file, and its
@@ -61,10 +61,14 @@ answer is printed before the next line is read.",
         details: "\
 BOARD has the lines of a board, from board to end. A step is written as for scmi run, in numbers
 or with names: agents, domains and clocks by their names on the board, messages by theirs, on and
-off, and a rate in Hz as one number. Flags that are left out are 0. After the line 'words on'
-replies are described, in lines that begin with #, until 'words off'. A line that is not a step
-is explained on standard error, and the session goes on. A dropped notification is reported
-there too. docs/SCRIPTS.md has more.",
+off, flags such as async, and rates in Hz or with a unit, as 600MHz or 1.5GHz. Flags that are left
+out are 0. 'help' lists the steps, 'help do' explains one, and 'quit' ends the session. After the
+line 'words on' replies are described, in lines that begin with #, until 'words off'. A line that is
+not a step is explained on standard error, and the session goes on. A dropped notification is
+reported there too.
+--save writes the board and the steps that were taken into FILE, a script for scmi run and chart.
+On a terminal there is a prompt, and replies are described from the start; rlwrap scmi session BOARD
+adds line editing and history. docs/SCRIPTS.md has more.",
         example: "echo 'do ap POWER_STATE_SET cpu on' | scmi session examples/phone.board",
     },
     Form {

@@ -3,8 +3,9 @@
 //! as tables.
 //!
 //! The main type is `Asked`, what the arguments ask for. The main theorem is the contract of
-//! `run_request` with that of `read_arguments`, and that of `run_session`: if the status is 0, what
-//! was written is what the asked task writes of the input, or the asked text, to the last byte.
+//! `run_request`: if the status is 0, what was written is what the asked task writes of the input, to
+//! the last byte; and that of `run_session`: if the status is 0, its listener was given exactly the
+//! steps of the lines.
 #![tactic(auto)]
 
 mod arguments;
@@ -13,8 +14,10 @@ mod command;
 mod form;
 mod forms;
 mod opened;
+mod plain_step;
 mod read_as;
 mod refusal;
+mod remark;
 mod report;
 mod report_board;
 mod report_found;
@@ -24,6 +27,7 @@ mod serve;
 mod serve_check;
 mod serve_session;
 mod session;
+mod session_help;
 mod task;
 mod teller;
 mod texts;
@@ -35,7 +39,7 @@ use crate::serve::serve;
 use clap::error::ErrorKind;
 use scmi_io::write_fault;
 use scmi_modes::RunError;
-use std::io::Print;
+use std::io::{IsTerminal, Print};
 use std::process::ExitCode;
 use std::{env, io};
 
@@ -60,7 +64,10 @@ fn main(rt: HostRuntime) -> ExitCode {
         return lacks_memory(&rt);
     };
     match read_arguments(alloc, words.as_slice()) {
-        Ok(asked) => ExitCode::from(serve(&rt, alloc, asked)),
+        Ok(asked) => {
+            let is_typed = rt.stdin().is_terminal();
+            ExitCode::from(serve(&rt, alloc, asked, is_typed))
+        },
         Err(ArgumentError::Clap(error)) => {
             if error.kind() == ErrorKind::OutOfMemory {
                 return lacks_memory(&rt);

@@ -72,6 +72,13 @@ pub fn refuse_standard(rt: &impl Eprint, operand: &str, other: &str) -> u8 {
     WRONG_ARGUMENT
 }
 
+/// Reports on standard error that a session can't be saved in the file of its board, and gives the
+/// exit status.
+pub fn refuse_saved(rt: &impl Eprint, name: &str) -> u8 {
+    let _ = eprintln!(rt; "scmi: {name} is the board; the script needs a file of its own");
+    WRONG_ARGUMENT
+}
+
 /// Reports on standard error why a file can't be opened, and gives the exit status.
 pub fn refuse_file(rt: &impl Eprint, name: &str, error: &Error) -> u8 {
     let _ = eprintln!(rt; "scmi: {name} can't be opened: {error}");

@@ -8,7 +8,7 @@ use crate::report::{report_input, report_output};
 use crate::request::Request;
 use crate::run::run_request;
 use crate::serve_check::{AskedCheck, serve_check};
-use crate::serve_session::serve_session;
+use crate::serve_session::{AskedSession, serve_session};
 use crate::task::Task;
 use scmi_check::Style;
 use scmi_explain::{Kept, LastLine};
@@ -20,11 +20,13 @@ use std::io::{self, BufWriter, Eprint, Input, Print, Read, Write};
 use std::sync::Wait;
 use std::thread::Threads;
 
-/// Does what is asked for, and gives the exit status.
+/// Does what is asked for, and gives the exit status. `is_typed` is whether a person types standard
+/// input, on a terminal.
 pub fn serve<T: Threads + Wait + Sync + Files + Print + Eprint + Input>(
     rt: &T,
     alloc: Global,
     asked: Asked<'_>,
+    is_typed: bool,
 ) -> u8 {
     let Some(name) = asked.first else {
         return match asked.request {
@@ -53,7 +55,12 @@ pub fn serve<T: Threads + Wait + Sync + Files + Print + Eprint + Input>(
     }
     match fs::open(rt, name) {
         Ok(file) if asked.request == Request::Do(Task::Session) => {
-            serve_session(rt, alloc, name, file, rt.reader())
+            let asked = AskedSession {
+                board: name,
+                save: asked.save,
+                is_typed,
+            };
+            serve_session(rt, alloc, asked, file, rt.reader())
         }
         Ok(file) => serve_input(rt, alloc, asked.request, name, file),
         Err(error) => refuse_file(rt, name, &error),

@@ -2,6 +2,7 @@
 
 use crate::STANDARD_INPUT;
 use crate::opened::Opened;
+use crate::refusal::{NO_FILE, refuse_saved};
 use crate::report::report_output;
 use crate::report_found::report_found;
 use crate::session::run_session;
@@ -9,53 +10,106 @@ use crate::teller::Teller;
 use scmi_explain::{Expected, Fault, Kept, LastLine, explain};
 use scmi_io::{FAILED_OUTPUT, INPUT_BYTES, write_fault};
 use std::alloc::Global;
+use std::fs::{self, Files};
 use std::io;
 use std::io::{BufWriter, Eprint, Print, Read, Write};
 
-/// Answers the lines of a reader on the board of a file of this name, and gives the exit status.
-pub fn serve_session<T: Print + Eprint, B: Read + Drop, R: Read + Drop>(
+/// How a session is asked for.
+#[derive(Clone, Copy)]
+pub struct AskedSession<'a> {
+    /// The file of the board.
+    pub board: &'a str,
+    /// The file into which the session is saved as a script.
+    pub save: Option<&'a str>,
+    /// Whether a person types the lines, on a terminal.
+    pub is_typed: bool,
+}
+
+/// Answers the lines of a reader on the board of an opened file, and gives the exit status.
+pub fn serve_session<T: Print + Eprint + Files, B: Read + Drop, R: Read + Drop>(
     rt: &T,
     alloc: Global,
-    name: &str,
+    asked: AskedSession<'_>,
     file: B,
     reader: R,
 ) -> u8 {
     let mut file = Kept::new(alloc, file);
     match Opened::read(alloc, &mut file) {
-        Ok(opened) => match BufWriter::new(alloc, io::writer(rt)) {
-            Ok(buffer) => answer(rt, alloc, &opened, reader, buffer),
-            Err(_) => answer(rt, alloc, &opened, reader, io::writer(rt)),
-        },
+        Ok(opened) => save(rt, alloc, asked, &opened, reader),
         Err(refused) => {
             let mut writer = LastLine::new(io::writer(rt));
             let fault = refused.fault();
             let status = write_fault(&mut writer, &fault, fault.status());
             let status = report_output(rt, &mut writer, status);
             if status != FAILED_OUTPUT {
-                refused.report(rt, alloc, name, file.error());
+                refused.report(rt, alloc, asked.board, file.error());
             }
             status
         }
     }
 }
 
+/// Answers the lines of a reader on a board, and saves them if that is asked for. The file is made
+/// once the board was read, so the board stays even if it is a link to the same file.
+fn save<T: Print + Eprint + Files, R: Read + Drop>(
+    rt: &T,
+    alloc: Global,
+    asked: AskedSession<'_>,
+    opened: &Opened,
+    reader: R,
+) -> u8 {
+    let Some(name) = asked.save else {
+        let none: Option<T::File> = None;
+        return buffer(rt, alloc, asked, opened, reader, none);
+    };
+    if name == asked.board {
+        return refuse_saved(rt, name);
+    }
+    match fs::create(rt, name) {
+        Ok(file) => buffer(rt, alloc, asked, opened, reader, Some(file)),
+        Err(error) => {
+            let _ = eprintln!(rt; "scmi: {name} can't be written: {error}");
+            NO_FILE
+        }
+    }
+}
+
+/// The same with a buffer before the output, if there is memory for one.
+fn buffer<T: Print + Eprint, R: Read + Drop, S: Write + Drop>(
+    rt: &T,
+    alloc: Global,
+    asked: AskedSession<'_>,
+    opened: &Opened,
+    reader: R,
+    saved: Option<S>,
+) -> u8 {
+    match BufWriter::new(alloc, io::writer(rt)) {
+        Ok(writer) => {
+            let teller = Teller::new(rt, alloc, opened, asked, writer, saved);
+            answer(rt, alloc, opened, reader, teller)
+        }
+        Err(_) => {
+            let teller = Teller::new(rt, alloc, opened, asked, io::writer(rt), saved);
+            answer(rt, alloc, opened, reader, teller)
+        }
+    }
+}
+
 /// Answers the lines of a reader on a board.
-fn answer<T: Eprint, R: Read + Drop, W: Write + Drop>(
+fn answer<T: Eprint, R: Read + Drop, W: Write + Drop, S: Write + Drop>(
     rt: &T,
     alloc: Global,
     opened: &Opened,
     reader: R,
-    writer: W,
+    mut teller: Teller<'_, T, W, S>,
 ) -> u8 {
     let mut kept = Kept::new(alloc, reader);
-    let mut output = LastLine::new(writer);
-    let mut teller = Teller::new(rt, alloc, opened);
-    let status = run_session(alloc, opened, &mut kept, &mut output, &mut teller);
-    let status = report_output(rt, &mut output, status);
+    let status = run_session(alloc, opened, &mut kept, &mut teller);
+    let status = teller.report(status);
     if status == FAILED_OUTPUT {
         return status;
     }
-    if let Some(fault) = Fault::of_line(output.line()) {
+    if let Some(fault) = Fault::of_line(teller.last_line()) {
         report_lines(rt, alloc, fault, kept.error());
     }
     status

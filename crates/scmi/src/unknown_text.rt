@@ -2,7 +2,7 @@
 
 use scmi_codec::{BASE_MESSAGES, CLOCK_MESSAGES, POWER_MESSAGES, Part};
 use scmi_explain::nearest;
-use scmi_live::Unknown;
+use scmi_live::{Unknown, flags_of};
 use scmi_plan::RawPlan;
 use std::alloc::Global;
 use std::fmt;
@@ -46,8 +46,19 @@ impl fmt::Display for UnknownText<'_, '_> {
                 "the messages of protocol {} have no names here; write the message as a number",
                 item_text(protocol)
             ),
-            Unknown::Part(number, item, part) => write_part(f, self.board, number, item, part),
-            Unknown::Count(name, parts) => write_parts(f, name, parts),
+            Unknown::Part(number, item, part) => {
+                write_part(f, self.board, number, item, part)?;
+                write_flags(f, part)
+            }
+            Unknown::Unit(number, item) => write!(
+                f,
+                "field {number}: a unit follows its number without a space, as in 600{}",
+                item_text(item)
+            ),
+            Unknown::Count(name, parts) => {
+                let usage = Usage { name, parts };
+                write!(f, "{usage}")
+            }
         }
     }
 }
@@ -92,9 +103,9 @@ fn text_of(part: Part) -> &'static str {
         Part::Clock => "a clock",
         Part::State => "a state (on, off or a number)",
         Part::Enable | Part::ClockAttributes => "on, off or a number",
-        Part::Rate => "a rate in Hz",
+        Part::Rate => "a rate: a whole number of Hz, or with a unit as in 600MHz or 1.5GHz",
         Part::PermitFlags | Part::ResetFlags | Part::PowerFlags | Part::RateFlags => {
-            "a number, as flags are"
+            "a flag of this message; expected a number"
         }
         _ => "a number",
     }
@@ -136,17 +147,29 @@ fn write_name<W: fmt::Write>(f: &mut fmt::Formatter<W>, number: usize, name: &st
     write!(f, " {number} {name}")
 }
 
-/// Writes how a message is used.
-fn write_parts<W: fmt::Write>(
-    f: &mut fmt::Formatter<W>,
-    name: &str,
-    parts: &[Part],
-) -> fmt::Result {
-    write!(f, "usage: do AGENT {name}")?;
-    for part in parts {
-        write!(f, " {}", name_of(*part))?;
+/// Writes which names flags have in the place of this part.
+fn write_flags<W: fmt::Write>(f: &mut fmt::Formatter<W>, part: Part) -> fmt::Result {
+    for row in flags_of(part) {
+        write!(f, ", {}", item_text(row.name))?;
     }
     Ok(())
+}
+
+/// How the message of this name is used, which has these parts.
+#[derive(Clone, Copy)]
+pub struct Usage {
+    pub name: &'static str,
+    pub parts: &'static [Part],
+}
+
+impl fmt::Display for Usage {
+    fn fmt<W: fmt::Write>(&self, f: &mut fmt::Formatter<W>) -> fmt::Result {
+        write!(f, "usage: do AGENT {}", self.name)?;
+        for part in self.parts {
+            write!(f, " {}", name_of(*part))?;
+        }
+        Ok(())
+    }
 }
 
 /// The word for a part in a usage.

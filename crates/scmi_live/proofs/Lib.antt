@@ -1,6 +1,5 @@
 mod FewItems
 mod ItemLists
-mod Marked
 mod MeantExamples
 mod NameLists
 mod UnderWay

@@ -40,3 +40,17 @@ in_numbers = refl
 refused : map meant (codes "do ap PROTOCOL_VERSION" ∷ codes "do app POWER_STATE_GET cpu" ∷ codes "do ap POWER_STATE_GET core" ∷ codes "do ap POWER_STATE cpu" ∷ codes "do ap POWER_STATE_SET cpu" ∷ codes "do ap POWER_STATE_GET cpu on" ∷ []) ≡ replicate 6 None
 unfolding behind_spaces first_number item_at items_up_to number_of first_agent first_message payload_behind with_word advance_head agent_head command_head first_head head_of payload_of step_of_line with_step after_each_line lines_of lines_behind rows_of
 refused = refl
+
+-- states and flags by their names, and rates with units
+in_words : map meant (codes "do ap POWER_STATE_SET async cpu OFF" ∷ codes "do ap CLOCK_RATE_SET bus 1.5GHz" ∷ codes "do ap CLOCK_RATE_SET async+round-up bus 600mhz" ∷ codes "do ap CLOCK_RATE_SET bus 32768Hz" ∷ codes "do ap BASE_SET_DEVICE_PERMISSIONS modem 0 allow"
+    ∷ codes "do ap BASE_RESET_AGENT_CONFIGURATION modem permissions" ∷ [])
+    ≡ Some (Do 1 (call_with 0x11 4 (1 ∷ 0 ∷ 0x40000000 ∷ []))) ∷ Some (Do 1 (call_with 0x14 5 (0 ∷ 1 ∷ 0x59682f00 ∷ 0 ∷ []))) ∷ Some (Do 1 (call_with 0x14 5 (5 ∷ 1 ∷ 0x23c34600 ∷ 0 ∷ []))) ∷ Some (Do 1 (call_with 0x14 5 (0 ∷ 1 ∷ 0x8000 ∷ 0 ∷ [])))
+    ∷ Some (Do 1 (call_with 0x10 9 (2 ∷ 0 ∷ 1 ∷ []))) ∷ Some (Do 1 (call_with 0x10 0xb (2 ∷ 1 ∷ []))) ∷ []
+unfolding behind_spaces first_number item_at items_up_to number_of first_agent first_message payload_behind with_word advance_head agent_head command_head first_head head_of payload_of step_of_line with_step after_each_line lines_of lines_behind rows_of
+in_words = refl
+
+-- a half Hz, a zero before others, a unit alone, a point without digits, a rate past 64 bits, another message's flag, and flags the other way round
+no_words : map meant (codes "do ap CLOCK_RATE_SET bus 1.5Hz" ∷ codes "do ap CLOCK_RATE_SET bus 01MHz" ∷ codes "do ap CLOCK_RATE_SET bus MHz" ∷ codes "do ap CLOCK_RATE_SET bus 1.GHz" ∷ codes "do ap CLOCK_RATE_SET bus 18446744074GHz" ∷ codes "do ap BASE_RESET_AGENT_CONFIGURATION modem async"
+    ∷ codes "do ap CLOCK_RATE_SET round-up+async bus 600MHz" ∷ []) ≡ replicate 7 None
+unfolding behind_spaces first_number item_at items_up_to number_of first_agent first_message payload_behind with_word advance_head agent_head command_head first_head head_of payload_of step_of_line with_step after_each_line lines_of lines_behind rows_of
+no_words = refl

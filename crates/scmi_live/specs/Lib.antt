@@ -1,9 +1,12 @@
+pub mod Letters
 pub mod Names
 pub mod Messages
+pub mod Rates
+pub mod Flags
 pub mod Payload
 pub mod Forms
 pub mod NamedStep
 pub mod Meant
-pub mod Remark
 pub mod LiveError
+pub mod Heard
 pub mod Live

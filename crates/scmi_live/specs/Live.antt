@@ -1,7 +1,6 @@
--- What is written of a session whose lines are answered one by one.
-use Rattle.std.specs.Prelude.{◌≡◌, ℕ, Bool, false, if◌then◌else◌, List, [], ◌∷◌, ◌++◌, length, map, Option, Result}
+-- What a session does whose lines are answered one by one, and what it gives to its listener.
+use Rattle.std.specs.Prelude.{◌≡◌, ℕ, Bool, true, false, List, [], ◌∷◌, ◌++◌, length, Option, Some, None, Result, ⊤}
 use Rattle.std.specs.List.{slice_split}
-use Rattle.std.specs.Io.KnownBytes.{Appends}
 use Rattle.scmi_link.specs.View.{CallerView}
 use Rattle.scmi_link.specs.declared.closing.Closing.{Closing}
 use Rattle.scmi_link.specs.declared.close_error.CloseError.{CloseError}
@@ -10,80 +9,71 @@ use Rattle.scmi_plan.specs.Board.{Board}
 use Rattle.scmi_session.specs.Run.{IsGathered, Runs}
 use Rattle.scmi_session.specs.SessionView.{SessionView}
 use Rattle.scmi_session.specs.Steps.{Steps}
-use Rattle.scmi_text.specs.StepLine.{step_text}
 use Rattle.scmi_text.specs.declared.step.Step.{Step}
 use Rattle.scmi_text.specs.declared.step_line.StepLine.{StepLine}
 use Rattle.scmi_text.specs.declared.step_line.StepLine.TheVariants.{Trace}
+use Rattle.scmi_live.specs.Heard.{Gives, Heard}
 use Rattle.scmi_live.specs.Meant.{line_meant}
-use Rattle.scmi_live.specs.Remark.{remark_text}
 use Rattle.scmi_live.specs.declared.meant.Meant.{Meant}
-use Rattle.scmi_live.specs.declared.meant.Meant.TheVariants.{Nothing, Describe, Does, Unknown}
+use Rattle.scmi_live.specs.declared.meant.Meant.TheVariants.{Describe, Does, Help, Nothing, Quit, Unknown}
 
--- a session: its board, how many agents that has, its endpoints, and whether replies are described
+-- a session: its board, how many agents that has, and its endpoints
 pub record LiveView : Type 0 where
   pub board : Board
   pub agents : ℕ
   pub session : SessionView
-  pub described : Bool
 
--- a step that was asked for, and whether its reply is described
-abbrev pub Asked : Type 0
-Asked = Step × Bool
-
--- the answer to a line: what came of its step, and the reply in words if they are described
-abbrev pub answer_text : Bool → StepLine → List ℕ
-answer_text described line = step_text line ++ (if described then remark_text line else [])
-
--- whether replies are described after a line
-abbrev pub described_behind : Bool → Meant → Bool
-described_behind described (Describe on) = on
-described_behind described other = described
-
--- a line's step, before others
-abbrev pub asked_by : Bool → Meant → List Asked → List Asked
-asked_by described (Does step) others = (step, described) ∷ others
-asked_by described other others = others
+-- a line's step, before those of the lines after it; of these none is read after a line that ends the session
+abbrev pub step_then : Meant → List Step → List Step
+step_then (Does step) others = step ∷ others
+step_then Quit others = []
+step_then other others = others
 
 -- the steps that lines encode, in order: a line that encodes none is left out
-abbrev pub asked_of : Board → ℕ → Bool → List (List ℕ) → List Asked
-asked_of board agents described [] = []
-asked_of board agents described (text ∷ texts) =
-    let meant = line_meant board agents text in
-    asked_by described meant (asked_of board agents (described_behind described meant) texts)
+abbrev pub steps_of : Board → ℕ → List (List ℕ) → List Step
+steps_of board agents [] = []
+steps_of board agents (text ∷ texts) = step_then (line_meant board agents text) (steps_of board agents texts)
 
--- the steps that an input encodes, in which replies are not described at first
-abbrev pub asked : Board → List ℕ → List Asked
-asked board input = asked_of board (length board.agents) false (slice_split is_line_feed input)
+-- the steps that an input encodes
+abbrev pub steps_of_input : Board → List ℕ → List Step
+steps_of_input board input = steps_of board (length board.agents) (slice_split is_line_feed input)
 
--- the answers to steps that gave these lines
-abbrev pub answers_text : List Asked → List StepLine → List ℕ
-answers_text [] [] = []
-answers_text (one ∷ more) (line ∷ lines) = answer_text one.1 line ++ answers_text more lines
-answers_text more lines = []
+-- steps with the lines that they gave
+abbrev pub with_lines : List Step → List StepLine → List Heard
+with_lines [] [] = []
+with_lines (step ∷ steps) (line ∷ lines) = (Some step, line) ∷ with_lines steps lines
+with_lines steps lines = []
+
+-- the length of the history that a session leaves
+abbrev pub at_end : SessionView → List Heard
+at_end last = (None, Trace (length last.platform.history)) ∷ []
+
+-- whether a session goes on after a line
+abbrev pub goes_on : Meant → Bool
+goes_on Quit = false
+goes_on other = true
 
 module _ (full : Bool) (Shows : CallerView → Result Closing CloseError → Type 0) where
-  -- a step is made, and what came of it is written
-  pub record MakesStep (step : Step) (before after : LiveView) (old new : Option (List ℕ)) : Type 0 where
+  -- a step is made, and given to the listener with its line
+  pub record MakesStep (step : Step) (before after : LiveView) (old new : Option (List Heard)) : Type 0 where
     pub line : StepLine
     pub made : Steps full Shows step line before.session after.session
     pub same : after ≡ record before { session = after.session }
-    pub text : Appends old new (answer_text before.described line)
+    pub heard : Gives old new ((Some step, line) ∷ [])
 
-  -- what a line does to a session, and what is written: a line that is not a step leaves all as it is
-  abbrev pub AnswersAs : Meant → LiveView → LiveView → Option (List ℕ) → Option (List ℕ) → Type 0
-  AnswersAs Nothing before after old new = (after ≡ before) × (new ≡ old)
-  AnswersAs Unknown before after old new = (after ≡ before) × (new ≡ old)
-  AnswersAs (Describe on) before after old new = (after ≡ record before { described = on }) × (new ≡ old)
+  -- what a line does to a session: one that is not a step leaves all as it is
+  abbrev pub AnswersAs : Meant → LiveView → LiveView → Option (List Heard) → Option (List Heard) → Type 0
   AnswersAs (Does step) before after old new = MakesStep step before after old new
+  AnswersAs other before after old new = (after ≡ before) × (new ≡ old)
 
-  -- what a text does to a session, and what is written
-  abbrev pub Answers : List ℕ → LiveView → LiveView → Option (List ℕ) → Option (List ℕ) → Type 0
+  -- what a text does to a session
+  abbrev pub Answers : List ℕ → LiveView → LiveView → Option (List Heard) → Option (List Heard) → Type 0
   Answers text before after old new = AnswersAs (line_meant before.board before.agents text) before after old new
 
-  -- what is written is the answers to all steps that the input encodes, on the board, and then the length of the history that they leave
-  pub record IsTextOfLive (board : Board) (input : List ℕ) (old new : Option (List ℕ)) : Type 0 where
+  -- the listener is given exactly the steps that the input encodes, made one after the other in a new session of the board, each with its line, and then the length of the history that they leave
+  pub record IsSession (board : Board) (input : List ℕ) (old new : Option (List Heard)) : Type 0 where
     pub lines : List StepLine
     pub last : SessionView
-    pub made : Runs full Shows board (map (λ one. one.0) (asked board input)) lines last
+    pub made : Runs full Shows board (steps_of_input board input) lines last
     pub gathered : IsGathered last
-    pub text : Appends old new (answers_text (asked board input) lines ++ step_text (Trace (length last.platform.history)))
+    pub heard : Gives old new (with_lines (steps_of_input board input) lines ++ at_end last)

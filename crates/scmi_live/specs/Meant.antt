@@ -1,5 +1,5 @@
 -- What a line of a session means.
-use Rattle.std.specs.Prelude.{ℕ, not, Bool, true, false, if◌then◌else◌, List, [], ◌∷◌, Option, Some, None, Result, Ok, Err}
+use Rattle.std.specs.Prelude.{ℕ, ◌||◌, not, Bool, true, false, if◌then◌else◌, List, [], ◌∷◌, length, take, Option, Some, None, Result, Ok, Err}
 use Rattle.std.specs.Str.{bytes_eq}
 use Rattle.scmi_board.specs.Items.{◌>>=◌, items_of}
 use Rattle.scmi_board.specs.Lines.{is_significant, lines_left}
@@ -9,8 +9,8 @@ use Rattle.scmi_text.specs.StepText.{steps_of_lines}
 use Rattle.scmi_text.specs.declared.step.Step.{Step}
 use Rattle.scmi_live.specs.NamedStep.{named_step}
 use Rattle.scmi_live.specs.declared.meant.Meant.{Meant}
-use Rattle.scmi_live.specs.declared.meant.Meant.TheVariants.{Nothing, Describe, Does, Unknown}
-use Rattle.scmi_live.specs.declared.meant.TheConstants.{WORDS_ON, WORDS_OFF}
+use Rattle.scmi_live.specs.declared.meant.Meant.TheVariants.{Nothing, Describe, Help, Quit, Does, Unknown}
+use Rattle.scmi_live.specs.declared.meant.TheConstants.{HELP, HELP_ON, QUIT, WORDS_ON, WORDS_OFF}
 
 -- the one step of a list that has one
 abbrev pub only_step : List Step → Option Step
@@ -44,6 +44,14 @@ step_meant board agents text = or_step (step_by_numbers agents text) (step_by_na
 abbrev pub described_by : List ℕ → Option Bool
 described_by text = if bytes_eq text WORDS_ON.now then Some true else if bytes_eq text WORDS_OFF.now then Some false else None
 
+-- whether a line asks for help, or for help on something
+abbrev pub is_help : List ℕ → Bool
+is_help text = bytes_eq text HELP.now || bytes_eq (take (length HELP_ON.now) text) HELP_ON.now
+
+-- a line that asks for help or ends the session, or another
+abbrev pub help_or_quit_or : List ℕ → Meant → Meant
+help_or_quit_or text other = if is_help text then Help else if bytes_eq text QUIT.now then Quit else other
+
 -- a line that is a step, or none
 abbrev pub step_or_unknown : Option Step → Meant
 step_or_unknown (Some step) = Does step
@@ -60,6 +68,6 @@ IsMeantOf agents (Does step) = IsStepOf agents step
 IsMeantOf agents other = Unit {0}
 
 -- what a line means, on a board with this number of agents
-abbrev pub line_meant : Board → ℕ → List ℕ → Meant
+unfoldable pub line_meant : Board → ℕ → List ℕ → Meant
 line_meant board agents text =
-    if not (is_significant text) then Nothing else describe_or (described_by text) (step_or_unknown (step_meant board agents text))
+    if not (is_significant text) then Nothing else describe_or (described_by text) (help_or_quit_or text (step_or_unknown (step_meant board agents text)))

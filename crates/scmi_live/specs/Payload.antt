@@ -1,7 +1,6 @@
 -- The payload words that the items of a line encode.
 use Rattle.std.specs.Prelude.{ℕ, ◌+◌, ◌==◌, ◌&&◌, nat_le, Bool, true, false, if◌then◌else◌, List, [], ◌∷◌, ◌++◌, length, map, Option, Some, None}
 use Rattle.std.specs.Option.{option_map}
-use Rattle.std.specs.Str.{bytes_eq}
 use Rattle.scmi_board.specs.Items.{◌>>=◌}
 use Rattle.scmi_board.specs.Number.{number_of}
 use Rattle.scmi_board.specs.Rows.{after_each}
@@ -11,13 +10,16 @@ use Rattle.scmi_codec.specs.declared.messages.Part.{Part}
 use Rattle.scmi_codec.specs.declared.messages.Part.TheVariants as part
 use Rattle.scmi_codec.specs.declared.payload.TheConstants.{PAYLOAD_WORDS}
 use Rattle.scmi_plan.specs.Board.{Board}
+use Rattle.scmi_live.specs.Flags.{flags_in, flags_of}
+use Rattle.scmi_live.specs.Letters.{is_word}
 use Rattle.scmi_live.specs.Names.{number_from, or_named}
+use Rattle.scmi_live.specs.Rates.{rate_meant}
 use Rattle.scmi_live.specs.Messages.{id_in, protocol_named}
 use Rattle.scmi_live.specs.declared.word.TheConstants.{ON, OFF, OFF_STATE}
 
--- `on` or `off`, by the words that they mean
+-- `on` or `off`, in letters of either case, by the words that they mean
 abbrev pub switched : ℕ → ℕ → List ℕ → Option ℕ
-switched on off item = if bytes_eq item ON.now then Some on else if bytes_eq item OFF.now then Some off else None
+switched on off item = if is_word item ON.now then Some on else if is_word item OFF.now then Some off else None
 
 -- the word that a name means if a message of a protocol has this part
 abbrev pub word_named : Board → ℕ → Part → List ℕ → Option ℕ
@@ -30,7 +32,7 @@ word_named board protocol part.Message item = id_in item (rows_of protocol)
 word_named board protocol part.State item = switched 0 OFF_STATE item
 word_named board protocol part.Enable item = switched 1 0 item
 word_named board protocol part.ClockAttributes item = switched 1 0 item
-word_named board protocol part item = None
+word_named board protocol part item = flags_in item (flags_of part)
 
 -- the word that an item encodes
 abbrev pub word_meant : Board → ℕ → Part → List ℕ → Option ℕ
@@ -38,7 +40,7 @@ word_meant board protocol part item = or_named (number_of 32 item) (word_named b
 
 -- the words that an item encodes: two of a rate, the lower one first, and one of all else
 abbrev pub words_of_item : Board → ℕ → Part → List ℕ → Option (List ℕ)
-words_of_item board protocol part.Rate item = option_map rate_words (number_of 64 item)
+words_of_item board protocol part.Rate item = option_map rate_words (rate_meant item)
 words_of_item board protocol part item = option_map (λ word. word ∷ []) (word_meant board protocol part item)
 
 -- whether a part is flags

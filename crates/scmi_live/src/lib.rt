@@ -1,13 +1,16 @@
 //! Sessions whose lines are answered one by one, and in which names may replace numbers.
 //!
 //! The main theorems are the contract of `step_meant`, the step that a line encodes: that of its
-//! numbers, as a script has it, or else that of its names; and that of `run_live`: what is written
-//! is the lines that these steps give, in order, and at the end the length of the history.
+//! numbers, as a script has it, or else that of its names; and that of `run_live`: a listener is
+//! given exactly these steps, each with the line that it gives, in order, and at the end the length
+//! of the history. How they are written is the listener's.
 #![tactic(auto)]
 
+mod flags;
 mod form;
 mod items;
 mod left_items;
+mod letters;
 mod listener;
 mod live;
 mod live_error;
@@ -17,13 +20,15 @@ mod named;
 mod named_call;
 mod named_step;
 mod payload;
-mod remark;
+mod rate;
 mod run;
 mod unknown;
 mod word;
 
+pub use flags::{FlagsRow, HeldFlags, flags_of};
 pub use listener::Listener;
 pub use live_error::LiveError;
-pub use meant::step_meant;
+pub use meant::{HELP, step_meant};
+pub use rate::rate_meant;
 pub use run::run_live;
 pub use unknown::{Unknown, unknown_in};

@@ -2,7 +2,7 @@
 ghost use Rattle.std.specs.Prelude.{◌≡◌, IfOk, IfSome};
 ghost use Rattle.scmi_plan.specs.RawPlan.{asked_board};
 ghost use Rattle.scmi_text.specs.Step.{IsStepOf};
-ghost use Rattle.scmi_live.specs.Meant.{IsMeantOf, described_by, line_meant, only_step, step_by_names, step_by_numbers, step_meant};
+ghost use Rattle.scmi_live.specs.Meant.{IsMeantOf, described_by, is_help, line_meant, only_step, step_by_names, step_by_numbers, step_meant};
 
 use crate::items::items_of;
 use crate::named_step::named_step;
@@ -16,6 +16,14 @@ pub(crate) const WORDS_ON: &[u8] = b"words on";
 
 pub(crate) const WORDS_OFF: &[u8] = b"words off";
 
+/// The line that asks for help; one that asks for help on something goes on with a space.
+pub const HELP: &[u8] = b"help";
+
+pub(crate) const HELP_ON: &[u8] = b"help ";
+
+/// The line that ends the session.
+pub(crate) const QUIT: &[u8] = b"quit";
+
 /// What a line means.
 #[derive(Drop)]
 pub(crate) enum Meant {
@@ -23,6 +31,10 @@ pub(crate) enum Meant {
     Nothing,
     /// From here on replies are described in words, or are not.
     Describe(bool),
+    /// Help.
+    Help,
+    /// The end of the session.
+    Quit,
     /// This step.
     Does(Step),
     /// It encodes nothing.
@@ -30,6 +42,7 @@ pub(crate) enum Meant {
 }
 
 /// What a line means on a board with this number of agents. The only error is out of memory.
+#[tactic(auto, unfolding(crate::specs::Meant::line_meant))]
 pub(crate) fn line_meant(
     alloc: Global,
     board: &RawPlan,
@@ -45,6 +58,12 @@ pub(crate) fn line_meant(
     }
     if let Some(on) = described_by(text) {
         return Ok(Meant::Describe(on));
+    }
+    if is_help(text) {
+        return Ok(Meant::Help);
+    }
+    if text == QUIT {
+        return Ok(Meant::Quit);
     }
     match step_meant(alloc, board, agents, text)? {
         Some(step) => Ok(Meant::Does(step)),
@@ -63,6 +82,13 @@ fn described_by(text: &[u8]) -> Option<bool>
         return Some(false);
     }
     None
+}
+
+/// Whether a line asks for help, or for help on something.
+fn is_help(text: &[u8]) -> bool
+    ensures { result ≡ is_help text.now }
+{
+    text == HELP || text.starts_with(HELP_ON)
 }
 
 /// The step that a line encodes: the one of its numbers, as a script has it, or else that of its

@@ -3,7 +3,7 @@ ghost use Rattle.std.specs.Prelude.{◌≡◌, OnOk, IfSome};
 ghost use Rattle.scmi_io.specs.Reads.{StopsWith};
 ghost use Rattle.scmi_plan.specs.RawPlan.{asked_board};
 ghost use Rattle.scmi_ends.specs.Shut.{ShowsClose};
-ghost use Rattle.scmi_live.specs.Live.{IsTextOfLive};
+ghost use Rattle.scmi_live.specs.Live.{IsSession};
 
 use crate::listener::Listener;
 use crate::live::Live;
@@ -12,37 +12,39 @@ use scmi_io::{CountedRead, Input};
 use scmi_link::Channel;
 use scmi_plan::{Plan, RawPlan};
 use std::alloc::Global;
-use std::io::Write;
 
-/// Answers an input line by line, on a board of which this is the plan. The answer to a line is
-/// written, and flushed, before the next line is read. At the end the length of the history is
-/// written, and the listener is given how many notifications were dropped.
+/// Answers an input line by line, on a board of which this is the plan, up to its end or a line
+/// that ends the session. The listener is given each step that was taken with its line, before the
+/// next line is read, and at the end the length of the history and how many notifications were
+/// dropped.
 ///
 /// `Size` at a line longer than `INPUT_BYTES`, `Read` at a read that fails, `Memory` when out of
-/// memory and `Write` if the output fails: the lines before are then answered.
-pub fn run_live<C: Channel, R: CountedRead + Drop, W: Write, L: Listener>(
+/// memory, and what the listener gives: the lines before are then answered.
+pub fn run_live<C: Channel, R: CountedRead + Drop, L: Listener>(
     alloc: Global,
     board: &RawPlan,
     plan: Plan,
     input: &mut Input<R>,
-    writer: &mut W,
     listener: &mut L,
 ) -> Result<(), LiveError>
     requires { plan ≡ asked_board board.now }
-    ensures text { OnOk result (IfSome input.old.left (λ bytes.
-        IsTextOfLive C.FULL (ShowsClose C.caller_view C.close_shows) (asked_board board.now) bytes
-        (W.contents writer.old) (W.contents writer.new))) }
+    ensures session { OnOk result (IfSome input.old.left (λ bytes.
+        IsSession C.FULL (ShowsClose C.caller_view C.close_shows) (asked_board board.now) bytes
+        (L.heard listener.old) (L.heard listener.new))) }
     ensures stops { StopsWith LiveError.Read result input.old.since_failure
         input.new.since_failure }
 {
     let mut live = Live::<C>::open(alloc, board, plan)?;
     let mut line = Vec::new(alloc);
     'lines: for number in 1..usize::MAX {
+        listener.ready();
         let ended = input.read_line(&mut line)?;
-        live.answer(number, line.as_slice(), writer, listener)?;
+        let goes_on = live.answer(number, line.as_slice(), listener)?;
+        if !goes_on {
+            return live.end(listener);
+        }
         if !ended {
-            listener.ended(live.dropped());
-            return live.end(writer);
+            return live.end(listener);
         }
     }
     Err(LiveError::Size)

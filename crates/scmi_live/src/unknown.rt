@@ -4,6 +4,7 @@ use crate::form::{FORMS, Form, form_in};
 use crate::items::items_of;
 use crate::messages::{id_in, id_of, message_named, protocol_of};
 use crate::named_step::agent_of;
+use crate::rate::zeros_of;
 use crate::word::{is_flags, words_of_item};
 use scmi_board::word;
 use scmi_codec::{
@@ -28,6 +29,8 @@ pub enum Unknown<'a> {
     Nameless(&'a [u8]),
     /// This item, of this number in the line, does not encode this part of the message.
     Part(usize, &'a [u8], Part),
+    /// This item, of this number in the line, is a unit without its number.
+    Unit(usize, &'a [u8]),
     /// The message, of this name, has these parts, and there are more or fewer items.
     Count(&'static str, &'static [Part]),
 }
@@ -116,6 +119,9 @@ fn unknown_payload<'a>(
 ) -> Option<Unknown<'a>> {
     let row = listed_row(protocol, u32::from(id))?;
     let mut parts = row.asks;
+    if let Some(unit) = unit_alone(parts, number, items) {
+        return Some(unit);
+    }
     let flags = parts.iter().filter(|part| is_flags(**part)).count();
     if items.len() > parts.len() || items.len() + flags < parts.len() {
         return Some(Unknown::Count(row.name, row.asks));
@@ -135,4 +141,18 @@ fn unknown_payload<'a>(
         items = left;
     }
     Some(Unknown::Count(row.name, row.asks))
+}
+
+/// The first of these items that is a unit without its number, if the message has a rate.
+fn unit_alone<'a>(parts: &[Part], mut number: usize, items: &[&'a [u8]]) -> Option<Unknown<'a>> {
+    if !parts.iter().any(|part| *part == Part::Rate) {
+        return None;
+    }
+    for item in items {
+        if zeros_of(*item).is_some() {
+            return Some(Unknown::Unit(number, *item));
+        }
+        number = number.saturating_add(1);
+    }
+    None
 }

@@ -4,10 +4,13 @@ ghost use Rattle.std.specs.Option.{option_map};
 ghost use Rattle.scmi_plan.specs.RawPlan.{asked_board};
 ghost use Rattle.scmi_live.specs.Payload.{is_flags, switched, word_meant, word_named, words_of_item};
 
+use crate::flags::{flags_in, flags_of};
+use crate::letters::is_word;
 use crate::messages::{id_in, protocol_named};
 use crate::named::number_from;
+use crate::rate::rate_meant;
 use arrayvec::ArrayVec;
-use scmi_board::{number, word};
+use scmi_board::word;
 use scmi_codec::{Part, rate_words, rows_of};
 use scmi_plan::RawPlan;
 
@@ -34,7 +37,7 @@ pub(crate) fn words_of_item(
         words_of_item (asked_board board.now) protocol part item.now }
 {
     match part {
-        Part::Rate => Some(PartWords::from(rate_words(number(item)?))),
+        Part::Rate => Some(PartWords::from(rate_words(rate_meant(item)?))),
         _ => Some(one_word(word_meant(board, protocol, part, item)?)),
     }
 }
@@ -70,18 +73,18 @@ fn word_named(board: &RawPlan, protocol: u8, part: Part, item: &[u8]) -> Option<
         Part::Message => Some(u32::from(id_in(rows_of(protocol), item)?)),
         Part::State => switched(0, OFF_STATE, item),
         Part::Enable | Part::ClockAttributes => switched(1, 0, item),
-        _ => None,
+        _ => flags_in(flags_of(part), item),
     }
 }
 
-/// `on` or `off`, by the words that they encode.
+/// `on` or `off`, in letters of either case, by the words that they encode.
 fn switched(on: u32, off: u32, item: &[u8]) -> Option<u32>
     ensures { result ≡ switched on off item.now }
 {
-    if item == ON {
+    if is_word(item, ON) {
         return Some(on);
     }
-    if item == OFF {
+    if is_word(item, OFF) {
         return Some(off);
     }
     None

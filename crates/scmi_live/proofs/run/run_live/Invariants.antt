@@ -6,6 +6,6 @@ use Rattle.scmi_live.proofs.run.run_live.Given as goal
 
 abbrev pub invariant-lines : goal.invariant-lines
 invariant-lines g l = record {
-  way : IsUnderWay g.C.Channel.FULL (ShowsClose g.C.Channel.caller_view g.C.Channel.close_shows) (asked_board l.fn.board) l.fn.input.left l.input.left l.live (g.W.Write.contents l.fn.writer) (g.W.Write.contents l.writer);
+  way : IsUnderWay g.C.Channel.FULL (ShowsClose g.C.Channel.caller_view g.C.Channel.close_shows) (asked_board l.fn.board) l.fn.input.left l.input.left l.live (g.L.Listener.heard l.fn.listener) (g.L.Listener.heard l.listener);
   stops : l.fn.input.since_failure ≡ 0 → l.input.since_failure ≡ 0;
 }

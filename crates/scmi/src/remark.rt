@@ -1,30 +1,21 @@
 //! Replies in words, as comments after their lines.
-ghost use Rattle.std.specs.Prelude.{◌≡◌, OnOk, true};
-ghost use Rattle.std.specs.Option.{option_map_or};
-ghost use Rattle.std.specs.Io.KnownBytes.{Appends};
-ghost use Rattle.scmi_describe.specs.Description.{described_free, described_p2a, described_response};
-ghost use Rattle.scmi_describe.specs.Text.{description_text};
-ghost use Rattle.scmi_live.specs.Remark.{described_line, marked, marked_byte, remark_text};
 
-use crate::live_error::LiveError;
 use scmi_codec::{Answer, Command, Frame, Message, Status};
 use scmi_describe::{Description, response_status, write_description};
 use scmi_link::Collected;
+use scmi_live::LiveError;
 use scmi_text::StepLine;
 use std::alloc::Global;
 use std::io;
 use std::io::Write;
 
 /// Writes what a line gives in words, each line of it after a mark that makes it a comment; nothing
-/// of a line that gives no message.
-pub(crate) fn write_remark<W: Write>(
+/// of a line that gives no message. `Memory` when out of memory, and `Write` if the output fails.
+pub fn write_remark<W: Write>(
     alloc: Global,
     writer: &mut W,
     line: &StepLine,
-) -> Result<(), LiveError>
-    ensures { OnOk result (Appends (W.contents writer.old) (W.contents writer.new)
-        (remark_text line.now)) }
-{
+) -> Result<(), LiveError> {
     let Some(description) = described_line(line) else {
         return Ok(());
     };
@@ -39,9 +30,7 @@ pub(crate) fn write_remark<W: Write>(
 }
 
 /// What the message of a line is: a reply that was collected, or what an agent took from P2A.
-fn described_line(line: &StepLine) -> Option<Description>
-    ensures { result ≡ described_line line.now }
-{
+fn described_line(line: &StepLine) -> Option<Description> {
     match line {
         StepLine::Collected { collected, .. } => match collected {
             Collected::Got(Answer::Reply(message)) => Some(described_message(message.copy())),
@@ -56,9 +45,7 @@ fn described_line(line: &StepLine) -> Option<Description>
 }
 
 /// What a message is in a free channel.
-fn described_message(message: Message) -> Description
-    ensures { result ≡ described_free (Frame.Good message) }
-{
+fn described_message(message: Message) -> Description {
     match message.header.kind() {
         0 => described_response(message),
         2 => Description::Delayed {
@@ -77,9 +64,7 @@ fn described_message(message: Message) -> Description
 }
 
 /// What a message of type 0 is in a free channel.
-fn described_response(message: Message) -> Description
-    ensures { result ≡ described_response message }
-{
+fn described_response(message: Message) -> Description {
     match response_status(&message) {
         None => {
             let request = Command::read(&message);
@@ -91,25 +76,14 @@ fn described_response(message: Message) -> Description
 }
 
 /// Writes lines, each after a mark.
-fn write_marked<W: Write>(writer: &mut W, text: &[u8]) -> io::Result<()>
-    ensures { OnOk result (Appends (W.contents writer.old) (W.contents writer.new)
-        (marked true text.now)) }
-{
+fn write_marked<W: Write>(writer: &mut W, text: &[u8]) -> io::Result<()> {
     let mut begins = true;
-    'bytes: for byte in text {
-        write_byte(writer, begins, *byte)?;
+    for byte in text {
+        if begins {
+            writer.write_all(b"# ")?;
+        }
+        writer.write_all(&[*byte])?;
         begins = *byte == b'\n';
     }
     Ok(())
-}
-
-/// Writes a byte, after a mark if a line begins with it.
-fn write_byte<W: Write>(writer: &mut W, begins: bool, byte: u8) -> io::Result<()>
-    ensures { OnOk result (Appends (W.contents writer.old) (W.contents writer.new)
-        (marked_byte begins byte)) }
-{
-    if begins {
-        return writer.write_all(&[b'#', b' ', byte]);
-    }
-    writer.write_all(&[byte])
 }

@@ -1,0 +1,206 @@
+//! What a session says when it is asked for help.
+
+use crate::unknown_text::Usage;
+use scmi_codec::{BASE_MESSAGES, CLOCK_MESSAGES, HeldRow, POWER_MESSAGES};
+use scmi_plan::RawPlan;
+use std::io::Eprint;
+use std::str::from_utf8;
+
+/// How a step, or another line of a session, is written.
+#[derive(Clone, Copy)]
+struct HelpRow {
+    word: &'static str,
+    /// What follows the word.
+    items: &'static str,
+    about: &'static str,
+}
+
+macro_rules! rows {
+    ($($word:literal $items:literal $about:literal;)*) => {
+        [$(HelpRow { word: $word, items: $items, about: $about }),*]
+    };
+}
+
+/// The lines of a session.
+const ROWS: [HelpRow; 14] = rows![
+    "do" "AGENT MESSAGE .." "the agent posts a command, the platform executes it, the agent reads the reply";
+    "call" "AGENT MESSAGE .." "the agent posts a command; serve and collect follow";
+    "serve" "AGENT" "the platform executes the command that the agent posted";
+    "collect" "AGENT" "the agent looks for its reply";
+    "advance" "" "the platform completes its next asynchronous set";
+    "flush" "AGENT" "the platform posts its next message for the agent: a notification or a delayed response";
+    "p2a" "AGENT" "the agent reads that message";
+    "raw" "AGENT HEADER WORD .." "the agent posts a message with this header, in numbers";
+    "bad" "AGENT LENGTH HEADER" "the agent posts a malformed frame";
+    "close" "AGENT" "the agent closes its channels";
+    "shut" "AGENT" "the platform closes the agent's channels";
+    "words" "on|off" "replies are described, or are not";
+    "help" "[WORD]" "WORD is one of these, a message, messages, board or all";
+    "quit" "" "ends the session";
+];
+
+/// Words that items may be on every board.
+const WORDS: [&str; 8] = [
+    "base",
+    "power",
+    "clock",
+    "on",
+    "off",
+    "async",
+    "round-up",
+    "round-nearest",
+];
+
+/// Reports what a line asks for: `help`, or `help ` and a topic.
+pub fn report_help(rt: &impl Eprint, board: &RawPlan, text: &[u8]) {
+    let topic = match text {
+        [_, _, _, _, _, topic @ ..] => from_utf8(topic).unwrap_or(""),
+        _ => "",
+    };
+    if topic.is_empty() {
+        report_rows(rt);
+    } else if topic == "board" {
+        report_board_names(rt, board);
+    } else if topic == "messages" {
+        report_messages(rt);
+    } else if topic == "all" {
+        report_all(rt, board);
+    } else {
+        report_topic(rt, topic);
+    }
+}
+
+/// Reports how each line is written.
+fn report_rows(rt: &impl Eprint) {
+    for row in &ROWS {
+        report_row(rt, row);
+    }
+    let _ = eprintln!(rt;
+        "help do says more of do; help POWER_STATE_SET of a message. docs/SCRIPTS.md has all.\n\
+        rlwrap scmi session BOARD adds line editing and history."
+    );
+}
+
+fn report_row(rt: &impl Eprint, row: &HelpRow) {
+    let word = row.word;
+    let items = row.items;
+    let about = row.about;
+    let _ = if items.is_empty() {
+        eprintln!(rt; "{word}\n    {about}")
+    } else {
+        eprintln!(rt; "{word} {items}\n    {about}")
+    };
+}
+
+/// Reports what a word is that begins a line or names a message.
+fn report_topic(rt: &impl Eprint, topic: &str) {
+    let is_line = report_line(rt, topic);
+    let is_base = report_named(rt, &BASE_MESSAGES, topic);
+    let is_power = report_named(rt, &POWER_MESSAGES, topic);
+    let is_clock = report_named(rt, &CLOCK_MESSAGES, topic);
+    if !(is_line || is_base || is_power || is_clock) {
+        let _ = eprintln!(rt; "no help on \"{topic}\"; help lists what there is");
+    }
+}
+
+/// Reports how the line is written that begins with this word, if there is one: whether there is.
+fn report_line(rt: &impl Eprint, word: &str) -> bool {
+    let mut is_there = false;
+    for row in &ROWS {
+        if row.word == word {
+            report_row(rt, row);
+            is_there = true;
+        }
+    }
+    if word == "do" || word == "call" {
+        let _ = eprintln!(rt;
+            "    for example: {word} ap POWER_STATE_SET async cpu off\n    \
+            items are names of the board or numbers; states are on and off, and a rate may have a \
+            unit, as 600MHz"
+        );
+    }
+    is_there
+}
+
+/// Reports how the message of this name is written, if it is among these: whether it is.
+fn report_named(rt: &impl Eprint, rows: &[HeldRow], name: &str) -> bool {
+    let mut is_there = false;
+    for row in rows {
+        if row.name == name {
+            let usage = Usage {
+                name: row.name,
+                parts: row.asks,
+            };
+            let _ = eprintln!(rt; "{usage}");
+            is_there = true;
+        }
+    }
+    is_there
+}
+
+/// Reports how each message is written.
+fn report_messages(rt: &impl Eprint) {
+    report_protocol(rt, "base", &BASE_MESSAGES);
+    report_protocol(rt, "power", &POWER_MESSAGES);
+    report_protocol(rt, "clock", &CLOCK_MESSAGES);
+}
+
+fn report_protocol(rt: &impl Eprint, protocol: &str, rows: &[HeldRow]) {
+    let _ = eprintln!(rt; "{protocol}:");
+    for row in rows {
+        let usage = Usage {
+            name: row.name,
+            parts: row.asks,
+        };
+        let _ = eprintln!(rt; "    {usage}");
+    }
+}
+
+/// Reports what the board has.
+fn report_board_names(rt: &impl Eprint, board: &RawPlan) {
+    for (place, name) in board.agents.iter().enumerate() {
+        let number = place.saturating_add(1);
+        let _ = eprintln!(rt; "agent {number} {name}");
+    }
+    for (number, domain) in board.domains.iter().enumerate() {
+        let name = domain.name.as_str();
+        let _ = eprintln!(rt; "domain {number} {name}");
+    }
+    for (number, clock) in board.clocks.iter().enumerate() {
+        let name = clock.name.as_str();
+        let _ = eprintln!(rt; "clock {number} {name}");
+    }
+}
+
+/// Reports each word that a line may have, for what completes words.
+fn report_all(rt: &impl Eprint, board: &RawPlan) {
+    for row in &ROWS {
+        let word = row.word;
+        let _ = eprintln!(rt; "{word}");
+    }
+    report_names(rt, &BASE_MESSAGES);
+    report_names(rt, &POWER_MESSAGES);
+    report_names(rt, &CLOCK_MESSAGES);
+    for name in &board.agents {
+        let _ = eprintln!(rt; "{name}");
+    }
+    for domain in &board.domains {
+        let name = domain.name.as_str();
+        let _ = eprintln!(rt; "{name}");
+    }
+    for clock in &board.clocks {
+        let name = clock.name.as_str();
+        let _ = eprintln!(rt; "{name}");
+    }
+    for word in &WORDS {
+        let _ = eprintln!(rt; "{word}");
+    }
+}
+
+/// Reports the names of messages.
+fn report_names(rt: &impl Eprint, rows: &[HeldRow]) {
+    for row in rows {
+        let name = row.name;
+        let _ = eprintln!(rt; "{name}");
+    }
+}

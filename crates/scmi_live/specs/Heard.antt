@@ -1,0 +1,14 @@
+-- What a listener is given.
+use Rattle.std.specs.Prelude.{◌≡◌, List, ◌++◌, Option, Some, None, ⊤}
+use Rattle.scmi_text.specs.declared.step.Step.{Step}
+use Rattle.scmi_text.specs.declared.step_line.StepLine.{StepLine}
+
+-- a step that was taken, and its line; at the end a line without a step
+abbrev pub Heard : Type 0
+Heard = Option Step × StepLine
+
+-- what a listener was given grows by these, if it is known
+abbrev pub Gives : Option (List Heard) → Option (List Heard) → List Heard → Type 0
+Gives None new more = ⊤
+Gives (Some all) None more = ⊥
+Gives (Some all) (Some grown) more = grown ≡ all ++ more
