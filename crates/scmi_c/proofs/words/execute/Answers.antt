@@ -1,0 +1,27 @@
+use Rattle.std.proofs.Common.{rules, List, ℕ, drop, length, slice_index, arith}
+use Rattle.std.proofs.Common.{length-drop}
+use Rattle.scmi_codec.specs.Area.{message_of}
+use Rattle.scmi_c.specs.Standing.{board_of}
+use Rattle.scmi_c.specs.Words.{frame_in}
+use Rattle.scmi_c.proofs.WordReplies.{fitting-replied, words-header, written-answer}
+use Rattle.scmi_c.proofs.words.execute.Goals as goal
+
+pub returns-clause-answered : goal.returns-clause-answered
+returns-clause-answered c =
+    let board = board_of c.args.held.now in
+    let agent = c.args.agent in
+    let message : List ℕ = c.args.message.now in
+    let header : ℕ = slice_index message 0 in
+    let payload : List ℕ = drop 1 message in
+    let fits = c.requires.fits in
+    let few = fits.few in
+    let enough = fits.enough in
+    record {
+      answer = λ h at.
+          written-answer board agent h (frame_in message) c.command.result c.command.new.reply header c.put_words.result c.args.reply.now c.put_words.new.words
+          c.requires.valid (omega (arith, enough)) (search rules)
+          (fitting-replied board agent h (message_of header payload) (omega (arith, few, length-drop 1 message)))
+          (words-header board agent h header payload c.command.new.reply (search rules))
+          c.put_words.ensures.count c.put_words.ensures.written;
+      event = search rules;
+    }
