@@ -1,6 +1,7 @@
 //! Messages as their words, which a platform takes and gives.
 ghost use Rattle.std.specs.Prelude.{◌≡◌, ◌≢◌, ◌↔◌, ◌+◌, ◌<◌, ◌≤◌, ◌∷◌, ◌++◌, None, List, length, drop, IfOk, IfErr, OnOk, OnErr, Ok, Err, ◌⊎◌};
 ghost use Rattle.scmi_codec.specs.declared.payload.TheConstants.{PAYLOAD_WORDS};
+ghost use Rattle.scmi_plan.specs.Agent.{IsAgent};
 ghost use Rattle.scmi_plan.specs.Board.{channel_of};
 ghost use Rattle.scmi_plan.specs.Plan.{IsValid};
 ghost use Rattle.scmi_core.specs.Effect.{effect_after};
@@ -37,8 +38,9 @@ impl Held {
         Ok(most)
     }
 
-    /// The bytes of the areas of an agent's channels.
+    /// The bytes of the areas of the channels of an agent of the board.
     pub fn bytes(&self, agent: u32) -> usize
+        requires { IsAgent (length (board_of self.now).agents) agent }
         ensures { result ≡ bytes_of agent self.now }
     {
         channel_bytes(self.platform.board().channel(agent).words as usize)
