@@ -61,7 +61,7 @@ fitting-replied board a h m few = by (fits_channel board a m) (le-leb (length m.
 
 -- and so is one that is to change the hardware
 pub asked-replied : (board : Board) (a : ℕ) (h : List Event) (frame : Frame) → effect_after board h (Called a frame) ≢ None → answer_to board a frame h ≢ ChannelError
-asked-replied board a h (Good m) = by (fits_channel board a m) where
+asked-replied board a h (Good m) some = by (fits_channel board a m) some where
   by : (b : Bool)
       → option_map effect_of (change_of board (success_of a m.header (command_of m) (if b then reply_words board a (situation_after board a (deeds board h)) (command_of m) else [])) None) ≢ None
       → (if b then Reply (reply_in board a m (situation_after board a (deeds board h))) else ChannelError) ≢ ChannelError

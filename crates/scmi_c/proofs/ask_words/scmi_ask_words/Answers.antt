@@ -17,8 +17,8 @@ invariant_of-seat c =
     let about : IsAskedAbout held c.ask-given.new.held c.args.agent = search rules in
     let valid = valid_channel (board_of held) c.args.agent about.valid in
     let words = (channel_of (board_of held) c.args.agent).words in
-    let bytes : c.bytes.result ≡ channel_bytes words = search rules in
-    let two = sized words c.bytes.result valid.0 valid.1 bytes in
+    let bytes : c.bytes-bytes.result ≡ channel_bytes words = search rules in
+    let two = sized words c.bytes-bytes.result valid.0 valid.1 bytes in
     let same : c.ask-given.new.exchange.frame ≡ frame = search rules in
-    askable held c.ask-given.new.held c.args.agent c.bytes.result c.ask-given.new.exchange.frame (Some frame) c.in-Ok-Some.change
+    askable held c.ask-given.new.held c.args.agent c.bytes-bytes.result c.ask-given.new.exchange.frame (Some frame) c.in-Ok-Some.change
     c.begin.new.self about (ap (λ (f : Frame). Some f) (sym same)) (search rules) c.begin.ensures.asked c.begin.ensures.agent c.begin.ensures.bytes c.begin.ensures.change two.0 (omega (arith, two.1))

@@ -8,9 +8,9 @@ use Rattle.scmi_c.proofs.Keeping.{effect-is, effect-some, kept-of}
 use Rattle.scmi_c.proofs.WordReplies.{asked-replied, written-answer}
 use Rattle.scmi_c.proofs.settle_words.commit.Goals as goal
 
-pub channel_words-requires-clause-size : goal.channel_words-requires-clause-size
-channel_words-requires-clause-size c =
-    (kept-of (IsAskable c.desk.inside.held c.desk.inside.waiting.change) c.desk.inside.exchange.frame c.desk.inside.waiting (search rules) c.desk.invariant).size
+pub channel_words-requires : goal.channel_words-requires
+channel_words-requires c =
+    record { size = (kept-of (IsAskable c.desk.inside.held c.desk.inside.waiting.change) c.desk.inside.exchange.frame c.desk.inside.waiting (search rules) c.desk.invariant).size; }
 
 pub commit-requires-clause-effect : goal.commit-requires-clause-effect
 commit-requires-clause-effect c =

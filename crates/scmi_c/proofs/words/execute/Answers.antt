@@ -6,8 +6,8 @@ use Rattle.scmi_c.specs.Words.{frame_in}
 use Rattle.scmi_c.proofs.WordReplies.{fitting-replied, words-header, written-answer}
 use Rattle.scmi_c.proofs.words.execute.Goals as goal
 
-pub returns-clause-answered : goal.returns-clause-answered
-returns-clause-answered c =
+pub returns : goal.returns
+returns c =
     let board = board_of c.args.held.now in
     let agent = c.args.agent in
     let message : List ℕ = c.args.message.now in
@@ -16,7 +16,7 @@ returns-clause-answered c =
     let fits = c.requires.fits in
     let few = fits.few in
     let enough = fits.enough in
-    record {
+    record { answered = record {
       answer = λ h at.
           written-answer board agent h (frame_in message) c.command.result c.command.new.reply header c.put_words.result c.args.reply.now c.put_words.new.words
           c.requires.valid (omega (arith, enough)) (search rules)
@@ -24,4 +24,4 @@ returns-clause-answered c =
           (words-header board agent h header payload c.command.new.reply (search rules))
           c.put_words.ensures.count c.put_words.ensures.written;
       event = search rules;
-    }
+    }; }
