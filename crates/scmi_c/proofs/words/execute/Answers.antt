@@ -1,5 +1,4 @@
-use Rattle.std.proofs.Common.{rules, List, ℕ, drop, length, slice_index, arith}
-use Rattle.std.proofs.Common.{length-drop}
+use Rattle.std.proofs.Common.{rules, ◌≡◌, ◌<◌, ℕ, ◌+◌, List, ◌∷◌, ◌++◌, drop, length, length-drop, slice_index, subst, arith}
 use Rattle.scmi_codec.specs.Area.{message_of}
 use Rattle.scmi_c.specs.Standing.{board_of}
 use Rattle.scmi_c.specs.Words.{frame_in}
@@ -16,12 +15,17 @@ returns c =
     let fits = c.requires.fits in
     let few = fits.few in
     let enough = fits.enough in
+    let before = c.args.reply.now in
+    let count = c.put_words.result in
+    let after = c.put_words.new.words in
+    let same : c.as_slice.result.now ≡ c.command.new.reply.payload.items = search rules in
     record { answered = record {
       answer = λ h at.
-          written-answer board agent h (frame_in message) c.command.result c.command.new.reply header c.put_words.result c.args.reply.now c.put_words.new.words
+          written-answer board agent h (frame_in message) c.command.result c.command.new.reply header count before after
           c.requires.valid (omega (arith, enough)) (search rules)
           (fitting-replied board agent h (message_of header payload) (omega (arith, few, length-drop 1 message)))
           (words-header board agent h header payload c.command.new.reply (search rules))
-          c.put_words.ensures.count c.put_words.ensures.written;
+          (subst (λ (items : List ℕ). length items < length before → count ≡ 1 + length items) same c.put_words.ensures.count)
+          (subst (λ (items : List ℕ). length items < length before → after ≡ (header ∷ items) ++ drop (1 + length items) before) same c.put_words.ensures.written);
       event = search rules;
     }; }
