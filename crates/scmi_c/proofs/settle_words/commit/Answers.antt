@@ -10,7 +10,7 @@ use Rattle.scmi_c.proofs.settle_words.commit.Goals as goal
 
 pub channel_words-requires : goal.channel_words-requires
 channel_words-requires c =
-    record { size = (kept-of (IsAskable c.desk.inside.held c.desk.inside.waiting.change) c.desk.inside.exchange.frame c.desk.inside.waiting (search rules) c.desk.invariant).size; }
+    record { size = (kept-of (IsAskable c.desk.inside.held c.desk.inside.waiting.change) c.desk.inside.exchange.frame c.desk.inside.waiting (search rules) c.desk.invariant).size }
 
 pub commit-requires-clause-effect : goal.commit-requires-clause-effect
 commit-requires-clause-effect c =

@@ -19,13 +19,15 @@ returns c =
     let count = c.put_words.result in
     let after = c.put_words.new.words in
     let same : c.as_slice.result.now ≡ c.command.new.reply.payload.items = search rules in
-    record { answered = record {
-      answer = λ h at.
-          written-answer board agent h (frame_in message) c.command.result c.command.new.reply header count before after
-          c.requires.valid (omega (arith, enough)) (search rules)
-          (fitting-replied board agent h (message_of header payload) (omega (arith, few, length-drop 1 message)))
-          (words-header board agent h header payload c.command.new.reply (search rules))
-          (subst (λ (items : List ℕ). length items < length before → count ≡ 1 + length items) same c.put_words.ensures.count)
-          (subst (λ (items : List ℕ). length items < length before → after ≡ (header ∷ items) ++ drop (1 + length items) before) same c.put_words.ensures.written);
-      event = search rules;
-    }; }
+    record {
+      answered = record {
+        answer = λ h at.
+            written-answer board agent h (frame_in message) c.command.result c.command.new.reply header count before after
+            c.requires.valid (omega (arith, enough)) (search rules)
+            (fitting-replied board agent h (message_of header payload) (omega (arith, few, length-drop 1 message)))
+            (words-header board agent h header payload c.command.new.reply (search rules))
+            (subst (λ (items : List ℕ). length items < length before → count ≡ 1 + length items) same c.put_words.ensures.count)
+            (subst (λ (items : List ℕ). length items < length before → after ≡ (header ∷ items) ++ drop (1 + length items) before) same c.put_words.ensures.written);
+        event = search rules;
+      };
+    }
