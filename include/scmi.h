@@ -7,8 +7,8 @@
  * payload words, the calls whose names end in _in take an area of that size, and the number of its bytes.
  *
  * Every call gives a number from the list below; after any but SCMI_DONE nothing has changed, neither the
- * platform, nor an area, nor what else it was given, except after SCMI_EFFECT, which scmi_ask alone gives. No call
- * waits, keeps a pointer that it was given, or reads or writes but what it was given and the platform's own block.
+ * platform, nor an area, nor what else it was given, except after SCMI_EFFECT, which only the calls that ask give. No
+ * call waits, keeps a pointer that it was given, or reads or writes but what it was given and the platform's own block.
  *
  * Calls on one platform may come from any thread and from any core, one at a time, each seeing what the call before
  * it wrote: a lock around each call is enough, with its acquire and its release. Nothing is kept by thread or by
@@ -99,7 +99,7 @@ enum {
     SCMI_IN_USE = 6,      /* the handle holds a platform already */
     SCMI_NO_HISTORY = 7,  /* the platform keeps no history */
     SCMI_NO_FRAME = 8,    /* the channel is free: its area holds no frame */
-    SCMI_WRONG_SIZE = 10, /* the area has not the size of the agent's channel */
+    SCMI_WRONG_SIZE = 10, /* the area, or the number of words, does not fit the agent's channel */
     SCMI_NO_RESOURCE = 11, /* the board has no domain or clock of this number */
     SCMI_ASKED = 12,      /* a command was asked about, and is neither committed nor failed */
     SCMI_EFFECT = 13,     /* of scmi_ask: make this change, then scmi_commit or scmi_fail */
@@ -297,6 +297,33 @@ uint32_t scmi_ask_in(scmi_platform *SCMI_ALONE platform, uint32_t agent, uint8_t
                      scmi_effect *SCMI_ALONE effect);
 uint32_t scmi_commit_in(scmi_platform *SCMI_ALONE platform, uint8_t *SCMI_ALONE area, size_t bytes);
 uint32_t scmi_fail_in(scmi_platform *SCMI_ALONE platform, uint8_t *SCMI_ALONE area, size_t bytes);
+
+/*
+ * The same without an area, for a transport that has none: a trusted application's calls, or those of a driver of the
+ * same kernel. `message` is `count` words, the header word and then the payload words. The reply is written over the
+ * first words of `reply`: the header word, which is the message's, and then the payload. `*given` becomes how many
+ * they are, and the words behind them stay as they were. They are the words that an area with this message is answered
+ * with. `reply` has room for `room` words: as many as a message in the agent's channel may have, that is one more than
+ * the (bytes - 28) / 4 payload words of an area (scmi_channel), at most SCMI_MESSAGE_WORDS. SCMI_NO_PLATFORM,
+ * SCMI_ASKED, SCMI_NO_AGENT and SCMI_WRONG_SIZE, in this order. SCMI_WRONG_SIZE: there is no header word, the message
+ * has more words than the agent's channel, or `room` is less; an area with such a message would be answered with a
+ * channel error, but here nothing is executed. Words that someone else may write during a call have to be copied first.
+ *
+ * After SCMI_EFFECT the platform keeps the message as scmi_ask_in keeps one of an area of the channel's size, and any
+ * of the calls that commit or fail may answer it. Those in words give SCMI_WRONG_SIZE if `room` is less than the words
+ * that a message in the area or the channel that it came by may have.
+ */
+#define SCMI_MESSAGE_WORDS (1 + SCMI_PAYLOAD_WORDS)
+
+uint32_t scmi_answer_words(scmi_platform *SCMI_ALONE platform, uint32_t agent, const uint32_t *SCMI_ALONE message,
+                           size_t count, uint32_t *SCMI_ALONE reply, size_t room, uint32_t *SCMI_ALONE given);
+uint32_t scmi_ask_words(scmi_platform *SCMI_ALONE platform, uint32_t agent, const uint32_t *SCMI_ALONE message,
+                        size_t count, uint32_t *SCMI_ALONE reply, size_t room, uint32_t *SCMI_ALONE given,
+                        scmi_effect *SCMI_ALONE effect);
+uint32_t scmi_commit_words(scmi_platform *SCMI_ALONE platform, uint32_t *SCMI_ALONE reply, size_t room,
+                           uint32_t *SCMI_ALONE given);
+uint32_t scmi_fail_words(scmi_platform *SCMI_ALONE platform, uint32_t *SCMI_ALONE reply, size_t room,
+                         uint32_t *SCMI_ALONE given);
 
 /* Gives what an agent's channels are. SCMI_DONE, SCMI_NO_PLATFORM or SCMI_NO_AGENT. */
 uint32_t scmi_channel(scmi_platform *SCMI_ALONE platform, uint32_t agent, scmi_channel_numbers *SCMI_ALONE channel);

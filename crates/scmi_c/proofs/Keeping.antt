@@ -1,5 +1,5 @@
 -- A command that was asked about, and its change.
-use Rattle.std.proofs.Common.{rules, ◌≡◌, ◌≤◌, ℕ, Bool, true, if◌then◌else◌, List, Option, Some, None, IfSome, IsSomeAnd, option_map, sym, subst, ap}
+use Rattle.std.proofs.Common.{rules, ◌≡◌, ◌≢◌, ◌≤◌, ℕ, Bool, true, if◌then◌else◌, List, Option, Some, None, IfSome, IsSomeAnd, option_map, sym, subst, ap}
 use Rattle.scmi_codec.specs.ChannelArea.{channel_words, is_channel_size}
 use Rattle.scmi_codec.specs.declared.frame.Frame.{Frame}
 use Rattle.scmi_plan.specs.Board.{channel_of}
@@ -27,6 +27,11 @@ effect-is None change effect only is = absurd (cc)
 effect-is (Some other) change effect only is =
     let same : numbers_of other ≡ change = cc in
     ap (λ (e : Effect). Some e) (sym (only other same))
+
+-- there is a change, if it has numbers
+pub effect-some : (o : Option Effect) (change : EffectNumbers) → option_map numbers_of o ≡ Some change → o ≢ None
+effect-some None change is = absurd (cc)
+effect-some (Some effect) change is = λ e. absurd (cc)
 
 -- what was asked about may be committed and may fail
 pub askable : (p k : Held) (agent bytes : ℕ) (frame : Frame) (waits : Option Frame) (effect : Effect) (waiting : Waiting)

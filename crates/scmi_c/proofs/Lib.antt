@@ -4,5 +4,6 @@ mod Answering
 mod Codes
 mod AreaIn
 mod Keeping
+mod WordReplies
 pub mod TableLemmas
 mod TableExamples

@@ -3,6 +3,7 @@ pub mod Standing
 pub mod Kept
 pub mod Channel
 pub mod Calls
+pub mod Words
 pub mod Refusal
 pub mod Board
 pub mod Tables

@@ -8,15 +8,18 @@
 
 mod answer;
 mod answer_in;
+mod answer_words;
 mod area;
 mod area_in;
 mod ask_in;
+mod ask_words;
 mod board;
 mod board_of_tables;
 mod channel;
 mod code;
 mod commit;
 mod commit_in;
+mod commit_words;
 mod desk;
 mod effect;
 mod ends;
@@ -34,7 +37,9 @@ mod restart;
 mod rows;
 mod send;
 mod settle;
+mod settle_words;
 mod tabled;
 mod tables;
 mod values;
 mod waiting;
+mod words;

@@ -1,0 +1,76 @@
+//! A command that was asked about is committed, or fails, and its reply is words.
+ghost use Rattle.std.specs.Prelude.{◌≡◌, ◌↔◌, ◌⊎◌, length, IfErr, IsSomeAnd, OnOk, OnErr, Err};
+ghost use Rattle.scmi_c.specs.Kept.{IsUnasked};
+ghost use Rattle.scmi_c.specs.Words.{HasAnsweredWords, HasFailedWords, LacksRoom};
+
+use crate::desk::Desk;
+use crate::effect::effect_of;
+use crate::refusal::Refusal;
+use crate::words::put_message;
+use scmi_codec::channel_words;
+
+/// As `settle::commit`, and writes the words of the reply and how many they are. `WrongSize` if
+/// there is not room for as many words as the area of the command has.
+pub fn commit(desk: &mut Desk, reply: &mut [u32], count: &mut u32) -> Result<(), Refusal>
+    ensures ok { OnOk result (IsSomeAnd desk.old.asked (λ asked.
+        HasAnsweredWords desk.old.held desk.new.held asked.agent asked.frame
+        count.new reply.old reply.new)) }
+    ensures unasked { OnOk result (IsUnasked desk.new) }
+    ensures nothing { (result ≡ Err Refusal.Nothing) ↔ IsUnasked desk.old }
+    ensures wrong_size { (result ≡ Err Refusal.WrongSize) ↔
+        IsSomeAnd desk.old.asked (LacksRoom (length reply.old)) }
+    ensures errors { IfErr result (λ e. (e ≡ Refusal.Nothing) ⊎ (e ≡ Refusal.WrongSize)) }
+    ensures err { OnErr result (desk.new ≡ desk.old) }
+    ensures kept { OnErr result (reply.new ≡ reply.old) }
+    ensures same { OnErr result (count.new ≡ count.old) }
+{
+    let waiting = &desk.waiting;
+    if !waiting.is_asked {
+        return Err(Refusal::Nothing);
+    }
+    if reply.len() < 1 + channel_words(waiting.bytes) {
+        return Err(Refusal::WrongSize);
+    }
+    let effect = effect_of(&waiting.change);
+    let _ = desk.held.commit(
+        waiting.agent,
+        &desk.exchange.frame,
+        effect,
+        &mut desk.exchange.reply,
+    );
+    *count = put_message(reply, &desk.exchange.reply);
+    desk.waiting.is_asked = false;
+    Ok(())
+}
+
+/// As `settle::fail`, and writes the words of the reply and how many they are. `WrongSize` if there
+/// is not room for as many words as the area of the command has.
+pub fn fail(desk: &mut Desk, reply: &mut [u32], count: &mut u32) -> Result<(), Refusal>
+    ensures ok { OnOk result (IsSomeAnd desk.old.asked (λ asked.
+        HasFailedWords desk.old.held desk.new.held asked.agent asked.frame
+        count.new reply.old reply.new)) }
+    ensures unasked { OnOk result (IsUnasked desk.new) }
+    ensures nothing { (result ≡ Err Refusal.Nothing) ↔ IsUnasked desk.old }
+    ensures wrong_size { (result ≡ Err Refusal.WrongSize) ↔
+        IsSomeAnd desk.old.asked (LacksRoom (length reply.old)) }
+    ensures errors { IfErr result (λ e. (e ≡ Refusal.Nothing) ⊎ (e ≡ Refusal.WrongSize)) }
+    ensures err { OnErr result (desk.new ≡ desk.old) }
+    ensures kept { OnErr result (reply.new ≡ reply.old) }
+    ensures same { OnErr result (count.new ≡ count.old) }
+{
+    let waiting = &desk.waiting;
+    if !waiting.is_asked {
+        return Err(Refusal::Nothing);
+    }
+    if reply.len() < 1 + channel_words(waiting.bytes) {
+        return Err(Refusal::WrongSize);
+    }
+    desk.held.command_failed(
+        waiting.agent,
+        &desk.exchange.frame,
+        &mut desk.exchange.reply,
+    );
+    *count = put_message(reply, &desk.exchange.reply);
+    desk.waiting.is_asked = false;
+    Ok(())
+}

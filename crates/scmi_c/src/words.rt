@@ -1,0 +1,221 @@
+//! Messages as their words, which a platform takes and gives.
+ghost use Rattle.std.specs.Prelude.{◌≡◌, ◌≢◌, ◌↔◌, ◌+◌, ◌<◌, ◌≤◌, ◌∷◌, ◌++◌, None, List, length, drop, IfOk, IfErr, OnOk, OnErr, Ok, Err, ◌⊎◌};
+ghost use Rattle.scmi_codec.specs.declared.payload.TheConstants.{PAYLOAD_WORDS};
+ghost use Rattle.scmi_plan.specs.Agent.{IsAgent};
+ghost use Rattle.scmi_plan.specs.Board.{channel_of};
+ghost use Rattle.scmi_plan.specs.Plan.{IsValid};
+ghost use Rattle.scmi_core.specs.Effect.{effect_after};
+ghost use Rattle.scmi_core.specs.declared.event.Event.{Event};
+ghost use Rattle.scmi_core.specs.declared.event.Event.TheVariants.{Command as Called};
+ghost use Rattle.scmi_c.specs.Calls.{IsAskedAbout};
+ghost use Rattle.scmi_c.specs.Channel.{bytes_of};
+ghost use Rattle.scmi_c.specs.Standing.{LacksAgent, StandsAt, board_of};
+ghost use Rattle.scmi_c.specs.Words.{FitsWords, HasAnsweredWords, LacksWords, count_of, frame_in, words_after};
+
+use crate::desk::Exchange;
+use crate::held::Held;
+use crate::refusal::Refusal;
+use scmi_codec::{Frame, Header, Message, PAYLOAD_WORDS, channel_bytes, payload_of, resize};
+use scmi_core::Effect;
+
+impl Held {
+    /// Refuses a number that is no agent's, and then words that are no message of the agent's
+    /// channel, or a place that has not room for each reply. Gives the most payload words.
+    pub fn check_words(&self, agent: u32, words: usize, room: usize) -> Result<usize, Refusal>
+        ensures ok { OnOk result (FitsWords agent words room self.now) }
+        ensures most { IfOk result (λ most. most ≡ (channel_of (board_of self.now) agent).words) }
+        ensures few { IfOk result (λ most. most ≤ PAYLOAD_WORDS) }
+        ensures valid { IsValid (board_of self.now) }
+        ensures no_agent { (result ≡ Err Refusal.NoAgent) ↔ LacksAgent agent self.now }
+        ensures wrong_size { (result ≡ Err Refusal.WrongSize)
+            ↔ LacksWords agent words room self.now }
+        ensures errors { IfErr result (λ e. (e ≡ Refusal.NoAgent) ⊎ (e ≡ Refusal.WrongSize)) }
+    {
+        let most = self.channel(agent)?.words as usize;
+        if words < 1 || words > 1 + most || room < 1 + most {
+            return Err(Refusal::WrongSize);
+        }
+        Ok(most)
+    }
+
+    /// The bytes of the areas of the channels of an agent of the board.
+    pub fn bytes(&self, agent: u32) -> usize
+        requires { IsAgent (length (board_of self.now).agents) agent }
+        ensures { result ≡ bytes_of agent self.now }
+    {
+        channel_bytes(self.platform.board().channel(agent).words as usize)
+    }
+}
+
+/// Executes the words of a message, and writes those of the reply and how many they are.
+#[inline(always)]
+pub fn answer(
+    held: &mut Held,
+    exchange: &mut Exchange,
+    agent: u32,
+    message: &[u32],
+    reply: &mut [u32],
+    count: &mut u32,
+)
+    requires fits { FitsWords agent (length message.now) (length reply.old) held.old }
+    requires few { length message.now ≤ 1 + PAYLOAD_WORDS }
+    requires valid { IsValid (board_of held.old) }
+    ensures answered { HasAnsweredWords held.old held.new agent (frame_in message.now)
+        count.new reply.old reply.new }
+{
+    read_words(message, &mut exchange.frame);
+    execute(held, exchange, agent, message, reply, count);
+}
+
+/// Executes the words of a message, as `answer`, if they change no hardware. Else gives what they
+/// are to change, and keeps them. It is refused as `Held::check_words` says, and nothing changed.
+#[inline(always)]
+pub fn ask(
+    held: &mut Held,
+    exchange: &mut Exchange,
+    agent: u32,
+    message: &[u32],
+    reply: &mut [u32],
+    count: &mut u32,
+) -> Result<Option<Effect>, Refusal>
+    ensures effect { IfOk result (λ effect.
+        (h : List Event) → StandsAt held.old h → effect
+        ≡ effect_after (board_of held.old) h (Called agent (frame_in message.now))) }
+    ensures answered { result ≡ Ok None → HasAnsweredWords held.old held.new agent
+        (frame_in message.now) count.new reply.old reply.new }
+    ensures asked { IfOk result (λ effect. effect ≢ None →
+        (exchange.new.frame ≡ frame_in message.now) × (reply.new ≡ reply.old)
+        × (count.new ≡ count.old) × IsAskedAbout held.old held.new agent) }
+    ensures no_agent { (result ≡ Err Refusal.NoAgent) ↔ LacksAgent agent held.old }
+    ensures wrong_size { (result ≡ Err Refusal.WrongSize)
+        ↔ LacksWords agent (length message.now) (length reply.old) held.old }
+    ensures errors { IfErr result (λ e. (e ≡ Refusal.NoAgent) ⊎ (e ≡ Refusal.WrongSize)) }
+    ensures err { OnErr result (held.new ≡ held.old) }
+    ensures kept { OnErr result ((reply.new ≡ reply.old) × (count.new ≡ count.old)) }
+{
+    let _ = held.check_words(agent, message.len(), reply.len())?;
+    read_words(message, &mut exchange.frame);
+    let effect = held.effect_of(agent, &exchange.frame)?;
+    if effect.is_none() {
+        execute(held, exchange, agent, message, reply, count);
+    }
+    Ok(effect)
+}
+
+/// Executes the frame that was read from the words of a message, and writes those of the reply,
+/// whose header is the message's.
+#[inline(always)]
+fn execute(
+    held: &mut Held,
+    exchange: &mut Exchange,
+    agent: u32,
+    message: &[u32],
+    reply: &mut [u32],
+    count: &mut u32,
+)
+    requires fits { FitsWords agent (length message.now) (length reply.old) held.old }
+    requires valid { IsValid (board_of held.old) }
+    requires frame { exchange.old.frame ≡ frame_in message.now }
+    ensures answered { HasAnsweredWords held.old held.new agent (frame_in message.now)
+        count.new reply.old reply.new }
+{
+    let _ = held.command(agent, &exchange.frame, &mut exchange.reply);
+    *count = put_words(reply, message[0], exchange.reply.payload.as_slice());
+}
+
+/// Reads the words of a message into a frame.
+#[inline(always)]
+fn read_words(message: &[u32], frame: &mut Frame)
+    requires some { 1 ≤ length message.now }
+    requires few { length message.now ≤ 1 + PAYLOAD_WORDS }
+    ensures { frame.new ≡ frame_in message.now }
+{
+    if let Frame::Good(own) = frame {
+        own.header = Header::unpack(message[0]);
+        resize(&mut own.payload, message.len() - 1);
+        copy_words(own.payload.as_mut_slice(), &message[1..]);
+    } else {
+        read_anew(message, frame);
+    }
+}
+
+/// As `read_words`, into a frame that holds no message. What it makes is not among the locals of
+/// its callers.
+#[inline(never)]
+fn read_anew(message: &[u32], frame: &mut Frame)
+    requires some { 1 ≤ length message.now }
+    requires few { length message.now ≤ 1 + PAYLOAD_WORDS }
+    ensures { frame.new ≡ frame_in message.now }
+{
+    *frame = Frame::Good(Message {
+        header: Header::unpack(message[0]),
+        payload: payload_of(&message[1..]),
+    });
+}
+
+/// Writes a message over the first of these words, and gives how many it has.
+pub fn put_message(words: &mut [u32], message: &Message) -> u32
+    ensures count { length message.now.payload.items < length words.old →
+        result ≡ count_of message.now }
+    ensures written { length message.now.payload.items < length words.old →
+        words.new ≡ words_after message.now words.old }
+{
+    put_words(words, message.header.pack(), message.payload.as_slice())
+}
+
+/// Writes a header word and payload words over the first of these, and gives how many they are.
+#[inline(always)]
+fn put_words(words: &mut [u32], header: u32, payload: &[u32]) -> u32
+    requires few { length payload.now ≤ PAYLOAD_WORDS }
+    ensures count { length payload.now < length words.old → result ≡ 1 + length payload.now }
+    ensures written { length payload.now < length words.old → words.new
+        ≡ (header ∷ payload.now) ++ drop (1 + length payload.now) words.old }
+{
+    let count = 1 + payload.len();
+    // Never, since there is room for each reply.
+    if count > words.len() {
+        return 0;
+    }
+    words[0] = header;
+    copy_words(&mut words[1..count], payload);
+    count as u32
+}
+
+/// Writes words over as many others. Commands have four at most and most replies three, which take
+/// no loop.
+fn copy_words(to: &mut [u32], from: &[u32])
+    requires { length to.old ≡ length from.now }
+    ensures { to.new ≡ from.now }
+{
+    match from.len() {
+        0 => {}
+        1 => to[0] = from[0],
+        2 => {
+            to[0] = from[0];
+            to[1] = from[1];
+        }
+        3 => {
+            to[0] = from[0];
+            to[1] = from[1];
+            to[2] = from[2];
+        }
+        4 => {
+            to[0] = from[0];
+            to[1] = from[1];
+            to[2] = from[2];
+            to[3] = from[3];
+        }
+        _ => copy_many(to, from),
+    }
+}
+
+/// Writes words over as many others.
+#[inline(never)]
+fn copy_many(to: &mut [u32], from: &[u32])
+    requires { length to.old ≡ length from.now }
+    ensures { to.new ≡ from.now }
+{
+    for i in 0..from.len() {
+        to[i] = from[i];
+    }
+}
