@@ -6,9 +6,9 @@
  * of length 0. If the board's text gives an agent's channels another size, 28 + 4k bytes with k from 8 to 64
  * payload words, the calls whose names end in _in take an area of that size, and the number of its bytes.
  *
- * Every call gives a number from the list below; after any but SCMI_DONE nothing has changed, neither the
- * platform, nor an area, nor what else it was given, except after SCMI_EFFECT, which only the calls that ask give. No
- * call waits, keeps a pointer that it was given, or reads or writes but what it was given and the platform's own block.
+ * Every function returns one of the codes below. Unless it is SCMI_DONE, the platform, the area and all else that the
+ * function was given are unchanged, except after SCMI_EFFECT, which only the functions that ask return. No function
+ * waits, keeps a pointer that it was given, or reads or writes anything but what it was given and the platform's block.
  *
  * Calls on one platform may come from any thread and from any core, one at a time, each seeing what the call before
  * it wrote: a lock around each call is enough, with its acquire and its release. Nothing is kept by thread or by
@@ -16,10 +16,9 @@
  * program's three calls for memory do not allow it. No call may interrupt another on the same platform, so none may
  * come from a signal handler or an interrupt while the lock is not taken.
  *
- * What this program must see to: that a handle is zero before its first use, and never copied or written;
- * that a pointer leads to as many bytes as its type says, which nobody else reads or writes during the call;
- * that no two pointers of one call lead to the same bytes, except into tables and texts, which are only read, and none
- * into the memory that a platform took.
+ * The caller's duties: a handle is zero before its first use, and never copied or written; a pointer refers to an
+ * object of the declared size, which nobody else reads or writes during the call; no two pointers of one call refer to
+ * the same bytes, except into tables and texts, which are only read, and none into the memory that a platform took.
  *
  * The library needs memcpy, memmove and memset, and three calls for memory: rattle_alloc, rattle_realloc and
  * rattle_dealloc: scmi_memory.c beside this header has them over blocks that the program gives, scmi_heap.c over
@@ -136,11 +135,11 @@ typedef struct scmi_channel_numbers {
 
 /*
  * Makes a platform of a board's text (docs/SCRIPTS.md, "Boards"), which is `length` bytes; lines `channel` may
- * give the channels of its agents, and if none does, they are whole, SCMI_AREA_BYTES, both ways. It takes memory here
- * alone, and none from then on, so no later call gives SCMI_MEMORY. SCMI_DONE, SCMI_IN_USE, SCMI_MEMORY, SCMI_RULE + N or SCMI_LINE + L; L is
- * the last line if `end` is missing, and 0 if there is no line. Only comments and empty lines may follow `end`; the
- * zero that ends a string in C is such a line of another form. The rules: 1 counts, 2 names, 3 rates,
- * 4 devices, 5 the trusted agent.
+ * give the channels of its agents, and if none does, they are whole, SCMI_AREA_BYTES, both ways. It allocates here
+ * alone, and nothing after initialisation, so no later call gives SCMI_MEMORY. SCMI_DONE, SCMI_IN_USE, SCMI_MEMORY,
+ * SCMI_RULE + N or SCMI_LINE + L; L is the last line if `end` is missing, and 0 if there is no line. Only comments and
+ * empty lines may follow `end`; the zero that ends a string in C is such a line of another form. The rules: 1 counts,
+ * 2 names, 3 rates, 4 devices, 5 the trusted agent.
  */
 uint32_t scmi_platform_new(scmi_platform *SCMI_ALONE platform, const uint8_t *board, size_t length);
 
@@ -278,7 +277,7 @@ uint32_t scmi_ask(scmi_platform *SCMI_ALONE platform, uint32_t agent, uint8_t ar
  * The hardware has made what scmi_ask gave: the command is executed as it was kept, and its answer written into the
  * area whole, status, length, header and payload. Nothing of the area is read, so what an agent does to it after
  * scmi_ask changes neither what is executed nor the answer. SCMI_DONE, SCMI_NO_PLATFORM, SCMI_NOTHING (no command was
- * asked about) or SCMI_WRONG_SIZE (it was in an area of another size).
+ * asked about) or SCMI_WRONG_SIZE (wrong area size: the command was in one of another).
  */
 uint32_t scmi_commit(scmi_platform *SCMI_ALONE platform, uint8_t area[SCMI_ALONE SCMI_AREA_BYTES]);
 
@@ -289,8 +288,8 @@ uint32_t scmi_fail(scmi_platform *SCMI_ALONE platform, uint8_t area[SCMI_ALONE S
  * The same in an area that has the size of the agent's channel, as scmi_channel gives it: `bytes` bytes. A frame
  * that is longer than the channel is malformed, and no reply is longer. SCMI_NO_PLATFORM, SCMI_ASKED, SCMI_NO_AGENT
  * and SCMI_WRONG_SIZE (`bytes` is another size) come before all else, in this order; the other numbers as above. If
- * the channel is whole, they do what the calls above do. A command that was asked about by scmi_ask_in is committed or
- * fails in as many bytes.
+ * the channel is whole, they do what the calls above do. After scmi_ask_in, commit or fail the command with the same
+ * size.
  */
 uint32_t scmi_answer_in(scmi_platform *SCMI_ALONE platform, uint32_t agent, uint8_t *SCMI_ALONE area, size_t bytes);
 uint32_t scmi_ask_in(scmi_platform *SCMI_ALONE platform, uint32_t agent, uint8_t *SCMI_ALONE area, size_t bytes,
