@@ -14,7 +14,8 @@ pub const FORMS: [Form; 6] = [
         about: "Runs a script of a platform and its agents, and prints a line for each step.",
         details: "\
 The first line of the input is the mode: once, steps words, steps rings, threads words,
-threads rings, hardware words or hardware rings. docs/SCRIPTS.md has all lines.",
+threads rings, hardware words or hardware rings. In the last two names may be in place of numbers,
+as in a session. docs/SCRIPTS.md has all lines.",
         example: "scmi run examples/two_agents.in",
     },
     Form {
@@ -59,13 +60,13 @@ GitHub and most editors draw.",
 An interactive platform: each line of standard input is a step on the board of a file, and its
 answer is printed before the next line is read.",
         details: "\
-BOARD has the lines of a board, from board to end. A step is written as for scmi run, in numbers
-or with names: agents, domains and clocks by their names on the board, messages by theirs, on and
-off, flags such as async, and rates in Hz or with a unit, as 600MHz or 1.5GHz. Flags that are left
-out are 0. 'help' lists the steps, 'help do' explains one, and 'quit' ends the session. After the
-line 'words on' replies are described, in lines that begin with #, until 'words off'. A line that is
-not a step is explained on standard error, and the session goes on. A dropped notification is
-reported there too.
+BOARD has the lines of a board, from board to end. A step is one of the mode hardware words, in
+numbers or with names: agents, domains and clocks by their names on the board, messages by theirs,
+on and off, flags such as async, and rates in Hz or with a unit, as 600MHz or 1.5GHz. Flags that
+are left out are 0. 'help' lists the steps, 'help do' explains one, and 'quit' ends the session.
+After the line 'words on' replies are described, in lines that begin with #, until 'words off'. A
+line that is not a step is explained on standard error, and the session goes on. A dropped
+notification is reported there too.
 --save writes the board and the steps that were taken into FILE, a script for scmi run and chart.
 On a terminal there is a prompt, and replies are described from the start; rlwrap scmi session BOARD
 adds line editing and history. docs/SCRIPTS.md has more.",

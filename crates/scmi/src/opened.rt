@@ -1,24 +1,24 @@
 //! The board of a session, from its file.
+ghost use Rattle.std.specs.List.{All};
+ghost use Rattle.std.specs.Prelude.{IfOk};
+ghost use Rattle.scmi_board.specs.Channels.{IsLineOf, described};
 
 use crate::report_found::report_found;
-use scmi_board::{Lines, read_board};
+use scmi_board::{BoardWithChannels, Lines};
 use scmi_explain::{Expected, Fault, explain};
 use scmi_io::{CountedReader, InputError, read_rest};
-use scmi_modes::RunError;
+use scmi_modes::{HARDWARE_WORDS, RunError, ScriptKind, plan_of, read_described};
 use scmi_plan::{Plan, PlanError, RawPlan};
 use std::alloc::Global;
 use std::io::{Eprint, Error, Read};
 
-/// The line of a mode before a board, with which its text is explained as an input of that mode.
-const MODE_LINE: &[u8] = b"steps words\n";
-/// The same of a mode whose boards may have lines for channels.
-const CHANNEL_MODE_LINE: &[u8] = b"hardware words\n";
-
-/// A board as its file has it, and its text after the line of a mode.
+/// A board as its file has it, with its agents' channels, and its text after the line of the mode
+/// `hardware words`, whose boards and steps a session has.
 #[derive(Drop)]
 pub struct Opened {
-    board: RawPlan,
+    said: BoardWithChannels,
     text: Vec<u8>,
+    ghost channels: { All (IsLineOf (described said).0) (described said).1 },
 }
 
 /// Why a file is rejected, and its text after the line of a mode.
@@ -39,26 +39,34 @@ enum Why {
 
 impl Opened {
     ghost use Rattle.std.specs.Prelude.{◌≡◌, IfOk};
-    ghost use Rattle.scmi_plan.specs.RawPlan.{asked_board};
+    ghost use Rattle.scmi_board.specs.Channels.{described};
+    ghost use Rattle.scmi_board.specs.ValidBoard.{with_its_channels};
 
     /// The board of a file.
     pub fn read<B: Read + Drop>(alloc: Global, file: &mut B) -> Result<Opened, Refused> {
         let mut text = Vec::new(alloc);
-        match fill(alloc, &mut text, MODE_LINE, file) {
+        match fill(alloc, &mut text, file) {
             Ok(()) => {}
             Err(error) => return Err(refusal_for(Why::Fault(RunError::from(error)), text)),
         }
         match board_of(alloc, &text) {
-            Ok(board) => Ok(Opened { board, text }),
+            Ok(said) => Ok(Opened { said, text }),
             Err(why) => Err(refusal_for(why, text)),
         }
     }
 
     /// The board.
     pub fn board(&self) -> &RawPlan
-        ensures { result.now ≡ self.now.board }
+        ensures { result.now ≡ self.now.said.board }
     {
-        &self.board
+        &self.said.board
+    }
+
+    /// The board, with the channels that its text gives.
+    pub fn said(&self) -> &BoardWithChannels
+        ensures { result.now ≡ self.now.said }
+    {
+        &self.said
     }
 
     /// The text of the board after the line of a mode; it ends with a line feed.
@@ -66,20 +74,19 @@ impl Opened {
         &self.text
     }
 
-    /// The plan of the board.
+    /// The plan of the board, whose agents have these channels.
     pub fn plan(&self, alloc: Global) -> Result<Plan, PlanError>
-        ensures { IfOk result (λ plan. plan ≡ asked_board self.now.board) }
+        ensures { IfOk result (λ plan. plan ≡ with_its_channels (described self.now.said)) }
     {
-        Plan::check(alloc, &self.board)
+        plan_of(alloc, &self.said)
     }
 }
 
 impl Refused {
-    /// The rejection of these bytes as a board that may have lines for channels, with this fault,
-    /// whose line is one of theirs.
+    /// The rejection of these bytes as a board, with this fault, whose line is one of theirs.
     pub fn of_bytes(alloc: Global, mut bytes: &[u8], fault: Fault) -> Refused {
         let mut text = Vec::new(alloc);
-        let _ = fill(alloc, &mut text, CHANNEL_MODE_LINE, &mut bytes);
+        let _ = fill(alloc, &mut text, &mut bytes);
         let why = match fault {
             Fault::Board(line) => RunError::Board(line.saturating_add(1)),
             Fault::Plan(rule) => RunError::Plan(rule),
@@ -142,15 +149,11 @@ fn refusal_for(why: Why, text: Vec<u8>) -> Refused {
     Refused { why, text }
 }
 
-/// Appends the line of a mode and a file to a text, and the line feed that its last line may lack.
-fn fill<B: Read>(
-    alloc: Global,
-    text: &mut Vec<u8>,
-    mode_line: &[u8],
-    file: &mut B,
-) -> Result<(), InputError> {
+/// Appends the line of the mode and a file to a text, and the line feed that its last line may lack.
+fn fill<B: Read>(alloc: Global, text: &mut Vec<u8>, file: &mut B) -> Result<(), InputError> {
     let file = read_rest(alloc, &mut CountedReader::new(file))?;
-    let is_kept = text.extend_from_slice(mode_line).is_ok()
+    let is_kept = text.extend_from_slice(HARDWARE_WORDS.as_bytes()).is_ok()
+        && text.push(b'\n').is_ok()
         && text.extend_from_slice(&file).is_ok()
         && (file.is_empty() || file.last() == Some(&b'\n') || text.push(b'\n').is_ok());
     if is_kept {
@@ -161,17 +164,27 @@ fn fill<B: Read>(
 }
 
 /// The board of a text, if it keeps every rule and nothing follows it.
-fn board_of(alloc: Global, text: &[u8]) -> Result<RawPlan, Why> {
-    let mut lines = Lines::new(&text[MODE_LINE.len().min(text.len())..]);
-    let board = match read_board(alloc, &mut lines) {
-        Ok(board) => board,
+fn board_of(alloc: Global, text: &[u8]) -> Result<BoardWithChannels, Why>
+    ensures { IfOk result (λ said. All (IsLineOf (described said).0) (described said).1) }
+{
+    let mut lines = Lines::new(behind_mode(text));
+    let said = match read_described(alloc, &mut lines, ScriptKind::Hardware) {
+        Ok(said) => said,
         Err(error) => return Err(Why::Fault(RunError::from(error))),
     };
     if let Some(line) = lines.next_line() {
         return Err(Why::After(line.number));
     }
-    match Plan::check(alloc, &board) {
-        Ok(_) => Ok(board),
+    match Plan::check(alloc, &said.board) {
+        Ok(_) => Ok(said),
         Err(error) => Err(Why::Fault(RunError::from(error))),
+    }
+}
+
+/// What follows the line of the mode.
+fn behind_mode(text: &[u8]) -> &[u8] {
+    match text.iter().position(|byte| *byte == b'\n') {
+        Some(place) => &text[place + 1..],
+        None => b"",
     }
 }

@@ -2,6 +2,7 @@
 
 use crate::report_board::report_board;
 use crate::report_found::report_found;
+use crate::report_unknown::report_unknown;
 use crate::request::Request;
 use crate::task::Task;
 use scmi_explain::{Expected, Fault, Kept, LastLine, explain};
@@ -30,6 +31,9 @@ pub fn report_input<R: Read + Drop>(
     }
     if request == Request::Do(Task::Table) {
         return report_board(rt, alloc, name, input, fault);
+    }
+    if report_unknown(rt, alloc, name, input.bytes(), fault) {
+        return;
     }
     let found = explain(alloc, expected_of(request), input.bytes(), fault);
     report_found(rt, name, fault, found, input.error());

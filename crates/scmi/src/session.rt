@@ -1,6 +1,6 @@
 //! A session whose lines are answered one by one.
 ghost use Rattle.std.specs.Prelude.{◌≡◌, OnOk};
-ghost use Rattle.scmi_plan.specs.RawPlan.{asked_board};
+ghost use Rattle.scmi_board.specs.Channels.{described};
 ghost use Rattle.scmi.specs.Session.{IsSession};
 
 use crate::opened::Opened;
@@ -18,7 +18,7 @@ pub fn run_session<R: Read, L: Listener>(
     reader: &mut R,
     listener: &mut L,
 ) -> u8
-    ensures { result ≡ 0 → IsSession (asked_board opened.now.board) (R.remaining reader.old)
+    ensures { result ≡ 0 → IsSession (described opened.now.said) (R.remaining reader.old)
         (L.heard listener.old) (L.heard listener.new) }
 {
     let mut input = Input::new(CountedReader::new(reader));
@@ -37,11 +37,11 @@ fn answer_lines<R: CountedRead + Drop, L: Listener>(
     input: &mut Input<R>,
     listener: &mut L,
 ) -> Result<(), LiveError>
-    ensures { OnOk result (IsSession (asked_board opened.now.board) input.old.left
+    ensures { OnOk result (IsSession (described opened.now.said) input.old.left
         (L.heard listener.old) (L.heard listener.new)) }
 {
     let Ok(plan) = opened.plan(alloc) else {
         return Err(LiveError::Memory);
     };
-    run_live::<WordChannel, _, _>(alloc, opened.board(), plan, input, listener)
+    run_live::<WordChannel, _, _>(alloc, opened.said(), plan, input, listener)
 }

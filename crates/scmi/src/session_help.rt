@@ -22,25 +22,27 @@ macro_rules! rows {
 }
 
 /// The lines of a session.
-const ROWS: [HelpRow; 14] = rows![
+const ROWS: [HelpRow; 16] = rows![
     "do" "AGENT MESSAGE .." "the agent posts a command, the platform executes it, the agent reads the reply";
     "call" "AGENT MESSAGE .." "the agent posts a command; serve and collect follow";
+    "fail" "AGENT MESSAGE .." "as do, but the hardware refuses each change that the command would make";
     "serve" "AGENT" "the platform executes the command that the agent posted";
     "collect" "AGENT" "the agent looks for its reply";
-    "advance" "" "the platform completes its next asynchronous set";
+    "advance" "[failed]" "the platform completes its next asynchronous set; failed: the hardware refuses it";
     "flush" "AGENT" "the platform posts its next message for the agent: a notification or a delayed response";
     "p2a" "AGENT" "the agent reads that message";
     "raw" "AGENT HEADER WORD .." "the agent posts a message with this header, in numbers";
     "bad" "AGENT LENGTH HEADER" "the agent posts a malformed frame";
     "close" "AGENT" "the agent closes its channels";
     "shut" "AGENT" "the platform closes the agent's channels";
+    "restart" "AGENT" "the agent restarted: the platform ends what the agent asked for";
     "words" "on|off" "replies are described, or are not";
     "help" "[WORD]" "WORD is one of these, a message, messages, board or all";
     "quit" "" "ends the session";
 ];
 
 /// Words that items may be on every board.
-const WORDS: [&str; 8] = [
+const WORDS: [&str; 9] = [
     "base",
     "power",
     "clock",
@@ -49,6 +51,7 @@ const WORDS: [&str; 8] = [
     "async",
     "round-up",
     "round-nearest",
+    "failed",
 ];
 
 /// Reports what a line asks for: `help`, or `help ` and a topic.
@@ -112,7 +115,7 @@ fn report_line(rt: &impl Eprint, word: &str) -> bool {
             is_there = true;
         }
     }
-    if word == "do" || word == "call" {
+    if word == "do" || word == "call" || word == "fail" {
         let _ = eprintln!(rt;
             "    for example: {word} ap POWER_STATE_SET async cpu off\n    \
             items are names of the board or numbers; states are on and off, and a rate may have a \

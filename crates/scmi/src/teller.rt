@@ -2,7 +2,6 @@
 
 use crate::STANDARD_INPUT;
 use crate::opened::Opened;
-use crate::plain_step::write_plain_step;
 use crate::remark::write_remark;
 use crate::report::report_output;
 use crate::serve_session::AskedSession;
@@ -10,7 +9,7 @@ use crate::session_help::report_help;
 use crate::unknown_text::UnknownText;
 use scmi_explain::{Expected, Fault, LastLine, explain};
 use scmi_io::{FAILED_OUTPUT, write_fault};
-use scmi_live::{Listener, LiveError, unknown_in};
+use scmi_live::{Listener, LiveError, PlainStep, unknown_in};
 use scmi_text::{Step, StepLine, write_step_line};
 use std::alloc::Global;
 use std::io::{Eprint, Write};
@@ -106,11 +105,10 @@ impl<'a, T: Eprint, W: Write + Drop, S: Write + Drop> Teller<'a, T, W, S> {
         if self.saved.is_none() {
             return Ok(());
         }
-        let mut line = Vec::new(self.alloc);
-        if write_plain_step(&mut line, step).is_err() {
+        let Ok(line) = format!(in self.alloc; "{}\n", PlainStep(step)) else {
             return Err(LiveError::Memory);
-        }
-        self.save_bytes(&line);
+        };
+        self.save_bytes(line.as_bytes());
         if self.lost().is_some() {
             return Err(LiveError::Write);
         }

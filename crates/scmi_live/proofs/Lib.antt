@@ -2,4 +2,5 @@ mod FewItems
 mod ItemLists
 mod MeantExamples
 mod NameLists
+mod Numbers
 mod UnderWay

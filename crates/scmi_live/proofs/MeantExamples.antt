@@ -13,7 +13,7 @@ use Rattle.scmi_text.specs.TextLines.{after_each_line}
 use Rattle.scmi_text.specs.declared.step.AgentStep.TheVariants as agent
 use Rattle.scmi_text.specs.declared.step.PlatformStep.TheVariants.{Serve}
 use Rattle.scmi_text.specs.declared.step.Step.{Step}
-use Rattle.scmi_text.specs.declared.step.Step.TheVariants.{Agent, Platform, Do, Advance}
+use Rattle.scmi_text.specs.declared.step.Step.TheVariants.{Agent, Platform, Do, Advance, Fail, AdvanceFailed, Restart}
 use Rattle.scmi_live.specs.Meant.{step_meant}
 
 -- on a board of the agents ap and modem, the domains cpu, gpu and usb, and the clocks core, bus and pix
@@ -54,3 +54,9 @@ no_words : map meant (codes "do ap CLOCK_RATE_SET bus 1.5Hz" ∷ codes "do ap CL
     ∷ codes "do ap CLOCK_RATE_SET round-up+async bus 600MHz" ∷ []) ≡ replicate 7 None
 unfolding behind_spaces first_number item_at items_up_to number_of first_agent first_message payload_behind with_word advance_head agent_head command_head first_head head_of payload_of step_of_line with_step after_each_line lines_of lines_behind rows_of
 no_words = refl
+
+-- steps beside hardware that refuses, and of an agent that restarts
+beside_hardware : map meant (codes "fail ap POWER_STATE_SET cpu on" ∷ codes "restart modem" ∷ codes "restart 2" ∷ codes "advance failed" ∷ codes "fail 1 0x11 5 0" ∷ codes "restart usb" ∷ [])
+    ≡ Some (Fail 1 (call_with 0x11 4 (0 ∷ 0 ∷ 0 ∷ []))) ∷ Some (Restart 2) ∷ Some (Restart 2) ∷ Some AdvanceFailed ∷ Some (Fail 1 (call_with 0x11 5 (0 ∷ []))) ∷ None ∷ []
+unfolding behind_spaces first_number item_at items_up_to number_of first_agent first_message payload_behind with_word advance_head agent_head command_head first_head head_of payload_of step_of_line with_step after_each_line lines_of lines_behind rows_of
+beside_hardware = refl

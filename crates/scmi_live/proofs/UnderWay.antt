@@ -9,7 +9,10 @@ use Rattle.scmi_io.specs.Lines.{is_line_feed, first_line, after_line, has_line_f
 use Rattle.scmi_link.specs.View.{CallerView}
 use Rattle.scmi_link.specs.declared.closing.Closing.{Closing}
 use Rattle.scmi_link.specs.declared.close_error.CloseError.{CloseError}
-use Rattle.scmi_plan.specs.Board.{Board}
+use Rattle.scmi_board.specs.Channels.{Described, with_channels}
+use Rattle.scmi_board.specs.ValidBoard.{with_its_channels}
+use Rattle.scmi_board.specs.declared.channel_line.ChannelLine.{ChannelLine}
+use Rattle.scmi_plan.specs.Board.{Board, with_channel}
 use Rattle.scmi_session.specs.Run.{AllSteps, IsGathered, IsNewSession}
 use Rattle.scmi_session.specs.SessionView.{SessionView}
 use Rattle.scmi_text.specs.declared.step.Step.{Step}
@@ -84,21 +87,26 @@ module _ (full : Bool) (Shows : CallerView → Result Closing CloseError → Typ
   ended_as (Does step) before after texts now now' end off by gathered heard = absurd cc
 
   -- what is left of an input: what the listener is still given, behind what it was, is what the whole gives
-  abbrev IsOnItsWay : (board : Board) (input rest : List ℕ) (live : LiveView) (old now : Option (List Heard)) → Type 0
-  IsOnItsWay board input rest live old now = (end : Option (List Heard)) → IsRestOf (slice_split is_line_feed rest) live now end → IsSession full Shows board input old end
+  abbrev IsOnItsWay : (said : Described) (input rest : List ℕ) (live : LiveView) (old now : Option (List Heard)) → Type 0
+  IsOnItsWay said input rest live old now = (end : Option (List Heard)) → IsRestOf (slice_split is_line_feed rest) live now end → IsSession full Shows said input old end
 
   -- the same, where it may be unknown what the reader gives
-  abbrev pub IsUnderWay : (board : Board) (whole left : Option (List ℕ)) (live : LiveView) (old now : Option (List Heard)) → Type 0
-  IsUnderWay board None left live old now = Unit {0}
-  IsUnderWay board (Some input) None live old now = ⊥
-  IsUnderWay board (Some input) (Some rest) live old now = IsOnItsWay board input rest live old now
+  abbrev pub IsUnderWay : (said : Described) (whole left : Option (List ℕ)) (live : LiveView) (old now : Option (List Heard)) → Type 0
+  IsUnderWay said None left live old now = Unit {0}
+  IsUnderWay said (Some input) None live old now = ⊥
+  IsUnderWay said (Some input) (Some rest) live old now = IsOnItsWay said input rest live old now
 
-  begun : (board b : Board) (agents : ℕ) (session : SessionView) (input : List ℕ) (old end : Option (List Heard)) → b ≡ board → agents ≡ length board.agents → IsNewSession board session
-      → IsRest (steps_of b agents (slice_split is_line_feed input)) session old end → IsSession full Shows board input old end
-  begun board b agents session input old end b_is agents_is new rest =
+  -- channels leave a board's agents as they are
+  agents_kept : (board : Board) (lines : List ChannelLine) → (with_channels board lines).agents ≡ board.agents
+  agents_kept board [] = refl
+  agents_kept board (line ∷ lines) = agents_kept (with_channel board line.agent line.channel) lines
+
+  begun : (said : Described) (b : Board) (agents : ℕ) (session : SessionView) (input : List ℕ) (old end : Option (List Heard)) → b ≡ said.0 → agents ≡ length said.0.agents → IsNewSession (with_its_channels said) session
+      → IsRest (steps_of b agents (slice_split is_line_feed input)) session old end → IsSession full Shows said input old end
+  begun said b agents session input old end b_is agents_is new rest =
       let texts = slice_split is_line_feed input in
       let first = subst (λ x. IsRest (steps_of x agents texts) session old end) b_is rest in
-      let all : IsRest (steps_of board (length board.agents) texts) session old end = subst (λ n. IsRest (steps_of board n texts) session old end) agents_is first in
+      let all : IsRest (steps_of said.0 (length said.0.agents) texts) session old end = subst (λ n. IsRest (steps_of said.0 n texts) session old end) agents_is first in
       record {
         lines = all.lines;
         last = all.last;
@@ -107,10 +115,12 @@ module _ (full : Bool) (Shows : CallerView → Result Closing CloseError → Typ
         heard = all.heard;
       }
 
-  pub at_begin : (board : Board) (whole : Option (List ℕ)) (live : LiveView) (old : Option (List Heard)) → live.board ≡ board → live.agents ≡ length board.agents → IsNewSession board live.session
-      → IsUnderWay board whole whole live old old
-  at_begin board None live old board_is agents_is new = tt
-  at_begin board (Some input) live old board_is agents_is new = λ end rest. begun board live.board live.agents live.session input old end board_is agents_is new rest
+  pub at_begin : (said : Described) (plan : Board) (whole : Option (List ℕ)) (live : LiveView) (old : Option (List Heard)) → plan ≡ with_its_channels said → live.board ≡ said.0 → live.agents ≡ length plan.agents → IsNewSession plan live.session
+      → IsUnderWay said whole whole live old old
+  at_begin said plan None live old plan_is board_is agents_is new = tt
+  at_begin said plan (Some input) live old plan_is board_is agents_is new = λ end rest.
+      let count : live.agents ≡ length said.0.agents = agents_is ∙ ap (λ (b : Board). length b.agents) plan_is ∙ ap length (agents_kept said.0 said.1) in
+      begun said live.board live.agents live.session input old end board_is count (subst (λ b. IsNewSession b live.session) plan_is new) rest
 
   has_feed : (rest : List ℕ) → true ≡ has_line_feed rest → position_or_len is_line_feed rest < length rest
   has_feed rest e = grind (arith, nat_tests)
@@ -133,46 +143,46 @@ module _ (full : Bool) (Shows : CallerView → Result Closing CloseError → Typ
       parts ∙ ap (λ l. l ∷ []) (sym all)
 
   -- a line, and those after it
-  on_line : (board : Board) (input rest line : List ℕ) (texts : List (List ℕ)) (before after : LiveView) (old now now' end : Option (List Heard)) → IsOnItsWay board input rest before old now → slice_split is_line_feed rest ≡ line ∷ texts
-      → goes_on (line_meant before.board before.agents line) ≡ true → Answers full Shows line before after now now' → IsRestOf texts after now' end → IsSession full Shows board input old end
-  on_line board input rest line texts before after old now now' end way split on by more =
+  on_line : (said : Described) (input rest line : List ℕ) (texts : List (List ℕ)) (before after : LiveView) (old now now' end : Option (List Heard)) → IsOnItsWay said input rest before old now → slice_split is_line_feed rest ≡ line ∷ texts
+      → goes_on (line_meant before.board before.agents line) ≡ true → Answers full Shows line before after now now' → IsRestOf texts after now' end → IsSession full Shows said input old end
+  on_line said input rest line texts before after old now now' end way split on by more =
       way end (subst (λ ls. IsRestOf ls before now end) (sym split) (answered_as (line_meant before.board before.agents line) before after texts now now' end on by more))
 
-  on_last : (board : Board) (input rest line : List ℕ) (texts : List (List ℕ)) (before after : LiveView) (old now now' end : Option (List Heard)) → IsOnItsWay board input rest before old now → slice_split is_line_feed rest ≡ line ∷ texts
-      → goes_on (line_meant before.board before.agents line) ≡ false → Answers full Shows line before after now now' → IsGathered after.session → Gives now' end (at_end after.session) → IsSession full Shows board input old end
-  on_last board input rest line texts before after old now now' end way split off by gathered heard =
+  on_last : (said : Described) (input rest line : List ℕ) (texts : List (List ℕ)) (before after : LiveView) (old now now' end : Option (List Heard)) → IsOnItsWay said input rest before old now → slice_split is_line_feed rest ≡ line ∷ texts
+      → goes_on (line_meant before.board before.agents line) ≡ false → Answers full Shows line before after now now' → IsGathered after.session → Gives now' end (at_end after.session) → IsSession full Shows said input old end
+  on_last said input rest line texts before after old now now' end way split off by gathered heard =
       way end (subst (λ ls. IsRestOf ls before now end) (sym split) (ended_as (line_meant before.board before.agents line) before after texts now now' end off by gathered heard))
 
-  pub one_more : (board : Board) (whole left left' : Option (List ℕ)) (line : List ℕ) (before after : LiveView) (ended : Bool) (old now now' : Option (List Heard)) → IsUnderWay board whole left before old now
+  pub one_more : (said : Described) (whole left left' : Option (List ℕ)) (line : List ℕ) (before after : LiveView) (ended : Bool) (old now now' : Option (List Heard)) → IsUnderWay said whole left before old now
       → IfSome left (λ input. line ≡ first_line input) → IfSome left (λ input. left' ≡ Some (after_line input)) → IfSome left (λ input. ended ≡ has_line_feed input) → ended ≡ true
-      → goes_on (line_meant before.board before.agents line) ≡ true → Answers full Shows line before after now now' → IsUnderWay board whole left' after old now'
-  one_more board None left left' line before after ended old now now' way first behind feed is_ended on by = tt
-  one_more board (Some input) None left' line before after ended old now now' way first behind feed is_ended on by = absurd way
-  one_more board (Some input) (Some rest) None line before after ended old now now' way first behind feed is_ended on by = absurd cc
-  one_more board (Some input) (Some rest) (Some rest') line before after ended old now now' way first behind feed is_ended on by =
+      → goes_on (line_meant before.board before.agents line) ≡ true → Answers full Shows line before after now now' → IsUnderWay said whole left' after old now'
+  one_more said None left left' line before after ended old now now' way first behind feed is_ended on by = tt
+  one_more said (Some input) None left' line before after ended old now now' way first behind feed is_ended on by = absurd way
+  one_more said (Some input) (Some rest) None line before after ended old now now' way first behind feed is_ended on by = absurd cc
+  one_more said (Some input) (Some rest) (Some rest') line before after ended old now now' way first behind feed is_ended on by =
       let is_behind : rest' ≡ after_line rest = cc in
-      λ end more. on_line board input rest line (slice_split is_line_feed rest') before after old now now' end way (split_at rest rest' line first is_behind (sym is_ended ∙ feed)) on by more
+      λ end more. on_line said input rest line (slice_split is_line_feed rest') before after old now now' end way (split_at rest rest' line first is_behind (sym is_ended ∙ feed)) on by more
 
-  pub at_last : (board : Board) (whole left : Option (List ℕ)) (line : List ℕ) (before after : LiveView) (ended : Bool) (old now now' end : Option (List Heard)) → IsUnderWay board whole left before old now
+  pub at_last : (said : Described) (whole left : Option (List ℕ)) (line : List ℕ) (before after : LiveView) (ended : Bool) (old now now' end : Option (List Heard)) → IsUnderWay said whole left before old now
       → IfSome left (λ input. line ≡ first_line input) → IfSome left (λ input. ended ≡ has_line_feed input) → ended ≡ false → goes_on (line_meant before.board before.agents line) ≡ true
-      → Answers full Shows line before after now now' → IsGathered after.session → Gives now' end (at_end after.session) → IfSome whole (λ input. IsSession full Shows board input old end)
-  at_last board None left line before after ended old now now' end way first feed is_last on by gathered heard = tt
-  at_last board (Some input) None line before after ended old now now' end way first feed is_last on by gathered heard = absurd way
-  at_last board (Some input) (Some rest) line before after ended old now now' end way first feed is_last on by gathered heard =
-      on_line board input rest line [] before after old now now' end way (split_last rest line first (sym is_last ∙ feed)) on by (no_more after.session now' end gathered heard)
+      → Answers full Shows line before after now now' → IsGathered after.session → Gives now' end (at_end after.session) → IfSome whole (λ input. IsSession full Shows said input old end)
+  at_last said None left line before after ended old now now' end way first feed is_last on by gathered heard = tt
+  at_last said (Some input) None line before after ended old now now' end way first feed is_last on by gathered heard = absurd way
+  at_last said (Some input) (Some rest) line before after ended old now now' end way first feed is_last on by gathered heard =
+      on_line said input rest line [] before after old now now' end way (split_last rest line first (sym is_last ∙ feed)) on by (no_more after.session now' end gathered heard)
 
-  on_quit : (board : Board) (input rest line : List ℕ) (before after : LiveView) (ended : Bool) (old now now' end : Option (List Heard)) → IsOnItsWay board input rest before old now
+  on_quit : (said : Described) (input rest line : List ℕ) (before after : LiveView) (ended : Bool) (old now now' end : Option (List Heard)) → IsOnItsWay said input rest before old now
       → line ≡ first_line rest → ended ≡ has_line_feed rest → goes_on (line_meant before.board before.agents line) ≡ false
-      → Answers full Shows line before after now now' → IsGathered after.session → Gives now' end (at_end after.session) → IsSession full Shows board input old end
-  on_quit board input rest line before after true old now now' end way first feed off by gathered heard =
-      on_last board input rest line (slice_split is_line_feed (after_line rest)) before after old now now' end way (split_at rest (after_line rest) line first refl feed) off by gathered heard
-  on_quit board input rest line before after false old now now' end way first feed off by gathered heard =
-      on_last board input rest line [] before after old now now' end way (split_last rest line first feed) off by gathered heard
+      → Answers full Shows line before after now now' → IsGathered after.session → Gives now' end (at_end after.session) → IsSession full Shows said input old end
+  on_quit said input rest line before after true old now now' end way first feed off by gathered heard =
+      on_last said input rest line (slice_split is_line_feed (after_line rest)) before after old now now' end way (split_at rest (after_line rest) line first refl feed) off by gathered heard
+  on_quit said input rest line before after false old now now' end way first feed off by gathered heard =
+      on_last said input rest line [] before after old now now' end way (split_last rest line first feed) off by gathered heard
 
-  pub at_quit : (board : Board) (whole left : Option (List ℕ)) (line : List ℕ) (before after : LiveView) (ended : Bool) (old now now' end : Option (List Heard)) → IsUnderWay board whole left before old now
+  pub at_quit : (said : Described) (whole left : Option (List ℕ)) (line : List ℕ) (before after : LiveView) (ended : Bool) (old now now' end : Option (List Heard)) → IsUnderWay said whole left before old now
       → IfSome left (λ input. line ≡ first_line input) → IfSome left (λ input. ended ≡ has_line_feed input) → goes_on (line_meant before.board before.agents line) ≡ false
-      → Answers full Shows line before after now now' → IsGathered after.session → Gives now' end (at_end after.session) → IfSome whole (λ input. IsSession full Shows board input old end)
-  at_quit board None left line before after ended old now now' end way first feed off by gathered heard = tt
-  at_quit board (Some input) None line before after ended old now now' end way first feed off by gathered heard = absurd way
-  at_quit board (Some input) (Some rest) line before after ended old now now' end way first feed off by gathered heard =
-      on_quit board input rest line before after ended old now now' end way first feed off by gathered heard
+      → Answers full Shows line before after now now' → IsGathered after.session → Gives now' end (at_end after.session) → IfSome whole (λ input. IsSession full Shows said input old end)
+  at_quit said None left line before after ended old now now' end way first feed off by gathered heard = tt
+  at_quit said (Some input) None line before after ended old now now' end way first feed off by gathered heard = absurd way
+  at_quit said (Some input) (Some rest) line before after ended old now now' end way first feed off by gathered heard =
+      on_quit said input rest line before after ended old now now' end way first feed off by gathered heard

@@ -10,3 +10,4 @@ pub mod Meant
 pub mod LiveError
 pub mod Heard
 pub mod Live
+pub mod Numbered

@@ -5,6 +5,8 @@ use Rattle.scmi_link.specs.View.{CallerView}
 use Rattle.scmi_link.specs.declared.closing.Closing.{Closing}
 use Rattle.scmi_link.specs.declared.close_error.CloseError.{CloseError}
 use Rattle.scmi_io.specs.Lines.{is_line_feed}
+use Rattle.scmi_board.specs.Channels.{Described}
+use Rattle.scmi_board.specs.ValidBoard.{with_its_channels}
 use Rattle.scmi_plan.specs.Board.{Board}
 use Rattle.scmi_session.specs.Run.{IsGathered, Runs}
 use Rattle.scmi_session.specs.SessionView.{SessionView}
@@ -70,10 +72,10 @@ module _ (full : Bool) (Shows : CallerView → Result Closing CloseError → Typ
   abbrev pub Answers : List ℕ → LiveView → LiveView → Option (List Heard) → Option (List Heard) → Type 0
   Answers text before after old new = AnswersAs (line_meant before.board before.agents text) before after old new
 
-  -- the listener is given exactly the steps that the input encodes, made one after the other in a new session of the board, each with its line, and then the length of the history that they leave
-  pub record IsSession (board : Board) (input : List ℕ) (old new : Option (List Heard)) : Type 0 where
+  -- the listener is given exactly the steps that the input encodes, made one after the other in a new session of the board with its channels, each with its line, and then the length of the history that they leave
+  pub record IsSession (said : Described) (input : List ℕ) (old new : Option (List Heard)) : Type 0 where
     pub lines : List StepLine
     pub last : SessionView
-    pub made : Runs full Shows board (steps_of_input board input) lines last
+    pub made : Runs full Shows (with_its_channels said) (steps_of_input said.0 input) lines last
     pub gathered : IsGathered last
-    pub heard : Gives old new (with_lines (steps_of_input board input) lines ++ at_end last)
+    pub heard : Gives old new (with_lines (steps_of_input said.0 input) lines ++ at_end last)

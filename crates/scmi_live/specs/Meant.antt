@@ -5,7 +5,7 @@ use Rattle.scmi_board.specs.Items.{◌>>=◌, items_of}
 use Rattle.scmi_board.specs.Lines.{is_significant, lines_left}
 use Rattle.scmi_plan.specs.Board.{Board}
 use Rattle.scmi_text.specs.Step.{IsStepOf}
-use Rattle.scmi_text.specs.StepText.{steps_of_lines}
+use Rattle.scmi_text.specs.StepText.{hardware_steps_of_lines, steps_of_lines}
 use Rattle.scmi_text.specs.declared.step.Step.{Step}
 use Rattle.scmi_live.specs.NamedStep.{named_step}
 use Rattle.scmi_live.specs.declared.meant.Meant.{Meant}
@@ -23,20 +23,28 @@ abbrev pub one_step : Result (List Step) ℕ → Option Step
 one_step (Ok steps) = only_step steps
 one_step (Err line) = None
 
--- the step of a line as a script has it
-abbrev pub step_by_numbers : ℕ → List ℕ → Option Step
-step_by_numbers agents text = one_step (steps_of_lines agents (lines_left (record { rest = text; number = 1 })))
+-- the step of a line as a script of the modes `steps` has it
+abbrev pub plain_step : ℕ → List ℕ → Option Step
+plain_step agents text = one_step (steps_of_lines agents (lines_left (record { rest = text; number = 1 })))
+
+-- the step of a line as a script of the modes `hardware` has it
+abbrev pub hardware_step : ℕ → List ℕ → Option Step
+hardware_step agents text = one_step (hardware_steps_of_lines agents (lines_left (record { rest = text; number = 1 })))
 
 -- the step of a line whose items may be names
 abbrev pub step_by_names : Board → ℕ → List ℕ → Option Step
 step_by_names board agents text = items_of text >>= named_step board agents
 
--- a line of numbers is the step that a script has in it, whatever names the board has
+-- a step, or if there is none, another
 abbrev pub or_step : Option Step → Option Step → Option Step
-or_step (Some step) named = Some step
-or_step None named = named
+or_step (Some step) other = Some step
+or_step None other = other
 
--- the step that a line encodes, on a board with this number of agents
+-- the step of a line as a script has it
+abbrev pub step_by_numbers : ℕ → List ℕ → Option Step
+step_by_numbers agents text = or_step (plain_step agents text) (hardware_step agents text)
+
+-- the step that a line encodes, on a board with this number of agents: a line of numbers is the step that a script has in it, whatever names the board has
 abbrev pub step_meant : Board → ℕ → List ℕ → Option Step
 step_meant board agents text = or_step (step_by_numbers agents text) (step_by_names board agents text)
 

@@ -64,12 +64,14 @@ alone value (item ∷ items) = None
 abbrev pub step_behind : Board → Form → ℕ → List (List ℕ) → Option Step
 step_behind board form.Do a items = option_map (λ call. step.Do a call) (call_of board items)
 step_behind board form.Call a items = option_map (λ call. step.Agent a (agent.Call call)) (call_of board items)
+step_behind board form.Fail a items = option_map (λ call. step.Fail a call) (call_of board items)
 step_behind board form.Raw a items = option_map (λ made. step.Agent a made) (raw_of items)
 step_behind board form.Malformed a items = option_map (λ made. step.Agent a made) (malformed_of items)
 step_behind board form.Collect a items = alone (step.Agent a agent.Collect) items
 step_behind board form.P2a a items = alone (step.Agent a agent.P2a) items
 step_behind board form.Close a items = alone (step.Agent a agent.Close) items
 step_behind board (form.Platform call) a items = alone (step.Platform a call) items
+step_behind board form.Restart a items = alone (step.Restart a) items
 
 -- the step of items of which the first is the form's word and the second the agent, on a board with this number of agents
 abbrev pub named_step : Board → ℕ → List (List ℕ) → Option Step

@@ -11,6 +11,8 @@ pub(crate) enum Form {
     Do,
     /// The same, posted alone.
     Call,
+    /// As `Do`, beside hardware that refuses each change.
+    Fail,
     /// A header word, and the payload as numbers.
     Raw,
     /// A length and a header word.
@@ -19,6 +21,7 @@ pub(crate) enum Form {
     P2a,
     Close,
     Platform(PlatformStep),
+    Restart,
 }
 
 /// The first word of a line, and its form.
@@ -41,9 +44,10 @@ macro_rules! forms {
 }
 
 /// The first words of the lines of steps that are of an agent.
-pub(crate) const FORMS: [HeldForm; 10] = forms![
+pub(crate) const FORMS: [HeldForm; 12] = forms![
     b"do" Form::Do;
     b"call" Form::Call;
+    b"fail" Form::Fail;
     b"raw" Form::Raw;
     b"bad" Form::Malformed;
     b"collect" Form::Collect;
@@ -52,6 +56,7 @@ pub(crate) const FORMS: [HeldForm; 10] = forms![
     b"serve" Form::Platform(PlatformStep::Serve);
     b"flush" Form::Platform(PlatformStep::Flush);
     b"shut" Form::Platform(PlatformStep::Shut);
+    b"restart" Form::Restart;
 ];
 
 /// The form of a line that begins with this word.

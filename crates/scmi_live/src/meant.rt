@@ -1,14 +1,15 @@
 //! What a line of a session means.
-ghost use Rattle.std.specs.Prelude.{◌≡◌, IfOk, IfSome};
+ghost use Rattle.std.specs.Prelude.{◌≡◌, Some, IfOk, IfSome};
 ghost use Rattle.scmi_plan.specs.RawPlan.{asked_board};
 ghost use Rattle.scmi_text.specs.Step.{IsStepOf};
-ghost use Rattle.scmi_live.specs.Meant.{IsMeantOf, described_by, is_help, line_meant, only_step, step_by_names, step_by_numbers, step_meant};
+ghost use Rattle.scmi_text.specs.declared.step.Step.{Step as StepOf};
+ghost use Rattle.scmi_live.specs.Meant.{IsMeantOf, described_by, hardware_step, is_help, line_meant, only_step, plain_step, step_by_names, step_by_numbers, step_meant};
 
 use crate::items::items_of;
 use crate::named_step::named_step;
 use scmi_board::{LineError, Lines, TextError, is_significant};
 use scmi_plan::RawPlan;
-use scmi_text::{Step, StepList, read_steps};
+use scmi_text::{Step, StepList, read_hardware_steps, read_steps};
 use std::alloc::{AllocError, Global};
 
 /// From here on replies are described, or are not.
@@ -92,7 +93,7 @@ fn is_help(text: &[u8]) -> bool
 }
 
 /// The step that a line encodes: the one of its numbers, as a script has it, or else that of its
-/// names.
+/// names. A line that is a step of the mode `steps words` is that step.
 pub fn step_meant(
     alloc: Global,
     board: &RawPlan,
@@ -100,6 +101,8 @@ pub fn step_meant(
     text: &[u8],
 ) -> Result<Option<Step>, AllocError>
     ensures agent { IfOk result (λ step. IfSome step (IsStepOf agents)) }
+    ensures plain { IfOk result (λ step. (plain : StepOf) →
+        plain_step agents text.now ≡ Some plain → step ≡ Some plain) }
     ensures step { IfOk result (λ step. step ≡ step_meant (asked_board board.now) agents text.now) }
 {
     match step_by_numbers(alloc, agents, text)? {
@@ -113,8 +116,36 @@ fn step_by_numbers(alloc: Global, agents: u32, text: &[u8]) -> Result<Option<Ste
     ensures agent { IfOk result (λ step. IfSome step (IsStepOf agents)) }
     ensures step { IfOk result (λ step. step ≡ step_by_numbers agents text.now) }
 {
+    match plain_step(alloc, agents, text)? {
+        Some(step) => Ok(Some(step)),
+        None => hardware_step(alloc, agents, text),
+    }
+}
+
+/// The step of a line as a script of the modes `steps` has it.
+fn plain_step(alloc: Global, agents: u32, text: &[u8]) -> Result<Option<Step>, AllocError>
+    ensures agent { IfOk result (λ step. IfSome step (IsStepOf agents)) }
+    ensures step { IfOk result (λ step. step ≡ plain_step agents text.now) }
+{
     let mut lines = Lines::new(text);
     match read_steps(alloc, &mut lines, agents) {
+        Ok(steps) => Ok(only_step(&steps)),
+        Err(TextError::Memory) => Err(AllocError),
+        Err(_) => Ok(None),
+    }
+}
+
+/// The step of a line as a script of the modes `hardware` has it.
+pub(crate) fn hardware_step(
+    alloc: Global,
+    agents: u32,
+    text: &[u8],
+) -> Result<Option<Step>, AllocError>
+    ensures agent { IfOk result (λ step. IfSome step (IsStepOf agents)) }
+    ensures step { IfOk result (λ step. step ≡ hardware_step agents text.now) }
+{
+    let mut lines = Lines::new(text);
+    match read_hardware_steps(alloc, &mut lines, agents) {
         Ok(steps) => Ok(only_step(&steps)),
         Err(TextError::Memory) => Err(AllocError),
         Err(_) => Ok(None),
@@ -134,7 +165,7 @@ fn only_step(steps: &StepList) -> Option<Step>
 }
 
 /// The step of a line whose items may be names.
-fn step_by_names(
+pub(crate) fn step_by_names(
     alloc: Global,
     board: &RawPlan,
     agents: u32,

@@ -3,7 +3,7 @@ ghost use Rattle.std.specs.Prelude.{◌≡◌, map, IfSome, List, ℕ, Some};
 ghost use Rattle.std.specs.Option.{option_map};
 ghost use Rattle.scmi_plan.specs.Agent.{IsAgent};
 ghost use Rattle.scmi_plan.specs.RawPlan.{asked_board};
-ghost use Rattle.scmi_text.specs.Step.{IsStepOf, IsWithoutHardware, step_agent};
+ghost use Rattle.scmi_text.specs.Step.{IsStepOf, step_agent};
 ghost use Rattle.scmi_live.specs.NamedStep.{agent_of, alone, malformed_of, named_step, raw_of, step_behind};
 
 use crate::form::{FORMS, Form, form_in};
@@ -63,12 +63,17 @@ fn step_behind(board: &RawPlan, form: Form, agent: u32, items: &[&[u8]]) -> Opti
             let call = call_of(board, items)?;
             Some(of_agent(agent, AgentStep::Call(call)))
         }
+        Form::Fail => {
+            let call = call_of(board, items)?;
+            Some(Step::Fail { agent, call })
+        }
         Form::Raw => Some(of_agent(agent, raw_of(items)?)),
         Form::Malformed => Some(of_agent(agent, malformed_of(items)?)),
         Form::Collect => alone(of_agent(agent, AgentStep::Collect), items),
         Form::P2a => alone(of_agent(agent, AgentStep::P2a), items),
         Form::Close => alone(of_agent(agent, AgentStep::Close), items),
         Form::Platform(step) => alone(Step::Platform { agent, step }, items),
+        Form::Restart => alone(Step::Restart { agent }, items),
     }
 }
 

@@ -1,40 +1,42 @@
 //! A session from its input to its end.
 ghost use Rattle.std.specs.Prelude.{◌≡◌, OnOk, IfSome};
 ghost use Rattle.scmi_io.specs.Reads.{StopsWith};
-ghost use Rattle.scmi_plan.specs.RawPlan.{asked_board};
+ghost use Rattle.scmi_board.specs.Channels.{described};
+ghost use Rattle.scmi_board.specs.ValidBoard.{with_its_channels};
 ghost use Rattle.scmi_ends.specs.Shut.{ShowsClose};
 ghost use Rattle.scmi_live.specs.Live.{IsSession};
 
 use crate::listener::Listener;
 use crate::live::Live;
 use crate::live_error::LiveError;
+use scmi_board::BoardWithChannels;
 use scmi_io::{CountedRead, Input};
 use scmi_link::Channel;
-use scmi_plan::{Plan, RawPlan};
+use scmi_plan::Plan;
 use std::alloc::Global;
 
-/// Answers an input line by line, on a board of which this is the plan, up to its end or a line
-/// that ends the session. The listener is given each step that was taken with its line, before the
-/// next line is read, and at the end the length of the history and how many notifications were
-/// dropped.
+/// Answers an input line by line, on a board of which this is the plan, with the channels that its
+/// text gives, up to its end or a line that ends the session. The listener is given each step that
+/// was taken with its line, before the next line is read, and at the end the length of the history
+/// and how many notifications were dropped.
 ///
 /// `Size` at a line longer than `INPUT_BYTES`, `Read` at a read that fails, `Memory` when out of
 /// memory, and what the listener gives: the lines before are then answered.
 pub fn run_live<C: Channel, R: CountedRead + Drop, L: Listener>(
     alloc: Global,
-    board: &RawPlan,
+    board: &BoardWithChannels,
     plan: Plan,
     input: &mut Input<R>,
     listener: &mut L,
 ) -> Result<(), LiveError>
-    requires { plan ≡ asked_board board.now }
+    requires { plan ≡ with_its_channels (described board.now) }
     ensures session { OnOk result (IfSome input.old.left (λ bytes.
-        IsSession C.FULL (ShowsClose C.caller_view C.close_shows) (asked_board board.now) bytes
+        IsSession C.FULL (ShowsClose C.caller_view C.close_shows) (described board.now) bytes
         (L.heard listener.old) (L.heard listener.new))) }
     ensures stops { StopsWith LiveError.Read result input.old.since_failure
         input.new.since_failure }
 {
-    let mut live = Live::<C>::open(alloc, board, plan)?;
+    let mut live = Live::<C>::open(alloc, &board.board, plan)?;
     let mut line = Vec::new(alloc);
     'lines: for number in 1..usize::MAX {
         listener.ready();

@@ -60,7 +60,7 @@ pub fn unknown_in<'a>(
                 return Some(Unknown::Agent(*who));
             }
             match form {
-                Form::Do | Form::Call => unknown_command(board, rest),
+                Form::Do | Form::Call | Form::Fail => unknown_command(board, rest),
                 _ => None,
             }
         }

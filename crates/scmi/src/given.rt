@@ -1,0 +1,54 @@
+//! Inputs of `run` and `chart`, as they are run: with numbers in place of names.
+ghost use Rattle.std.specs.Prelude.{◌≡◌, ◌++◌, ◌∷◌, IfOk, IfSome};
+ghost use Rattle.scmi.specs.Given.{IsBehindLine, is_hardware, with_end};
+
+use scmi_io::{CountedRead, read_rest};
+use scmi_live::numbered;
+use scmi_modes::{HARDWARE_RINGS, HARDWARE_WORDS, RunError};
+use std::alloc::{AllocError, Global};
+
+/// Whether a first line is a mode `hardware`.
+pub(crate) fn is_hardware(line: &[u8]) -> bool
+    ensures { result ≡ is_hardware line.now }
+{
+    line == HARDWARE_RINGS.as_bytes() || line == HARDWARE_WORDS.as_bytes()
+}
+
+/// A first line, and the line feed that ended it, if one did.
+pub(crate) fn with_end(alloc: Global, line: &[u8], is_ended: bool) -> Result<Vec<u8>, AllocError>
+    ensures { IfOk result (λ start. start.items ≡ with_end line.now is_ended) }
+{
+    let mut start = Vec::new(alloc);
+    start.extend_from_slice(line)?;
+    if is_ended {
+        start.push(b'\n')?;
+    }
+    Ok(start)
+}
+
+/// The line of a mode `hardware`, and the board and script behind it, with numbers in place of
+/// names. `Size`, `Read` and `Memory` as `read_rest` has them.
+pub(crate) fn in_numbers<R: CountedRead>(
+    alloc: Global,
+    line: &[u8],
+    behind: &mut R,
+) -> Result<Vec<u8>, RunError>
+    ensures { IfOk result (λ given. IfSome (R.remaining behind.old) (λ rest.
+        IsBehindLine line.now rest given.items)) }
+{
+    let text = read_rest(alloc, behind)?;
+    let script = numbered(alloc, &text)?;
+    let given = behind_line(alloc, line, &script)?;
+    Ok(given)
+}
+
+/// A text behind a line.
+fn behind_line(alloc: Global, line: &[u8], text: &[u8]) -> Result<Vec<u8>, AllocError>
+    ensures { IfOk result (λ given. given.items ≡ line.now ++ 10 ∷ text.now) }
+{
+    let mut given = Vec::new(alloc);
+    given.extend_from_slice(line)?;
+    given.push(b'\n')?;
+    given.extend_from_slice(text)?;
+    Ok(given)
+}

@@ -1,0 +1,120 @@
+//! Scripts with numbers in place of names.
+ghost use Rattle.std.specs.Prelude.{◌≡◌, Some, string_bytes, IfOk, OnOk, MatchOption};
+ghost use Rattle.scmi_plan.specs.RawPlan.{asked_board};
+ghost use Rattle.scmi_live.specs.Meant.{hardware_step};
+ghost use Rattle.scmi_live.specs.Numbered.{AddsNumbered, HasNoNames, IsInNumbers, IsInNumbersOf, IsLineInNumbers, with_feed};
+
+use crate::meant::{hardware_step, step_by_names};
+use crate::plain_step::PlainStep;
+use scmi_board::{Lines, TextError, read_board_with_channels};
+use scmi_plan::RawPlan;
+use scmi_text::Step;
+use std::alloc::{AllocError, Global};
+
+/// A board and a script of the modes `hardware`, as they follow the line of the mode, with numbers
+/// in place of names: each line that is no step, but whose names encode one, is replaced by a line
+/// of numbers that is this step. All other lines are as they were, and all of a text that does not
+/// begin with a board. The only error is out of memory.
+pub fn numbered(alloc: Global, text: &[u8]) -> Result<Vec<u8>, AllocError>
+    ensures stays { IfOk result (λ made. HasNoNames text.now → made.items ≡ text.now) }
+    ensures numbers { IfOk result (λ made. IsInNumbers text.now made.items) }
+{
+    let mut lines = Lines::new(text);
+    match read_board_with_channels(alloc, &mut lines) {
+        Ok(said) => match said.board.agent_count() {
+            Ok(agents) => numbered_lines(alloc, &said.board, agents, text),
+            // A board of 2^32 agents.
+            Err(_) => Err(AllocError),
+        },
+        Err(TextError::Memory) => Err(AllocError),
+        Err(_) => copy_of(alloc, text),
+    }
+}
+
+/// A copy of a text.
+fn copy_of(alloc: Global, text: &[u8]) -> Result<Vec<u8>, AllocError>
+    ensures { IfOk result (λ made. made.items ≡ text.now) }
+{
+    let mut made = Vec::new(alloc);
+    made.extend_from_slice(text)?;
+    Ok(made)
+}
+
+/// The lines of a text, with numbers in place of names.
+fn numbered_lines(
+    alloc: Global,
+    board: &RawPlan,
+    agents: u32,
+    text: &[u8],
+) -> Result<Vec<u8>, AllocError>
+    ensures { IfOk result (λ made.
+        IsInNumbersOf (asked_board board.now) agents text.now made.items) }
+{
+    let mut made = Vec::new(alloc);
+    let mut is_first = true;
+    for line in text.split(|byte| *byte == b'\n') {
+        add_feed(is_first, &mut made)?;
+        is_first = false;
+        add_line(alloc, board, agents, line, &mut made)?;
+    }
+    Ok(made)
+}
+
+/// Adds a line feed, unless the line that follows is the first.
+fn add_feed(is_first: bool, made: &mut Vec<u8>) -> Result<(), AllocError>
+    ensures { OnOk result (made.new.items ≡ with_feed is_first made.old.items) }
+{
+    if is_first {
+        return Ok(());
+    }
+    Ok(made.push(b'\n')?)
+}
+
+/// Adds a line, with numbers in place of names.
+fn add_line(
+    alloc: Global,
+    board: &RawPlan,
+    agents: u32,
+    text: &[u8],
+    made: &mut Vec<u8>,
+) -> Result<(), AllocError>
+    ensures { OnOk result (AddsNumbered (asked_board board.now) agents text.now made.old.items
+        made.new.items) }
+{
+    match line_in_numbers(alloc, board, agents, text)? {
+        Some(line) => made.extend_from_slice(line.as_bytes())?,
+        None => made.extend_from_slice(text)?,
+    }
+    Ok(())
+}
+
+/// The line of numbers in place of a line; `None` if the line stays.
+fn line_in_numbers(
+    alloc: Global,
+    board: &RawPlan,
+    agents: u32,
+    text: &[u8],
+) -> Result<Option<String>, AllocError>
+    ensures { IfOk result (λ line. MatchOption line
+        (IsLineInNumbers (asked_board board.now) agents text.now text.now)
+        (λ line. IsLineInNumbers (asked_board board.now) agents text.now (string_bytes line))) }
+{
+    if hardware_step(alloc, agents, text)?.is_some() {
+        return Ok(None);
+    }
+    match step_by_names(alloc, board, agents, text)? {
+        Some(step) => Ok(Some(line_of(alloc, agents, &step)?)),
+        None => Ok(None),
+    }
+}
+
+/// The line of numbers that is this step: no line is given that is read as another.
+fn line_of(alloc: Global, agents: u32, step: &Step) -> Result<String, AllocError>
+    ensures { IfOk result (λ line. hardware_step agents (string_bytes line) ≡ Some step.now) }
+{
+    let line = format!(in alloc; "{}", PlainStep(step))?;
+    match hardware_step(alloc, agents, line.as_bytes())? {
+        Some(read) if read == *step => Ok(line),
+        _ => Err(AllocError),
+    }
+}

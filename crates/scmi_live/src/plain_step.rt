@@ -1,0 +1,75 @@
+//! Steps as a script has them, in numbers.
+
+use scmi_codec::Payload;
+use scmi_text::{AgentStep, Call, PlatformStep, Step};
+use std::fmt;
+
+/// A step. Its text is the line of a script that encodes it, without a line feed.
+#[derive(Clone, Copy)]
+pub struct PlainStep<'a>(pub &'a Step);
+
+impl fmt::Display for PlainStep<'_> {
+    fn fmt<W: fmt::Write>(&self, f: &mut fmt::Formatter<W>) -> fmt::Result {
+        match self.0 {
+            Step::Agent { agent, step } => write_agent_step(f, *agent, step),
+            Step::Platform { agent, step } => {
+                let word = platform_word(*step);
+                write!(f, "{word} {agent}")
+            }
+            Step::Do { agent, call } => write_call(f, "do", *agent, call),
+            Step::Advance => f.write_str("advance"),
+            Step::Fail { agent, call } => write_call(f, "fail", *agent, call),
+            Step::AdvanceFailed => f.write_str("advance failed"),
+            Step::Restart { agent } => write!(f, "restart {agent}"),
+        }
+    }
+}
+
+fn platform_word(step: PlatformStep) -> &'static str {
+    match step {
+        PlatformStep::Serve => "serve",
+        PlatformStep::Flush => "flush",
+        PlatformStep::Shut => "shut",
+    }
+}
+
+fn write_agent_step<W: fmt::Write>(
+    f: &mut fmt::Formatter<W>,
+    agent: u32,
+    step: &AgentStep,
+) -> fmt::Result {
+    match step {
+        AgentStep::Call(call) => write_call(f, "call", agent, call),
+        AgentStep::Raw(message) => {
+            let header = message.header.pack();
+            write!(f, "raw {agent} 0x{header:08x}")?;
+            write_words(f, &message.payload)
+        }
+        AgentStep::Malformed { length, header } => {
+            write!(f, "bad {agent} {length} 0x{header:08x}")
+        }
+        AgentStep::Collect => write!(f, "collect {agent}"),
+        AgentStep::P2a => write!(f, "p2a {agent}"),
+        AgentStep::Close => write!(f, "close {agent}"),
+    }
+}
+
+fn write_call<W: fmt::Write>(
+    f: &mut fmt::Formatter<W>,
+    word: &str,
+    agent: u32,
+    call: &Call,
+) -> fmt::Result {
+    let protocol = call.protocol;
+    let message = call.message;
+    write!(f, "{word} {agent} 0x{protocol:x} 0x{message:x}")?;
+    write_words(f, &call.payload)
+}
+
+fn write_words<W: fmt::Write>(f: &mut fmt::Formatter<W>, payload: &Payload) -> fmt::Result {
+    for word in payload.as_slice() {
+        let word = *word;
+        write!(f, " 0x{word:x}")?;
+    }
+    Ok(())
+}
