@@ -1,7 +1,7 @@
 //! What the matches of a command line ask for.
 
 use crate::command::{
-    BINARY, FIRST, HELP, MERMAID, OFFSET, SAVE, SECOND, SIZE, STRIDE, TAP, VERSION,
+    BINARY, FIRST, HELP, MERMAID, OFFSET, PROTOCOLS, SAVE, SECOND, SIZE, STRIDE, TAP, VERSION,
 };
 use crate::form::task_of;
 use crate::request::Request;
@@ -19,6 +19,8 @@ pub struct Asked<'a> {
     pub request: Request,
     /// Whether a report is to be one of the Test Anything Protocol.
     pub is_tap: bool,
+    /// The protocols that are judged in a record.
+    pub protocols: Option<&'a str>,
     /// The file of the input, or of a board.
     pub first: Option<&'a str>,
     /// The file of a record.
@@ -99,6 +101,7 @@ fn task_by<'a>(task: Task, matches: &ArgMatches<'a>) -> Result<Asked<'a>, Unread
     Ok(Asked {
         request,
         is_tap,
+        protocols: value_of(matches, PROTOCOLS),
         first,
         second,
         save,
@@ -144,6 +147,7 @@ fn with_no_file<'a>(request: Request) -> Asked<'a> {
     Asked {
         request,
         is_tap: false,
+        protocols: None,
         first: None,
         second: None,
         save: None,

@@ -17,6 +17,9 @@ pub const VERSION: &str = "version";
 /// The flag that asks for a report of the Test Anything Protocol.
 pub const TAP: &str = "tap";
 
+/// The option that names the protocols that are judged in a record.
+pub const PROTOCOLS: &str = "protocols";
+
 /// The flag that asks for a diagram in the text of Mermaid.
 pub const MERMAID: &str = "mermaid";
 
@@ -82,6 +85,7 @@ fn task_command<'a>(alloc: Global, form: &Form) -> Result<Command<'a>, AllocErro
             .arg(Arg::new(alloc, FIRST)),
         Operands::BoardAndRecord => command
             .arg(flag(alloc, TAP))?
+            .arg(option(alloc, PROTOCOLS))?
             .arg(Arg::new(alloc, FIRST))?
             .arg(Arg::new(alloc, SECOND)),
     }

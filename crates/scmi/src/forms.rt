@@ -76,17 +76,22 @@ adds line editing and history. docs/SCRIPTS.md has more.",
         task: Task::Check,
         word: "check",
         operands: Operands::BoardAndRecord,
-        usage: "scmi check [--tap] BOARD [RECORD]",
+        usage: "scmi check [--tap] [--protocols LIST] BOARD [RECORD]",
         summary: "checks a record of another platform's replies against SCMI",
         about: "\
 Checks a record of a platform's channels against the definitions of SCMI.",
         details: "\
 BOARD has the lines of the platform's board, from board to end. RECORD, or standard input, has
-the commands, each before its reply, and the other messages, in the order in which they were seen.
+the commands, each before its reply, and the other messages, in the order in which they were seen;
+a trace of Linux's ftrace with the event scmi_msg_dump is a record as it is.
 A line is printed for each reply and each message: same; own, with the rule of this project's own
-by which another reply is possible; or differs, with what was expected. The last line counts them.
+by which another reply is possible; or differs, with what was expected. A line is printed for what
+can't be checked too: a command is unanswered, a reply unmatched, or events are lost. The last line
+counts them.
+--protocols 0x10,0x13 checks the messages of these protocols, and skips others; without it those of
+0x10, 0x11 and 0x14 are checked.
 --tap prints TAP, for a test system. docs/CHECK.md has the lines and the rules.
-Exit status: 0 if nothing differs, 5 if something does.",
+Exit status: 0 if nothing differs, 5 if something does, 2 if there is nothing to check.",
         example: "scmi check phone.board phone.record",
     },
     Form {

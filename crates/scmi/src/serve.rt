@@ -42,6 +42,7 @@ pub fn serve<T: Threads + Wait + Sync + Files + Print + Eprint + Input>(
         };
         let check = AskedCheck {
             style,
+            protocols: asked.protocols,
             board: name,
             record: asked.second,
         };

@@ -2,10 +2,10 @@
 
 use crate::STANDARD_INPUT;
 use crate::asked::STANDARD;
-use crate::refusal::{refuse_file, refuse_standard};
+use crate::refusal::{WRONG_ARGUMENT, refuse_file, refuse_standard};
 use crate::report::report_output;
 use crate::report_board::report_board;
-use scmi_board::Items;
+use scmi_board::{Items, byte};
 use scmi_check::{DIFFERS, Style, run_check};
 use scmi_explain::{Fault, Kept, LastLine};
 use scmi_io::{FAILED_OUTPUT, INPUT_BYTES};
@@ -17,6 +17,8 @@ use std::io::{self, BufWriter, Eprint, Input, Print, Read, Write};
 #[derive(Clone, Copy)]
 pub struct AskedCheck<'a> {
     pub style: Style,
+    /// The protocols that are judged, with commas between their numbers.
+    pub protocols: Option<&'a str>,
     /// `-` if the board is standard input.
     pub board: &'a str,
     /// `None` or `-` if the record is standard input.
@@ -66,6 +68,20 @@ impl<'a> AskedCheck<'a> {
         }
     }
 
+    /// The numbers of the protocols that are judged; `None` if one of them is no number below 256.
+    fn judged(&self, alloc: Global) -> Option<Vec<u8>> {
+        let mut judged = Vec::new(alloc);
+        for number in self.listed().split(',') {
+            judged.push(byte(number.as_bytes())?).ok()?;
+        }
+        Some(judged)
+    }
+
+    /// The protocols that are judged, as they are listed.
+    fn listed(&self) -> &'a str {
+        self.protocols.unwrap_or(PROFILE)
+    }
+
     /// What messages call the board.
     fn board_name(&self) -> &'a str {
         if self.board == STANDARD {
@@ -101,10 +117,19 @@ fn check_on<T: Eprint, B: Read + Drop, R: Read + Drop, W: Write + Drop>(
     record: R,
     writer: W,
 ) -> u8 {
+    let Some(judged) = asked.judged(alloc) else {
+        let _ = eprintln!(rt;
+            "scmi: '{}' is not a list of protocols; write numbers below 256 with commas between, \
+            such as {PROFILE}",
+            asked.listed()
+        );
+        return WRONG_ARGUMENT;
+    };
     let mut board = Kept::new(alloc, board);
     let mut record = Kept::new(alloc, record);
     let mut output = LastLine::new(writer);
-    let status = run_check(alloc, &mut board, &mut record, &mut output, asked.style);
+    let style = asked.style;
+    let status = run_check(alloc, &mut board, &mut record, &mut output, style, &judged);
     let status = report_output(rt, &mut output, status);
     if status != 0 && status != DIFFERS && status != FAILED_OUTPUT {
         if asked.file_of_record().is_some() && is_swapped(&board, &mut record) {
@@ -119,6 +144,12 @@ fn check_on<T: Eprint, B: Read + Drop, R: Read + Drop, W: Write + Drop>(
     }
     status
 }
+
+/// The protocols that are judged if none are listed.
+const PROFILE: &str = "0x10,0x11,0x14";
+
+/// The last line if nothing is judged.
+const NOTHING: &[u8] = b"fault empty";
 
 /// What the text of a board begins with.
 const BOARD_START: &[u8] = b"board ";
@@ -150,7 +181,13 @@ fn report<B: Read + Drop, R: Read + Drop>(
     if let Some(line) = line_of_record(last_line) {
         let _ = eprintln!(rt;
             "{name}:{line}: not a line of a record (docs/CHECK.md has the forms), a reply without a \
-            command, or a command without a reply"
+            command, or a command before the reply to another"
+        );
+    } else if last_line == NOTHING {
+        let _ = eprintln!(rt;
+            "{name}: nothing to check: no command with its reply, and no message, of protocols {}; \
+            docs/CHECK.md has the lines of a record, and --protocols names other protocols",
+            asked.listed()
         );
     } else if let Some(error) = record.error() {
         let _ = eprintln!(rt; "{name}: the record can't be read: {error}");

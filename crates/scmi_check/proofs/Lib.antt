@@ -7,6 +7,7 @@ pub mod Faults
 mod FtraceExamples
 pub mod Judging
 pub mod LinesWritten
+mod NoteExamples
 mod Numbers
 mod OriginExamples
 mod OwnExamples

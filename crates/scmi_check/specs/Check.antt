@@ -14,11 +14,10 @@ use Rattle.scmi_check.specs.CheckError.{fault_text, status_of}
 use Rattle.scmi_check.specs.Counts.{counts_of}
 use Rattle.scmi_judge.specs.Law.{HasHistory}
 use Rattle.scmi_check.specs.Judged.{entries_of, judged_of}
-use Rattle.scmi_check.specs.RecordText.{record_left}
+use Rattle.scmi_check.specs.RecordText.{RecordView, record_left}
 use Rattle.scmi_check.specs.Report.{report_text}
 use Rattle.scmi_check.specs.declared.check_error.CheckError.{CheckError}
-use Rattle.scmi_check.specs.declared.check_error.CheckError.TheVariants.{Size, Read, Board as BoardLine, Plan as PlanRule, Record, Memory, Write}
-use Rattle.scmi_check.specs.declared.placed.Placed.{Placed}
+use Rattle.scmi_check.specs.declared.check_error.CheckError.TheVariants.{Size, Read, Board as BoardLine, Plan as PlanRule, Record, Empty, Memory, Write}
 use Rattle.scmi_check.specs.declared.style.Style.{Style}
 
 -- a text is a board that keeps every rule, and lines `channel` that give its agents these channels
@@ -27,24 +26,25 @@ pub record IsPlanText (text : List ℕ) (board : Board) : Type 0 where
   pub of_text : IsBoardText text said
   pub board_is : board ≡ with_its_channels said
 
--- a text encodes a record of a platform of a board
-abbrev pub IsRecordText : Board → List ℕ → List Placed → Type 0
-IsRecordText board text placed = record_left (length board.agents) (whole text) ≡ Ok placed
+-- a text encodes a record of a platform of a board, if these protocols are judged
+abbrev pub IsRecordText : List ℕ → Board → List ℕ → RecordView → Type 0
+IsRecordText judged board text read = record_left judged (length board.agents) (whole text) ≡ Ok read
 
--- what is written is the report of a record of a platform of a board, of which this many entries differ; if the texts are known, they encode that board and that record. All entries are the same if and only if the record has a legal history
-pub record WritesReport (style : Style) (board_known record_known : Option (List ℕ)) (differ : ℕ) (old new : Option (List ℕ)) : Type 0 where
+-- what is written is the report of a record of a platform of a board, of which this many entries differ; if the texts are known, they encode that board and that record. At least one entry is judged. All entries are the same if and only if they have a legal history
+pub record WritesReport (style : Style) (judged : List ℕ) (board_known record_known : Option (List ℕ)) (differ : ℕ) (old new : Option (List ℕ)) : Type 0 where
   pub board : Board
-  pub placed : List Placed
+  pub read : RecordView
   pub of_board : IfSome board_known (λ text. IsPlanText text board)
-  pub of_record : IfSome record_known (λ text. IsRecordText board text placed)
-  pub text : Appends old new (report_text style (judged_of board placed))
-  pub differ_is : differ ≡ (counts_of (judged_of board placed)).differ
-  pub all_same : ((counts_of (judged_of board placed)).same ≡ length (judged_of board placed)) ↔ HasHistory board (entries_of placed)
+  pub of_record : IfSome record_known (λ text. IsRecordText judged board text read)
+  pub some : 0 < length read.entries
+  pub text : Appends old new (report_text style (judged_of board read.entries) read.left)
+  pub differ_is : differ ≡ (counts_of (judged_of board read.entries)).differ
+  pub all_same : ((counts_of (judged_of board read.entries)).same ≡ length (judged_of board read.entries)) ↔ HasHistory board (entries_of read.entries)
 
 -- the report is written, and a status is 0 if and only if no entry differs but by rules of the profile's own
-pub record IsChecked (style : Style) (board_known record_known : Option (List ℕ)) (status : ℕ) (old new : Option (List ℕ)) : Type 0 where
+pub record IsChecked (style : Style) (judged : List ℕ) (board_known record_known : Option (List ℕ)) (status : ℕ) (old new : Option (List ℕ)) : Type 0 where
   pub differ : ℕ
-  pub report : WritesReport style board_known record_known differ old new
+  pub report : WritesReport style judged board_known record_known differ old new
   pub zero : (status ≡ 0) ↔ (differ ≡ 0)
 
 -- a fault of a board's text: its length, its first line that is not one of a board or follows it, or the first rule that the board breaks. A failed read, or out of memory, shows nothing of it
@@ -56,26 +56,31 @@ IsFaultOfBoard text Read = ⊤
 IsFaultOfBoard text Memory = ⊤
 IsFaultOfBoard text _ = ⊥
 
--- a fault of a record's text, if the platform is of this board: its length, or its first line that is not one of it
-abbrev pub IsFaultOfRecord : Board → List ℕ → CheckError → Type 0
-IsFaultOfRecord board text Size = INPUT_BYTES < length text
-IsFaultOfRecord board text (Record line) = record_left (length board.agents) (whole text) ≡ Err line
-IsFaultOfRecord board text Read = ⊤
-IsFaultOfRecord board text Memory = ⊤
-IsFaultOfRecord board text Write = ⊤
-IsFaultOfRecord board text _ = ⊥
+-- a text encodes a record of which nothing is judged
+abbrev pub IsNothingJudged : List ℕ → Board → List ℕ → Type 0
+IsNothingJudged judged board text = (read : RecordView) × IsRecordText judged board text read × (length read.entries ≡ 0)
+
+-- a fault of a record's text, if the platform is of this board and these protocols are judged: its length, its first line that is not one of it, or that nothing is judged
+abbrev pub IsFaultOfRecord : List ℕ → Board → List ℕ → CheckError → Type 0
+IsFaultOfRecord judged board text Size = INPUT_BYTES < length text
+IsFaultOfRecord judged board text (Record line) = record_left judged (length board.agents) (whole text) ≡ Err line
+IsFaultOfRecord judged board text Empty = IsNothingJudged judged board text
+IsFaultOfRecord judged board text Read = ⊤
+IsFaultOfRecord judged board text Memory = ⊤
+IsFaultOfRecord judged board text Write = ⊤
+IsFaultOfRecord judged board text _ = ⊥
 
 -- a fault of the board's text, or else of the record's
-abbrev pub IsFaultOf : Option (List ℕ) → Option (List ℕ) → CheckError → Type 0
-IsFaultOf board_known record_known fault =
+abbrev pub IsFaultOf : List ℕ → Option (List ℕ) → Option (List ℕ) → CheckError → Type 0
+IsFaultOf judged board_known record_known fault =
     IfSome board_known (λ text. IsFaultOfBoard text fault)
-    ⊎ ((board : Board) × IfSome board_known (λ text. IsPlanText text board) × IfSome record_known (λ text. IsFaultOfRecord board text fault))
+    ⊎ ((board : Board) × IfSome board_known (λ text. IsPlanText text board) × IfSome record_known (λ text. IsFaultOfRecord judged board text fault))
 
 -- a check ends with this status and the line of a fault, which has that status and is one of the texts, if they are known. If a text is rejected nothing else is written
-pub record EndsWithFault (board_known record_known : Option (List ℕ)) (status : ℕ) (old new : Option (List ℕ)) : Type 0 where
+pub record EndsWithFault (judged : List ℕ) (board_known record_known : Option (List ℕ)) (status : ℕ) (old new : Option (List ℕ)) : Type 0 where
   pub fault : CheckError
   pub status_is : status ≡ status_of fault
-  pub of_texts : IsFaultOf board_known record_known fault
+  pub of_texts : IsFaultOf judged board_known record_known fault
   pub before : Option (List ℕ)
   pub refused : status_of fault ≡ 2 → before ≡ old
   pub text : Appends before new (fault_line (fault_text fault))

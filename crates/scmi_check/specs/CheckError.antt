@@ -8,8 +8,9 @@ use Rattle.scmi_io.specs.declared.fault_words.TheConstants.{BOARD, MEMORY, PLAN,
 use Rattle.scmi_io.specs.declared.input_error.InputError.{InputError}
 use Rattle.scmi_io.specs.declared.input_error.InputError.TheVariants as input
 use Rattle.scmi_plan.specs.PlanError.{number}
+use Rattle.scmi_check.specs.declared.texts.TheConstants.{EMPTY}
 use Rattle.scmi_check.specs.declared.check_error.CheckError.{CheckError}
-use Rattle.scmi_check.specs.declared.check_error.CheckError.TheVariants.{Size, Read, Board, Plan, Record, Memory, Write}
+use Rattle.scmi_check.specs.declared.check_error.CheckError.TheVariants.{Size, Read, Board, Plan, Record, Empty, Memory, Write}
 
 -- 1 for a failed output, 4 for out of memory, and 2 for a rejected input (own)
 abbrev pub status_of : CheckError → ℕ
@@ -24,6 +25,7 @@ fault_text Read = READ.now
 fault_text (Board line) = BOARD.now ++ decimal line
 fault_text (Plan rule) = PLAN.now ++ decimal rule
 fault_text (Record line) = RECORD.now ++ decimal line
+fault_text Empty = EMPTY.now
 fault_text Memory = MEMORY.now
 fault_text Write = WRITE.now
 

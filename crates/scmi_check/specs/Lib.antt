@@ -7,6 +7,8 @@ pub mod Finding
 pub mod Judged
 pub mod LastLines
 pub mod Later
+pub mod LeftOut
+pub mod NoteText
 pub mod Origin
 pub mod Origins
 pub mod Own
@@ -15,4 +17,5 @@ pub mod RecordText
 pub mod Report
 pub mod Shown
 pub mod Subject
+pub mod TraceLine
 pub mod Value

@@ -14,30 +14,75 @@ use Rattle.scmi_judge.specs.declared.entry.Entry.{Entry}
 use Rattle.scmi_judge.specs.declared.entry.Entry.TheVariants.{Answered, Delivered}
 use Rattle.scmi_text.specs.TextLines.{after_each_line}
 use Rattle.scmi_text.specs.declared.step.Call.{Call}
+use Rattle.scmi_check.specs.LeftOut.{LeftView, frame_protocol, is_judged, left_view, nothing_left, with_left, with_no_answer, with_no_answers, with_note, with_skipped}
 use Rattle.scmi_check.specs.Shown.{shown_at}
+use Rattle.scmi_check.specs.declared.lost.Lost.{Lost as LostEvents}
+use Rattle.scmi_check.specs.declared.note.NoteKind.TheVariants.{Unmatched, Lost}
 use Rattle.scmi_check.specs.declared.placed.Placed.{Placed}
+use Rattle.scmi_check.specs.declared.record.Record.{Record}
 use Rattle.scmi_check.specs.declared.shown.Shown.{Shown}
-use Rattle.scmi_check.specs.declared.shown.Shown.TheVariants.{Called, Posted, PostedBeside, Got, Responded, Took, Skipped}
+use Rattle.scmi_check.specs.declared.shown.Shown.TheVariants.{Called, Posted, PostedBeside, Got, Responded, Took, Missed, Skipped}
 use Rattle.scmi_check.specs.declared.so_far.SoFar.{SoFar}
+use Rattle.scmi_check.specs.declared.waiting.Early.{Early}
 use Rattle.scmi_check.specs.declared.waiting.Waiting.{Waiting}
 
--- what lines show: entries at their lines, the commands whose answers are still to come, in order, and the next token of each agent
+-- a record: its entries, and what it has that is not judged
+pub record RecordView : Type 0 where
+  pub entries : List Placed
+  pub left : LeftView
+
+-- the same as the program has it
+abbrev pub record_view : Record → RecordView
+record_view read = record { entries = read.entries.items; left = left_view read.left }
+
+-- what lines show: entries at their lines, what is not judged, the protocols that are judged, the commands whose answers are still to come, in order, and those of traces, the last response of a trace that answers no command, if no command of a trace is behind it, and the next token of each agent
 pub record Shows : Type 0 where
   pub entries : List Placed
+  pub left : LeftView
+  pub judged : List ℕ
   pub waiting : List Waiting
+  pub traced : List Waiting
+  pub early : Option Early
   pub tokens : List ℕ
 
 -- the same as the program has it
 abbrev pub shows_of : SoFar → Shows
-shows_of so_far = record { entries = so_far.entries.items; waiting = so_far.waiting.items; tokens = so_far.tokens }
+shows_of so_far =
+    record {
+      entries = so_far.entries.items;
+      left = left_view so_far.left;
+      judged = so_far.judged.now;
+      waiting = so_far.waiting.items;
+      traced = so_far.traced.items;
+      early = so_far.early;
+      tokens = so_far.tokens;
+    }
 
--- no line shows anything
-abbrev pub nothing_shown : Shows
-nothing_shown = record { entries = []; waiting = []; tokens = replicate AGENTS 0 }
+-- no line shows anything, and these protocols are judged
+abbrev pub nothing_shown : List ℕ → Shows
+nothing_shown judged = record { entries = []; left = nothing_left; judged = judged; waiting = []; traced = []; early = None; tokens = replicate AGENTS 0 }
+
+-- the protocol of an entry, of a message that is well formed
+abbrev pub entry_protocol : Entry → Option ℕ
+entry_protocol (Answered a frame answer) = frame_protocol frame
+entry_protocol (Delivered a message) = Some message.header.protocol
 
 -- one entry more, at the line of this number
+abbrev pub with_judged : Shows → ℕ → Entry → Shows
+with_judged shows line entry = record shows { entries = shows.entries ++ record { line = line; entry = entry } ∷ [] }
+
+-- the same of an entry of this protocol: it is skipped unless the protocol is judged
+abbrev pub with_entry_of : Option ℕ → Shows → ℕ → Entry → Shows
+with_entry_of None shows line entry = with_judged shows line entry
+with_entry_of (Some protocol) shows line entry = if is_judged shows.judged protocol then with_judged shows line entry else record shows { left = with_skipped shows.left protocol }
+
+-- the same of any entry
 abbrev pub with_entry : Shows → ℕ → Entry → Shows
-with_entry shows line entry = record shows { entries = shows.entries ++ record { line = line; entry = entry } ∷ [] }
+with_entry shows line entry = with_entry_of (entry_protocol entry) shows line entry
+
+-- a message of a protocol in a trace that is not judged, at the line of this number
+abbrev pub with_unmatched : Shows → ℕ → ℕ → Shows
+with_unmatched shows line protocol = record shows { left = with_left shows.judged shows.left (Some protocol) (record { line = line; kind = Unmatched }) }
 
 -- whether a command is this agent's
 abbrev pub is_by : ℕ → Waiting → Bool
@@ -81,13 +126,36 @@ has_token token (Malformed len header) = false
 abbrev pub is_with : ℕ → ℕ → Waiting → Bool
 is_with a token waiting = waiting.agent == a && has_token token waiting.frame
 
--- the place of the command that a response with a token answers: that of this token, or else the first of its agent
-abbrev pub place_of_response : List Waiting → ℕ → ℕ → Option ℕ
-place_of_response waiting a token = elim (position (is_with a token) waiting) [ None ↦ position (is_by a) waiting | Some place ↦ Some place ]
+-- the command of an agent with a token among those that wait, and the others; none if no such command waits
+unfoldable pub taken_with : List Waiting → ℕ → ℕ → Option (Waiting × List Waiting)
+taken_with waiting a token = position (is_with a token) waiting >>= λ place. slice_get waiting place >>= λ command. Some (command, remove waiting place)
 
--- the command that a response with a token answers, and the others that wait; none if no command of the agent waits
-unfoldable pub response_taken : List Waiting → ℕ → ℕ → Option (Frame × List Waiting)
-response_taken waiting a token = place_of_response waiting a token >>= λ place. taken_at waiting place
+-- whether a response that answered no command is this agent's and has this token
+abbrev pub is_early : Option Early → ℕ → ℕ → Bool
+is_early None a token = false
+is_early (Some response) a token = response.agent == a && response.token == token
+
+-- a command of a trace that waits for its response
+abbrev pub with_trace : Shows → ℕ → ℕ → Frame → Shows
+with_trace shows line a frame = record shows { traced = shows.traced ++ record { line = line; agent = a; frame = frame } ∷ [] }
+
+-- a token is free again in a trace: the command of the agent that has it gets no answer
+abbrev pub token_free : Shows → ℕ → ℕ → Shows
+token_free shows a token = elim (taken_with shows.traced a token) [
+  | None ↦ shows
+  | Some taken ↦ record shows { traced = taken.1; left = with_no_answer shows.judged shows.left taken.0 }
+]
+
+-- no response is early any more
+abbrev pub none_early : Shows → Shows
+none_early shows = record shows { early = None }
+
+-- a command of a trace: it waits for its response, but if the last response before it is the one to it, the two are not judged, since a trace may show the payload of the response in both
+abbrev pub with_traced : Shows → ℕ → ℕ → Message → Shows
+with_traced shows line a message =
+    let free = token_free shows a message.header.token in
+    if is_early free.early a message.header.token then with_unmatched (none_early free) line message.header.protocol
+    else with_trace (none_early free) line a (Good message)
 
 -- the answer to the command of its agent that waits
 unfoldable pub with_answer : Shows → ℕ → ℕ → Answer → Option Shows
@@ -95,20 +163,31 @@ with_answer shows line a answer = do
   taken ← command_taken shows.waiting a
   Some (with_entry (record shows { waiting = taken.1 }) line (Answered a taken.0 answer))
 
--- the response to a command of its agent that waits, by its token
-unfoldable pub with_response : Shows → ℕ → ℕ → Message → Option Shows
-with_response shows line a message = do
-  taken ← response_taken shows.waiting a message.header.token
-  Some (with_entry (record shows { waiting = taken.1 }) line (Answered a taken.0 (Reply message)))
+-- the response of a trace to the command of its agent that waits with its token; if none waits it is not judged
+abbrev pub with_response : Shows → ℕ → ℕ → Message → Shows
+with_response shows line a message = elim (taken_with shows.traced a message.header.token) [
+  | None ↦ with_unmatched (record shows { early = Some (record { agent = a; token = message.header.token }) }) line message.header.protocol
+  | Some taken ↦ with_entry (record shows { traced = taken.1 }) line (Answered a taken.0.frame (Reply message))
+]
+
+-- events of a trace are lost: the commands of it that wait get no answer
+abbrev pub with_lost : Shows → ℕ → LostEvents → Shows
+with_lost shows line lost =
+    record shows {
+      left = with_note (with_no_answers shows.judged shows.left shows.traced) (record { line = line; kind = Lost lost });
+      traced = [];
+      early = None;
+    }
 
 -- with what the line of this number shows
 unfoldable pub with_shown : Shows → ℕ → Shown → Option Shows
 with_shown shows line (Called a call) = with_called shows line a call
 with_shown shows line (Posted a frame) = with_posted shows line a frame
-with_shown shows line (PostedBeside a message) = Some (with_waiting shows line a (Good message))
+with_shown shows line (PostedBeside a message) = Some (with_traced shows line a message)
 with_shown shows line (Got a answer) = with_answer shows line a answer
-with_shown shows line (Responded a message) = with_response shows line a message
+with_shown shows line (Responded a message) = Some (with_response shows line a message)
 with_shown shows line (Took a message) = Some (with_entry shows line (Delivered a message))
+with_shown shows line (Missed lost) = Some (with_lost shows line lost)
 with_shown shows line Skipped = Some shows
 
 -- with a line, on a board with this number of agents; none if the line can't be there
@@ -117,15 +196,20 @@ with_line agents shows line = do
   shown ← shown_at agents line.text
   with_shown shows line.number shown
 
--- the entries, if each command has its answer; else the number of the line of the first that has none
-abbrev pub all_answered : Result Shows ℕ → Result (List Placed) ℕ
-all_answered (Err number) = Err number
-all_answered (Ok shows) = elim shows.waiting [ [] ↦ Ok shows.entries | first ∷ others ↦ Err first.line ]
+-- the record once no line is left: the commands that wait have no answer
+abbrev pub finished : Shows → RecordView
+finished shows =
+    record { entries = shows.entries; left = with_no_answers shows.judged (with_no_answers shows.judged shows.left shows.waiting) shows.traced }
 
--- the entries of a record that these lines encode, each at its line; else the number of the first line that is not of it
-abbrev pub record_of : ℕ → List Line → Result (List Placed) ℕ
-record_of agents lines = all_answered (after_each_line (with_line agents) nothing_shown lines)
+-- the same of what lines show, unless one of them can't be there
+abbrev pub all_finished : Result Shows ℕ → Result RecordView ℕ
+all_finished (Err number) = Err number
+all_finished (Ok shows) = Ok (finished shows)
+
+-- the record that these lines encode, if these protocols are judged, on a board with this number of agents; else the number of the first line that is not of it
+abbrev pub record_of : List ℕ → ℕ → List Line → Result RecordView ℕ
+record_of judged agents lines = all_finished (after_each_line (with_line agents) (nothing_shown judged) lines)
 
 -- the same of the lines that are left
-abbrev pub record_left : ℕ → LinesView → Result (List Placed) ℕ
-record_left agents lines = record_of agents (lines_left lines)
+abbrev pub record_left : List ℕ → ℕ → LinesView → Result RecordView ℕ
+record_left judged agents lines = record_of judged agents (lines_left lines)

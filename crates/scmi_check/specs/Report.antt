@@ -2,6 +2,8 @@
 use Rattle.std.specs.Prelude.{ℕ, List, [], ◌∷◌, ◌++◌, codes, decimal, length, Option, Some, None}
 use Rattle.scmi_check.specs.Counts.{counts_of, found}
 use Rattle.scmi_check.specs.Deciding.{check_text}
+use Rattle.scmi_check.specs.LeftOut.{LeftView}
+use Rattle.scmi_check.specs.NoteText.{left_text, notes_text}
 use Rattle.scmi_check.specs.Own.{rule_name}
 use Rattle.scmi_check.specs.Reasons.{reasons_text}
 use Rattle.scmi_check.specs.Origin.{origin_of}
@@ -66,11 +68,15 @@ heading_text Tap judged = filled PLAN.now (decimal (length judged) ∷ [])
 abbrev pub counts_text : Counts → List ℕ
 counts_text counts = filled COUNTS.now (decimal counts.same ∷ decimal counts.own ∷ decimal counts.differ ∷ [])
 
--- the last line
-abbrev pub summary_text : Style → Counts → List ℕ
-summary_text Plain counts = counts_text counts
-summary_text Tap counts = REMARK.now ++ counts_text counts
+-- what is written before the last line: for a test system it is a comment
+abbrev pub remark_text : Style → List ℕ
+remark_text Plain = []
+remark_text Tap = REMARK.now
 
--- the report: a line for each entry, and how many are the same, differ by a rule of the profile's own, and differ
-abbrev pub report_text : Style → List Judged → List ℕ
-report_text style judged = heading_text style judged ++ lines_text style judged ++ summary_text style (counts_of judged)
+-- the last line
+abbrev pub summary_text : Style → Counts → LeftView → List ℕ
+summary_text style counts left = remark_text style ++ counts_text counts ++ left_text left ++ codes "\n"
+
+-- the report: a line for each entry, one for each note, and how many entries are the same, differ by a rule of the profile's own, and differ, and how much is left out
+abbrev pub report_text : Style → List Judged → LeftView → List ℕ
+report_text style judged left = heading_text style judged ++ lines_text style judged ++ notes_text style left.notes ++ summary_text style (counts_of judged) left

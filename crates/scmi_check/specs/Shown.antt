@@ -1,9 +1,11 @@
 -- What the lines of a record show.
 use Rattle.std.specs.Prelude.{ℕ, ◌+◌, nat_lt, if◌then◌else◌, List, map, Option, Some, None}
+use Rattle.std.specs.List.{slice_split}
 use Rattle.scmi_board.specs.Items.{◌>>=◌, ItemsView, first_item, first_number, items_left, no_item}
 use Rattle.scmi_codec.specs.declared.message.Message.{Message}
 use Rattle.scmi_codec.specs.declared.frame.Frame.TheVariants.{Good, Malformed}
 use Rattle.scmi_codec.specs.declared.frame.Answer.TheVariants.{Reply, Released, ChannelError}
+use Rattle.scmi_decode.specs.Dump.{is_gap}
 use Rattle.scmi_decode.specs.Traced.{traced_in}
 use Rattle.scmi_decode.specs.declared.event.EventKind.{EventKind}
 use Rattle.scmi_decode.specs.declared.event.EventKind.TheVariants as event
@@ -18,11 +20,12 @@ use Rattle.scmi_text.specs.declared.step.Step.{Step}
 use Rattle.scmi_text.specs.declared.step.Step.TheVariants as step
 use Rattle.scmi_text.specs.declared.word_row.WordRow.{WordRow}
 use Rattle.scmi_check.specs.AreaShown.{a2p_shown, area_described, p2a_shown}
+use Rattle.scmi_check.specs.TraceLine.{is_trace_line, lost_in}
 use Rattle.scmi_check.specs.declared.seen.SeenForm.{SeenForm}
 use Rattle.scmi_check.specs.declared.seen.SeenForm.TheVariants as form
 use Rattle.scmi_check.specs.declared.seen.TheConstants.{SEEN_FORMS}
 use Rattle.scmi_check.specs.declared.shown.Shown.{Shown}
-use Rattle.scmi_check.specs.declared.shown.Shown.TheVariants.{Called, Posted, PostedBeside, Got, Responded, Took, Skipped}
+use Rattle.scmi_check.specs.declared.shown.Shown.TheVariants.{Called, Posted, PostedBeside, Got, Responded, Took, Missed, Skipped}
 
 -- the command that a step posts: by `do`, `raw` or `bad`
 abbrev pub command_shown : Step → Option Shown
@@ -89,12 +92,23 @@ message_shown event.Notification a message = Took a message
 abbrev pub event_shown : (agents instance : ℕ) → EventKind → Message → Option Shown
 event_shown agents instance k message = if nat_lt instance agents then Some (message_shown k (instance + 1) message) else None
 
--- what a line shows that is this as one of Linux's ftrace: the message of an event, nothing of another event, and else that of a line of a session
+-- what items of a line without an event of SCMI show: that events are lost, nothing of another line of a trace, and else that of a line of a session
+abbrev pub items_shown : ℕ → List ℕ → List (List ℕ) → Option Shown
+items_shown agents text items = elim (lost_in items) [
+  | Some lost ↦ Some (Missed lost)
+  | None ↦ if is_trace_line items then Some Skipped else session_shown agents text
+]
+
+-- the same of a line
+abbrev pub other_shown : ℕ → List ℕ → Option Shown
+other_shown agents text = items_shown agents text (slice_split is_gap text)
+
+-- what a line shows that is this as one of Linux's ftrace: the message of an event, nothing of another event, and else that of a line without one
 abbrev pub traced_shown : ℕ → List ℕ → Traced → Option Shown
 traced_shown agents text (traced.Message instance k message) = event_shown agents instance k message
 traced_shown agents text traced.Unreadable = None
 traced_shown agents text traced.Other = Some Skipped
-traced_shown agents text traced.Nothing = session_shown agents text
+traced_shown agents text traced.Nothing = other_shown agents text
 
 -- what a line shows
 unfoldable pub shown_at : ℕ → List ℕ → Option Shown

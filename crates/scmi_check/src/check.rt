@@ -1,13 +1,13 @@
 //! The texts of a board and of a record, and the report of it.
-ghost use Rattle.std.specs.Prelude.{◌≡◌, IfOk, IfErr, IfSome};
+ghost use Rattle.std.specs.Prelude.{◌≡◌, ◌<◌, length, IfOk, IfErr, IfSome};
 ghost use Rattle.scmi_check.specs.Check.{IsFaultOf, IsFaultOfBoard, IsFaultOfRecord, IsPlanText, IsRecordText, WritesReport};
 ghost use Rattle.scmi_check.specs.CheckError.{status_of};
+ghost use Rattle.scmi_check.specs.RecordText.{record_view};
 
 use crate::check_error::CheckError;
 use crate::counts::Counts;
 use crate::judged::judge_all;
-use crate::placed::Placed;
-use crate::record::read_record;
+use crate::record::{Record, read_record};
 use crate::report::write_report;
 use crate::style::Style;
 use scmi_board::{Lines, read_valid_board};
@@ -16,26 +16,29 @@ use scmi_plan::Plan;
 use std::alloc::Global;
 use std::io::{Read, Write};
 
-/// Checks a record, writes the report, and gives how many entries differ.
+/// Checks a record by the messages of these protocols, writes the report, and gives how many entries
+/// differ.
 pub(crate) fn check<B: Read, R: Read, W: Write>(
     alloc: Global,
     board: &mut B,
     record: &mut R,
     writer: &mut W,
     style: Style,
+    judged: &[u8],
 ) -> Result<usize, CheckError>
-    ensures report { IfOk result (λ differ. WritesReport style (B.remaining board.old)
+    ensures report { IfOk result (λ differ. WritesReport style judged.now (B.remaining board.old)
         (R.remaining record.old) differ (W.contents writer.old) (W.contents writer.new)) }
-    ensures faults { IfErr result (IsFaultOf (B.remaining board.old) (R.remaining record.old)) }
+    ensures faults { IfErr result (IsFaultOf judged.now (B.remaining board.old)
+        (R.remaining record.old)) }
     ensures kept { IfErr result (λ e. status_of e ≡ 2 → writer.new ≡ writer.old) }
 {
     let plan = read_plan(alloc, board)?;
-    let placed = read_entries(alloc, record, &plan)?;
-    let judged = judge_all(alloc, plan, &placed)?;
-    if write_report(writer, style, &judged).is_err() {
+    let read = read_text(alloc, record, &plan, judged)?;
+    let found = judge_all(alloc, plan, &read.entries)?;
+    if write_report(writer, style, &found, &read.left).is_err() {
         return Err(CheckError::Write);
     }
-    Ok(Counts::of(&judged).differ)
+    Ok(Counts::of(&found).differ)
 }
 
 /// The plan of a board's text.
@@ -57,24 +60,32 @@ fn plan_of(alloc: Global, text: &[u8]) -> Result<Plan, CheckError>
     Ok(valid.plan)
 }
 
-/// The entries of a record's text, of a platform of this board.
-fn read_entries<R: Read>(
+/// The record of a text, of a platform of this board, if these protocols are judged.
+fn read_text<R: Read>(
     alloc: Global,
     record: &mut R,
     plan: &Plan,
-) -> Result<Vec<Placed>, CheckError>
-    ensures record { IfOk result (λ placed. IfSome (R.remaining record.old)
-        (λ text. IsRecordText plan.now text placed.items)) }
+    judged: &[u8],
+) -> Result<Record, CheckError>
+    ensures record { IfOk result (λ read. IfSome (R.remaining record.old)
+        (λ text. IsRecordText judged.now plan.now text (record_view read))) }
+    ensures some { IfOk result (λ read. 0 < length read.entries.items) }
     ensures faults { IfErr result (λ e. IfSome (R.remaining record.old)
-        (λ text. IsFaultOfRecord plan.now text e)) }
+        (λ text. IsFaultOfRecord judged.now plan.now text e)) }
 {
     let text = read_rest(alloc, &mut CountedReader::new(record))?;
-    entries_of(alloc, &text, plan)
+    record_of(alloc, &text, plan, judged)
 }
 
-fn entries_of(alloc: Global, text: &[u8], plan: &Plan) -> Result<Vec<Placed>, CheckError>
-    ensures record { IfOk result (λ placed. IsRecordText plan.now text.now placed.items) }
-    ensures faults { IfErr result (IsFaultOfRecord plan.now text.now) }
+fn record_of(alloc: Global, text: &[u8], plan: &Plan, judged: &[u8]) -> Result<Record, CheckError>
+    ensures record { IfOk result (λ read. IsRecordText judged.now plan.now text.now
+        (record_view read)) }
+    ensures some { IfOk result (λ read. 0 < length read.entries.items) }
+    ensures faults { IfErr result (IsFaultOfRecord judged.now plan.now text.now) }
 {
-    Ok(read_record(alloc, &mut Lines::of_text(text), plan.agents())?)
+    let read = read_record(alloc, &mut Lines::of_text(text), plan.agents(), judged)?;
+    if read.entries.is_empty() {
+        return Err(CheckError::Empty);
+    }
+    Ok(read)
 }

@@ -4,6 +4,7 @@ ghost use Rattle.scmi_check.specs.CheckError.{error_of_board, error_of_input, er
 ghost use Rattle.scmi_check.specs.declared.check_error.CheckError.TheVariants.{Memory};
 ghost use Rattle.scmi_check.specs.declared.run.TheConstants.{DIFFERS};
 
+use crate::texts::EMPTY;
 use scmi_board::{BoardError, TextError};
 use scmi_core::CoreError;
 use scmi_io::{BOARD, InputError, MEMORY, PLAN, READ, RECORD, SIZE, WRITE};
@@ -21,8 +22,10 @@ pub enum CheckError {
     Board(u32),
     /// The board breaks this rule.
     Plan(u8),
-    /// This line is not a valid line of a record, or is a command that has no answer.
+    /// This line is not a valid line of a record.
     Record(u32),
+    /// Nothing of the record is judged.
+    Empty,
     /// Out of memory.
     Memory,
     /// The output failed.
@@ -58,6 +61,7 @@ impl fmt::Display for CheckError {
             CheckError::Board(line) => write!(f, "{BOARD}{line}"),
             CheckError::Plan(rule) => write!(f, "{PLAN}{rule}"),
             CheckError::Record(line) => write!(f, "{RECORD}{line}"),
+            CheckError::Empty => f.write_str(EMPTY),
             CheckError::Memory => f.write_str(MEMORY),
             CheckError::Write => f.write_str(WRITE),
         }

@@ -1,10 +1,10 @@
 //! Records of what went over another platform's channels, checked against the definitions of SCMI.
 //!
 //! The main type is `Judged`, an entry of a record with the verdict on it. The main theorems are
-//! the contracts of `read_record`, which gives exactly the entries that a text encodes, and of
-//! `run_check`: if the status is 0, what was written is a line for each entry, whose verdicts are
-//! the definitions', and no entry differs. All are the same if and only if the record has a legal
-//! history.
+//! the contracts of `read_record`, which gives exactly the entries that a text encodes, and what is
+//! not judged, and of `run_check`: if the status is 0, what was written is a line for each entry,
+//! whose verdicts are the definitions', at least one is judged, and none differs. All are the same
+//! if and only if the entries have a legal history.
 #![tactic(auto)]
 
 mod area_shown;
@@ -19,6 +19,10 @@ mod finding;
 mod judged;
 mod last_lines;
 mod later;
+mod left_out;
+mod lost;
+mod note;
+mod note_text;
 mod origin;
 mod origins;
 mod own_rule;
@@ -35,6 +39,7 @@ mod so_far;
 mod style;
 mod subject;
 mod texts;
+mod trace_line;
 mod value;
 mod waiting;
 
@@ -42,9 +47,12 @@ pub use check_error::CheckError;
 pub use counts::Counts;
 pub use finding::Finding;
 pub use judged::{Judged, judge_all};
+pub use left_out::LeftOut;
+pub use lost::Lost;
+pub use note::{Note, NoteKind};
 pub use own_rule::{OWN_RULES, OwnRule};
 pub use placed::Placed;
-pub use record::read_record;
+pub use record::{Record, read_record};
 pub use report::write_report;
-pub use run::{DIFFERS, run_check};
+pub use run::{DIFFERS, PROTOCOLS, run_check};
 pub use style::Style;

@@ -1,12 +1,15 @@
 //! A report, as it is written.
 ghost use Rattle.std.specs.Prelude.{◌≡◌, OnOk};
 ghost use Rattle.std.specs.Io.KnownBytes.{Appends};
-ghost use Rattle.scmi_check.specs.Report.{counts_text, finding_text, found_text, heading_text, line_with, lines_text, mark_text, report_text, summary_text};
+ghost use Rattle.scmi_check.specs.LeftOut.{left_view};
+ghost use Rattle.scmi_check.specs.Report.{counts_text, finding_text, found_text, heading_text, line_with, lines_text, mark_text, remark_text, report_text, summary_text};
 
 use crate::counts::Counts;
 use crate::deciding::write_check;
 use crate::finding::Finding;
 use crate::judged::Judged;
+use crate::left_out::LeftOut;
+use crate::note_text::{write_left, write_notes};
 use crate::origin::{Origin, write_origin};
 use crate::origins::Origins;
 use crate::reasons::write_reasons;
@@ -17,17 +20,24 @@ use scmi_io::write_filled;
 use std::io;
 use std::io::Write;
 
-/// Writes a line for each entry, and how many are the same, differ by a rule of the profile's own, and
-/// differ (own). The line of one that differs ends with the check that decides, if an error was
+/// Writes a line for each entry, one for each note of what is not judged, and how many entries are
+/// the same, differ by a rule of the profile's own, and differ, with how much is left out, if
+/// anything is (own). The line of an entry that differs ends with the check that decides, if an error was
 /// due, and with the lines of earlier entries that it may follow from. The error is the writer's;
 /// some parts may then be written.
-pub fn write_report<W: Write>(writer: &mut W, style: Style, judged: &[Judged]) -> io::Result<()>
+pub fn write_report<W: Write>(
+    writer: &mut W,
+    style: Style,
+    judged: &[Judged],
+    left: &LeftOut,
+) -> io::Result<()>
     ensures { OnOk result (Appends (W.contents writer.old) (W.contents writer.new)
-        (report_text style judged.now)) }
+        (report_text style judged.now (left_view left.now))) }
 {
     write_heading(writer, style, judged)?;
     write_lines(writer, style, judged)?;
-    write_summary(writer, style, Counts::of(judged))
+    write_notes(writer, style, &left.notes)?;
+    write_summary(writer, style, Counts::of(judged), left)
 }
 
 /// Writes what a test system reads first: how many tests there are.
@@ -102,16 +112,28 @@ fn mark(style: Style, finding: Finding) -> &'static str
     }
 }
 
-fn write_summary<W: Write>(writer: &mut W, style: Style, counts: Counts) -> io::Result<()>
+fn write_summary<W: Write>(
+    writer: &mut W,
+    style: Style,
+    counts: Counts,
+    left: &LeftOut,
+) -> io::Result<()>
     ensures { OnOk result (Appends (W.contents writer.old) (W.contents writer.new)
-        (summary_text style counts)) }
+        (summary_text style counts (left_view left.now))) }
+{
+    write!(writer, "{}", remark(style))?;
+    write_counts(writer, counts)?;
+    write_left(writer, left)?;
+    writeln!(writer)
+}
+
+/// What is written before the last line.
+fn remark(style: Style) -> &'static str
+    ensures { result.now ≡ remark_text style }
 {
     match style {
-        Style::Plain => write_counts(writer, counts),
-        Style::Tap => {
-            write!(writer, "{REMARK}")?;
-            write_counts(writer, counts)
-        }
+        Style::Plain => "",
+        Style::Tap => REMARK,
     }
 }
 

@@ -1,10 +1,12 @@
 //! What a line of a record shows.
 ghost use Rattle.scmi_board.specs.LineError.{GivesUnless};
-ghost use Rattle.scmi_check.specs.Shown.{session_shown, shown_at};
+ghost use Rattle.scmi_check.specs.Shown.{other_shown, session_shown, shown_at};
 
 use crate::command_shown::command_shown;
 use crate::event_shown::event_shown;
+use crate::lost::Lost;
 use crate::seen::read_seen;
+use crate::trace_line::{is_trace_line, items_of, lost_in};
 use scmi_board::{Items, LineError};
 use scmi_codec::{Answer, Frame, Message};
 use scmi_decode::{Traced, read_traced};
@@ -26,12 +28,14 @@ pub(crate) enum Shown {
     Responded { agent: u32, message: Message },
     /// An agent takes a message of the platform.
     Took { agent: u32, message: Message },
-    /// Nothing: another event of Linux's ftrace.
+    /// Events of a trace are lost.
+    Missed { lost: Lost },
+    /// Nothing: another line of a trace.
     Skipped,
 }
 
-/// What a line shows: as one of Linux's ftrace the message of its event `scmi_msg_dump`, and nothing
-/// if it has another event of SCMI; any other line as one of a session. `Form` if it is neither.
+/// What a line shows: as one of Linux's ftrace the message of its event `scmi_msg_dump`, that events
+/// are lost, or nothing; any other line as one of a session. `Form` if it is neither.
 #[tactic(auto, unfolding(crate::specs::Shown::shown_at))]
 pub(crate) fn read_shown(alloc: Global, text: &[u8], agents: u32) -> Result<Shown, LineError>
     ensures { GivesUnless (λ shown. shown) result (shown_at agents text.now) }
@@ -44,8 +48,23 @@ pub(crate) fn read_shown(alloc: Global, text: &[u8], agents: u32) -> Result<Show
         } => event_shown(agents, instance, kind, message),
         Traced::Unreadable => Err(LineError::Form),
         Traced::Other => Ok(Shown::Skipped),
-        Traced::Nothing => read_session(alloc, text, agents),
+        Traced::Nothing => read_other(alloc, text, agents),
     }
+}
+
+/// What a line without an event of SCMI shows: as one of a trace that events are lost, or nothing;
+/// any other line as one of a session. `Form` if it is neither.
+fn read_other(alloc: Global, text: &[u8], agents: u32) -> Result<Shown, LineError>
+    ensures { GivesUnless (λ shown. shown) result (other_shown agents text.now) }
+{
+    let items = items_of(alloc, text)?;
+    if let Some(lost) = lost_in(items.as_slice()) {
+        return Ok(Shown::Missed { lost });
+    }
+    if is_trace_line(items.as_slice()) {
+        return Ok(Shown::Skipped);
+    }
+    read_session(alloc, text, agents)
 }
 
 /// What a line of a session shows: a command, as a line of a script has it, or else what an agent

@@ -4,11 +4,15 @@ ghost use Rattle.scmi_codec.specs.declared.header.TheConstants.{TOKENS};
 ghost use Rattle.scmi_board.specs.LineError.{Gives, GivesUnless};
 ghost use Rattle.scmi_board.specs.TextError.{IsOfScript};
 ghost use Rattle.scmi_text.specs.TextLines.{GivesScript};
-ghost use Rattle.scmi_check.specs.RecordText.{all_answered, nothing_shown, shows_of, token_taken, with_answer, with_called, with_entry, with_posted, with_response, with_shown, with_waiting};
+ghost use Rattle.scmi_check.specs.RecordText.{entry_protocol, finished, nothing_shown, record_view, shows_of, token_free, token_taken, with_answer, with_called, with_entry, with_lost, with_posted, with_response, with_shown, with_trace, with_traced, with_unmatched, with_waiting};
 
+use crate::left_out::{LeftOut, frame_protocol, is_judged};
+use crate::lost::Lost;
+use crate::note::{Note, NoteKind};
 use crate::placed::Placed;
+use crate::record::Record;
 use crate::shown::Shown;
-use crate::waiting::{Waiting, place_of, take_command, take_response};
+use crate::waiting::{Early, Waiting, is_early, place_of, take_command, take_with};
 use scmi_board::{LineError, TextError};
 use scmi_codec::{Answer, Frame, Header, Message, TOKENS};
 use scmi_judge::Entry;
@@ -18,22 +22,32 @@ use std::alloc::Global;
 
 /// What the lines of a record show so far. After an error it is of no use.
 #[derive(Drop)]
-pub(crate) struct SoFar {
+pub(crate) struct SoFar<'a> {
     entries: Vec<Placed>,
-    // The commands whose answers are still to come, in order.
+    left: LeftOut,
+    // The protocols that are judged.
+    judged: &'a [u8],
+    // The commands whose answers are still to come, in order, and those of traces.
     waiting: Vec<Waiting>,
+    traced: Vec<Waiting>,
+    // The last response of a trace that answers no command, until another command of a trace.
+    early: Option<Early>,
     // The next token of each agent, from agent 1 on.
     tokens: [u16; AGENTS],
 }
 
-impl SoFar {
-    /// Nothing is shown. It takes no memory.
-    pub fn new(alloc: Global) -> SoFar
-        ensures { shows_of result ≡ nothing_shown }
+impl<'a> SoFar<'a> {
+    /// Nothing is shown, and these protocols are judged. It takes no memory.
+    pub fn new(alloc: Global, judged: &'a [u8]) -> SoFar<'a>
+        ensures { shows_of result ≡ nothing_shown judged.now }
     {
         SoFar {
             entries: Vec::new(alloc),
+            left: LeftOut::new(alloc),
+            judged,
             waiting: Vec::new(alloc),
+            traced: Vec::new(alloc),
+            early: None,
             tokens: [0; AGENTS],
         }
     }
@@ -47,32 +61,36 @@ impl SoFar {
         match shown {
             Shown::Called { agent, call } => self.call(line, agent, call),
             Shown::Posted { agent, frame } => self.post(line, agent, frame),
-            Shown::PostedBeside { agent, message } => {
-                self.wait(line, agent, Frame::Good(message))
-            }
+            Shown::PostedBeside { agent, message } => self.post_beside(line, agent, message),
             Shown::Got { agent, answer } => self.answer(line, agent, answer),
             Shown::Responded { agent, message } => self.respond(line, agent, message),
             Shown::Took { agent, message } => self.push(line, Entry::Delivered { agent, message }),
+            Shown::Missed { lost } => self.miss(line, lost),
             Shown::Skipped => Ok(()),
         }
     }
 
-    /// The entries, once no line is left. `Script` gives the line of the first command without an
-    /// answer.
-    pub fn finish(self) -> Result<Vec<Placed>, TextError>
+    /// The record, once no line is left. `Memory` if out of memory.
+    pub fn finish(self) -> Result<Record, TextError>
         ensures errors { IfErr result IsOfScript }
-        ensures record { GivesScript (λ placed. placed.items) result
-            (all_answered (Ok (shows_of self))) }
+        ensures record { GivesScript record_view result (Ok (finished (shows_of self.entry))) }
     {
         let SoFar {
             entries,
+            mut left,
+            judged,
             waiting,
+            traced,
+            early: _,
             tokens: _,
         } = self;
-        match waiting.as_slice() {
-            [] => Ok(entries),
-            [first, ..] => Err(TextError::Script(first.line)),
+        if left.add_unanswered(judged, &waiting).is_err() {
+            return Err(TextError::Memory);
         }
+        if left.add_unanswered(judged, &traced).is_err() {
+            return Err(TextError::Memory);
+        }
+        Ok(Record { entries, left })
     }
 
     /// A command with the next token of its agent.
@@ -126,6 +144,46 @@ impl SoFar {
         Ok(())
     }
 
+    /// A command of a trace. It waits for its response, unless that was before it.
+    fn post_beside(&mut self, line: u32, agent: u32, message: Message) -> Result<(), LineError>
+        ensures { GivesUnless (λ _. shows_of self.new) result
+            (Some (with_traced (shows_of self.old) line agent message)) }
+    {
+        let token = message.header.token();
+        self.free_token(agent, token)?;
+        let early = self.early;
+        self.early = None;
+        if is_early(early, agent, token) {
+            return self.leave(line, message.header.protocol());
+        }
+        self.trace(line, agent, Frame::Good(message))
+    }
+
+    /// The command of an agent in a trace that waits with this token, if there is one, has no answer.
+    fn free_token(&mut self, agent: u32, token: u16) -> Result<(), LineError>
+        ensures { GivesUnless (λ _. shows_of self.new) result
+            (Some (token_free (shows_of self.old) agent token)) }
+    {
+        match take_with(&mut self.traced, agent, token) {
+            Some(command) => {
+                self.left.add_command(self.judged, &command)?;
+                Ok(())
+            }
+            None => Ok(()),
+        }
+    }
+
+    /// A command of a trace that waits for its response.
+    fn trace(&mut self, line: u32, agent: u32, frame: Frame) -> Result<(), LineError>
+        ensures { GivesUnless (λ _. shows_of self.new) result
+            (Some (with_trace (shows_of self.old) line agent frame)) }
+    {
+        let Ok(()) = self.traced.push(Waiting { line, agent, frame }) else {
+            return Err(LineError::Memory);
+        };
+        Ok(())
+    }
+
     /// The answer to the command of its agent that waits. `Form` if none waits.
     #[tactic(auto, unfolding(crate::specs::RecordText::with_answer))]
     fn answer(&mut self, line: u32, agent: u32, answer: Answer) -> Result<(), LineError>
@@ -143,13 +201,18 @@ impl SoFar {
         )
     }
 
-    /// The response to a command of its agent that waits, by its token. `Form` if none waits.
-    #[tactic(auto, unfolding(crate::specs::RecordText::with_response))]
+    /// The response in a trace to the command of its agent that waits with its token. If none waits,
+    /// the response is not judged.
     fn respond(&mut self, line: u32, agent: u32, message: Message) -> Result<(), LineError>
         ensures { GivesUnless (λ _. shows_of self.new) result
-            (with_response (shows_of self.old) line agent message) }
+            (Some (with_response (shows_of self.old) line agent message)) }
     {
-        let frame = take_response(&mut self.waiting, agent, message.header.token())?;
+        let token = message.header.token();
+        let Some(command) = take_with(&mut self.traced, agent, token) else {
+            self.early = Some(Early { agent, token });
+            return self.leave(line, message.header.protocol());
+        };
+        let frame = command.frame;
         let answer = Answer::Reply(message);
         self.push(
             line,
@@ -161,13 +224,54 @@ impl SoFar {
         )
     }
 
+    /// Events of a trace are lost: no command of it waits from here on.
+    fn miss(&mut self, line: u32, lost: Lost) -> Result<(), LineError>
+        ensures { GivesUnless (λ _. shows_of self.new) result
+            (Some (with_lost (shows_of self.old) line lost)) }
+    {
+        self.left.add_unanswered(self.judged, &self.traced)?;
+        self.traced.clear();
+        self.early = None;
+        let kind = NoteKind::Lost(lost);
+        self.left.add(self.judged, None, Note { line, kind })?;
+        Ok(())
+    }
+
+    /// A message of this protocol in a trace, which is not judged.
+    fn leave(&mut self, line: u32, protocol: u8) -> Result<(), LineError>
+        ensures { GivesUnless (λ _. shows_of self.new) result
+            (Some (with_unmatched (shows_of self.old) line protocol)) }
+    {
+        let kind = NoteKind::Unmatched;
+        self.left
+            .add(self.judged, Some(protocol), Note { line, kind })?;
+        Ok(())
+    }
+
+    /// An entry, unless it is of a protocol that is not judged.
     fn push(&mut self, line: u32, entry: Entry) -> Result<(), LineError>
         ensures { GivesUnless (λ _. shows_of self.new) result
             (Some (with_entry (shows_of self.old) line entry)) }
     {
+        if let Some(protocol) = entry_protocol(&entry)
+            && !is_judged(self.judged, protocol)
+        {
+            self.left.skip(protocol)?;
+            return Ok(());
+        }
         let Ok(()) = self.entries.push(Placed { line, entry }) else {
             return Err(LineError::Memory);
         };
         Ok(())
+    }
+}
+
+/// The protocol of an entry, of a message that is well formed.
+fn entry_protocol(entry: &Entry) -> Option<u8>
+    ensures { result ≡ entry_protocol entry.now }
+{
+    match entry {
+        Entry::Answered { frame, .. } => frame_protocol(frame),
+        Entry::Delivered { message, .. } => Some(message.header.protocol()),
     }
 }

@@ -43,7 +43,32 @@ pub(crate) const SET: &str = "set";
 
 pub(crate) const AFTER: &str = "after";
 
-/// How many entries were found to be of each kind, and what is before that for a test system.
-pub(crate) const COUNTS: &str = "% same, % own, % differ\n";
+/// What is not judged, and what is before the number of its line for a test system.
+pub(crate) const LINE: &str = "# line ";
+
+pub(crate) const NOTE: &str = " %";
+
+pub(crate) const UNANSWERED: &str = "unanswered";
+
+pub(crate) const UNMATCHED: &str = "unmatched";
+
+pub(crate) const LOST: &str = " lost % events";
+
+pub(crate) const LOST_SOME: &str = " lost events";
+
+/// How many entries were found to be of each kind, how many more are not judged, and what is before
+/// that for a test system.
+pub(crate) const COUNTS: &str = "% same, % own, % differ";
+
+pub(crate) const ALSO: &str = ", % %";
+
+pub(crate) const SKIPPED_OF_ONE: &str = ", % skipped of protocol %";
+
+pub(crate) const SKIPPED: &str = ", % skipped of protocols %";
+
+pub(crate) const NEXT: &str = ", %";
 
 pub(crate) const REMARK: &str = "# ";
+
+/// The fault of a record of which nothing is judged.
+pub(crate) const EMPTY: &str = "empty";

@@ -9,7 +9,9 @@ use std::io::Write;
 #[derive(Clone, Copy)]
 pub(crate) enum Value<'a> {
     Count(usize),
+    Events(u64),
     Line(u32),
+    Protocol(u8),
     Word(&'a str),
 }
 
@@ -19,7 +21,9 @@ impl Piece for Value<'_> {
     fn write<W: Write>(&self, writer: &mut W) -> io::Result<()> {
         match *self {
             Value::Count(count) => write!(writer, "{count}"),
+            Value::Events(events) => write!(writer, "{events}"),
             Value::Line(line) => write!(writer, "{line}"),
+            Value::Protocol(protocol) => write!(writer, "0x{protocol:x}"),
             Value::Word(word) => write!(writer, "{word}"),
         }
     }

@@ -1,7 +1,7 @@
 //! Commands whose answers are still to come.
-ghost use Rattle.std.specs.Prelude.{◌≡◌, ◌<◌, IfSome, length, position};
+ghost use Rattle.std.specs.Prelude.{◌≡◌, MatchOption, None, Some, position};
 ghost use Rattle.scmi_board.specs.LineError.{Gives};
-ghost use Rattle.scmi_check.specs.RecordText.{command_taken, has_token, is_by, is_with, place_of_response, response_taken};
+ghost use Rattle.scmi_check.specs.RecordText.{command_taken, has_token, is_by, is_early, is_with, taken_with};
 
 use scmi_board::LineError;
 use scmi_codec::{Frame, Message};
@@ -12,6 +12,13 @@ pub(crate) struct Waiting {
     pub line: u32,
     pub agent: u32,
     pub frame: Frame,
+}
+
+/// A response of an agent that answers no command which waits, by its token.
+#[derive(Clone, Copy, PartialEq, Eq, Debug)]
+pub(crate) struct Early {
+    pub agent: u32,
+    pub token: u16,
 }
 
 /// Takes the command of an agent from those that wait. `Form` if none waits.
@@ -33,31 +40,16 @@ pub(crate) fn place_of(waiting: &[Waiting], agent: u32) -> Option<usize>
     waiting.iter().position(|waiting| waiting.agent == agent)
 }
 
-/// Takes the command of an agent that a response with this token answers. `Form` if none waits.
-#[tactic(auto, unfolding(crate::specs::RecordText::response_taken))]
-pub(crate) fn take_response(
-    waiting: &mut Vec<Waiting>,
-    agent: u32,
-    token: u16,
-) -> Result<Frame, LineError>
-    ensures { Gives (λ frame. (frame, waiting.new.items)) result
-        (response_taken waiting.old.items agent token) }
-{
-    let Some(place) = place_of_response(waiting, agent, token) else {
-        return Err(LineError::Form);
-    };
-    Ok(waiting.remove(place).frame)
-}
-
-/// The place of the command that a response with this token answers: that of its token, or else the
-/// first of its agent.
-fn place_of_response(waiting: &[Waiting], agent: u32, token: u16) -> Option<usize>
-    ensures within { IfSome result (λ place. place < length waiting.now) }
-    ensures place { result ≡ place_of_response waiting.now agent token }
+/// Takes the command of an agent with this token from those that wait. `None` if none waits.
+#[tactic(auto, unfolding(crate::specs::RecordText::taken_with))]
+pub(crate) fn take_with(waiting: &mut Vec<Waiting>, agent: u32, token: u16) -> Option<Waiting>
+    ensures { MatchOption result
+        ((taken_with waiting.old.items agent token ≡ None) × (waiting.new.items ≡ waiting.old.items))
+        (λ one. taken_with waiting.old.items agent token ≡ Some (one, waiting.new.items)) }
 {
     match place_with(waiting, agent, token) {
-        Some(place) => Some(place),
-        None => place_of(waiting, agent),
+        Some(place) => Some(waiting.remove(place)),
+        None => None,
     }
 }
 
@@ -84,5 +76,15 @@ fn has_token(frame: &Frame, token: u16) -> bool
     match frame {
         Frame::Good(Message { header, .. }) => header.token() == token,
         Frame::Malformed { .. } => false,
+    }
+}
+
+/// Whether a response that was before its command is this agent's and has this token.
+pub(crate) fn is_early(early: Option<Early>, agent: u32, token: u16) -> bool
+    ensures { result ≡ is_early early agent token }
+{
+    match early {
+        Some(response) => response.agent == agent && response.token == token,
+        None => false,
     }
 }
