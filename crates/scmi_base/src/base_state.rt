@@ -1,5 +1,5 @@
 //! Which agent is allowed on which device, and for which protocol.
-ghost use Rattle.std.specs.Prelude.{◌≡◌, ◌≤◌, ◌<◌, ◌==◌, ◌&&◌, ℕ, true, if◌then◌else◌, length, IfSome};
+ghost use Rattle.std.specs.Prelude.{◌≡◌, ◌≤◌, ◌<◌, ◌==◌, ◌&&◌, ◌↔◌, ℕ, true, if◌then◌else◌, length, IfSome};
 ghost use Rattle.std.specs.Int.{bit_at};
 ghost use Rattle.scmi_plan.specs.Agent.{IsAgent};
 ghost use Rattle.scmi_plan.specs.Board.{IsOnBoard};
@@ -47,6 +47,24 @@ impl BaseState {
             power: PermissionTable::new(),
             clocks: PermissionTable::new(),
         }
+    }
+
+    /// Becomes the same as another state.
+    pub fn copy_from(&mut self, other: &BaseState)
+        ensures { self.new ≡ other.now }
+    {
+        self.devices.copy_from(&other.devices);
+        self.power.copy_from(&other.power);
+        self.clocks.copy_from(&other.clocks);
+    }
+
+    /// Whether another state is the same.
+    pub fn is_same(&self, other: &BaseState) -> bool
+        ensures { (result ≡ true) ↔ (self.now ≡ other.now) }
+    {
+        self.devices.is_same(&other.devices)
+            && self.power.is_same(&other.power)
+            && self.clocks.is_same(&other.clocks)
     }
 
     /// Executes a command of a caller (DEN0056B, base protocol), and gives the reply and the agent

@@ -1,5 +1,5 @@
 //! One yes or no for each agent and device.
-ghost use Rattle.std.specs.Prelude.{◌≡◌, ◌≤◌, ◌<◌, ◌==◌, ◌&&◌, ℕ, true, if◌then◌else◌};
+ghost use Rattle.std.specs.Prelude.{◌≡◌, ◌≤◌, ◌<◌, ◌==◌, ◌&&◌, ◌↔◌, ℕ, true, if◌then◌else◌};
 ghost use Rattle.std.specs.Int.{bit_at};
 ghost use Rattle.scmi_base.specs.PermissionTable.{entry};
 ghost use Rattle.scmi_plan.specs.Agent.{IsAgent};
@@ -33,6 +33,20 @@ impl PermissionTable {
         PermissionTable {
             denied: [0; AGENTS],
         }
+    }
+
+    /// Becomes the same as another table.
+    pub(crate) fn copy_from(&mut self, other: &PermissionTable)
+        ensures { self.new ≡ other.now }
+    {
+        self.denied = other.denied;
+    }
+
+    /// Whether another table is the same.
+    pub(crate) fn is_same(&self, other: &PermissionTable) -> bool
+        ensures { (result ≡ true) ↔ (self.now ≡ other.now) }
+    {
+        self.denied == other.denied
     }
 
     /// The devices with yes for an agent, bit d for device d.

@@ -1,5 +1,5 @@
 //! The rate of each clock, and whether it is enabled.
-ghost use Rattle.std.specs.Prelude.{◌≡◌, ◌<◌, ◌==◌, ◌∷◌, [], ℕ, length, true, if◌then◌else◌, IfSome};
+ghost use Rattle.std.specs.Prelude.{◌≡◌, ◌<◌, ◌==◌, ◌∷◌, ◌↔◌, [], ℕ, length, true, if◌then◌else◌, IfSome};
 ghost use Rattle.scmi_codec.specs.declared.clock_command.ClockCommand.TheVariants.{SetRate, Config};
 ghost use Rattle.scmi_plan.specs.Agent.{IsAgent};
 ghost use Rattle.scmi_plan.specs.Board.{clock_at};
@@ -50,6 +50,21 @@ impl ClockState {
             enabled[clock as usize] = row.enabled;
         }
         ClockState { rates, enabled }
+    }
+
+    /// Becomes the same as another state.
+    pub fn copy_from(&mut self, other: &ClockState)
+        ensures { self.new ≡ other.now }
+    {
+        self.rates = other.rates;
+        self.enabled = other.enabled;
+    }
+
+    /// Whether another state is the same.
+    pub fn is_same(&self, other: &ClockState) -> bool
+        ensures { (result ≡ true) ↔ (self.now ≡ other.now) }
+    {
+        self.rates == other.rates && self.enabled == other.enabled
     }
 
     /// The rate of a clock in Hz.

@@ -1,5 +1,5 @@
 //! Messages in the places of a ring.
-ghost use Rattle.std.specs.Prelude.{◌≡◌, ◌<◌, ◌≤◌, ◌++◌, ◌∷◌, [], length, drop, slice_get};
+ghost use Rattle.std.specs.Prelude.{◌≡◌, ◌<◌, ◌≤◌, ◌++◌, ◌∷◌, ◌↔◌, [], length, true, Some, drop, slice_get};
 ghost use Rattle.std.specs.Option.{option_copied};
 ghost use Rattle.scmi_core.specs.Outbox.{message_with};
 ghost use Rattle.scmi_core.specs.declared.outboxes.TheConstants.{OUTBOX_ROOM};
@@ -69,6 +69,46 @@ impl MessageRing {
         }
     }
 
+    /// Becomes the same as another ring.
+    pub fn copy_from(&mut self, other: &MessageRing)
+        ensures { self.new ≡ other.now }
+    {
+        'slots: for place in 0..OUTBOX_ROOM {
+            self.slots[place].copy_from(&other.slots[place]);
+        }
+        self.front.copy_from(&other.front);
+        self.oldest = other.oldest;
+        self.count = other.count;
+    }
+
+    /// Whether another ring has the same messages.
+    pub fn is_same(&self, other: &MessageRing) -> bool
+        ensures { (result ≡ true) ↔ (self.now ≡ other.now) }
+    {
+        if self.count != other.count {
+            return false;
+        }
+        'messages: for index in 0..self.count {
+            if !is_same_message(&self.message(index), &other.message(index)) {
+                return false;
+            }
+        }
+        true
+    }
+
+    /// A message of the ring; the oldest has index 0.
+    fn message(&self, index: usize) -> Message
+        requires { index < length self.now }
+        ensures { slice_get self.now index ≡ Some result }
+    {
+        if index == 0 {
+            return self.front.copy();
+        }
+        let mut message = Message::default();
+        self.slots[(self.oldest + index) % OUTBOX_ROOM].copy_to(&mut message);
+        message
+    }
+
     /// Takes the oldest message off.
     pub fn pop(&mut self)
         requires { 0 < length self.old }
@@ -104,6 +144,13 @@ impl MessageRing {
             self.count += 1;
         }
     }
+}
+
+/// Whether two messages are the same: in each field of the header, and in each payload word.
+fn is_same_message(a: &Message, b: &Message) -> bool
+    ensures { (result ≡ true) ↔ (a.now ≡ b.now) }
+{
+    a.header == b.header && a.payload.as_slice() == b.payload.as_slice()
 }
 
 /// Makes a message one of this header and these payload words, in place.

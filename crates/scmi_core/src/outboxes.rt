@@ -59,6 +59,27 @@ impl Outboxes {
         }
     }
 
+    /// Become the same as others.
+    pub fn copy_from(&mut self, other: &Outboxes)
+        ensures { self.new ≡ other.now }
+    {
+        'agents: for index in 0..AGENTS {
+            self.each[index].copy_from(&other.each[index]);
+        }
+    }
+
+    /// Whether others are the same.
+    pub fn is_same(&self, other: &Outboxes) -> bool
+        ensures { (result ≡ true) ↔ (self.now ≡ other.now) }
+    {
+        'agents: for index in 0..AGENTS {
+            if !self.each[index].is_same(&other.each[index]) {
+                return false;
+            }
+        }
+        true
+    }
+
     /// The first message of an agent's outbox.
     pub fn first(&self, agent: u32) -> Option<&Message>
         requires agent { IsAgent AGENTS agent }

@@ -74,6 +74,31 @@ impl Pending {
         first
     }
 
+    /// Becomes the same as others.
+    pub fn copy_from(&mut self, other: &Pending)
+        ensures { self.new ≡ other.now }
+    {
+        self.sets.clear();
+        // There is room for all of another.
+        let _ = self.sets.try_extend_from_slice(other.sets.as_slice());
+    }
+
+    /// Whether others are the same.
+    pub fn is_same(&self, other: &Pending) -> bool
+        ensures { (result ≡ true) ↔ (self.now ≡ other.now) }
+    {
+        let (mine, its) = (self.sets.as_slice(), other.sets.as_slice());
+        if mine.len() != its.len() {
+            return false;
+        }
+        'sets: for index in 0..mine.len() {
+            if !mine[index].is_same(&its[index]) {
+                return false;
+            }
+        }
+        true
+    }
+
     /// Takes back an agent's wish for delayed responses to its sets.
     pub fn forget_wishes(&mut self, agent: u32)
         ensures { self.new ≡ map (unwanted agent) self.old }

@@ -1,5 +1,5 @@
 //! Sets that are accepted and not yet complete.
-ghost use Rattle.std.specs.Prelude.{◌≡◌};
+ghost use Rattle.std.specs.Prelude.{◌≡◌, ◌↔◌, true};
 ghost use Rattle.scmi_core.specs.Effect.{setting_effect};
 ghost use Rattle.scmi_core.specs.Pending.{is_set_by};
 
@@ -16,6 +16,21 @@ pub enum Setting {
 }
 
 impl Setting {
+    /// Whether another setting is the same.
+    fn is_same(self, other: Setting) -> bool
+        ensures { (result ≡ true) ↔ (self ≡ other) }
+    {
+        match (self, other) {
+            (Setting::State(domain, state), Setting::State(its, value)) => {
+                domain == its && state == value
+            }
+            (Setting::Rate(clock, rate), Setting::Rate(its, value)) => {
+                clock == its && rate == value
+            }
+            _ => false,
+        }
+    }
+
     /// Whether this is a setting of a domain or clock.
     pub fn is_of(self, resource: Resource) -> bool
         ensures { result ≡ is_set_by resource self }
@@ -40,6 +55,16 @@ pub struct PendingSet {
 }
 
 impl PendingSet {
+    /// Whether another set is the same.
+    pub fn is_same(&self, other: &PendingSet) -> bool
+        ensures { (result ≡ true) ↔ (self.now ≡ other.now) }
+    {
+        self.agent == other.agent
+            && self.setting.is_same(other.setting)
+            && self.header == other.header
+            && self.wanted == other.wanted
+    }
+
     /// What the set changes of the hardware when it completes.
     pub fn effect(&self) -> Effect
         ensures { result ≡ setting_effect self.now.setting }

@@ -47,6 +47,23 @@ impl Platform {
         Platform { plan, tables }
     }
 
+    /// Becomes the same as another platform of this board. It takes no memory.
+    pub fn copy_from(&mut self, other: &Platform)
+        requires { self.now.board ≡ other.now.board }
+        ensures { self.new ≡ other.now }
+    {
+        self.tables.copy_from(&other.tables);
+    }
+
+    /// Whether another platform of this board is the same: the same values, permissions, requests
+    /// and pending sets, and the same messages for each agent.
+    pub fn is_same(&self, other: &Platform) -> bool
+        requires { self.now.board ≡ other.now.board }
+        ensures { (result ≡ true) ↔ (self.now ≡ other.now) }
+    {
+        self.tables.is_same(&other.tables)
+    }
+
     /// The number of agents, 1 to 8. They are numbered from 1.
     pub fn agents(&self) -> u32
         ensures count { result ≡ length self.now.board.agents }

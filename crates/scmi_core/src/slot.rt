@@ -61,6 +61,15 @@ impl Slot {
         }
     }
 
+    /// Becomes the same message as another.
+    pub fn copy_from(&mut self, other: &Slot)
+        ensures { self.new ≡ other.now }
+    {
+        self.header = other.header;
+        self.count = other.count;
+        self.words = other.words;
+    }
+
     /// Makes a message this one, in place.
     pub fn copy_to(&self, message: &mut Message)
         ensures { message.new ≡ self.now }

@@ -1,5 +1,5 @@
 //! What a controller keeps besides its history.
-ghost use Rattle.std.specs.Prelude.{◌≡◌, ◌≤◌, ◌<◌, ◌-◌, ◌==◌, [], ℕ, length, true, false, Ok, Err, None, Some, slice_get, IfSome, option_map, unwrap_or};
+ghost use Rattle.std.specs.Prelude.{◌≡◌, ◌≤◌, ◌<◌, ◌-◌, ◌==◌, ◌↔◌, [], ℕ, length, true, false, Ok, Err, None, Some, slice_get, IfSome, option_map, unwrap_or};
 ghost use Rattle.std.specs.List.{All};
 ghost use Rattle.std.specs.Int.{bit_at};
 ghost use Rattle.scmi_base.specs.Permission.{is_allowed};
@@ -69,6 +69,28 @@ impl Tables {
             pending: Pending::new(),
             outboxes: Outboxes::new(),
         }
+    }
+
+    /// Become the same as others.
+    pub fn copy_from(&mut self, other: &Tables)
+        ensures { self.new ≡ other.now }
+    {
+        self.base.copy_from(&other.base);
+        self.power.copy_from(&other.power);
+        self.clocks.copy_from(&other.clocks);
+        self.pending.copy_from(&other.pending);
+        self.outboxes.copy_from(&other.outboxes);
+    }
+
+    /// Whether others are the same.
+    pub fn is_same(&self, other: &Tables) -> bool
+        ensures { (result ≡ true) ↔ (self.now ≡ other.now) }
+    {
+        self.base.is_same(&other.base)
+            && self.power.is_same(&other.power)
+            && self.clocks.is_same(&other.clocks)
+            && self.pending.is_same(&other.pending)
+            && self.outboxes.is_same(&other.outboxes)
     }
 
     /// Executes a frame of an agent, and writes the reply to a message.

@@ -1,5 +1,5 @@
 //! The state of each power domain, and who is notified of its changes.
-ghost use Rattle.std.specs.Prelude.{◌≡◌, ◌≤◌, ◌<◌, ◌-◌, ◌==◌, ℕ, length, true, false, not, if◌then◌else◌, Some, IfSome};
+ghost use Rattle.std.specs.Prelude.{◌≡◌, ◌≤◌, ◌<◌, ◌-◌, ◌==◌, ◌↔◌, ℕ, length, true, false, not, if◌then◌else◌, Some, IfSome};
 ghost use Rattle.std.specs.Int.{bit_at};
 ghost use Rattle.scmi_codec.specs.Payload.{begins_with_success};
 ghost use Rattle.scmi_codec.specs.declared.power_command.PowerCommand.TheVariants.{Set, Notify};
@@ -55,6 +55,21 @@ impl PowerState {
             states,
             subscribers: [0; DOMAINS],
         }
+    }
+
+    /// Becomes the same as another state.
+    pub fn copy_from(&mut self, other: &PowerState)
+        ensures { self.new ≡ other.now }
+    {
+        self.states = other.states;
+        self.subscribers = other.subscribers;
+    }
+
+    /// Whether another state is the same.
+    pub fn is_same(&self, other: &PowerState) -> bool
+        ensures { (result ≡ true) ↔ (self.now ≡ other.now) }
+    {
+        self.states == other.states && self.subscribers == other.subscribers
     }
 
     /// Executes a command of a caller, and gives the reply and what it set. The reply begins with a
