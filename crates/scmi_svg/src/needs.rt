@@ -42,7 +42,7 @@ const MANY: Bounds = Bounds {
     side: 74,
     wide_side: 108,
     space: 18,
-    column: 60,
+    column: 76,
 };
 /// The least distance between the platform and the nearest agent.
 const GAP: u32 = 280;

@@ -41,7 +41,7 @@ svg{fill:#1b2733;font:12px Inter,'Helvetica Neue','DejaVu Sans',sans-serif}\n\
 .dropped{fill:#c0362c}\n\
 .dropped text{font-size:10px;font-weight:600}\n\
 .mark{stroke:#1b2733;fill:#1b2733}\n\
-.mark text{stroke:#fff;stroke-width:4;stroke-linejoin:round;paint-order:stroke;text-anchor:middle}\n\
+.mark text{stroke:#fff;stroke-width:3;stroke-linejoin:round;paint-order:stroke;text-anchor:middle}\n\
 .name{font-weight:600}\n\
 .object{fill:#1b2733}\n\
 .tag{fill:#b7791f;font-weight:600}\n\
