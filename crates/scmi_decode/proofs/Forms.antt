@@ -1,10 +1,12 @@
 -- Rows as programs print them, which the prover reads by the definitions: each has the same sixteen bytes.
-use Rattle.std.proofs.Common.{◌≡◌, ℕ, List, [], ◌∷◌, Option, None, Some, true, codes, refl}
+use Rattle.std.proofs.Common.{◌≡◌, ℕ, Bool, List, [], ◌∷◌, Option, None, Some, true, false, codes, refl}
 use Rattle.hex.specs.Hex.{decode_pairs}
 use Rattle.std.specs.Option.{option_map}
 use Rattle.scmi_decode.specs.Cell.{settled}
 use Rattle.scmi_decode.specs.Decoded.{is_remark}
 use Rattle.scmi_decode.specs.declared.open_dump.TheConstants.{REPEATED_BYTES}
+use Rattle.scmi_decode.specs.declared.layout.Layout.TheVariants.{Whole}
+use Rattle.scmi_decode.specs.OpenDump.{begun, is_star, no_dump}
 use Rattle.scmi_decode.specs.Row.{row_of, without_prefix, parts_at, parts_row, marked_parts, offset_parts, piped_parts, address_of}
 use Rattle.scmi_decode.specs.declared.form.Form.{Form}
 use Rattle.scmi_decode.specs.declared.form.Form.TheVariants.{Plain, Marked, Offset, Equals, Value}
@@ -148,6 +150,28 @@ unclear = refl
 pub prompt : read_row (codes "=> md.l 0x2e000000 0x47") ≡ None
 unfolding row_of without_prefix parts_at parts_row marked_parts offset_parts piped_parts address_of decode_pairs
 prompt = refl
+
+-- bits, in a row and in a shorter one
+pub xxd_bits : read_row (codes "00000018: 00000100 01000100 00011100 00000000 00000001 00000000  .D....") ≡ None
+unfolding row_of without_prefix parts_at parts_row marked_parts offset_parts piped_parts address_of decode_pairs
+xxd_bits = refl
+
+pub xxd_last_bits : read_row (codes "0000007e: 00000000 00000000                                      ..") ≡ None
+unfolding row_of without_prefix parts_at parts_row marked_parts offset_parts piped_parts address_of decode_pairs
+xxd_last_bits = refl
+
+-- whether `*` repeats a row that begins a dump
+abbrev pub repeats_at : List ℕ → Option Bool
+repeats_at line = option_map (λ r. is_star (begun (no_dump Whole) 1 r) (codes "*")) (row_of line)
+
+pub od_repeats : repeats_at (codes "0000000 0000 0000 0010 0000 4404 001c 0001 0000") ≡ Some true
+unfolding row_of without_prefix parts_at parts_row marked_parts offset_parts piped_parts address_of decode_pairs begun is_star
+od_repeats = refl
+
+-- the third row of hexdump, whose address has another base
+pub hexdump_repeats : repeats_at (codes "0000020 0000 0000 0010 0000 4404 001c 0001 0000") ≡ Some false
+unfolding row_of without_prefix parts_at parts_row marked_parts offset_parts piped_parts address_of decode_pairs begun is_star
+hexdump_repeats = refl
 
 -- the lines that devmem2 prints beside each number
 pub devmem2_opened : is_remark (codes "/dev/mem opened.") ≡ true

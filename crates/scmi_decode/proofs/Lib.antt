@@ -1,4 +1,5 @@
 mod Forms
+mod FoundSoFar
 mod Items
 mod Messages
 mod OneDump

@@ -33,15 +33,15 @@ at_begin p line bytes old = record {
   area = refl;
 }
 
-or_false : (b : Bool) → (b || false) ≡ b
+pub or_false : (b : Bool) → (b || false) ≡ b
 or_false true = refl
 or_false false = refl
 
-or_assoc : (a b c : Bool) → ((a || b) || c) ≡ (a || (b || c))
+pub or_assoc : (a b c : Bool) → ((a || b) || c) ≡ (a || (b || c))
 or_assoc true b c = refl
 or_assoc false b c = refl
 
-any_area-both : (xs ys : List Finding) → any_area (xs ++ ys) ≡ (any_area xs || any_area ys)
+pub any_area-both : (xs ys : List Finding) → any_area (xs ++ ys) ≡ (any_area xs || any_area ys)
 any_area-both [] ys = refl
 any_area-both (x ∷ xs) ys = ap (λ (b : Bool). is_area_found x.found || b) (any_area-both xs ys) ∙ sym (or_assoc (is_area_found x.found) (any_area xs) (any_area ys))
 

@@ -1,5 +1,6 @@
 -- What was reported while an input is read line by line.
 use Rattle.std.proofs.Common.{◌≡◌, ℕ, ◌+◌, ◌<◌, ◌≤◌, Bool, not, true, false, List, [], ◌∷◌, length, Option, None, Some, IfSome, ◌∙◌, sym, ap, subst, arith, length-drop}
+use Rattle.std.specs.Prelude.{◌||◌}
 use Rattle.std.specs.List.{slice_split, position_or_len}
 use Rattle.std.proofs.lemmas.Bool.Decides.{nat_tests}
 use Rattle.std.proofs.lemmas.List as list
@@ -12,12 +13,14 @@ use Rattle.scmi_decode.specs.OpenDump.{DumpView, no_dump, closed, dump_found}
 use Rattle.scmi_decode.specs.Reported.{Reported}
 use Rattle.scmi_decode.specs.declared.finding.Finding.{Finding}
 use Rattle.scmi_decode.specs.declared.layout.Layout.{Layout}
-use Rattle.scmi_decode.specs.Decoded.{IsDecoded, findings_of, dump_after, has_area, lines_have_area, lines_found, step_found}
+use Rattle.scmi_decode.specs.Decoded.{IsDecoded, findings_of, dump_after, has_area, lines_found, step_found}
+use Rattle.scmi_decode.specs.Finding.{any_area}
+use Rattle.scmi_decode.proofs.FoundSoFar.{found_from}
 
 -- what is left to read of an input, with the dump that is open there: what is still to be written, after what was, is the text of the whole
 pub record IsOnItsWay (l : Layout) (input rest : List ℕ) (d : DumpView) (n : ℕ) (old now : Option (List Finding)) : Type 0 where
   pub taken : (end : Option (List Finding)) → Reported now end (lines_found d n (slice_split is_line_feed rest)) → Reported old end (findings_of l input)
-  pub found : lines_have_area d n (slice_split is_line_feed rest) ≡ has_area l input
+  pub found : (d.found || any_area (lines_found d n (slice_split is_line_feed rest))) ≡ has_area l input
   pub size : n + length rest ≤ length input + 1
 
 -- the same, if it may be unknown what the reader gives
@@ -30,7 +33,7 @@ pub at_begin : (l : Layout) (whole : Option (List ℕ)) (d : DumpView) (old : Op
 at_begin l None d old e = tt
 at_begin l (Some input) d old e = record {
   taken = λ end h. subst (λ (v : DumpView). Reported old end (lines_found v 1 (slice_split is_line_feed input))) e h;
-  found = ap (λ (v : DumpView). lines_have_area v 1 (slice_split is_line_feed input)) e;
+  found = ap (λ (v : DumpView). v.found || any_area (lines_found v 1 (slice_split is_line_feed input))) e;
   size = omega arith;
 }
 
@@ -45,7 +48,8 @@ on_more l input rest d n old now now' way feed wrote =
     record {
       taken = λ end h. way.taken end (subst (λ (ls : List (List ℕ)). Reported now end (lines_found d n ls)) (sym split)
           (reported_trans now now' end (step_found d n (first_line rest)) (lines_found (dump_after d n (first_line rest)) (n + 1) (slice_split is_line_feed (after_line rest))) wrote h));
-      found = ap (lines_have_area d n) (sym split) ∙ way.found;
+      found = found_from d n (first_line rest) (slice_split is_line_feed (after_line rest))
+          ∙ ap (λ (ls : List (List ℕ)). d.found || any_area (lines_found d n ls)) (sym split) ∙ way.found;
       size = omega (arith, way.size, has_feed rest feed, length-drop (position_or_len is_line_feed rest + 1) rest);
     }
 
@@ -87,7 +91,8 @@ at_last l input rest line d d' n old now now' end way first none wrote after las
     let last_rest : Reported now' end (dump_found (dump_after d n rest)) = subst (λ (v : DumpView). Reported now' end (dump_found v)) same last in
     let both : Reported now end (lines_found d n (rest ∷ [])) = reported_trans now now' end (step_found d n rest) (dump_found (dump_after d n rest)) wrote_rest last_rest in
     let text : Reported now end (lines_found d n (slice_split is_line_feed rest)) = subst (λ (ls : List (List ℕ)). Reported now end (lines_found d n ls)) (sym split) both in
-    let found : lines_have_area d n (rest ∷ []) ≡ has_area l input = ap (lines_have_area d n) (sym split) ∙ way.found in
+    let found : ((dump_after d n rest).found || any_area (dump_found (dump_after d n rest))) ≡ has_area l input =
+    found_from d n rest [] ∙ ap (λ (ls : List (List ℕ)). d.found || any_area (lines_found d n ls)) (sym split) ∙ way.found in
     (way.taken end text, ap (λ (v : DumpView). (closed v).found) same ∙ found)
 
 pub at_end : (l : Layout) (whole left : Option (List ℕ)) (line : List ℕ) (d d' d'' : DumpView) (n : ℕ) (ended : Bool) (old now now' end : Option (List Finding)) → IsUnderWay l whole left d n old now

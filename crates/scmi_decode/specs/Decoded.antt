@@ -66,18 +66,13 @@ abbrev pub lines_found : DumpView → ℕ → List (List ℕ) → List Finding
 lines_found d n [] = dump_found d
 lines_found d n (line ∷ lines) = step_found d n line ++ lines_found (dump_after d n line) (n + 1) lines
 
--- whether an area is found in them, or was before
-abbrev pub lines_have_area : DumpView → ℕ → List (List ℕ) → Bool
-lines_have_area d n [] = d.found || any_area (dump_found d)
-lines_have_area d n (line ∷ lines) = lines_have_area (dump_after d n line) (n + 1) lines
-
 -- what is found in an input, whose lines are numbered from 1 and whose dumps have their areas so
 abbrev pub findings_of : Layout → List ℕ → List Finding
 findings_of l input = lines_found (no_dump l) 1 (slice_split is_line_feed input)
 
 -- whether an input has an area
 abbrev pub has_area : Layout → List ℕ → Bool
-has_area l input = lines_have_area (no_dump l) 1 (slice_split is_line_feed input)
+has_area l input = any_area (findings_of l input)
 
 -- what is reported is what is found in an input, if its bytes are known
 abbrev pub IsDecoded : Layout → (input : Option (List ℕ)) → (old new : Option (List Finding)) → Type 0

@@ -126,10 +126,14 @@ repeated d = record d { repeats = true }
 abbrev pub has_one_item : List ℕ → Bool
 has_one_item line = length (after_gap (after_item line)) == 0
 
+-- whether it is known how far a row repeats: groups of four digits after an address alone may be those of `hexdump`, whose addresses are read in another base, so there a dump begins at 0
+abbrev pub may_repeat : DumpView → Bool
+may_repeat d = not (same_form d.form Offset && (d.group == 4)) || (d.next == length d.cells)
+
 -- whether a line is `*`, by which the last row of a dump with addresses repeats
 unfoldable pub is_star : DumpView → List ℕ → Bool
 is_star d line =
-    is_open d && not (same_form d.form Plain) && (length (first_item line) == 1) && (slice_index (first_item line) 0 == 42) && has_one_item line
+    is_open d && not (same_form d.form Plain) && may_repeat d && (length (first_item line) == 1) && (slice_index (first_item line) 0 == 42) && has_one_item line
 
 -- an address, if a dump reaches it
 abbrev pub if_reached : DumpView → Option ℕ → Option ℕ

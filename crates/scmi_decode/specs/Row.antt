@@ -1,7 +1,7 @@
 -- The rows of dumps: an address, some bytes, and a column of text.
-use Rattle.std.specs.Prelude.{ℕ, ◌+◌, ◌-◌, ◌*◌, ◌^◌, ◌==◌, ◌&&◌, ◌||◌, nat_eq, nat_lt, not, Bool, true, false, if◌then◌else◌, List, [], ◌∷◌, length, take, drop, slice_index, Option, Some, None, is_some}
+use Rattle.std.specs.Prelude.{ℕ, ◌+◌, ◌-◌, ◌*◌, ◌/◌, ◌^◌, ◌==◌, ◌&&◌, ◌||◌, nat_eq, nat_le, nat_lt, not, Bool, true, false, if◌then◌else◌, List, [], ◌∷◌, length, take, drop, slice_index, Option, Some, None, is_some}
 use Rattle.std.specs.Int.{to_le_bytes, w32}
-use Rattle.std.specs.List.{starts_with}
+use Rattle.std.specs.List.{list_all, starts_with}
 use Rattle.std.specs.Option.{option_map}
 use Rattle.scmi_decode.specs.Cell.{cells_of}
 use Rattle.scmi_decode.specs.Dump.{is_gap, has_mark, line_bytes}
@@ -222,6 +222,24 @@ ends_in_return text = not (length text == 0) && (slice_index text (length text -
 abbrev pub without_return : List ℕ → List ℕ
 without_return text = if ends_in_return text then without_last text else text
 
+-- whether a byte is the digit 0 or 1, or in a gap
+abbrev pub is_bit : ℕ → Bool
+is_bit b = (b == 48) || (b == 49) || is_gap b
+
+-- whether data are digits 0 and 1 alone, and gaps
+abbrev pub has_bits_alone : List ℕ → Bool
+has_bits_alone groups = list_all is_bit groups
+
+-- a column without the gap before it
+abbrev pub shown_text : List ℕ → List ℕ
+shown_text column = without_return (after_gap column)
+
+-- whether data are bits, as `xxd -b` prints them: groups of eight digits 0 and 1, and a column of text with at most one character for each
+abbrev pub are_bits : (groups column : List ℕ) → Bool
+are_bits groups column =
+    (length (first_item groups) == 8) && nat_lt 0 (length (shown_text column)) && nat_le (length (shown_text column)) (length groups / 9 + 1)
+    && has_bits_alone groups
+
 -- what a column shows of so many bytes: the last characters
 abbrev pub column_text : (count : ℕ) → List ℕ → List ℕ
 column_text count column = if nat_lt count (length column) then drop (length column - count) column else []
@@ -265,9 +283,9 @@ abbrev pub row_if : Form → Option ℕ → (group : ℕ) → Order → Option (
 row_if f (Some address) group order (Some cells) = row_with f address group order cells
 row_if f _ group order _ = None
 
--- the row of a form, the digits of an address, the data, and the column after them
+-- the row of a form, the digits of an address, the data, and the column after them; bits are none
 unfoldable pub parts_row : Form → (digits groups column : List ℕ) → Option RowView
-parts_row f digits groups column = row_if f (address_of f digits) (group_of (first_item groups)) (data_order f groups column) (form_cells f groups column)
+parts_row f digits groups column = if are_bits groups column then None else row_if f (address_of f digits) (group_of (first_item groups)) (data_order f groups column) (form_cells f groups column)
 
 -- whether a text begins with an address and a colon: eight digits at least
 abbrev pub begins_with_address : List ℕ → Bool

@@ -1,5 +1,7 @@
 //! What to do about a line that is no dump.
 
+use crate::parts::parts_of;
+use crate::row::are_bits;
 use crate::scan::{after_gap, after_item, first_item};
 
 /// The most digits of a number of 64 bits.
@@ -10,6 +12,7 @@ const NUMBER_DIGITS: usize = 16;
 pub(crate) fn advice_for(text: &[u8]) -> &'static str {
     let line = after_gap(text);
     let first = first_item(line);
+    let parts = parts_of(text);
     if line.starts_with(b":") && line.iter().skip(1).all(|byte| is_digit_or_end(*byte)) {
         "Intel HEX; make bytes of it (objcopy -I ihex -O binary) and decode these with -b"
     } else if line.starts_with(b"b'\\x")
@@ -19,6 +22,10 @@ pub(crate) fn advice_for(text: &[u8]) -> &'static str {
         "a text of Python or C; print its digits (Python: bytes.hex())"
     } else if line.starts_with(b"$") {
         "gdb's print does not show how wide a number is; use x/71xw ADDRESS"
+    } else if first.starts_with(b"*") {
+        "it is unclear how often the row before it repeats; print each row (od -v, hexdump -vC)"
+    } else if are_bits(parts.bytes, parts.column) {
+        "bits, as xxd -b prints them; print bytes (xxd -g 1)"
     } else if first.len() == 7 && is_hexadecimal(first) {
         "its base is unclear; print it as od -t x1 or hexdump -C do"
     } else if first.len() == 8 && is_hexadecimal(first) && text_is_bare(line) {

@@ -2,7 +2,7 @@
 ghost use Rattle.std.specs.Prelude.{◌≡◌, ◌+◌, ◌%◌, ◌^◌, length, OnOk, IfOk};
 ghost use Rattle.std.specs.Option.{is_some, option_map};
 ghost use Rattle.scmi_decode.specs.Finding.{any_area};
-ghost use Rattle.scmi_decode.specs.OpenDump.{no_dump, is_open, dump_bytes, dump_found, has_its_groups, same_form, reaches, is_even, goes_on, copies, rows_before, last_row, filled, extended, added, begun, closed, beside, repeated, has_one_item, is_star, end_at};
+ghost use Rattle.scmi_decode.specs.OpenDump.{no_dump, is_open, dump_bytes, dump_found, has_its_groups, same_form, reaches, is_even, may_repeat, goes_on, copies, rows_before, last_row, filled, extended, added, begun, closed, beside, repeated, has_one_item, is_star, end_at};
 
 use crate::cell::{Cell, order_shown, settled};
 use crate::form::Form;
@@ -274,9 +274,19 @@ impl OpenDump {
         let item = first_item(line);
         self.is_open()
             && !same_form(self.form, Form::Plain)
+            && self.may_repeat()
             && item.len() == 1
             && item[0] == b'*'
             && has_one_item(line)
+    }
+
+    /// Whether it is known how far a row repeats: groups of four digits after an address alone may be
+    /// those of `hexdump`, whose addresses are read in another base, so there a dump begins at 0.
+    fn may_repeat(&self) -> bool
+        ensures { result ≡ may_repeat self.now }
+    {
+        !(same_form(self.form, Form::Offset) && self.group == 4)
+            || self.next == self.cells.len() as u64
     }
 
     /// Repeats the last row up to the next address.

@@ -1,11 +1,12 @@
 //! A row of a dump.
 ghost use Rattle.std.specs.Prelude.{◌≡◌, IfOk};
 ghost use Rattle.std.specs.Option.{option_map};
-ghost use Rattle.scmi_decode.specs.Row.{address_of, base_of, column_text, data_cells, data_order, form_cells, ends_in_return, gap_before, group_of, half_order, long_order, order_of, parts_row, row_of, row_with, without_return, word_bytes_of, word_cells};
+ghost use Rattle.scmi_decode.specs.Row.{address_of, are_bits, base_of, column_text, data_cells, data_order, form_cells, ends_in_return, gap_before, group_of, half_order, has_bits_alone, is_bit, long_order, order_of, parts_row, row_of, row_with, without_return, word_bytes_of, word_cells};
 
 use crate::cell::{Cell, cells_of};
 use crate::dump::{has_mark, line_bytes};
 use crate::form::Form;
+use crate::lines::is_gap;
 use crate::number::{number_from, without_mark};
 use crate::order::Order;
 use crate::parts::{parts_of, without_last};
@@ -90,7 +91,7 @@ pub(crate) fn row_of(alloc: Global, line: &[u8]) -> Result<Option<Row>, AllocErr
     parts_row(alloc, parts.form, parts.digits, parts.bytes, parts.column)
 }
 
-/// The row of a form, the digits of an address, the data, and the column after them.
+/// The row of a form, the digits of an address, the data, and the column after them; bits are none.
 #[tactic(auto, unfolding(crate::specs::Row::parts_row))]
 fn parts_row(
     alloc: Global,
@@ -101,6 +102,9 @@ fn parts_row(
 ) -> Result<Option<Row>, AllocError>
     ensures { IfOk result (λ found. found ≡ parts_row form digits.now groups.now column.now) }
 {
+    if are_bits(groups, column) {
+        return Ok(None);
+    }
     let Some(address) = address_of(form, digits) else {
         return Ok(None);
     };
@@ -253,6 +257,32 @@ fn long_order(form: Form, is_alone: bool) -> Order
         (Form::Plain, true) => Order::Unclear,
         _ => Order::Turned,
     }
+}
+
+/// Whether data are bits, as `xxd -b` prints them: groups of eight digits 0 and 1, and a column of text
+/// with at most one character for each.
+pub(crate) fn are_bits(groups: &[u8], column: &[u8]) -> bool
+    ensures { result ≡ are_bits groups.now column.now }
+{
+    let shown = without_return(after_gap(column)).len();
+    first_item(groups).len() == 8
+        && shown > 0
+        && shown <= groups.len() / 9 + 1
+        && has_bits_alone(groups)
+}
+
+/// Whether data are digits 0 and 1 alone, and gaps.
+fn has_bits_alone(groups: &[u8]) -> bool
+    ensures { result ≡ has_bits_alone groups.now }
+{
+    groups.iter().all(|byte| is_bit(*byte))
+}
+
+/// Whether a byte is the digit 0 or 1, or in a gap.
+fn is_bit(byte: u8) -> bool
+    ensures { result ≡ is_bit byte }
+{
+    byte == b'0' || byte == b'1' || is_gap(byte)
 }
 
 /// What a column shows of so many bytes: its last characters.

@@ -4,9 +4,12 @@ use crate::chart::{Column, Dropped, Kind, Span, State};
 use crate::escape::write_escaped;
 use crate::place::Place;
 use crate::rate::write_rate;
-use crate::shape::{Point, write_box, write_words};
+use crate::shape::{Fit, Point, write_box, write_fitted, write_words};
 use std::io;
 use std::io::Write;
+
+/// The size of the name of a column.
+const NAME: u32 = 12;
 
 pub(crate) fn write_columns<W: Write>(
     writer: &mut W,
@@ -27,7 +30,17 @@ fn write_column<W: Write>(writer: &mut W, place: Place<'_>, column: &Column) -> 
         Kind::Outbox(_) => b"outbox",
     };
     let left = x.saturating_sub(6);
-    write_words(writer, "track", Point { x: left, y: 103 }, &column.name)?;
+    let fit = Fit {
+        room: place.name_room(column.kind),
+        size: NAME,
+    };
+    write_fitted(
+        writer,
+        "track",
+        Point { x: left, y: 103 },
+        &column.name,
+        fit,
+    )?;
     write_words(writer, "kind", Point { x: left, y: 119 }, kind)?;
     for span in &column.spans {
         write_span(writer, place, column, span)?;

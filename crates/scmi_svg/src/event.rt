@@ -5,7 +5,7 @@ use crate::escape::write_escaped;
 use crate::mark::Side;
 use crate::measure::width_in;
 use crate::place::Place;
-use crate::shape::{Point, write_box, write_cross, write_line, write_ring, write_words};
+use crate::shape::{Fit, Point, write_box, write_cross, write_fitted, write_line, write_ring};
 use std::io;
 use std::io::Write;
 
@@ -97,11 +97,17 @@ pub(crate) fn write_closed<W: Write>(
     };
     let y = place.line_y(slot) - 4;
     write_cross(writer, "shut", Point { x, y })?;
-    write_remark(writer, place, agent, slot, by, text)
+    let note = Note {
+        agent,
+        slot,
+        beside: by,
+        text,
+        size: 11,
+    };
+    write_note(writer, place, note)
 }
 
-/// Writes words beside a lifeline, towards the other one. Those of an agent that is not beside the
-/// platform have a line to it, since they are where all words of its side are.
+/// Writes words beside a lifeline.
 pub(crate) fn write_remark<W: Write>(
     writer: &mut W,
     place: Place<'_>,
@@ -110,12 +116,35 @@ pub(crate) fn write_remark<W: Write>(
     beside: Side,
     text: &[u8],
 ) -> io::Result<()> {
-    let y = place.line_y(slot);
-    let (x, is_from_left) = match beside {
+    let note = Note {
+        agent,
+        slot,
+        beside,
+        text,
+        size: 10,
+    };
+    write_note(writer, place, note)
+}
+
+/// Words beside a lifeline, and the greatest size of their font.
+#[derive(Clone, Copy)]
+struct Note<'a> {
+    agent: u8,
+    slot: u16,
+    beside: Side,
+    text: &'a [u8],
+    size: u32,
+}
+
+/// Writes words beside a lifeline, towards the other one. Those of an agent that is not beside the
+/// platform have a line to it, since they are where all words of its side are.
+fn write_note<W: Write>(writer: &mut W, place: Place<'_>, note: Note<'_>) -> io::Result<()> {
+    let (agent, y) = (note.agent, place.line_y(note.slot));
+    let (x, is_from_left) = match note.beside {
         Side::Agent => (place.inner_x(agent, 30), place.is_left(agent)),
         Side::Platform => (place.beside_platform(agent, 52), !place.is_left(agent)),
     };
-    if let Side::Agent = beside {
+    if let Side::Agent = note.beside {
         let from = Point {
             x: place.beside_agent(agent, 12),
             y: y - 4,
@@ -127,7 +156,11 @@ pub(crate) fn write_remark<W: Write>(
         write_line(writer, "lead", from, to)?;
     }
     let class = if is_from_left { "note" } else { "note end" };
-    write_words(writer, class, Point { x, y }, text)
+    let fit = Fit {
+        room: place.room(),
+        size: note.size,
+    };
+    write_fitted(writer, class, Point { x, y }, note.text, fit)
 }
 
 /// Writes that the hardware refused what an agent's command was to change, beside the platform's
@@ -140,11 +173,17 @@ pub(crate) fn write_fault<W: Write>(
     text: &[u8],
 ) -> io::Result<()> {
     let (x, y) = (place.platform_x(), place.line_y(slot));
-    let (cross, words, class) = if place.is_left(agent) {
-        (x + 52, x + 66, "note")
+    let is_left = place.is_left(agent);
+    let (cross, words) = if is_left {
+        (x + 52, x + 66)
     } else {
-        (x.saturating_sub(52), x.saturating_sub(66), "note end")
+        (x.saturating_sub(52), x.saturating_sub(66))
     };
     write_cross(writer, "lost", Point { x: cross, y: y - 4 })?;
-    write_words(writer, class, Point { x: words, y }, text)
+    let class = if is_left { "note" } else { "note end" };
+    let fit = Fit {
+        room: place.room().saturating_sub(14),
+        size: 10,
+    };
+    write_fitted(writer, class, Point { x: words, y }, text, fit)
 }

@@ -1,5 +1,7 @@
 //! What the lines and signs of a chart mean, as far as it has them.
 
+ghost use Rattle.std.specs.Prelude.{◌<◌, ◌^◌};
+
 use crate::chart::{Chart, Column, Span, State};
 use crate::mark::Mark;
 use crate::marks::class_of;
@@ -28,6 +30,9 @@ struct Entry {
     x: u32,
     words: &'static str,
 }
+
+/// The height of a row.
+const ROW: u32 = 26;
 
 const ARROW: &str = "<line class=\"head\" x1=\"0\" y1=\"12\" x2=\"26\" y2=\"12\"/>";
 
@@ -75,37 +80,75 @@ const ENTRIES: [Entry; 14] = entries![
     Where::Dropped, 150 "sign" CROSS 22 "notification dropped";
 ];
 
-/// Writes the explanations of what the chart has, from left to right.
-pub(crate) fn write_legend<W: Write>(writer: &mut W, chart: &Chart, y: u32) -> io::Result<()> {
+/// A place in the legend: how far to the right, and in which row.
+#[derive(Clone, Copy)]
+struct Spot {
+    x: u32,
+    row: u32,
+}
+
+impl Spot {
+    /// The place of an entry that is to follow: in the next row if this one has no room for it.
+    fn for_entry(self, entry: &Entry, width: u32) -> Spot {
+        if self.x == 0 || self.x.saturating_add(entry.width) <= width {
+            self
+        } else {
+            Spot {
+                x: 0,
+                row: self.row.saturating_add(1),
+            }
+        }
+    }
+
+    /// The place behind an entry.
+    fn behind(self, entry: &Entry) -> Spot {
+        Spot {
+            x: self.x.saturating_add(entry.width),
+            row: self.row,
+        }
+    }
+}
+
+/// Writes the explanations of what the chart has, in rows of this width.
+pub(crate) fn write_legend<W: Write>(
+    writer: &mut W,
+    chart: &Chart,
+    y: u32,
+    width: u32,
+) -> io::Result<()> {
     write!(writer, "<svg class=\"legend\" x=\"24\" y=\"{y}\">\n")?;
-    let mut x = 0u32;
+    let mut spot = Spot { x: 0, row: 0 };
     for entry in &ENTRIES {
         if is_used(chart, entry.place) {
-            write_entry(writer, x, entry)?;
-            x = x.saturating_add(entry.width);
+            spot = spot.for_entry(entry, width);
+            write_entry(writer, spot, entry)?;
+            spot = spot.behind(entry);
         }
     }
     writer.write_all(b"</svg>\n")
 }
 
-fn write_entry<W: Write>(writer: &mut W, x: u32, entry: &Entry) -> io::Result<()> {
+fn write_entry<W: Write>(writer: &mut W, spot: Spot, entry: &Entry) -> io::Result<()> {
+    let (x, y) = (spot.x, spot.row.saturating_mul(ROW));
     let (class, sign) = (entry.class, entry.sign);
     let (words_x, words) = (entry.x, entry.words);
     write!(
         writer,
-        "<svg class=\"mark {class}\" x=\"{x}\">{sign}<text x=\"{words_x}\" y=\"16\">{words}</text></svg>\n"
+        "<svg class=\"mark {class}\" x=\"{x}\" y=\"{y}\">{sign}<text x=\"{words_x}\" y=\"16\">{words}</text></svg>\n"
     )
 }
 
-/// The width of a chart's legend.
-pub(crate) fn legend_width(chart: &Chart) -> u32 {
-    let mut width = 0u32;
+/// The height of a chart's legend in rows of this width.
+pub(crate) fn legend_height(chart: &Chart, width: u32) -> u32
+    ensures bound { result < 2 ^ 16 }
+{
+    let mut spot = Spot { x: 0, row: 0 };
     for entry in &ENTRIES {
         if is_used(chart, entry.place) {
-            width = width.saturating_add(entry.width);
+            spot = spot.for_entry(entry, width).behind(entry);
         }
     }
-    width
+    (1 + spot.row.min(99)) * ROW
 }
 
 fn is_used(chart: &Chart, place: Where) -> bool {

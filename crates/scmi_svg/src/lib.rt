@@ -13,6 +13,7 @@ mod diagram;
 mod diagram_value;
 mod escape;
 mod event;
+mod label;
 mod legend;
 mod lifeline;
 mod mark;

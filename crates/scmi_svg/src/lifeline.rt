@@ -2,8 +2,10 @@
 
 use crate::chart::{Chart, Lifeline};
 use crate::escape::write_escaped;
+use crate::measure::{size_in, width_of};
+use crate::needs::beside_bars;
 use crate::place::{Place, STRETCH};
-use crate::shape::{Point, write_box, write_words};
+use crate::shape::{Fit, Point, write_box, write_fitted, write_words};
 use std::io;
 use std::io::Write;
 
@@ -11,6 +13,13 @@ use std::io::Write;
 const HEAD_Y: u32 = 84;
 
 const HEAD: u32 = 44;
+/// The size of a name in its box.
+const NAME: u32 = 14;
+/// The names that are written again, and the room for that of the platform.
+const AGAIN: Fit = Fit {
+    room: 132,
+    size: 10,
+};
 
 /// Writes the lifelines and the boxes of their names.
 pub(crate) fn write_lifelines<W: Write>(
@@ -59,7 +68,11 @@ fn write_lifeline<W: Write>(
         writer,
         "<rect class=\"a{agent} box\" x=\"{left}\" y=\"{HEAD_Y}\" width=\"{width}\" height=\"{HEAD}\" rx=\"8\"/>\n"
     )?;
-    write_words(writer, "who", Point { x, y: 103 }, &lifeline.name)?;
+    let fit = Fit {
+        room: width.saturating_sub(8),
+        size: NAME,
+    };
+    write_fitted(writer, "who", Point { x, y: 103 }, &lifeline.name, fit)?;
     write!(
         writer,
         "<text class=\"what\" x=\"{x}\" y=\"119\">agent {agent}</text>\n"
@@ -99,7 +112,11 @@ fn write_platform<W: Write>(writer: &mut W, place: Place<'_>) -> io::Result<()> 
         writer,
         "<rect class=\"box\" x=\"{left}\" y=\"{HEAD_Y}\" width=\"132\" height=\"{HEAD}\" rx=\"8\"/>\n"
     )?;
-    write_words(writer, "who", Point { x, y: 103 }, b"platform")?;
+    let fit = Fit {
+        room: 132,
+        size: NAME,
+    };
+    write_fitted(writer, "who", Point { x, y: 103 }, b"platform", fit)?;
     write_words(writer, "what", Point { x, y: 119 }, b"SCMI controller")
 }
 
@@ -120,20 +137,40 @@ pub(crate) fn write_rows<W: Write>(
 
 fn write_row<W: Write>(writer: &mut W, place: Place<'_>, chart: &Chart, y: u32) -> io::Result<()> {
     for lifeline in &chart.lifelines {
-        let (agent, x) = (lifeline.agent, place.agent_x(lifeline.agent));
-        write!(
-            writer,
-            "<text class=\"a{agent} again\" x=\"{x}\" y=\"{y}\">"
-        )?;
-        write_escaped(writer, &lifeline.name)?;
-        writer.write_all(b"</text>\n")?;
+        write_again(writer, place, lifeline, y)?;
     }
-    let x = place.platform_x();
-    write_words(writer, "again", Point { x, y }, b"platform")?;
+    let platform = Point {
+        x: place.platform_x(),
+        y,
+    };
+    write_fitted(writer, "again", platform, b"platform", AGAIN)?;
     for column in &chart.columns {
-        // Beside the bar of the state, which it would cover.
-        let x = place.column_x(column.place) + 10;
-        write_words(writer, "again left", Point { x, y }, &column.name)?;
+        let beside = beside_bars(column);
+        let x = place.column_x(column.place).saturating_add(beside);
+        let fit = Fit {
+            room: place
+                .name_room(column.kind)
+                .saturating_sub(beside.saturating_sub(2)),
+            size: AGAIN.size,
+        };
+        write_fitted(writer, "again left", Point { x, y }, &column.name, fit)?;
     }
     Ok(())
+}
+
+/// Writes the name of an agent over its lifeline.
+fn write_again<W: Write>(
+    writer: &mut W,
+    place: Place<'_>,
+    lifeline: &Lifeline,
+    y: u32,
+) -> io::Result<()> {
+    let (agent, x) = (lifeline.agent, place.agent_x(lifeline.agent));
+    let size = size_in(width_of(&lifeline.name), place.head(), AGAIN.size);
+    write!(
+        writer,
+        "<text class=\"a{agent} again\" x=\"{x}\" y=\"{y}\" font-size=\"{size}\">"
+    )?;
+    write_escaped(writer, &lifeline.name)?;
+    writer.write_all(b"</text>\n")
 }

@@ -12,6 +12,8 @@ const WIDTHS: [u8; 95] = [
 ];
 /// The width of the sign for a byte that is not printable.
 const UNSHOWN_WIDTH: u8 = 59;
+/// The least size of a font.
+const LEAST: u32 = 5;
 /// How many letters of a text are measured: longer ones are as wide as these.
 const MEASURED: usize = 120;
 
@@ -36,9 +38,22 @@ pub(crate) fn width_of(text: &[u8]) -> u32
     width
 }
 
+/// A width in hundredths of a font's size, in pixels for a font of this size.
+pub(crate) fn pixels(width: u32, size: u32) -> u32 {
+    width.saturating_mul(size) / 100
+}
+
 /// How wide a text is in a font of this size, in pixels.
 pub(crate) fn width_in(text: &[u8], size: u8) -> u32
     ensures bound { result < 2 ^ 17 }
 {
     width_of(text) * u32::from(size) / 100
+}
+
+/// The size of a font in which a text with this width in hundredths of it has room: at most
+/// this one, and at least 5.
+pub(crate) fn size_in(width: u32, room: u32, size: u32) -> u32 {
+    (room.saturating_mul(100) / width.max(1))
+        .min(size)
+        .max(LEAST)
 }

@@ -1,17 +1,11 @@
 //! Messages: their ways between two lifelines, their words, and their tokens.
 
-use crate::escape::write_escaped;
-use crate::mark::{Label, Message};
-use crate::needs::label_width;
+use crate::label::write_label;
+use crate::mark::Message;
 use crate::place::Place;
 use crate::shape::{Point, write_cross, write_line};
 use std::io;
 use std::io::Write;
-
-/// The size of the words of a message, and the least.
-const SIZE: u32 = 12;
-
-const LEAST: u32 = 5;
 
 /// Writes a command: if it waited, it does so beside the platform.
 pub(crate) fn write_command<W: Write>(
@@ -27,7 +21,7 @@ pub(crate) fn write_command<W: Write>(
         to: place.beside_platform(agent, 5),
     };
     write_way(writer, place, message, way)?;
-    write_label(writer, place, message)?;
+    write_words_of(writer, place, message)?;
     write_token(writer, place, agent, message.slot, token)
 }
 
@@ -45,7 +39,7 @@ pub(crate) fn write_answer<W: Write>(
         to: place.agent_x(agent),
     };
     write_way(writer, place, message, way)?;
-    write_label(writer, place, message)?;
+    write_words_of(writer, place, message)?;
     write_token(writer, place, agent, message.taken, token)
 }
 
@@ -138,40 +132,16 @@ fn write_cut<W: Write>(
     };
     write_line(writer, "way", from, Point { x, y })?;
     write_cross(writer, "lost", Point { x, y })?;
-    write_label(writer, place, message)
+    write_words_of(writer, place, message)
 }
 
 /// Writes the words of a message, above its line and beside the platform.
-fn write_label<W: Write>(writer: &mut W, place: Place<'_>, message: &Message) -> io::Result<()> {
-    let label = &message.label;
-    let (x, y) = (place.words_x(message.agent), place.line_y(message.slot) - 6);
-    let size = (100 * place.room() / label_width(label).max(1))
-        .min(SIZE)
-        .max(LEAST);
-    write!(writer, "<text x=\"{x}\" y=\"{y}\" font-size=\"{size}\">")?;
-    write_parts(writer, label)?;
-    writer.write_all(b"</text>\n")
-}
-
-fn write_parts<W: Write>(writer: &mut W, label: &Label) -> io::Result<()> {
-    write_part(writer, "<tspan class=\"name\">", &label.name)?;
-    write_part(writer, "<tspan class=\"object\" dx=\"6\">", &label.object)?;
-    write_part(
-        writer,
-        "<tspan class=\"object\" dx=\"4\">&#8594; ",
-        &label.value,
-    )?;
-    write_part(writer, "<tspan class=\"tag\" dx=\"6\">", &label.tag)
-}
-
-/// Writes a part of a label, if it has any letters.
-fn write_part<W: Write>(writer: &mut W, opening: &str, text: &[u8]) -> io::Result<()> {
-    if text.is_empty() {
-        return Ok(());
-    }
-    writer.write_all(opening.as_bytes())?;
-    write_escaped(writer, text)?;
-    writer.write_all(b"</tspan>")
+fn write_words_of<W: Write>(writer: &mut W, place: Place<'_>, message: &Message) -> io::Result<()> {
+    let at = Point {
+        x: place.words_x(message.agent),
+        y: place.line_y(message.slot) - 6,
+    };
+    write_label(writer, &message.label, at, place.room())
 }
 
 /// Writes a token in a ring on the lifeline of an agent, if there is one.

@@ -1,12 +1,13 @@
 //! Where things are, in pixels.
 //!
 //! The words of all messages are in the two gaps beside the platform's lifeline, so only these are
-//! wide. At most one message leaves in a slot, and its words are above its line: no label lies over
-//! another. Slots, agents and columns are numbered by `u16` and `u8`, so no sum of these can wrap.
+//! wide. At most one message leaves in a slot, and its words are above its line, in at most two rows:
+//! no label lies over another. Five agents and more are nearer to each other, so that they fit a
+//! screen. Slots, agents and columns are numbered by `u16` and `u8`, so no sum of these can wrap.
 ghost use Rattle.std.specs.Prelude.{◌<◌, ◌≤◌, ◌^◌};
 
-use crate::chart::{Chart, Step};
-use crate::needs::{column_of, gap_of, script_of, side_of};
+use crate::chart::{Chart, Kind, Step};
+use crate::needs::{Bounds, Group, beyond_of, bounds_of, gap_of, group_of, script_of, side_of};
 
 /// The most agents of a chart.
 const AGENTS: usize = 8;
@@ -18,8 +19,15 @@ const TOP: u32 = 150;
 pub(crate) const STRETCH: u16 = 20;
 
 const AGAIN: u32 = 24;
-/// The part of a gap beside the platform that has no words: messages wait there.
-pub(crate) const MARGIN: u32 = 104;
+/// The parts of a gap that have no words, at the platform and at the nearest agent: messages wait
+/// there.
+const AT_PLATFORM: u32 = 52;
+
+const AT_AGENT: u32 = 34;
+/// Both.
+pub(crate) const MARGIN: u32 = AT_PLATFORM + AT_AGENT;
+/// By how much the middle of the words is nearer to the agent than to the platform.
+const ASIDE: u16 = 9;
 
 /// Where the lifelines and columns of a chart are, and how far down they go.
 #[derive(Clone, Copy)]
@@ -27,29 +35,37 @@ pub(crate) struct Place<'a> {
     steps: &'a [Step],
     slots: u16,
     agents: u8,
-    columns: u8,
+    bounds: Bounds,
     /// The first lifeline.
     left: u16,
     /// The distance between two agents on one side of the platform.
     side: u16,
     /// The distance between the platform and the nearest agent.
     gap: u16,
-    /// The width of a column.
-    column: u16,
+    /// The room beside the platform where no agent is.
+    beyond: u16,
+    /// The columns, in their order.
+    domains: Group,
+    clocks: Group,
+    outboxes: Group,
 }
 
 impl<'a> Place<'a> {
     pub fn of(chart: &'a Chart) -> Place<'a> {
-        let side = side_of(&chart.lifelines);
+        let bounds = bounds_of(chart.lifelines.len());
+        let side = side_of(&chart.lifelines, bounds);
         Place {
             steps: &chart.steps,
             slots: chart.slots,
             agents: chart.lifelines.len().min(AGENTS) as u8,
-            columns: chart.columns.len().min(255) as u8,
-            left: script_of(&chart.steps) + side / 2,
+            bounds,
+            left: script_of(&chart.steps, bounds) + side / 2,
             side,
-            gap: gap_of(&chart.marks),
-            column: column_of(&chart.columns),
+            gap: gap_of(&chart.marks, bounds),
+            beyond: beyond_of(&chart.marks),
+            domains: group_of(&chart.columns, 0, bounds),
+            clocks: group_of(&chart.columns, 1, bounds),
+            outboxes: group_of(&chart.columns, 2, bounds),
         }
     }
 
@@ -125,7 +141,7 @@ impl<'a> Place<'a> {
 
     /// The middle of the words between the platform and the agents of this agent's side.
     pub fn words_x(self, agent: u8) -> u32 {
-        self.beside_platform(agent, self.gap / 2)
+        self.beside_platform(agent, self.gap / 2 + ASIDE)
     }
 
     /// At this distance from the agent that is nearest to the platform, towards the platform.
@@ -144,40 +160,79 @@ impl<'a> Place<'a> {
     pub fn head(self) -> u32
         ensures bound { result < 2 ^ 16 }
     {
-        u32::from(self.side).saturating_sub(16)
+        u32::from(self.side).saturating_sub(if self.is_crowded() { 8 } else { 16 })
+    }
+
+    /// Whether the agents are nearer to each other.
+    fn is_crowded(self) -> bool {
+        self.agents > 4
+    }
+
+    /// The most characters of a line of the script that are shown.
+    pub fn shown(self) -> usize {
+        self.bounds.shown
+    }
+
+    /// The last lifeline.
+    fn last_x(self) -> u32
+        ensures bound { result < 2 ^ 26 }
+    {
+        if self.is_left(self.agents) {
+            self.platform_x()
+        } else {
+            self.agent_x(self.agents)
+        }
+    }
+
+    /// The room beside the last lifeline.
+    fn room_beyond(self) -> u32
+        ensures bound { result < 2 ^ 16 }
+    {
+        if self.is_left(self.agents) {
+            u32::from(self.beyond)
+        } else {
+            u32::from(self.side) / 2
+        }
     }
 
     /// The line between the lifelines and the columns.
     pub fn border_x(self) -> u32
         ensures bound { result < 2 ^ 27 }
     {
-        let last = if self.is_left(self.agents) {
-            self.platform_x()
-        } else {
-            self.agent_x(self.agents)
-        };
-        last + u32::from(self.side).max(132) / 2 + 24
+        self.last_x() + self.room_beyond() + 16
     }
 
-    /// The width of this many columns.
-    fn columns_width(self, count: u8) -> u32
+    /// The width of the columns before this one.
+    fn columns_width(self, place: u8) -> u32
         ensures bound { result < 2 ^ 24 }
     {
-        let width = u32::from(self.column).saturating_mul(u32::from(count));
-        // 255 of the widest columns have less.
-        width.min(100_000)
+        let clock = place.saturating_sub(self.domains.count);
+        let outbox = clock.saturating_sub(self.clocks.count);
+        self.domains.width_of(place.min(self.domains.count))
+            + self.clocks.width_of(clock.min(self.clocks.count))
+            + self.outboxes.width_of(outbox.min(self.outboxes.count))
     }
 
     pub fn column_x(self, place: u8) -> u32
         ensures bound { result < 2 ^ 28 }
     {
-        self.border_x() + 34 + self.columns_width(place)
+        self.border_x() + 30 + self.columns_width(place)
+    }
+
+    /// The room for the name of a column of this kind.
+    pub fn name_room(self, kind: Kind) -> u32 {
+        let group = match kind {
+            Kind::Domain => self.domains,
+            Kind::Clock => self.clocks,
+            Kind::Outbox(_) => self.outboxes,
+        };
+        u32::from(group.width).saturating_sub(20)
     }
 
     pub fn width(self) -> u32
         ensures bound { result < 2 ^ 28 }
     {
-        self.column_x(self.columns)
+        self.column_x(255)
     }
 
     /// Where the lifelines end.

@@ -6,10 +6,8 @@ use crate::place::{Place, SLOT};
 use std::io;
 use std::io::Write;
 
-/// The most characters of a line that are shown, and those of a longer one.
-pub(crate) const SHOWN: usize = 60;
-
-const CUT: usize = 58;
+/// For how many characters the sign has room that marks the cut of a line.
+const SIGN: usize = 2;
 
 /// Writes the steps of the script, each second one on a shade.
 pub(crate) fn write_steps<W: Write>(
@@ -21,7 +19,7 @@ pub(crate) fn write_steps<W: Write>(
         if step.number % 2 == 0 {
             write_shade(writer, place, step)?;
         }
-        write_line_of(writer, place.slot_y(step.slot) + 20, step)?;
+        write_line_of(writer, place, step)?;
     }
     Ok(())
 }
@@ -37,24 +35,25 @@ fn write_shade<W: Write>(writer: &mut W, place: Place<'_>, step: &Step) -> io::R
 }
 
 /// Writes the line of the script after its number.
-fn write_line_of<W: Write>(writer: &mut W, y: u32, step: &Step) -> io::Result<()> {
-    let line = step.line;
+fn write_line_of<W: Write>(writer: &mut W, place: Place<'_>, step: &Step) -> io::Result<()> {
+    let (line, y) = (step.line, place.slot_y(step.slot) + 20);
     write!(
         writer,
         "<text class=\"mono line\" x=\"46\" y=\"{y}\">{line}</text>\n<text class=\"mono\" x=\"56\" y=\"{y}\">"
     )?;
-    if step.text.len() <= SHOWN {
+    if step.text.len() <= place.shown() {
         write_escaped(writer, &step.text)?;
     } else {
-        write_escaped(writer, beginning_of(&step.text))?;
+        let room = place.shown().saturating_sub(SIGN);
+        write_escaped(writer, beginning_of(&step.text, room))?;
         writer.write_all(b" &#8230;")?;
     }
     writer.write_all(b"</text>\n")
 }
 
 /// The beginning of a long line: the words that there is room for.
-fn beginning_of(text: &[u8]) -> &[u8] {
-    let shown = &text[..text.len().min(CUT)];
+fn beginning_of(text: &[u8], room: usize) -> &[u8] {
+    let shown = &text[..text.len().min(room)];
     match shown.iter().rposition(|byte: &u8| *byte == b' ') {
         Some(space) => &shown[..space],
         None => shown,

@@ -1,6 +1,7 @@
 //! Lines, boxes, rings, crosses and words.
 
 use crate::escape::write_escaped;
+use crate::measure::{size_in, width_of};
 use std::io;
 use std::io::Write;
 
@@ -9,6 +10,13 @@ use std::io::Write;
 pub(crate) struct Point {
     pub x: u32,
     pub y: u32,
+}
+
+/// The room for a text, and the greatest size of its font.
+#[derive(Clone, Copy)]
+pub(crate) struct Fit {
+    pub room: u32,
+    pub size: u32,
 }
 
 /// Writes a line of this class.
@@ -73,6 +81,24 @@ pub(crate) fn write_words<W: Write>(
 ) -> io::Result<()> {
     let (x, y) = (at.x, at.y);
     write!(writer, "<text class=\"{class}\" x=\"{x}\" y=\"{y}\">")?;
+    write_escaped(writer, text)?;
+    writer.write_all(b"</text>\n")
+}
+
+/// Writes a text of this class at a point, in this size or in a smaller one for which there is room.
+pub(crate) fn write_fitted<W: Write>(
+    writer: &mut W,
+    class: &str,
+    at: Point,
+    text: &[u8],
+    fit: Fit,
+) -> io::Result<()> {
+    let (x, y) = (at.x, at.y);
+    let size = size_in(width_of(text), fit.room, fit.size);
+    write!(
+        writer,
+        "<text class=\"{class}\" x=\"{x}\" y=\"{y}\" font-size=\"{size}\">"
+    )?;
     write_escaped(writer, text)?;
     writer.write_all(b"</text>\n")
 }

@@ -22,10 +22,10 @@ svg{fill:#1b2733;font:12px Inter,'Helvetica Neue','DejaVu Sans',sans-serif}\n\
 .life{stroke-width:1.6}\n\
 .gone{stroke-width:1.2;stroke-dasharray:2 6}\n\
 .box{stroke:none}\n\
-.who{font-size:14px;font-weight:600;fill:#fff;text-anchor:middle}\n\
+.who{font-weight:600;fill:#fff;text-anchor:middle}\n\
 .what{font-size:10px;fill:#fff;fill-opacity:.8;text-anchor:middle}\n\
 .border{stroke:#d7dee6}\n\
-.track{font-size:12px;font-weight:600}\n\
+.track{font-weight:600}\n\
 .kind{font-size:10px;fill:#5b6b7b}\n\
 .on{fill:#1a7f4b}\n\
 .off{fill:#a9b4bf}\n\
@@ -41,7 +41,7 @@ svg{fill:#1b2733;font:12px Inter,'Helvetica Neue','DejaVu Sans',sans-serif}\n\
 .dropped{fill:#c0362c}\n\
 .dropped text{font-size:10px;font-weight:600}\n\
 .mark{stroke:#1b2733;fill:#1b2733}\n\
-.mark text{stroke:#fff;stroke-width:4;stroke-linejoin:round;paint-order:stroke;text-anchor:middle}\n\
+.mark text{stroke:#fff;stroke-width:3;stroke-linejoin:round;paint-order:stroke;text-anchor:middle}\n\
 .name{font-weight:600}\n\
 .object{fill:#1b2733}\n\
 .tag{fill:#b7791f;font-weight:600}\n\
@@ -82,18 +82,21 @@ svg{fill:#1b2733;font:12px Inter,'Helvetica Neue','DejaVu Sans',sans-serif}\n\
 .advance .name{fill:#b7791f}\n\
 .advance.idle .pill{fill:#fff;stroke:#d7dee6}\n\
 .advance.idle .name,.advance.idle .object{fill:#5b6b7b}\n\
-.mark .note{font-size:10px;font-style:italic;fill:#5b6b7b;text-anchor:start}\n\
+.mark .note{font-style:italic;fill:#5b6b7b;text-anchor:start}\n\
 .mark .end{text-anchor:end}\n\
-.closed .note{font-size:11px;font-style:normal;font-weight:600;fill:#1b2733}\n\
-.again{font-size:10px;font-weight:600;text-anchor:middle;stroke:#fff;stroke-width:4;stroke-linejoin:round;paint-order:stroke}\n\
+.closed .note{font-style:normal;font-weight:600;fill:#1b2733}\n\
+.again{font-weight:600;text-anchor:middle;stroke:#fff;stroke-width:4;stroke-linejoin:round;paint-order:stroke}\n\
 .again.left{text-anchor:start}\n\
 .legend text{font-size:10.5px;fill:#5b6b7b;stroke:none;text-anchor:start}\n\
 .legend .number{font-size:9px;font-weight:600}\n\
 .legend .token{stroke:#5b6b7b;stroke-width:1.3}\n\
 @media print{\n\
+svg{fill:#000}\n\
 .paper,.band{fill:none}\n\
+.band,.border{stroke:#c3ccd5;stroke-width:.6}\n\
+.mono,.soft,.kind,.value,.legend text{fill:#333}\n\
 }\n\
-@media (prefers-color-scheme:dark){\n\
+@media screen and (prefers-color-scheme:dark){\n\
 svg{fill:#e3e9ef}\n\
 .paper{fill:#12181f}\n\
 .band{fill:#19212a}\n\
