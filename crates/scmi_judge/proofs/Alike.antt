@@ -1,5 +1,7 @@
 -- The tests of two messages and of two answers are right.
-use Rattle.std.proofs.Common.{◌≡◌, ◌↔◌, true, refl, ap}
+use Rattle.std.proofs.Common.{◌≡◌, ◌↔◌, Bool, true, List, Option, Some, None, unwrap_or, refl, ap}
+use Rattle.std.specs.Option.{option_eq}
+use Rattle.std.specs.Cmp.Lexicographic.{pointwise}
 use Rattle.std.proofs.lemmas.Bool.Decides.{Decides-and, Decides-eqb, Decides-like}
 use Rattle.std.proofs.lemmas.Slice.Eq.{slice_eq-Decides}
 use Rattle.scmi_codec.proofs.HeaderLemmas.{header_decides}
@@ -32,3 +34,15 @@ same_answer_decides Released (Reply b) = (λ h. absurd (cc), λ h. absurd (cc))
 same_answer_decides Released ChannelError = (λ h. absurd (cc), λ h. absurd (cc))
 same_answer_decides ChannelError (Reply b) = (λ h. absurd (cc), λ h. absurd (cc))
 same_answer_decides ChannelError Released = (λ h. absurd (cc), λ h. absurd (cc))
+
+some-inj : {X : Type 0} (a b : X) → Some a ≡ Some b → a ≡ b
+some-inj a b is = ap (λ o. unwrap_or o a) is
+
+posted_decides : (a b : Option Message) → (option_eq is_same_message a b ≡ true) ↔ (a ≡ b)
+posted_decides None None = (λ h. refl, λ h. refl)
+posted_decides None (Some b) = (λ h. absurd (cc), λ h. absurd (cc))
+posted_decides (Some a) None = (λ h. absurd (cc), λ h. absurd (cc))
+posted_decides (Some a) (Some b) = Decides-like (is_same_message a b) (ap Some) (some-inj a b) (same_message_decides a b)
+
+pub same_posted_decides : (a b : List (Option Message)) (r : Bool) → r ≡ pointwise (option_eq is_same_message) a b → (r ≡ true) ↔ (a ≡ b)
+same_posted_decides a b r is = slice_eq-Decides posted_decides a b r is

@@ -33,7 +33,7 @@ some-not : {A : Type 0} (o : Option A) → is_some o ≡ true → o ≢ None
 some-not None is = absurd (cc)
 some-not (Some x) is = λ none. absurd (cc)
 
-not-none : {A : Type 0} (o : Option A) → o ≢ None → is_some o ≡ true
+pub not-none : {A : Type 0} (o : Option A) → o ≢ None → is_some o ≡ true
 not-none None some = absurd (some refl)
 not-none (Some x) some = refl
 
@@ -72,12 +72,12 @@ due-beside board h a (Good m) failed is reply =
 due-beside board h a (Malformed len header) failed is reply = absurd (let no : false ≡ true = is in cc)
 
 -- a command that is to change the hardware succeeds
-change-succeeds : (board : Board) (h : List Event) (a : ℕ) (f : Frame) → is_to_change board a f h ≡ true → has_succeeded (answer_to board a f h) ≡ true
+pub change-succeeds : (board : Board) (h : List Event) (a : ℕ) (f : Frame) → is_to_change board a f h ≡ true → has_succeeded (answer_to board a f h) ≡ true
 change-succeeds board h a (Good m) is = let some = some-of (effect_after board h (Command a (Good m))) is in ap has_succeeded (message-succeeds board h a m some.0 some.1)
 change-succeeds board h a (Malformed len header) is = absurd (let no : false ≡ true = is in cc)
 
 -- a refusal of the hardware is no success
-failure-fails : (f : Frame) → has_succeeded (failed_answer f) ≡ false
+pub failure-fails : (f : Frame) → has_succeeded (failed_answer f) ≡ false
 failure-fails (Good m) = refl
 failure-fails (Malformed len header) = refl
 

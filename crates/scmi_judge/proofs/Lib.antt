@@ -1,8 +1,9 @@
 pub mod Agents
 pub mod Alike
 pub mod Among
+pub mod Answering
+pub mod Boards
 pub mod Changes
-pub mod Copies
 pub mod Corrections
 pub mod Ending
 pub mod Exactness

@@ -10,23 +10,33 @@
 #![tactic(auto)]
 
 mod correction;
+mod due;
 mod endings;
 mod entry;
+mod exact_judge;
 mod exact_sets;
+mod going_on;
+mod guess;
+mod guesses;
 mod judge;
 mod judging;
+mod judging_all;
 mod legal_record;
 mod record;
 mod refusals;
 mod same;
 mod set_shown;
+mod stop;
+mod unseen;
 mod verdict;
 
 pub use entry::Entry;
+pub use exact_judge::ExactJudge;
 pub use exact_sets::every_exact_set;
 pub use judge::Judge;
 pub use legal_record::every_record;
 pub use record::judge_record;
 pub use refusals::has_succeeded;
 pub use set_shown::sets_value;
+pub use unseen::Refusals;
 pub use verdict::Verdict;

@@ -1,0 +1,6 @@
+use Rattle.std.proofs.Common.{refl}
+use Rattle.scmi_judge.proofs.Guessing.{guess-start}
+use Rattle.scmi_judge.proofs.guess.Guess.new.Goals as goal
+
+pub returns-clause-start : goal.returns-clause-start
+returns-clause-start c = λ refuses. guess-start refuses c.args.plan _ c.new-platform.ensures.board c.new-platform.ensures.start refl

@@ -1,0 +1,100 @@
+use Rattle.std.proofs.Common.{◌≡◌, ◌++◌, ◌∷◌, [], List, is_ok, rules, arith, sym, ap, ◌∙◌, subst}
+use Rattle.std.specs.List.{All}
+use Rattle.std.proofs.lemmas.Grind.{common_steps}
+use Rattle.scmi_judge.specs.Exact.{AreTried, HaveGrown, IsKept, IsTriedWhole}
+use Rattle.scmi_judge.specs.Guess.{IsReal}
+use Rattle.scmi_judge.specs.Guesses.{KeepBoard}
+use Rattle.scmi_judge.proofs.Among.{all-kept, kept-moved, real-moved, tried-moved}
+use Rattle.scmi_judge.proofs.Boards.{of-popped, of-pushed}
+use Rattle.scmi_judge.proofs.guesses.Guesses.close.Goals as goal
+
+pub try_steps-requires : goal.try_steps-requires
+try_steps-requires c =
+    let board = c.requires.boards.0 in
+    let before = c.each.invariant.keeps.boards board c.requires.boards.1 in
+    let both = of-popped board _ _ c.in-Some.guess c.in-Some.ensures.items before.left in
+    record { boards = (board, record { left = both.0; tried = before.tried; others = before.others; spare = before.spare; made = before.made }, both.1) }
+
+pub returns-in_err-try_steps-clause-keeps : goal.returns-in_err-try_steps-clause-keeps
+returns-in_err-try_steps-clause-keeps c =
+    record {
+      boards = λ board of.
+          let before = c.each.invariant.keeps.boards board of in
+          let both = of-popped board _ _ c.in-Some.guess c.in-Some.ensures.items before.left in
+          c.try_steps.ensures.keeps.boards board (record { left = both.0; tried = before.tried; others = before.others; spare = before.spare; made = before.made });
+      refuses = c.try_steps.ensures.keeps.refuses ∙ c.each.invariant.keeps.refuses;
+    }
+
+pub returns-in_default-push-clause-keeps : goal.returns-in_default-push-clause-keeps
+returns-in_default-push-clause-keeps c =
+    let from : KeepBoard c.args.self.now c.try_steps.new.self =
+    record {
+      boards = λ board of.
+          let before = c.each.invariant.keeps.boards board of in
+          let both = of-popped board _ _ c.in-Some.guess c.in-Some.ensures.items before.left in
+          c.try_steps.ensures.keeps.boards board (record { left = both.0; tried = before.tried; others = before.others; spare = before.spare; made = before.made });
+      refuses = c.try_steps.ensures.keeps.refuses ∙ c.each.invariant.keeps.refuses;
+    } in
+    record {
+      boards = λ board of.
+          let before = c.each.invariant.keeps.boards board of in
+          let both = of-popped board _ _ c.in-Some.guess c.in-Some.ensures.items before.left in
+          let after = from.boards board of in
+          record {
+            left = after.left;
+            others = after.others;
+            spare = after.spare;
+            made = after.made;
+            tried = of-pushed board _ _ c.in-Some.guess (is_ok c.push.result) c.push.ensures.items after.tried both.1;
+          };
+      refuses = from.refuses;
+    }
+
+pub each-preserved : goal.each-preserved
+each-preserved c =
+    let from : KeepBoard c.args.self.now c.try_steps.new.self =
+    record {
+      boards = λ board of.
+          let before = c.each.invariant.keeps.boards board of in
+          let both = of-popped board _ _ c.in-Some.guess c.in-Some.ensures.items before.left in
+          c.try_steps.ensures.keeps.boards board (record { left = both.0; tried = before.tried; others = before.others; spare = before.spare; made = before.made });
+      refuses = c.try_steps.ensures.keeps.refuses ∙ c.each.invariant.keeps.refuses;
+    } in
+    let r = c.args.self.now.refuses in
+    let g = c.in-Some.guess in
+    let guesses = c.args.self.now.left.items in
+    let all = c.each.self.tried.items in
+    let untried = c.each.self.left.items in
+    let rest = c.pop.new.self.items in
+    let new = c.try_steps.new.self.left.items in
+    let before = c.each.invariant in
+    let are = c.in-Some.ensures.items in
+    let pushed : c.push.new.self.items ≡ all ++ g ∷ [] = c.in-Ok.ensures.items ∙ ap (λ v. v.items ++ g ∷ []) c.try_steps.ensures.tried in
+    let grown = subst (λ x. HaveGrown x g rest new) before.keeps.refuses c.in_ok-try_steps.ensures.grown in
+    let whole = subst (λ x. IsTriedWhole x g (all ++ new)) before.keeps.refuses c.in_ok-try_steps.ensures.whole in
+    record {
+      keeps = record {
+        boards = λ board of.
+            let both = of-popped board untried rest g are (before.keeps.boards board of).left in
+            let after = from.boards board of in
+            record {
+              left = after.left;
+              others = after.others;
+              spare = after.spare;
+              made = after.made;
+              tried = of-pushed board _ _ g (is_ok c.push.result) c.push.ensures.items after.tried both.1;
+            };
+        refuses = from.refuses;
+      };
+      others = c.try_steps.ensures.others ∙ before.others;
+      kept = subst (λ xs. IsKept r guesses xs new) (sym pushed) (kept-moved r all untried rest new g are grown guesses before.kept);
+      tried = subst (λ xs. AreTried r xs new) (sym pushed) (tried-moved r all untried rest new g are grown whole before.tried);
+      real = λ board entries real. subst (λ xs. All (IsReal r board entries) xs × All (IsReal r board entries) new) (sym pushed)
+          (real-moved r all untried rest new g are grown board entries (before.real board entries real));
+    }
+
+pub returns-clause-kept : goal.returns-clause-kept
+returns-clause-kept c =
+    let before = c.each.invariant in
+    let none : c.each.self.left.items ≡ [] = first_of (search rules, grind (arith, common_steps)) in
+    all-kept c.args.self.now.refuses c.args.self.now.left.items c.each.self.tried.items c.each.self.left.items none before.kept before.real

@@ -1,0 +1,22 @@
+use Rattle.std.proofs.Common.{◌≡◌, List}
+use Rattle.std.specs.List.{All}
+use Rattle.scmi_plan.specs.Board.{Board}
+use Rattle.scmi_judge.specs.Exact.{AreTried, IsKept}
+use Rattle.scmi_judge.specs.Guess.{IsReal}
+use Rattle.scmi_judge.specs.Guesses.{KeepBoard, places}
+use Rattle.scmi_judge.specs.declared.entry.Entry.{Entry}
+use Rattle.scmi_judge.proofs.guesses.Guesses.close.Given as goal
+
+abbrev pub invariant-each : goal.invariant-each
+invariant-each l =
+    record {
+      keeps : KeepBoard l.initial.self l.self;
+      others : l.self.others ≡ l.initial.self.others;
+      kept : IsKept l.initial.self.refuses l.initial.self.left.items l.self.tried.items l.self.left.items;
+      tried : AreTried l.initial.self.refuses l.self.tried.items l.self.left.items;
+      real : (board : Board) (entries : List Entry) → All (IsReal l.initial.self.refuses board entries) l.initial.self.left.items
+          → All (IsReal l.initial.self.refuses board entries) l.self.tried.items × All (IsReal l.initial.self.refuses board entries) l.self.left.items;
+    }
+
+abbrev pub decreases-each : goal.decreases-each
+decreases-each l = places l.self

@@ -1,0 +1,14 @@
+use Rattle.std.proofs.Common.{◌≡◌, length}
+use Rattle.scmi_judge.specs.Guesses.{KeepBoard}
+use Rattle.scmi_judge.proofs.guesses.Guesses.free_others.Given as goal
+
+abbrev pub invariant-each : goal.invariant-each
+invariant-each l =
+    record {
+      keeps : KeepBoard l.initial.self l.self;
+      left : l.self.left ≡ l.initial.self.left;
+      tried : l.self.tried ≡ l.initial.self.tried;
+    }
+
+abbrev pub decreases-each : goal.decreases-each
+decreases-each l = length l.self.others.items

@@ -1,0 +1,38 @@
+use Rattle.std.proofs.Common.{◌≡◌, sym, ap, ◌∙◌, subst}
+use Rattle.scmi_judge.specs.Exact.{AreGiven}
+use Rattle.scmi_judge.specs.Guesses.{IsGiven}
+use Rattle.scmi_judge.proofs.Boards.{of-popped}
+use Rattle.scmi_judge.proofs.Exactness.{given-step}
+use Rattle.scmi_judge.proofs.guesses.Guesses.give.Goals as goal
+
+pub give_by-requires : goal.give_by-requires
+give_by-requires c =
+    let board = c.requires.boards.0 in
+    let before = c.each.invariant.keeps.boards board c.requires.boards.1 in
+    let both = of-popped board _ _ c.in-Some.guess c.in-Some.ensures.items before.tried in
+    record { boards = (board, record { left = before.left; tried = both.0; others = before.others; spare = before.spare; made = before.made }, both.1) }
+
+pub each-preserved : goal.each-preserved
+each-preserved c =
+    record {
+      keeps = record {
+        boards = λ board of.
+            let before = c.each.invariant.keeps.boards board of in
+            let both = of-popped board _ _ c.in-Some.guess c.in-Some.ensures.items before.tried in
+            c.give_by.ensures.keeps.boards board (record { left = before.left; tried = both.0; others = before.others; spare = before.spare; made = before.made });
+        refuses = c.give_by.ensures.keeps.refuses ∙ c.each.invariant.keeps.refuses;
+      };
+      given = subst (λ v. AreGiven c.args.self.now.refuses c.args.self.now.tried.items c.args.entry.now c.give_by.new.self.left.items v.items) (sym c.give_by.ensures.tried)
+          (given-step c.args.self.now.refuses c.args.self.now.tried.items c.each.self.left.items c.each.self.tried.items c.pop.new.self.items c.args.entry.now c.in-Some.guess c.each.invariant.given c.in-Some.ensures.items
+          c.give_by.new.self.left.items (subst (λ r. IsGiven r c.in-Some.guess c.args.entry.now c.each.self.left.items c.give_by.new.self.left.items) c.each.invariant.keeps.refuses c.in_ok-give_by.ensures.given));
+    }
+
+pub returns-in_err-give_by-clause-keeps : goal.returns-in_err-give_by-clause-keeps
+returns-in_err-give_by-clause-keeps c =
+    record {
+      boards = λ board of.
+          let before = c.each.invariant.keeps.boards board of in
+          let both = of-popped board _ _ c.in-Some.guess c.in-Some.ensures.items before.tried in
+          c.give_by.ensures.keeps.boards board (record { left = before.left; tried = both.0; others = before.others; spare = before.spare; made = before.made });
+      refuses = c.give_by.ensures.keeps.refuses ∙ c.each.invariant.keeps.refuses;
+    }

@@ -1,0 +1,14 @@
+use Rattle.std.proofs.Common.{length}
+use Rattle.scmi_judge.specs.Exact.{AreGiven}
+use Rattle.scmi_judge.specs.Guesses.{KeepBoard}
+use Rattle.scmi_judge.proofs.guesses.Guesses.give.Given as goal
+
+abbrev pub invariant-each : goal.invariant-each
+invariant-each l =
+    record {
+      keeps : KeepBoard l.initial.self l.self;
+      given : AreGiven l.initial.self.refuses l.initial.self.tried.items l.entry l.self.left.items l.self.tried.items;
+    }
+
+abbrev pub decreases-each : goal.decreases-each
+decreases-each l = length l.self.tried.items

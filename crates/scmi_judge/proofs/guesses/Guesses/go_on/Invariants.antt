@@ -1,0 +1,13 @@
+use Rattle.std.proofs.Common.{◌≡◌, length}
+use Rattle.scmi_judge.specs.Guesses.{KeepBoard}
+use Rattle.scmi_judge.proofs.guesses.Guesses.go_on.Given as goal
+
+abbrev pub invariant-each : goal.invariant-each
+invariant-each l =
+    record {
+      keeps : KeepBoard l.initial.self l.self;
+      tried : l.self.tried ≡ l.initial.self.tried;
+    }
+
+abbrev pub decreases-each : goal.decreases-each
+decreases-each l = length l.self.others.items

@@ -1,0 +1,18 @@
+use Rattle.std.proofs.Common.{◌≡◌, ◌≤◌, ◌++◌, length}
+use Rattle.scmi_judge.specs.Exact.{HaveGrown, IsTriedAbove}
+use Rattle.scmi_judge.specs.Guesses.{KeepBoard, places}
+use Rattle.scmi_judge.proofs.guesses.Guesses.try_postings.Given as goal
+
+abbrev pub invariant-agents : goal.invariant-agents
+invariant-agents l =
+    record {
+      keeps : KeepBoard l.initial.self l.self;
+      tried : l.self.tried ≡ l.initial.self.tried;
+      others : l.self.others ≡ l.initial.self.others;
+      places : places l.self ≡ places l.initial.self;
+      grown : HaveGrown l.initial.self.refuses l.guess l.initial.self.left.items l.self.left.items;
+      posts : IsTriedAbove l.initial.self.refuses l.guess l.agent (l.initial.self.tried.items ++ l.self.left.items);
+    }
+
+abbrev pub decreases-agents : goal.decreases-agents
+decreases-agents l = l.agent

@@ -1,0 +1,28 @@
+-- What contracts see of a judge of a record.
+use Rattle.std.specs.Prelude.{◌≡◌, Bool, true, List, []}
+use Rattle.scmi_plan.specs.Board.{Board}
+use Rattle.scmi_judge.specs.Exact.{AreExact}
+use Rattle.scmi_judge.specs.Guesses.{HaveBoard}
+use Rattle.scmi_judge.specs.declared.entry.Entry.{Entry}
+use Rattle.scmi_judge.specs.declared.guess.Guess.{Guess}
+use Rattle.scmi_judge.specs.declared.guesses.Guesses.{Guesses}
+use Rattle.scmi_judge.specs.declared.unseen.Refusals.{Refusals}
+
+-- the board, which changes the hardware may refuse, the platforms that may be behind the entries so far, the places for
+-- more, and whether it still judges
+pub record Judging : Type 0 where
+  pub board : Board
+  pub refuses : Refusals
+  pub guesses : List Guess
+  pub spare : List Guess
+  pub sure : Bool
+
+-- a judge that still judges has exactly the platforms that may be behind these entries, newest first
+pub record Knows (j : Judging) (entries : List Entry) : Type 0 where
+  pub sure : j.sure ≡ true
+  pub exact : AreExact j.refuses j.board entries j.guesses
+
+-- guesses are of one board; and none is tried yet, if the judge still judges
+pub record IsReady (sure : Bool) (g : Guesses) : Type 0 where
+  pub boards : HaveBoard g
+  pub none : sure ≡ true → g.tried.items ≡ []

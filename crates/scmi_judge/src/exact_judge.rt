@@ -1,0 +1,127 @@
+//! The judge of a platform by a record of its channels.
+ghost use Rattle.std.specs.Prelude.{◌≡◌, ◌≢◌, ◌∷◌, [], List, Ok, None, Some, true, false, IfOk, IfSome, IfErr};
+ghost use Rattle.scmi_judge.specs.Behind.{HasLegalHistory};
+ghost use Rattle.scmi_judge.specs.Judging.{Knows};
+ghost use Rattle.scmi_judge.specs.declared.entry.Entry.{Entry as Shown};
+ghost use Rattle.scmi_judge.specs.declared.verdict.Verdict.TheVariants.{Same};
+
+use crate::entry::Entry;
+use crate::guess::Guess;
+use crate::guesses::Guesses;
+use crate::stop::Stop;
+use crate::unseen::Refusals;
+use crate::verdict::Verdict;
+use scmi_core::CoreError;
+use scmi_plan::Plan;
+use std::alloc::Global;
+use std::marker::Model;
+
+/// A judge of a platform of a board, by all platforms that may be behind the entries so far.
+/// Contracts see the board, which changes its hardware may refuse, those platforms, the places for
+/// more, and whether it still judges.
+#[derive(Drop, Debug)]
+pub struct ExactJudge {
+    guesses: Guesses,
+    // Whether it still judges.
+    sure: bool,
+}
+
+impl Model for ExactJudge {
+    ghost use Rattle.scmi_judge.specs.Judging.{Judging, IsReady};
+
+    ghost Value = { Judging };
+
+    ghost view = { λ j. record {
+      board = j.guesses.made.platform.board;
+      refuses = j.guesses.refuses;
+      guesses = j.guesses.left.items;
+      spare = j.guesses.spare.items;
+      sure = j.sure;
+    } };
+
+    ghost invariant = { λ j. IsReady j.sure j.guesses };
+}
+
+impl ExactJudge {
+    /// A judge of a platform of a board, before the first entry, and a place for another platform of
+    /// it. `refuses` is which changes the hardware may refuse. `Memory` is the only error.
+    pub fn new(
+        alloc: Global,
+        plan: Plan,
+        place: Plan,
+        refuses: Refusals,
+    ) -> Result<ExactJudge, CoreError>
+        requires { place ≡ plan }
+        ensures start { IfOk result (λ judge. Knows judge []) }
+        ensures board { IfOk result (λ judge. judge.board ≡ plan) }
+        ensures refuses { IfOk result (λ judge. judge.refuses ≡ refuses) }
+        ensures errors { IfErr result (λ e. e ≡ CoreError.Memory) }
+    {
+        let mut left = Vec::new(alloc);
+        let Ok(()) = left.push(Guess::new(plan)) else {
+            return Err(CoreError::Memory);
+        };
+        let guesses = Guesses {
+            left,
+            tried: Vec::new(alloc),
+            others: Vec::new(alloc),
+            spare: Vec::new(alloc),
+            made: Guess::new(place),
+            refuses,
+        };
+        Ok(ExactJudge {
+            guesses,
+            sure: true,
+        })
+    }
+
+    /// Makes a place for one more platform of the board. `Memory` is the only error.
+    pub fn add_place(&mut self, place: Plan) -> Result<(), CoreError>
+        requires { place ≡ self.old.board }
+        ensures board { self.new.board ≡ self.old.board }
+        ensures refuses { self.new.refuses ≡ self.old.refuses }
+        ensures guesses { self.new.guesses ≡ self.old.guesses }
+        ensures sure { self.new.sure ≡ self.old.sure }
+        ensures errors { IfErr result (λ e. e ≡ CoreError.Memory) }
+    {
+        let Ok(()) = self.guesses.spare.push(Guess::new(place)) else {
+            return Err(CoreError::Memory);
+        };
+        Ok(())
+    }
+
+    /// Judges the next entry. If the entries so far had a legal history, the verdict is `Same` if
+    /// and only if they have one with this entry. If it is another, the judge goes on, but nothing
+    /// is promised from there on. `None` once there are more platforms than places, and from then
+    /// on. `Memory` is the only error.
+    pub fn judge(&mut self, entry: &Entry) -> Result<Option<Verdict>, CoreError>
+        ensures same { (entries : List Shown) → Knows self.old entries
+            → IfOk result (λ o. IfSome o (λ verdict. verdict ≡ Same
+            → HasLegalHistory self.old.refuses self.old.board (entry.now ∷ entries))) }
+        ensures differs { (entries : List Shown) → Knows self.old entries
+            → IfOk result (λ o. IfSome o (λ verdict. verdict ≢ Same
+            → ¬ (HasLegalHistory self.old.refuses self.old.board (entry.now ∷ entries)))) }
+        ensures knows { (entries : List Shown) → Knows self.old entries
+            → IfOk result (λ o. IfSome o (λ verdict. verdict ≡ Same
+            → Knows self.new (entry.now ∷ entries))) }
+        ensures unsure { result ≡ Ok None → self.old.sure ≡ true → self.new.spare ≡ [] }
+        ensures sure { IfOk result (λ o. IfSome o (λ verdict. self.new.sure ≡ true)) }
+        ensures stays { self.old.sure ≡ false → result ≡ Ok None }
+        ensures board { self.new.board ≡ self.old.board }
+        ensures refuses { self.new.refuses ≡ self.old.refuses }
+        ensures errors { IfErr result (λ e. e ≡ CoreError.Memory) }
+    {
+        if !self.sure {
+            return Ok(None);
+        }
+        self.sure = false;
+        match self.guesses.judge(entry) {
+            Ok(verdict) => {
+                self.sure = true;
+                Ok(Some(verdict))
+            }
+            Err(Stop::Full) => Ok(None),
+            Err(Stop::Memory) => Err(CoreError::Memory),
+        }
+    }
+}

@@ -1,0 +1,163 @@
+//! How a judge goes on after an entry that differs. Nothing is promised of the guesses from there
+//! on but that they are of the board.
+ghost use Rattle.std.specs.Prelude.{◌≡◌, [], IfErr, OnOk};
+ghost use Rattle.scmi_plan.specs.Board.{Board};
+ghost use Rattle.scmi_judge.specs.Guesses.{AreOfBoard, HaveBoard, KeepBoard};
+
+use crate::entry::Entry;
+use crate::guess::Guess;
+use crate::guesses::{Guesses, has};
+use crate::refusals::has_succeeded;
+use crate::set_shown::set_shown;
+use crate::stop::Stop;
+use scmi_codec::{Answer, Frame, Message};
+use scmi_core::{Effect, Platform};
+
+impl Guesses {
+    /// Leaves what the others may be after an entry that none of them gives: those that executed
+    /// the command, or have the value that the entry shows, or took the message that was due, as
+    /// far as places are free; and all as they are.
+    pub fn go_on(&mut self, entry: &Entry) -> Result<(), Stop>
+        requires boards { HaveBoard self.old }
+        ensures keeps { KeepBoard self.old self.new }
+        ensures others { OnOk result (self.new.others.items ≡ []) }
+        ensures tried { self.new.tried ≡ self.old.tried }
+        ensures memory { IfErr result (λ stop. stop ≡ Stop.Memory) }
+    {
+        'each: while let Some(guess) = self.others.pop() {
+            self.go_on_from(&guess, entry)?;
+            self.put(guess)?;
+        }
+        Ok(())
+    }
+
+    /// Leaves what one of the others may be after the entry.
+    fn go_on_from(&mut self, guess: &Guess, entry: &Entry) -> Result<(), Stop>
+        requires boards { (board : Board) × AreOfBoard board self.old
+            × (guess.now.platform.board ≡ board) }
+        ensures keeps { KeepBoard self.old self.new }
+        ensures tried { self.new.tried ≡ self.old.tried }
+        ensures others { self.new.others ≡ self.old.others }
+        ensures memory { IfErr result (λ stop. stop ≡ Stop.Memory) }
+    {
+        self.made.copy_from(guess);
+        self.made.pass(entry);
+        self.keep_new()?;
+        self.made.copy_from(guess);
+        self.made.give_value(entry);
+        self.keep_new()
+    }
+
+    /// The guess that was made is left, if it is not left yet and a place is free.
+    fn keep_new(&mut self) -> Result<(), Stop>
+        requires boards { HaveBoard self.old }
+        ensures keeps { KeepBoard self.old self.new }
+        ensures tried { self.new.tried ≡ self.old.tried }
+        ensures others { self.new.others ≡ self.old.others }
+        ensures memory { IfErr result (λ stop. stop ≡ Stop.Memory) }
+    {
+        if has(&self.left, &self.made) {
+            return Ok(());
+        }
+        match self.keep_made() {
+            Err(Stop::Full) => Ok(()),
+            kept => kept,
+        }
+    }
+
+    /// A guess is left, if it is not left yet.
+    fn put(&mut self, guess: Guess) -> Result<(), Stop>
+        requires boards { (board : Board) × AreOfBoard board self.old
+            × (guess.platform.board ≡ board) }
+        ensures keeps { KeepBoard self.old self.new }
+        ensures tried { self.new.tried ≡ self.old.tried }
+        ensures others { self.new.others ≡ self.old.others }
+        ensures memory { IfErr result (λ stop. stop ≡ Stop.Memory) }
+    {
+        let pushed = if has(&self.left, &guess) {
+            self.spare.push(guess)
+        } else {
+            self.left.push(guess)
+        };
+        let Ok(()) = pushed else {
+            return Err(Stop::Memory);
+        };
+        Ok(())
+    }
+}
+
+impl Guess {
+    /// Executes the command of an entry, or takes the message that was due in place of that of the
+    /// entry.
+    fn pass(&mut self, entry: &Entry)
+        ensures { self.new.platform.board ≡ self.old.platform.board }
+    {
+        match entry {
+            Entry::Answered { agent, frame, .. } => {
+                let mut reply = Message::default();
+                let _ = self.platform.command(*agent, frame, &mut reply);
+            }
+            Entry::Delivered { agent, .. } => {
+                if self.has_agent(*agent) {
+                    self.posted[*agent as usize - 1] = None;
+                }
+            }
+        }
+    }
+
+    /// Gives the value that a reply of success shows to its domain or clock, by an agent that may
+    /// set it, if there is one and no agent is notified of that.
+    fn give_value(&mut self, entry: &Entry)
+        ensures { self.new.platform.board ≡ self.old.platform.board }
+    {
+        let Some(set) = value_of(entry) else {
+            return;
+        };
+        let frame = Frame::Good(set);
+        let mut agent = self.platform.agents();
+        'agents: while agent > 0 {
+            if may_set(&self.platform, agent, &frame) {
+                let mut reply = Message::default();
+                let _ = self.platform.command(agent, &frame, &mut reply);
+                return;
+            }
+            agent -= 1;
+        }
+    }
+}
+
+/// The set of the value that an entry shows.
+fn value_of(entry: &Entry) -> Option<Message> {
+    match entry {
+        Entry::Answered {
+            frame: Frame::Good(command),
+            answer,
+            ..
+        } => match answer {
+            Answer::Reply(reply) if has_succeeded(answer) => set_shown(command, reply),
+            _ => None,
+        },
+        _ => None,
+    }
+}
+
+/// Whether a set of an agent changes the hardware, and no agent is notified of that.
+fn may_set(platform: &Platform, agent: u32, frame: &Frame) -> bool {
+    match platform.effect_of(agent, frame) {
+        Ok(Some(Effect::State { domain, .. })) => !has_subscriber(platform, domain),
+        Ok(effect) => effect.is_some(),
+        Err(_) => false,
+    }
+}
+
+/// Whether an agent is notified of a domain's changes.
+fn has_subscriber(platform: &Platform, domain: u32) -> bool {
+    let mut agent = platform.agents();
+    'agents: while agent > 0 {
+        if platform.is_subscribed(agent, domain) == Some(true) {
+            return true;
+        }
+        agent -= 1;
+    }
+    false
+}

@@ -1,0 +1,263 @@
+//! A platform that may be behind a record.
+ghost use Rattle.std.specs.Prelude.{◌≡◌, ◌≢◌, ◌≤◌, ◌↔◌, [], List, None, Some, length, true, false};
+ghost use Rattle.scmi_plan.specs.Agent.{IsAgent};
+ghost use Rattle.scmi_plan.specs.declared.limits.TheConstants.{AGENTS as MOST};
+ghost use Rattle.scmi_core.specs.Effect.{effect_after};
+ghost use Rattle.scmi_core.specs.Reply.{failed_answer};
+ghost use Rattle.scmi_core.specs.Standing.{StandsAfter};
+ghost use Rattle.scmi_core.specs.declared.event.Event.{Event};
+ghost use Rattle.scmi_judge.specs.Behind.{may_refuse};
+ghost use Rattle.scmi_judge.specs.Guess.{CannotCome, Gives, GivesNot, GoesOn, IsGuess, posted_to};
+ghost use Rattle.scmi_judge.specs.Unseen.{event_of};
+ghost use Rattle.scmi_judge.specs.declared.entry.Entry.TheVariants as entry;
+ghost use Rattle.scmi_judge.specs.declared.unseen.Refusals.{Refusals as Refused};
+ghost use Rattle.scmi_core.specs.declared.event.Event.TheVariants.{AdvanceFailed, Command, Sent};
+
+use crate::entry::Entry;
+use crate::refusals::has_succeeded;
+use crate::same::{is_same_answer, is_same_message};
+use crate::unseen::{Refusals, Step};
+use scmi_codec::{Answer, Frame, Message};
+use scmi_core::{Answered, Platform};
+use scmi_plan::{AGENTS, Plan};
+
+/// A platform that may be behind a record, with the message in the channel to each agent that was
+/// posted and that no entry shows yet.
+#[derive(Debug, Drop)]
+pub(crate) struct Guess {
+    pub platform: Platform,
+    // That to agent a at index a - 1.
+    pub posted: [Option<Message>; AGENTS],
+}
+
+impl Guess {
+    /// The platform of a board at the start.
+    pub fn new(plan: Plan) -> Guess
+        ensures board { result.platform.board ≡ plan }
+        ensures start { (refuses : Refused) → IsGuess refuses plan result [] [] }
+    {
+        let platform = Platform::new(plan);
+        let posted = [None, None, None, None, None, None, None, None];
+        Guess { platform, posted }
+    }
+
+    /// Becomes the same as another guess of this board.
+    pub fn copy_from(&mut self, other: &Guess)
+        requires { self.now.platform.board ≡ other.now.platform.board }
+        ensures { self.new ≡ other.now }
+    {
+        self.platform.copy_from(&other.platform);
+        self.posted = copy_all(&other.posted);
+    }
+
+    /// Whether another guess of this board is the same.
+    pub fn is_same(&self, other: &Guess) -> bool
+        requires { self.now.platform.board ≡ other.now.platform.board }
+        ensures { result ≡ true → self.now ≡ other.now }
+    {
+        self.platform.is_same(&other.platform) && self.posted == other.posted
+    }
+
+    /// Whether the board has an agent of this number.
+    pub fn has_agent(&self, agent: u32) -> bool
+        ensures is { (result ≡ true) ↔ IsAgent (length self.now.platform.board.agents) agent }
+        ensures few { result ≡ true → agent ≤ MOST }
+    {
+        agent >= 1 && agent <= self.platform.agents()
+    }
+
+    /// Whether a step may come; `refuses` is which changes the hardware may refuse.
+    pub fn can_come(&self, step: Step, refuses: Refusals) -> bool
+        ensures { result ≡ false → CannotCome refuses self.now (event_of step) }
+    {
+        match step {
+            Step::Complete => !self.platform.pending_sets().is_empty(),
+            Step::Refuse => self.can_refuse(refuses),
+            Step::Post { agent } => self.can_post(agent),
+        }
+    }
+
+    /// Whether the hardware may refuse the change of the first pending set.
+    fn can_refuse(&self, refuses: Refusals) -> bool
+        ensures may { result ≡ true → (h : List Event) → StandsAfter self.now.platform h
+            → may_refuse refuses self.now.platform.board h ≡ true }
+        ensures cannot { result ≡ false → CannotCome refuses self.now AdvanceFailed }
+    {
+        match (self.platform.pending_sets(), refuses) {
+            ([], _) | (_, Refusals::None) => false,
+            ([set, ..], Refusals::Answered) => set.wanted,
+            (_, Refusals::Any) => true,
+        }
+    }
+
+    /// Whether a message may be posted to an agent.
+    fn can_post(&self, agent: u32) -> bool
+        ensures agent { result ≡ true → IsAgent (length self.now.platform.board.agents) agent }
+        ensures few { result ≡ true → agent ≤ MOST }
+        ensures empty { result ≡ true → posted_to self.now agent ≡ None }
+        ensures cannot { result ≡ false → (refuses : Refused) → CannotCome refuses self.now (Sent agent) }
+    {
+        if !self.has_agent(agent) || self.platform.first(agent).is_none() {
+            return false;
+        }
+        self.posted[agent as usize - 1].is_none()
+    }
+
+    /// Makes a step; `false` if it can't come.
+    pub fn make(&mut self, step: Step, refuses: Refusals) -> bool
+        ensures goes { result ≡ true → GoesOn refuses self.old (event_of step) self.new }
+        ensures cannot { result ≡ false → CannotCome refuses self.old (event_of step) }
+        ensures board { self.new.platform.board ≡ self.old.platform.board }
+    {
+        match step {
+            Step::Complete => self.platform.advance(),
+            Step::Refuse => self.refuse(refuses),
+            Step::Post { agent } => self.post(agent),
+        }
+    }
+
+    /// The hardware refuses the change of the first pending set; `false` if it can't, and then
+    /// nothing changed.
+    fn refuse(&mut self, refuses: Refusals) -> bool
+        ensures goes { result ≡ true → GoesOn refuses self.old AdvanceFailed self.new }
+        ensures cannot { result ≡ false → CannotCome refuses self.old AdvanceFailed }
+        ensures board { self.new.platform.board ≡ self.old.platform.board }
+    {
+        if !self.can_refuse(refuses) {
+            return false;
+        }
+        self.platform.advance_failed()
+    }
+
+    /// Posts the first message for an agent into its channel; `false` if it can't be posted.
+    fn post(&mut self, agent: u32) -> bool
+        ensures goes { result ≡ true → (refuses : Refused)
+            → GoesOn refuses self.old (Sent agent) self.new }
+        ensures cannot { result ≡ false → (refuses : Refused)
+            → CannotCome refuses self.old (Sent agent) }
+        ensures board { self.new.platform.board ≡ self.old.platform.board }
+    {
+        if !self.can_post(agent) {
+            return false;
+        }
+        let Ok(Some(message)) = self.platform.front(agent) else {
+            return false;
+        };
+        let Ok(()) = self.platform.sent(agent) else {
+            return false;
+        };
+        self.posted[agent as usize - 1] = Some(message);
+        true
+    }
+
+    /// What the platform is after an entry; `false` if it does not give the entry, and then it may
+    /// be any of this board.
+    pub fn show(&mut self, entry: &Entry) -> bool
+        ensures gives { result ≡ true → (refuses : Refused)
+            → Gives refuses self.old entry.now self.new }
+        ensures not { result ≡ false → (refuses : Refused) → GivesNot refuses self.old entry.now }
+        ensures board { self.new.platform.board ≡ self.old.platform.board }
+    {
+        match entry {
+            Entry::Answered {
+                agent,
+                frame,
+                answer,
+            } => self.answer(*agent, frame, answer),
+            Entry::Delivered { agent, message } => self.take(*agent, message),
+        }
+    }
+
+    /// The same of an answer.
+    fn answer(&mut self, agent: u32, frame: &Frame, answer: &Answer) -> bool
+        ensures gives { result ≡ true → (refuses : Refused)
+            → Gives refuses self.old (entry.Answered agent frame.now answer.now) self.new }
+        ensures not { result ≡ false → (refuses : Refused)
+            → GivesNot refuses self.old (entry.Answered agent frame.now answer.now) }
+        ensures board { self.new.platform.board ≡ self.old.platform.board }
+    {
+        if !self.has_agent(agent) {
+            return false;
+        }
+        if has_succeeded(answer) {
+            return self.execute(agent, frame, answer);
+        }
+        let mut failed = Message::default();
+        match self.platform.command_failed(agent, frame, &mut failed) {
+            Ok(()) => is_same_answer(&Answer::Reply(failed), answer),
+            Err(_) => self.execute(agent, frame, answer),
+        }
+    }
+
+    /// The same of an answer that shows no refusal of the hardware, to an agent of the board.
+    fn execute(&mut self, agent: u32, frame: &Frame, answer: &Answer) -> bool
+        requires agent { IsAgent (length self.old.platform.board.agents) agent }
+        requires done { (h : List Event) → StandsAfter self.old.platform h
+            → effect_after self.old.platform.board h (Command agent frame.now) ≢ None
+            → answer.now ≢ failed_answer frame.now }
+        ensures gives { result ≡ true → (refuses : Refused)
+            → Gives refuses self.old (entry.Answered agent frame.now answer.now) self.new }
+        ensures not { result ≡ false → (refuses : Refused)
+            → GivesNot refuses self.old (entry.Answered agent frame.now answer.now) }
+        ensures board { self.new.platform.board ≡ self.old.platform.board }
+    {
+        let mut reply = Message::default();
+        match self.platform.command(agent, frame, &mut reply) {
+            Ok(Answered::Reply) => is_same_answer(&Answer::Reply(reply), answer),
+            Ok(Answered::ChannelError) => is_same_answer(&Answer::ChannelError, answer),
+            Err(_) => false,
+        }
+    }
+
+    /// The same of a message.
+    fn take(&mut self, agent: u32, message: &Message) -> bool
+        ensures gives { result ≡ true → (refuses : Refused)
+            → Gives refuses self.old (entry.Delivered agent message.now) self.new }
+        ensures not { result ≡ false → (refuses : Refused)
+            → GivesNot refuses self.old (entry.Delivered agent message.now) }
+        ensures board { self.new.platform.board ≡ self.old.platform.board }
+    {
+        if !self.has_agent(agent) || !self.has_posted(agent, message) {
+            return false;
+        }
+        self.posted[agent as usize - 1] = None;
+        true
+    }
+
+    /// Whether this message is in the channel to an agent of the board.
+    fn has_posted(&self, agent: u32, message: &Message) -> bool
+        requires { IsAgent (length self.now.platform.board.agents) agent }
+        ensures { (result ≡ true) ↔ (posted_to self.now agent ≡ Some message.now) }
+    {
+        let _agents = self.platform.agents();
+        match &self.posted[agent as usize - 1] {
+            Some(posted) => is_same_message(posted, message),
+            None => false,
+        }
+    }
+}
+
+/// The same messages again.
+fn copy_all(posted: &[Option<Message>; AGENTS]) -> [Option<Message>; AGENTS]
+    ensures { result ≡ posted.now }
+{
+    [
+        copy_of(&posted[0]),
+        copy_of(&posted[1]),
+        copy_of(&posted[2]),
+        copy_of(&posted[3]),
+        copy_of(&posted[4]),
+        copy_of(&posted[5]),
+        copy_of(&posted[6]),
+        copy_of(&posted[7]),
+    ]
+}
+
+fn copy_of(posted: &Option<Message>) -> Option<Message>
+    ensures { result ≡ posted.now }
+{
+    match posted {
+        Some(message) => Some(message.copy()),
+        None => None,
+    }
+}

@@ -1,0 +1,227 @@
+//! The platforms that may be behind a record, one beside the other.
+ghost use Rattle.std.specs.Prelude.{◌≡◌, ℕ, ◌+◌, ◌∷◌, ◌++◌, [], length, true, OnOk, IfErr};
+ghost use Rattle.scmi_judge.specs.Exact.{AreClosed, HaveGiven, HaveGrown, HaveKept, IsOfBoard, IsTried, IsTriedAbove, IsTriedWhole};
+ghost use Rattle.scmi_judge.specs.Guesses.{AreOfBoard, HaveBoard, IsGiven, IsIn, KeepBoard, places};
+ghost use Rattle.scmi_judge.specs.Unseen.{event_of};
+ghost use Rattle.scmi_plan.specs.Board.{Board};
+
+use crate::entry::Entry;
+use crate::guess::Guess;
+use crate::stop::Stop;
+use crate::unseen::{Refusals, Step};
+use std::mem;
+
+/// Guesses of one board, in places that are there from the start.
+#[derive(Debug, Drop)]
+pub(crate) struct Guesses {
+    // Those of which it is still to be tried what they move on to. Between two entries these are all.
+    pub left: Vec<Guess>,
+    // Those of which it was tried.
+    pub tried: Vec<Guess>,
+    // Those that are not left after the entry.
+    pub others: Vec<Guess>,
+    // Places for more.
+    pub spare: Vec<Guess>,
+    // The place of the one that is being made.
+    pub made: Guess,
+    // Which changes the hardware may refuse.
+    pub refuses: Refusals,
+}
+
+impl Guesses {
+    /// Tries what the guesses that are left move on to, until nothing new comes.
+    pub fn close(&mut self) -> Result<(), Stop>
+        requires boards { HaveBoard self.old }
+        requires none { self.old.tried.items ≡ [] }
+        ensures kept { OnOk result
+            (HaveKept self.old.refuses self.old.left.items self.new.tried.items) }
+        ensures closed { OnOk result (AreClosed self.old.refuses self.new.tried.items) }
+        ensures left { OnOk result (self.new.left.items ≡ []) }
+        ensures keeps { KeepBoard self.old self.new }
+        ensures others { self.new.others ≡ self.old.others }
+        ensures full { IfErr result (λ stop. stop ≡ Stop.Full → self.new.spare.items ≡ []) }
+    {
+        'each: while let Some(guess) = self.left.pop() {
+            self.try_steps(&guess)?;
+            let Ok(()) = self.tried.push(guess) else {
+                return Err(Stop::Memory);
+            };
+        }
+        Ok(())
+    }
+
+    /// Tries each step from a guess.
+    fn try_steps(&mut self, guess: &Guess) -> Result<(), Stop>
+        requires boards { (board : Board) × AreOfBoard board self.old
+            × (guess.now.platform.board ≡ board) }
+        ensures whole { OnOk result (IsTriedWhole self.old.refuses guess.now
+            (self.old.tried.items ++ self.new.left.items)) }
+        ensures grown { OnOk result
+            (HaveGrown self.old.refuses guess.now self.old.left.items self.new.left.items) }
+        ensures places { OnOk result (places self.new ≡ places self.old) }
+        ensures keeps { KeepBoard self.old self.new }
+        ensures tried { self.new.tried ≡ self.old.tried }
+        ensures others { self.new.others ≡ self.old.others }
+        ensures full { IfErr result (λ stop. stop ≡ Stop.Full → self.new.spare.items ≡ []) }
+    {
+        self.try_step(guess, Step::Complete)?;
+        self.try_step(guess, Step::Refuse)?;
+        self.try_postings(guess)?;
+        Ok(())
+    }
+
+    /// Tries to post to each agent.
+    fn try_postings(&mut self, guess: &Guess) -> Result<(), Stop>
+        requires boards { (board : Board) × AreOfBoard board self.old
+            × (guess.now.platform.board ≡ board) }
+        ensures posts { OnOk result (IsTriedAbove self.old.refuses guess.now 0
+            (self.old.tried.items ++ self.new.left.items)) }
+        ensures grown { OnOk result
+            (HaveGrown self.old.refuses guess.now self.old.left.items self.new.left.items) }
+        ensures places { OnOk result (places self.new ≡ places self.old) }
+        ensures keeps { KeepBoard self.old self.new }
+        ensures tried { self.new.tried ≡ self.old.tried }
+        ensures others { self.new.others ≡ self.old.others }
+        ensures full { IfErr result (λ stop. stop ≡ Stop.Full → self.new.spare.items ≡ []) }
+    {
+        let mut agent = guess.platform.agents();
+        'agents: while agent > 0 {
+            self.try_step(guess, Step::Post { agent })?;
+            agent -= 1;
+        }
+        Ok(())
+    }
+
+    /// Tries a step from a guess. What it moves on to is left, unless it was there before.
+    fn try_step(&mut self, guess: &Guess, step: Step) -> Result<(), Stop>
+        requires boards { (board : Board) × AreOfBoard board self.old
+            × (guess.now.platform.board ≡ board) }
+        ensures moves { OnOk result (IsTried self.old.refuses guess.now (event_of step)
+            (self.old.tried.items ++ self.new.left.items)) }
+        ensures grown { OnOk result
+            (HaveGrown self.old.refuses guess.now self.old.left.items self.new.left.items) }
+        ensures places { OnOk result (places self.new ≡ places self.old) }
+        ensures keeps { KeepBoard self.old self.new }
+        ensures tried { self.new.tried ≡ self.old.tried }
+        ensures others { self.new.others ≡ self.old.others }
+        ensures full { IfErr result (λ stop. stop ≡ Stop.Full → self.new.spare.items ≡ []) }
+    {
+        if !guess.can_come(step, self.refuses) {
+            return Ok(());
+        }
+        self.made.copy_from(guess);
+        if !self.made.make(step, self.refuses) {
+            return Ok(());
+        }
+        if has(&self.tried, &self.made) {
+            return Ok(());
+        }
+        if has(&self.left, &self.made) {
+            return Ok(());
+        }
+        self.keep_made()?;
+        Ok(())
+    }
+
+    /// The guess that was made is left, if a place is free for another.
+    pub fn keep_made(&mut self) -> Result<(), Stop>
+        requires boards { HaveBoard self.old }
+        ensures kept { OnOk result
+            (self.new.left.items ≡ self.old.left.items ++ self.old.made ∷ []) }
+        ensures places { OnOk result (places self.new ≡ places self.old) }
+        ensures keeps { KeepBoard self.old self.new }
+        ensures tried { self.new.tried ≡ self.old.tried }
+        ensures others { self.new.others ≡ self.old.others }
+        ensures full { IfErr result (λ stop. stop ≡ Stop.Full → self.new.spare.items ≡ []) }
+    {
+        let Some(place) = self.spare.pop() else {
+            return Err(Stop::Full);
+        };
+        self.leave(place)
+    }
+
+    /// The guess that was made is left, and this is the place of the next.
+    fn leave(&mut self, place: Guess) -> Result<(), Stop>
+        requires boards { (board : Board) × AreOfBoard board self.old
+            × (place.platform.board ≡ board) }
+        ensures kept { OnOk result
+            (self.new.left.items ≡ self.old.left.items ++ self.old.made ∷ []) }
+        ensures keeps { KeepBoard self.old self.new }
+        ensures tried { self.new.tried ≡ self.old.tried }
+        ensures others { self.new.others ≡ self.old.others }
+        ensures spare { self.new.spare ≡ self.old.spare }
+        ensures memory { IfErr result (λ stop. stop ≡ Stop.Memory) }
+    {
+        let made = mem::replace(&mut self.made, place);
+        let Ok(()) = self.left.push(made) else {
+            return Err(Stop::Memory);
+        };
+        Ok(())
+    }
+
+    /// Leaves those of the guesses that were tried that give an entry, as they are after it.
+    pub fn give(&mut self, entry: &Entry) -> Result<(), Stop>
+        requires boards { HaveBoard self.old }
+        requires none { self.old.left.items ≡ [] }
+        ensures given { OnOk result
+            (HaveGiven self.old.refuses self.old.tried.items entry.now self.new.left.items) }
+        ensures tried { OnOk result (self.new.tried.items ≡ []) }
+        ensures keeps { KeepBoard self.old self.new }
+        ensures memory { IfErr result (λ stop. stop ≡ Stop.Memory) }
+    {
+        'each: while let Some(guess) = self.tried.pop() {
+            self.give_by(guess, entry)?;
+        }
+        Ok(())
+    }
+
+    /// Leaves a guess as it is after an entry, if it gives that and is not left yet.
+    fn give_by(&mut self, guess: Guess, entry: &Entry) -> Result<(), Stop>
+        requires boards { (board : Board) × AreOfBoard board self.old
+            × (guess.platform.board ≡ board) }
+        ensures given { OnOk result (IsGiven self.old.refuses guess entry.now
+            self.old.left.items self.new.left.items) }
+        ensures keeps { KeepBoard self.old self.new }
+        ensures tried { self.new.tried ≡ self.old.tried }
+        ensures memory { IfErr result (λ stop. stop ≡ Stop.Memory) }
+    {
+        self.made.copy_from(&guess);
+        if self.made.show(entry) && !has(&self.left, &self.made) {
+            return self.leave(guess);
+        }
+        let Ok(()) = self.others.push(guess) else {
+            return Err(Stop::Memory);
+        };
+        Ok(())
+    }
+
+    /// The places of the others are free again.
+    pub fn free_others(&mut self) -> Result<(), Stop>
+        requires boards { HaveBoard self.old }
+        ensures none { OnOk result (self.new.others.items ≡ []) }
+        ensures keeps { KeepBoard self.old self.new }
+        ensures left { self.new.left ≡ self.old.left }
+        ensures tried { self.new.tried ≡ self.old.tried }
+        ensures memory { IfErr result (λ stop. stop ≡ Stop.Memory) }
+    {
+        'each: while let Some(guess) = self.others.pop() {
+            let Ok(()) = self.spare.push(guess) else {
+                return Err(Stop::Memory);
+            };
+        }
+        Ok(())
+    }
+}
+
+/// Whether a guess is among others of its board.
+pub(crate) fn has(guesses: &[Guess], guess: &Guess) -> bool
+    requires { IsOfBoard guess.now.platform.board guesses.now }
+    ensures { result ≡ true → IsIn guess.now guesses.now }
+{
+    'each: for one in guesses {
+        if one.is_same(guess) {
+            return true;
+        }
+    }
+    false
+}

@@ -1,0 +1,23 @@
+//! What happens to a platform that no entry of a record shows by itself.
+
+/// An event that no entry shows by itself.
+#[derive(Clone, Copy, PartialEq, Eq, Debug)]
+pub(crate) enum Step {
+    /// The first pending set completes.
+    Complete,
+    /// The hardware refuses the change of the first pending set.
+    Refuse,
+    /// The first message for an agent is posted into its channel.
+    Post { agent: u32 },
+}
+
+/// Which changes of pending sets the hardware may refuse, so that no entry need show it by itself.
+#[derive(Clone, Copy, PartialEq, Eq, Debug)]
+pub enum Refusals {
+    /// None.
+    None,
+    /// Those to which a delayed response is wanted, which is then HARDWARE_ERROR.
+    Answered,
+    /// Any.
+    Any,
+}
