@@ -105,6 +105,15 @@ pub xxd_long_words : read_row (codes "00000010: 0000001000000000 00000001001c440
 unfolding row_of without_prefix parts_at parts_row marked_parts offset_parts piped_parts address_of decode_pairs
 xxd_long_words = refl
 
+-- the same in the column of od, between `>` and `<`
+pub od_shown : read_row (codes "000010 00000000 00000010 001c4404 00000001  >.........D......<") ≡ Some (row_at Offset 0x10)
+unfolding row_of without_prefix parts_at parts_row marked_parts offset_parts piped_parts address_of decode_pairs
+od_shown = refl
+
+pub od_big_endian : read_row (codes "000010 00000000 10000000 04441c00 01000000  >.........D......<") ≡ Some (row_at Offset 0x10)
+unfolding row_of without_prefix parts_at parts_row marked_parts offset_parts piped_parts address_of decode_pairs
+od_big_endian = refl
+
 -- the kernel's log, and debuggers
 pub kernel : read_row (codes "[   12.345678] scmi: 00000010: 00000000 00000010 001c4404 00000001  .........D......") ≡ Some (row_at Marked 0x10)
 unfolding row_of without_prefix parts_at parts_row marked_parts offset_parts piped_parts address_of decode_pairs
@@ -145,6 +154,11 @@ od_bare_longs = refl
 pub unclear : read_row (codes "00000010: 0000 0000 1000 0000 0444 1c00 0100 0000") ≡ Some (record { form = Marked; address = 0x10; bytes = None })
 unfolding row_of without_prefix parts_at parts_row marked_parts offset_parts piped_parts address_of decode_pairs
 unclear = refl
+
+-- and so may those beside one that shows either
+pub either : read_row (codes "00000000: 00000000 00000001 00000000 00000000  ................") ≡ Some (record { form = Marked; address = 0; bytes = None })
+unfolding row_of without_prefix parts_at parts_row marked_parts offset_parts piped_parts address_of decode_pairs
+either = refl
 
 -- what is no row
 pub prompt : read_row (codes "=> md.l 0x2e000000 0x47") ≡ None

@@ -120,9 +120,22 @@ cut_parts f digits size groups = record { form = f; digits = digits; bytes = tak
 unfoldable pub marked_parts : Form → (digits behind : List ℕ) → RowParts
 marked_parts f digits behind = cut_parts f digits (column_length (after_gap behind)) (after_gap behind)
 
--- a row of an address alone, whose bytes follow it, before `|` or `>`
+-- whether a text ends in a carriage return
+abbrev pub ends_in_return : List ℕ → Bool
+ends_in_return text = not (length text == 0) && (slice_index text (length text - 1) == 13)
+
+-- a text without the carriage return at its end
+abbrev pub without_return : List ℕ → List ℕ
+without_return text = if ends_in_return text then without_last text else text
+
+-- a row of an address alone, whose bytes follow it, before a column of text between `|` and `|` or `>` and `<`
 unfoldable pub offset_parts : (digits behind : List ℕ) → RowParts
-offset_parts digits behind = cut_parts Offset digits (bar_length behind) behind
+offset_parts digits behind = record {
+  form = Offset;
+  digits = digits;
+  bytes = take (bar_length behind) behind;
+  column = without_last (without_return (drop (bar_length behind) behind));
+}
 
 -- how long sixteen bytes are in groups of so many digits, with a space between them
 abbrev pub sixteen_length : (group : ℕ) → ℕ
@@ -201,26 +214,18 @@ half_order Plain gap = Unclear
 half_order Equals gap = Turned
 half_order Value gap = Turned
 
--- the order of groups of eight or sixteen digits: numbers, but one alone on a line may be bytes, as xxd -p prints them
-abbrev pub long_order : Form → (alone : Bool) → Order
-long_order Plain true = Unclear
-long_order Plain false = Turned
-long_order Marked alone = Turned
-long_order Offset alone = Turned
-long_order Equals alone = Turned
-long_order Value alone = Turned
+-- the order of groups of eight or sixteen digits: numbers, but one alone on a line may be bytes, as xxd -p prints them, and so may those before two spaces and a column, as xxd -g 4 prints them
+abbrev pub long_order : Form → (gap : ℕ) → (alone : Bool) → Order
+long_order Plain gap true = Unclear
+long_order Plain gap false = Turned
+long_order Marked gap alone = if gap == 2 then Unclear else Turned
+long_order Offset gap alone = Turned
+long_order Equals gap alone = Turned
+long_order Value gap alone = Turned
 
 -- the order of the digits of a row, by how many its first group has, the spaces before its column of text, and whether its group is alone
 abbrev pub order_of : Form → (group gap : ℕ) → (alone : Bool) → Order
-order_of f group gap alone = if group == 4 then half_order f gap else if (group == 8) || (group == 16) then long_order f alone else Straight
-
--- whether a text ends in a carriage return
-abbrev pub ends_in_return : List ℕ → Bool
-ends_in_return text = not (length text == 0) && (slice_index text (length text - 1) == 13)
-
--- a text without the carriage return at its end
-abbrev pub without_return : List ℕ → List ℕ
-without_return text = if ends_in_return text then without_last text else text
+order_of f group gap alone = if group == 4 then half_order f gap else if (group == 8) || (group == 16) then long_order f gap alone else Straight
 
 -- whether a byte is the digit 0 or 1, or in a gap
 abbrev pub is_bit : ℕ → Bool

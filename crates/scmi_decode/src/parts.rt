@@ -1,7 +1,7 @@
 //! The parts of a row.
 ghost use Rattle.std.specs.Prelude.{◌≡◌, ◌≤◌, length};
 ghost use Rattle.std.specs.Option.{option_copied};
-ghost use Rattle.scmi_decode.specs.Row.{behind_value, cut_parts, data_length, ends_in_colon, has_pipe, is_equals, is_group, is_offset, is_pair, is_symbol, marked_parts, offset_parts, parts_at, parts_of, piped_data, piped_digits, piped_parts, sixteen_length, value_parts, without_last};
+ghost use Rattle.scmi_decode.specs.Row.{behind_value, cut_parts, data_length, ends_in_colon, ends_in_return, has_pipe, is_equals, is_group, is_offset, is_pair, is_symbol, marked_parts, offset_parts, parts_at, parts_of, piped_data, piped_digits, piped_parts, sixteen_length, value_parts, without_last, without_return};
 
 use crate::dump::has_mark;
 use crate::form::Form;
@@ -125,7 +125,8 @@ fn marked_parts<'a>(form: Form, digits: &'a [u8], behind: &'a [u8]) -> Parts<'a>
     cut_parts(form, digits, column_length(groups), groups)
 }
 
-/// A row of an address alone, whose bytes follow it, before `|` or `>`.
+/// A row of an address alone, whose bytes follow it, before a column of text between `|` and `|` or `>`
+/// and `<`.
 #[tactic(auto, unfolding(crate::specs::Row::offset_parts))]
 fn offset_parts<'a>(digits: &'a [u8], behind: &'a [u8]) -> Parts<'a>
     ensures form { result.form ≡ (offset_parts digits.now behind.now).form }
@@ -133,7 +134,13 @@ fn offset_parts<'a>(digits: &'a [u8], behind: &'a [u8]) -> Parts<'a>
     ensures bytes { result.bytes.now ≡ (offset_parts digits.now behind.now).bytes }
     ensures column { result.column.now ≡ (offset_parts digits.now behind.now).column }
 {
-    cut_parts(Form::Offset, digits, bar_length(behind), behind)
+    let (bytes, column) = behind.split_at(bar_length(behind));
+    Parts {
+        form: Form::Offset,
+        digits,
+        bytes,
+        column: without_last(without_return(column)),
+    }
 }
 
 /// A row of a debugger, `CLASS:ADDRESS|DATA`, whose data are sixteen bytes (own).
@@ -201,6 +208,24 @@ pub(crate) fn without_last(item: &[u8]) -> &[u8]
     ensures { result.now ≡ without_last item.now }
 {
     &item[..item.len().saturating_sub(1)]
+}
+
+/// A text without the carriage return at its end.
+pub(crate) fn without_return(text: &[u8]) -> &[u8]
+    ensures { result.now ≡ without_return text.now }
+{
+    if ends_in_return(text) {
+        without_last(text)
+    } else {
+        text
+    }
+}
+
+/// Whether a text ends in a carriage return.
+fn ends_in_return(text: &[u8]) -> bool
+    ensures { result ≡ ends_in_return text.now }
+{
+    !text.is_empty() && text[text.len() - 1] == b'\r'
 }
 
 /// Whether an item names the place of an address, as gdb does: `<NAME+N>:`.

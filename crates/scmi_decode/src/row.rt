@@ -1,7 +1,7 @@
 //! A row of a dump.
 ghost use Rattle.std.specs.Prelude.{◌≡◌, IfOk};
 ghost use Rattle.std.specs.Option.{option_map};
-ghost use Rattle.scmi_decode.specs.Row.{address_of, are_bits, base_of, column_text, data_cells, data_order, form_cells, ends_in_return, gap_before, group_of, half_order, has_bits_alone, is_bit, long_order, order_of, parts_row, row_of, row_with, without_return, word_bytes_of, word_cells};
+ghost use Rattle.scmi_decode.specs.Row.{address_of, are_bits, base_of, column_text, data_cells, data_order, form_cells, gap_before, group_of, half_order, has_bits_alone, is_bit, long_order, order_of, parts_row, row_of, row_with, word_bytes_of, word_cells};
 
 use crate::cell::{Cell, cells_of};
 use crate::dump::{has_mark, line_bytes};
@@ -9,7 +9,7 @@ use crate::form::Form;
 use crate::lines::is_gap;
 use crate::number::{number_from, without_mark};
 use crate::order::Order;
-use crate::parts::{parts_of, without_last};
+use crate::parts::{parts_of, without_return};
 use crate::scan::{after_gap, after_item, first_item, gap_length};
 use std::alloc::{AllocError, Global};
 use std::marker::Model;
@@ -225,7 +225,7 @@ pub(crate) fn order_of(form: Form, group: usize, gap: usize, is_alone: bool) -> 
 {
     match group {
         4 => half_order(form, gap),
-        8 | 16 => long_order(form, is_alone),
+        8 | 16 => long_order(form, gap, is_alone),
         _ => Order::Straight,
     }
 }
@@ -249,12 +249,13 @@ fn half_order(form: Form, gap: usize) -> Order
 }
 
 /// The order of groups of eight or sixteen digits: numbers, but one alone on a line may be bytes, as
-/// xxd -p prints them.
-fn long_order(form: Form, is_alone: bool) -> Order
-    ensures { result ≡ long_order form is_alone }
+/// xxd -p prints them, and so may those before two spaces and a column, as xxd -g 4 prints them.
+fn long_order(form: Form, gap: usize, is_alone: bool) -> Order
+    ensures { result ≡ long_order form gap is_alone }
 {
-    match (form, is_alone) {
-        (Form::Plain, true) => Order::Unclear,
+    match form {
+        Form::Plain if is_alone => Order::Unclear,
+        Form::Marked if gap == 2 => Order::Unclear,
         _ => Order::Turned,
     }
 }
@@ -294,24 +295,6 @@ fn column_text(count: usize, column: &[u8]) -> &[u8]
     } else {
         &[]
     }
-}
-
-/// A text without the carriage return at its end.
-fn without_return(text: &[u8]) -> &[u8]
-    ensures { result.now ≡ without_return text.now }
-{
-    if ends_in_return(text) {
-        without_last(text)
-    } else {
-        text
-    }
-}
-
-/// Whether a text ends in a carriage return.
-fn ends_in_return(text: &[u8]) -> bool
-    ensures { result ≡ ends_in_return text.now }
-{
-    !text.is_empty() && text[text.len() - 1] == b'\r'
 }
 
 /// The address of a row, 0 of a plain one.
