@@ -16,6 +16,7 @@ mod forms;
 mod given;
 mod opened;
 mod read_as;
+mod record_cause;
 mod refusal;
 mod remark;
 mod report;

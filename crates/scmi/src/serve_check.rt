@@ -2,6 +2,7 @@
 
 use crate::STANDARD_INPUT;
 use crate::asked::STANDARD;
+use crate::record_cause::{RecordCause, record_cause};
 use crate::refusal::{WRONG_ARGUMENT, refuse_file, refuse_standard};
 use crate::report::report_output;
 use crate::report_board::report_board;
@@ -179,10 +180,8 @@ fn report<B: Read + Drop, R: Read + Drop>(
 ) {
     let name = asked.file_of_record().unwrap_or(STANDARD_INPUT);
     if let Some(line) = line_of_record(last_line) {
-        let _ = eprintln!(rt;
-            "{name}:{line}: not a line of a record (docs/CHECK.md has the forms), a reply without a \
-            command, or a command before the reply to another"
-        );
+        let cause = record_cause(alloc, board.bytes(), record.bytes(), line);
+        report_cause(rt, name, line, cause);
     } else if last_line == NOTHING {
         let _ = eprintln!(rt;
             "{name}: nothing to check: no command with its reply, and no message, of protocols {}; \
@@ -198,6 +197,27 @@ fn report<B: Read + Drop, R: Read + Drop>(
             "{name}: the record is longer than {INPUT_BYTES} bytes; check a shorter one"
         );
     }
+}
+
+/// Reports why a line of a record is refused.
+fn report_cause(rt: &impl Eprint, name: &str, line: u32, cause: RecordCause) {
+    let _ = match cause {
+        RecordCause::Agent { agent, agents } => eprintln!(rt;
+            "{name}:{line}: agent {agent} is not on the board, which has agents 1 to {agents}"
+        ),
+        RecordCause::Waits { agent, command } => eprintln!(rt;
+            "{name}:{line}: the command of agent {agent} at line {command} still waits for its reply"
+        ),
+        RecordCause::NoCommand { agent } => eprintln!(rt;
+            "{name}:{line}: a reply without a command: none of agent {agent} waits for one"
+        ),
+        RecordCause::Event => eprintln!(rt;
+            "{name}:{line}: a field of scmi_msg_dump is missing or has another form"
+        ),
+        RecordCause::Form => eprintln!(rt;
+            "{name}:{line}: not a line of a record; docs/CHECK.md has the forms"
+        ),
+    };
 }
 
 /// The fault that a last line names, if it is one of the board.
