@@ -1,7 +1,7 @@
 //! Replies in words, as comments after their lines.
 
-use scmi_codec::{Answer, Command, Frame, Message, Status};
-use scmi_describe::{Description, response_status, write_description};
+use scmi_codec::{Answer, Frame};
+use scmi_describe::{Description, describe_message, write_description};
 use scmi_link::Collected;
 use scmi_live::LiveError;
 use scmi_text::StepLine;
@@ -33,45 +33,14 @@ pub fn write_remark<W: Write>(
 fn described_line(line: &StepLine) -> Option<Description> {
     match line {
         StepLine::Collected { collected, .. } => match collected {
-            Collected::Got(Answer::Reply(message)) => Some(described_message(message.copy())),
+            Collected::Got(Answer::Reply(message)) => Some(describe_message(message.copy())),
             _ => None,
         },
         StepLine::P2a { frame, .. } => match frame {
-            Some(Frame::Good(message)) => Some(described_message(message.copy())),
+            Some(Frame::Good(message)) => Some(describe_message(message.copy())),
             _ => None,
         },
         _ => None,
-    }
-}
-
-/// What a message is in a free channel.
-fn described_message(message: Message) -> Description {
-    match message.header.kind() {
-        0 => described_response(message),
-        2 => Description::Delayed {
-            is_free: true,
-            message,
-        },
-        3 => Description::Notification {
-            is_free: true,
-            message,
-        },
-        _ => Description::Foreign {
-            is_free: true,
-            message,
-        },
-    }
-}
-
-/// What a message of type 0 is in a free channel.
-fn described_response(message: Message) -> Description {
-    match response_status(&message) {
-        None => {
-            let request = Command::read(&message);
-            Description::Withdrawn { message, request }
-        }
-        Some(Status::Success) => Description::Reply { message },
-        Some(status) => Description::Refusal { message, status },
     }
 }
 

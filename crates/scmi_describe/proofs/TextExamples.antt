@@ -62,7 +62,7 @@ withdrawn = refl
 
 -- a word more than the command has
 other_size : text_at Busy (Good (message_of 0xC4405 (0 ∷ 1 ∷ [])))
-    ≡ codes "busy: command POWER_STATE_GET, token 3: 2 payload words where 1 belong\n    words       000c4405 00000000 00000001\n"
+    ≡ codes "busy: command POWER_STATE_GET, token 3: 2 payload words, expected 1\n    words       000c4405 00000000 00000001\n"
 unfolding command_text command_line request_fields_text literal filled name_text rows_of token_text reserved_text digits words_text words_start word_text eight_digits
 other_size = refl
 

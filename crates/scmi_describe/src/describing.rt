@@ -1,7 +1,8 @@
 //! What an area is, from its bytes.
-ghost use Rattle.std.specs.Prelude.{◌≡◌, ◌≢◌, ◌/◌, ◌%◌, ◌==◌, ◌≤◌, length};
+ghost use Rattle.std.specs.Prelude.{◌≡◌, ◌≢◌, ◌/◌, ◌%◌, ◌==◌, ◌≤◌, false, length};
 ghost use Rattle.scmi_codec.specs.Area.{status_at, StandsForAnswer};
 ghost use Rattle.scmi_codec.specs.declared.frame.Frame.{Frame as FrameOf};
+ghost use Rattle.scmi_codec.specs.declared.frame.Frame.TheVariants.{Good};
 ghost use Rattle.scmi_codec.specs.declared.frame.Answer.{Answer as AnswerOf};
 ghost use Rattle.scmi_describe.specs.Description.{described_area, described_posted, described_left, described_response, described_p2a, described_answer};
 
@@ -69,13 +70,18 @@ pub(crate) fn describe_left(is_error: bool, frame: Frame) -> Description
                 header,
             }
         }
-        Frame::Good(message) => {
-            if message.header.kind() == 0 {
-                return describe_response(message);
-            }
-            describe_p2a(true, message)
-        }
+        Frame::Good(message) => describe_message(message),
     }
+}
+
+/// What a message is in a free channel without the error bit.
+pub fn describe_message(message: Message) -> Description
+    ensures { result ≡ described_left false (Good message) }
+{
+    if message.header.kind() == 0 {
+        return describe_response(message);
+    }
+    describe_p2a(true, message)
 }
 
 /// What a message of type 0 is in a free channel.

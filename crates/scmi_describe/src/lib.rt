@@ -44,7 +44,7 @@ pub use answering::{describe_answered, describe_written};
 pub use area::write_area;
 pub use channel::describe_channel;
 pub use commands::command_fields;
-pub use describing::describe;
+pub use describing::{describe, describe_message};
 pub use description::Description;
 pub use field::{FIELDS, Field, Fields};
 pub use names::{notification_name, protocol_name, status_name};

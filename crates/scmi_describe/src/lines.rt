@@ -9,7 +9,7 @@ pub(crate) const UNUSED: &str = "free: unused\n";
 
 pub(crate) const COMMAND: &str = "busy: command %, %\n";
 
-pub(crate) const OTHER_SIZE: &str = "busy: command %, %: % payload words where % belong\n";
+pub(crate) const OTHER_SIZE: &str = "busy: command %, %: % payload words, expected %\n";
 
 pub(crate) const WITHDRAWN: &str = "free: command % that was withdrawn, %\n";
 
@@ -37,7 +37,7 @@ pub(crate) const ERROR_MALFORMED: &str = "free: channel error: the frame was mal
 pub(crate) const LENGTH: &str = "length % is %; header 0x%\n";
 
 /// Why a length is not that of a frame.
-pub(crate) const NO_HEADER: &str = "no word for the header";
+pub(crate) const NO_HEADER: &str = "too short for the header";
 
 pub(crate) const MORE_THAN: &str = "more than %";
 
