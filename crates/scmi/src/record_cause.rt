@@ -1,7 +1,9 @@
 //! Why a line of a record is refused, found by what the lines before it and the line alone encode.
 
+use crate::refusal::BOARD_START;
 use scmi_board::{Lines, number, read_valid_board};
 use scmi_check::{NoteKind, read_record};
+use scmi_explain::{MODES, split_first};
 use std::alloc::Global;
 
 /// Why a line of a record is refused.
@@ -15,6 +17,10 @@ pub enum RecordCause {
     NoCommand { agent: u64 },
     /// A field of the event of a trace is missing or has another form.
     Event,
+    /// It is the first line of a board.
+    Board,
+    /// It is the first line of a script.
+    Script,
     /// It is not a line of a record.
     Form,
 }
@@ -36,6 +42,12 @@ pub fn record_cause(alloc: Global, board: &[u8], record: &[u8], line: u32) -> Re
 fn cause_in(alloc: Global, board: &[u8], record: &[u8], line: u32) -> Option<RecordCause> {
     let agents = read_valid_board(alloc, board).ok()?.plan.agents();
     let (before, text) = parted(record, line);
+    if text.starts_with(BOARD_START) {
+        return Some(RecordCause::Board);
+    }
+    if MODES.iter().any(|mode| mode.as_bytes() == text) {
+        return Some(RecordCause::Script);
+    }
     let Some(agent) = agent_of(text) else {
         return if is_event(text) {
             Some(RecordCause::Event)
@@ -60,22 +72,29 @@ fn cause_in(alloc: Global, board: &[u8], record: &[u8], line: u32) -> Option<Rec
     None
 }
 
+/// The line of this number.
+pub(crate) fn line_of(record: &[u8], line: u32) -> &[u8] {
+    parted(record, line).1
+}
+
+/// Whether a line begins as one that posts.
+pub(crate) fn is_post(text: &[u8]) -> bool {
+    POSTS.iter().any(|word| first_item(text) == *word)
+}
+
+/// What is before the first space of a line.
+fn first_item(text: &[u8]) -> &[u8] {
+    text.split(|byte| *byte == b' ').next().unwrap_or(text)
+}
+
 /// What is before a line of a text, and the line.
 fn parted(text: &[u8], line: u32) -> (&[u8], &[u8]) {
     let mut rest = text;
     for _ in 1..line {
-        rest = cut(rest).1;
+        rest = split_first(rest).1;
     }
     let end = text.len().saturating_sub(rest.len());
-    (&text[..end], cut(rest).0)
-}
-
-/// The first line of a text, and what follows it.
-fn cut(text: &[u8]) -> (&[u8], &[u8]) {
-    match text.iter().position(|byte| *byte == b'\n') {
-        Some(end) => (&text[..end], &text[end + 1..]),
-        None => (text, &[]),
-    }
+    (&text[..end], split_first(rest).0)
 }
 
 /// The number of the agent that a line names, if it is one.
@@ -88,13 +107,12 @@ fn agent_of(text: &[u8]) -> Option<u64> {
         }
         return Some(1);
     }
-    let mut items = text.split(|byte| *byte == b' ');
-    let first = items.next()?;
-    if POSTS.contains(&first) {
-        number(items.next()?)
-    } else {
-        number(first)
+    if !is_post(text) {
+        return number(first_item(text));
     }
+    let mut items = text.split(|byte| *byte == b' ');
+    let _ = items.next()?;
+    number(items.next()?)
 }
 
 /// Whether a line has the event of a trace that shows a message.
@@ -122,7 +140,7 @@ fn waiting_line(
     }
     let read = read_record(alloc, &mut Lines::of_text(before), agents, &all).ok()?;
     for note in &read.left.notes {
-        let (_, command) = parted(record, note.line);
+        let command = line_of(record, note.line);
         let is_waiting = note.kind == NoteKind::Unanswered && !is_event(command);
         if is_waiting && agent_of(command) == Some(agent) {
             return Some(note.line);
