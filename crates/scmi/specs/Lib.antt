@@ -1,3 +1,4 @@
 pub mod Given
 pub mod Program
+pub mod Record
 pub mod Session

@@ -1,6 +1,6 @@
 //! The arguments of the program, as they are read.
 
-use crate::asked::{Asked, Unread, asked_of};
+use crate::asked::{Asked, STANDARD, Unread, asked_of};
 use crate::command::program;
 use clap::{ArgMatches, Error};
 use std::alloc::Global;
@@ -14,11 +14,16 @@ pub enum ArgumentError<'a> {
     Unread(Unread<'a>),
 }
 
-/// What the program is asked for by arguments, its own name left out.
+/// What the program is asked for by arguments, its own name left out. `-` alone asks for what none
+/// do: a run of standard input.
 pub fn read_arguments<'a>(
     alloc: Global,
     words: &'a [String],
 ) -> Result<Asked<'a>, ArgumentError<'a>> {
+    let words = match words {
+        [only] if only.as_str() == STANDARD => &[],
+        _ => words,
+    };
     let found = match matches_of(alloc, words) {
         Ok(found) => found,
         Err(error) => return Err(ArgumentError::Clap(error)),

@@ -8,6 +8,7 @@ use crate::request::Request;
 use crate::task::Task;
 use clap::ArgMatches;
 use clap::parser::ValueSource;
+use scmi_board::number;
 use scmi_decode::{Layout, LayoutError};
 
 /// The name that standard input has among arguments.
@@ -45,29 +46,28 @@ pub enum Unread<'a> {
 /// What the matches of a command line ask for.
 pub fn asked_of<'a>(matches: &ArgMatches<'a>) -> Result<Asked<'a>, Unread<'a>> {
     if is_used(matches, HELP) {
-        return Ok(with_no_file(Request::Help));
+        return Ok(with_no_file(Request::Do(Task::Help)));
     }
     if is_used(matches, VERSION) {
-        return Ok(with_no_file(Request::Version));
+        return Ok(with_no_file(Request::Do(Task::Version)));
     }
-    match below(matches) {
-        None => Ok(with_no_file(Request::Do(Task::Run))),
-        Some((word, inner)) if word == HELP => help_by(inner),
-        Some((word, _)) if word == VERSION => Ok(with_no_file(Request::Version)),
-        Some((word, inner)) => match task_of(word) {
-            Some(task) => task_by(task, inner),
-            None => Err(Unread::Task(word)),
-        },
+    let Some((word, inner)) = below(matches) else {
+        return Ok(with_no_file(Request::Do(Task::Run)));
+    };
+    match task_of(word) {
+        Some(Task::Help) => help_by(inner),
+        Some(task) => task_by(task, inner),
+        None => Err(Unread::Task(word)),
     }
 }
 
 /// What the matches after the word for help ask for.
 fn help_by<'a>(matches: &ArgMatches<'a>) -> Result<Asked<'a>, Unread<'a>> {
     if is_used(matches, HELP) {
-        return Ok(with_no_file(Request::Help));
+        return Ok(with_no_file(Request::HelpOn(Task::Help)));
     }
     match value_of(matches, FIRST) {
-        None => Ok(with_no_file(Request::Help)),
+        None => Ok(with_no_file(Request::Do(Task::Help))),
         Some(word) => match task_of(word) {
             Some(task) => Ok(with_no_file(Request::HelpOn(task))),
             None => Err(Unread::Task(word)),
@@ -127,19 +127,16 @@ fn number_by<'a>(
 ) -> Result<Option<usize>, Unread<'a>> {
     match value_of(matches, option) {
         None => Ok(None),
-        Some(word) => match number_of(word) {
-            Some(number) => Ok(Some(number)),
+        Some(word) => match count_of(word) {
+            Some(count) => Ok(Some(count)),
             None => Err(Unread::Number(option, word)),
         },
     }
 }
 
-/// The number that a word is: decimal, or hexadecimal after `0x`.
-fn number_of(word: &str) -> Option<usize> {
-    match word.strip_prefix("0x") {
-        Some(digits) => usize::from_str_radix(digits, 16).ok(),
-        None => word.parse::<usize>().ok(),
-    }
+/// The count that a word is.
+fn count_of(word: &str) -> Option<usize> {
+    usize::try_from(number(word.as_bytes())?).ok()
 }
 
 /// A request that names no file.
@@ -157,7 +154,7 @@ fn with_no_file<'a>(request: Request) -> Asked<'a> {
 /// Whether there is a name that begins with a dash, as no file's name may but that of standard input.
 fn is_no_file(name: Option<&str>) -> bool {
     match name {
-        Some(name) => name != STANDARD && begins_with_dash(name.as_bytes()),
+        Some(name) => name != STANDARD && begins_with_dash(name),
         None => false,
     }
 }
@@ -170,8 +167,9 @@ fn is_standard(name: Option<&str>) -> bool {
     }
 }
 
-fn begins_with_dash(name: &[u8]) -> bool {
-    match name {
+/// Whether a word begins with a dash, as options do.
+pub(crate) fn begins_with_dash(word: &str) -> bool {
+    match word.as_bytes() {
         [first, ..] => *first == b'-',
         [] => false,
     }

@@ -8,10 +8,10 @@ use std::alloc::{AllocError, Global};
 /// The program's name.
 pub const NAME: &str = "scmi";
 
-/// The flag that asks for help, and the word that does.
+/// The flag that asks for help.
 pub const HELP: &str = "help";
 
-/// The flag that asks which program this is, and the word that does.
+/// The flag that asks which program this is.
 pub const VERSION: &str = "version";
 
 /// The flag that asks for a report of the Test Anything Protocol.
@@ -50,9 +50,7 @@ pub fn program<'a>(alloc: Global) -> Result<Command<'a>, AllocError> {
     for form in &FORMS {
         command = command.subcommand(task_command(alloc, form)?)?;
     }
-    command
-        .subcommand(topics(alloc)?)?
-        .subcommand(named(alloc, VERSION, "scmi version")?)
+    Ok(command)
 }
 
 /// The command without its tasks.
@@ -70,7 +68,7 @@ fn bare<'a>(alloc: Global) -> Result<Command<'a>, AllocError> {
 fn task_command<'a>(alloc: Global, form: &Form) -> Result<Command<'a>, AllocError> {
     let command = named(alloc, form.word, form.usage)?;
     match form.operands {
-        Operands::Input => command.arg(Arg::new(alloc, FIRST)),
+        Operands::Input | Operands::Topic => command.arg(Arg::new(alloc, FIRST)),
         Operands::Dumps => command
             .arg(flag(alloc, BINARY).short('b'))?
             .arg(option(alloc, OFFSET))?
@@ -88,12 +86,8 @@ fn task_command<'a>(alloc: Global, form: &Form) -> Result<Command<'a>, AllocErro
             .arg(option(alloc, PROTOCOLS))?
             .arg(Arg::new(alloc, FIRST))?
             .arg(Arg::new(alloc, SECOND)),
+        Operands::None => Ok(command),
     }
-}
-
-/// The subcommand that gives help on a task.
-fn topics<'a>(alloc: Global) -> Result<Command<'a>, AllocError> {
-    named(alloc, HELP, "scmi help [COMMAND]")?.arg(Arg::new(alloc, FIRST))
 }
 
 /// A subcommand of this name, with the flag for help.

@@ -3,19 +3,24 @@
 use crate::forms::FORMS;
 use crate::task::Task;
 
-/// The files that follow a task's word.
+/// What follows a task's word.
 #[derive(Clone, Copy, Debug, PartialEq, Eq)]
 pub enum Operands {
-    /// The input's, or none for standard input.
+    /// The file of the input, or none for standard input.
     Input,
     /// The same; `-b`, `--offset`, `--size` and `--stride` may come before it.
     Dumps,
     /// The same; `--mermaid` may come before it.
     Drawn,
-    /// A board's; `--save FILE` may come before it.
+    /// The file of a board; `--save FILE` may come before it.
     Board,
-    /// A board's, and a record's or none for standard input; `--tap` may come before them.
+    /// That of a board, and that of a record or none for standard input; `--tap` and
+    /// `--protocols` may come before them.
     BoardAndRecord,
+    /// The word of a task, or none.
+    Topic,
+    /// Nothing.
+    None,
 }
 
 /// How a task is asked for, and what help shows of it.

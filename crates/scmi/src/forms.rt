@@ -4,7 +4,7 @@ use crate::form::{Form, Operands};
 use crate::task::Task;
 
 /// How each task is asked for, in the order of the enum.
-pub const FORMS: [Form; 6] = [
+pub const FORMS: [Form; 8] = [
     Form {
         task: Task::Run,
         word: "run",
@@ -15,7 +15,7 @@ pub const FORMS: [Form; 6] = [
         details: "\
 The first line of the input is the mode: once, steps words, steps rings, threads words,
 threads rings, hardware words or hardware rings. In the last two names may be in place of numbers,
-as in a session. docs/SCRIPTS.md has all lines.",
+as in a session. docs/SCRIPTS.md has all lines. scmi alone, and scmi -, run standard input.",
         example: "scmi run examples/two_agents.in",
     },
     Form {
@@ -83,7 +83,8 @@ Checks a record of a platform's channels against the definitions of SCMI.",
         details: "\
 BOARD has the lines of the platform's board, from board to end. RECORD, or standard input, has
 the commands, each before its reply, and the other messages, in the order in which they were seen;
-a trace of Linux's ftrace with the event scmi_msg_dump is a record as it is.
+a trace of Linux's ftrace with the event scmi_msg_dump is a record as it is. Commands may have names
+in place of numbers, as in a session.
 A line is printed for each reply and each message: same; own, with the rule of this project's own
 by which another reply is possible; or differs, with what was expected. A line is printed for what
 can't be checked too: a command is unanswered, a reply unmatched, or events are lost. The last line
@@ -107,5 +108,28 @@ BOARD, or standard input, has the lines of a board, from board to end, and lines
 before end. A program compiles the tables with scmi.h, and passes them to
 scmi_platform_new_of_tables. docs/C.md has more.",
         example: "scmi table examples/phone.board > phone_board.c",
+    },
+    Form {
+        task: Task::Help,
+        word: "help",
+        operands: Operands::Topic,
+        usage: "scmi help [COMMAND]",
+        summary: "prints the help of a command, as scmi COMMAND --help does",
+        about: "Prints the help of a command; without one, the list of commands.",
+        details: "\
+The help of a command has its options, and the forms of its files. --help, or -h, prints the same
+after a command, and the list of commands without one.",
+        example: "scmi help session",
+    },
+    Form {
+        task: Task::Version,
+        word: "version",
+        operands: Operands::None,
+        usage: "scmi version",
+        summary: "prints the version, as scmi --version does",
+        about: "Prints the version of this program, and the specification that it follows.",
+        details: "\
+--version, or -V, prints the same. A program that was built without proof adds that it is not proved.",
+        example: "scmi version",
     },
 ];

@@ -43,7 +43,7 @@ pub(crate) fn in_numbers<R: CountedRead>(
 }
 
 /// A text behind a line.
-fn behind_line(alloc: Global, line: &[u8], text: &[u8]) -> Result<Vec<u8>, AllocError>
+pub(crate) fn behind_line(alloc: Global, line: &[u8], text: &[u8]) -> Result<Vec<u8>, AllocError>
     ensures { IfOk result (λ given. given.items ≡ line.now ++ 10 ∷ text.now) }
 {
     let mut given = Vec::new(alloc);

@@ -4,8 +4,8 @@
 //!
 //! The main type is `Asked`, what the arguments ask for. The main theorem is the contract of
 //! `run_request`: if the status is 0, what was written is what the asked task writes of the input, to
-//! the last byte; and that of `run_session`: if the status is 0, its listener was given exactly the
-//! steps of the lines.
+//! the last byte; that of `run_session`: if the status is 0, its listener was given exactly the steps
+//! of the lines; and that of `run_record`: what is checked is the record with numbers in place of names.
 #![tactic(auto)]
 
 mod arguments;
@@ -14,13 +14,19 @@ mod command;
 mod form;
 mod forms;
 mod given;
+mod letters;
+mod listed;
 mod opened;
+mod painted;
 mod read_as;
+mod record;
+mod record_cause;
 mod refusal;
 mod remark;
 mod report;
 mod report_board;
 mod report_found;
+mod report_record;
 mod report_unknown;
 mod request;
 mod rest;
@@ -32,16 +38,18 @@ mod session;
 mod session_help;
 mod task;
 mod teller;
+mod terminal;
 mod texts;
 mod unknown_text;
 
 use crate::arguments::{ArgumentError, read_arguments};
 use crate::refusal::{WRONG_ARGUMENT, refuse, refuse_unread};
 use crate::serve::serve;
+use crate::terminal::Terminal;
 use clap::error::ErrorKind;
 use scmi_io::write_fault;
 use scmi_modes::RunError;
-use std::io::{IsTerminal, Print};
+use std::io::Print;
 use std::process::ExitCode;
 use std::{env, io};
 
@@ -67,14 +75,14 @@ fn main(rt: HostRuntime) -> ExitCode {
     };
     match read_arguments(alloc, words.as_slice()) {
         Ok(asked) => {
-            let is_typed = rt.stdin().is_terminal();
-            ExitCode::from(serve(&rt, alloc, asked, is_typed))
-        },
+            let terminal = Terminal::of(&rt);
+            ExitCode::from(serve(&rt, alloc, asked, terminal))
+        }
         Err(ArgumentError::Clap(error)) => {
             if error.kind() == ErrorKind::OutOfMemory {
                 return lacks_memory(&rt);
             }
-            ExitCode::from(refuse(&rt, words.as_slice(), &error))
+            ExitCode::from(refuse(&rt, alloc, words.as_slice(), &error))
         }
         Err(ArgumentError::Unread(why)) => ExitCode::from(refuse_unread(&rt, alloc, why)),
     }

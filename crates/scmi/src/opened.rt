@@ -5,7 +5,7 @@ ghost use Rattle.scmi_board.specs.Channels.{IsLineOf, described};
 
 use crate::report_found::report_found;
 use scmi_board::{BoardWithChannels, Lines};
-use scmi_explain::{Expected, Fault, explain};
+use scmi_explain::{Expected, Fault, explain, split_first};
 use scmi_io::{CountedReader, InputError, read_rest};
 use scmi_modes::{HARDWARE_WORDS, RunError, ScriptKind, plan_of, read_described};
 use scmi_plan::{Plan, PlanError, RawPlan};
@@ -167,7 +167,7 @@ fn fill<B: Read>(alloc: Global, text: &mut Vec<u8>, file: &mut B) -> Result<(), 
 fn board_of(alloc: Global, text: &[u8]) -> Result<BoardWithChannels, Why>
     ensures { IfOk result (λ said. All (IsLineOf (described said).0) (described said).1) }
 {
-    let mut lines = Lines::new(behind_mode(text));
+    let mut lines = Lines::new(split_first(text).1);
     let said = match read_described(alloc, &mut lines, ScriptKind::Hardware) {
         Ok(said) => said,
         Err(error) => return Err(Why::Fault(RunError::from(error))),
@@ -178,13 +178,5 @@ fn board_of(alloc: Global, text: &[u8]) -> Result<BoardWithChannels, Why>
     match Plan::check(alloc, &said.board) {
         Ok(_) => Ok(said),
         Err(error) => Err(Why::Fault(RunError::from(error))),
-    }
-}
-
-/// What follows the line of the mode.
-fn behind_mode(text: &[u8]) -> &[u8] {
-    match text.iter().position(|byte| *byte == b'\n') {
-        Some(place) => &text[place + 1..],
-        None => b"",
     }
 }

@@ -1,16 +1,17 @@
 //! What is reported of arguments that are refused, and of files that can't be opened.
 
-use crate::asked::Unread;
+use crate::asked::{Unread, begins_with_dash};
 use crate::form::form_of;
 use crate::forms::FORMS;
 use crate::task::Task;
 use clap::Error as ClapError;
+use clap::error::ErrorKind;
 use scmi_codec::{AREA_BYTES, LEAST_AREA_BYTES};
 use scmi_decode::LayoutError;
 use scmi_explain::nearest;
 use std::alloc::Global;
 use std::fs::{self, Files};
-use std::io::{Eprint, Error};
+use std::io::{Eprint, Error, Read};
 
 /// The exit status after a wrong argument.
 pub const WRONG_ARGUMENT: u8 = 64;
@@ -20,12 +21,27 @@ pub const NO_FILE: u8 = 66;
 
 /// Reports on standard error why clap refuses arguments, or that they are a file alone, and gives
 /// the exit status.
-pub fn refuse<T: Eprint + Files>(rt: &T, words: &[String], error: &ClapError) -> u8 {
-    let _ = match file_alone(rt, words) {
-        Some(name) => eprintln!(rt; "scmi: '{name}' is a file; did you mean 'scmi run {name}'?"),
-        None => eprintln!(rt; "{error}\nFor more information, try 'scmi --help'."),
-    };
+pub fn refuse<T: Eprint + Files>(rt: &T, alloc: Global, words: &[String], error: &ClapError) -> u8 {
+    if let Some((name, task)) = file_alone(rt, words) {
+        let word = form_of(task).word;
+        let _ = eprintln!(rt; "scmi: '{name}' is a file; did you mean 'scmi {word} {name}'?");
+        return WRONG_ARGUMENT;
+    }
+    if error.kind() == ErrorKind::InvalidSubcommand {
+        return refuse_unread(rt, alloc, Unread::Task(first_word(words)));
+    }
+    let _ = eprintln!(rt; "{error}\nFor more information, try 'scmi --help'.");
     WRONG_ARGUMENT
+}
+
+/// The first word that is no option.
+fn first_word(words: &[String]) -> &str {
+    for word in words {
+        if !begins_with_dash(word.as_str()) {
+            return word.as_str();
+        }
+    }
+    ""
 }
 
 /// Reports on standard error why arguments ask for nothing, and gives the exit status.
@@ -85,18 +101,28 @@ pub fn refuse_file(rt: &impl Eprint, name: &str, error: &Error) -> u8 {
     NO_FILE
 }
 
-/// The only word, if it looks like a file and can be opened.
-fn file_alone<'w, T: Files>(rt: &T, words: &'w [String]) -> Option<&'w str> {
-    match words {
-        [only] => {
-            let name = only.as_str();
-            let is_like_path = name.contains('/') || name.contains('.');
-            if is_like_path && fs::open(rt, name).is_ok() {
-                Some(name)
-            } else {
-                None
-            }
-        }
-        _ => None,
+/// The only word, if it looks like a file and can be opened, and the task that takes such a file.
+fn file_alone<'w, T: Files>(rt: &T, words: &'w [String]) -> Option<(&'w str, Task)> {
+    let [only] = words else {
+        return None;
+    };
+    let name = only.as_str();
+    if !name.contains('/') && !name.contains('.') {
+        return None;
     }
+    let mut file = fs::open(rt, name).ok()?;
+    if begins_as_board(&mut file) {
+        Some((name, Task::Session))
+    } else {
+        Some((name, Task::Run))
+    }
+}
+
+/// What the text of a board begins with.
+pub(crate) const BOARD_START: &[u8] = b"board ";
+
+/// Whether what is left of a reader begins as a board, by one read.
+pub(crate) fn begins_as_board<R: Read>(reader: &mut R) -> bool {
+    let mut start = [0; 6];
+    reader.read(&mut start).is_ok() && start.as_slice() == BOARD_START
 }

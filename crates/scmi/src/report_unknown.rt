@@ -3,7 +3,7 @@
 use crate::given::is_hardware;
 use crate::unknown_text::UnknownText;
 use scmi_board::{Lines, read_board_with_channels};
-use scmi_explain::Fault;
+use scmi_explain::{Fault, split_first};
 use scmi_live::unknown_in;
 use scmi_plan::RawPlan;
 use std::alloc::Global;
@@ -21,33 +21,24 @@ pub fn report_unknown(
     let Fault::Script(number) = fault else {
         return false;
     };
-    let Some(script) = behind_hardware(input) else {
+    let (mode, script) = split_first(input);
+    if !is_hardware(mode) {
         return false;
-    };
+    }
     let mut lines = Lines::new(script);
     let Ok(said) = read_board_with_channels(alloc, &mut lines) else {
         return false;
     };
     while let Some(line) = lines.next_line() {
         if line.number == number {
-            return report_line(rt, alloc, name, &said.board, number, line.text);
+            return report_names(rt, alloc, name, &said.board, number, line.text);
         }
     }
     false
 }
 
-/// What follows the first line of an input in a mode `hardware`.
-fn behind_hardware(input: &[u8]) -> Option<&[u8]> {
-    let place = input.iter().position(|byte| *byte == b'\n')?;
-    if is_hardware(&input[..place]) {
-        Some(&input[place + 1..])
-    } else {
-        None
-    }
-}
-
 /// Reports why a line encodes no step on a board, if names are looked up in it: whether they are.
-fn report_line(
+pub(crate) fn report_names(
     rt: &impl Eprint,
     alloc: Global,
     name: &str,

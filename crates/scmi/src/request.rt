@@ -14,10 +14,6 @@ pub enum Request {
     Bytes(Layout),
     /// To draw a session as a diagram.
     Diagram,
-    /// To show how it is used.
-    Help,
     /// To show how this is asked for.
     HelpOn(Task),
-    /// To show which program this is.
-    Version,
 }

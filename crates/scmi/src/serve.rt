@@ -2,6 +2,7 @@
 
 use crate::STANDARD_INPUT;
 use crate::asked::{Asked, STANDARD};
+use crate::painted::Painted;
 use crate::read_as::ReadAs;
 use crate::refusal::{lack_board, refuse_file, refuse_standard};
 use crate::report::{report_input, report_output};
@@ -10,6 +11,7 @@ use crate::run::run_request;
 use crate::serve_check::{AskedCheck, serve_check};
 use crate::serve_session::{AskedSession, serve_session};
 use crate::task::Task;
+use crate::terminal::Terminal;
 use scmi_check::Style;
 use scmi_explain::{Kept, LastLine};
 use scmi_io::FAILED_OUTPUT;
@@ -20,18 +22,18 @@ use std::io::{self, BufWriter, Eprint, Input, Print, Read, Write};
 use std::sync::Wait;
 use std::thread::Threads;
 
-/// Does what is asked for, and gives the exit status. `is_typed` is whether a person types standard
-/// input, on a terminal.
+/// Does what is asked for, and gives the exit status.
 pub fn serve<T: Threads + Wait + Sync + Files + Print + Eprint + Input>(
     rt: &T,
     alloc: Global,
     asked: Asked<'_>,
-    is_typed: bool,
+    terminal: Terminal,
 ) -> u8 {
+    let is_colored = terminal.is_colored && !is_text(asked.request);
     let Some(name) = asked.first else {
         return match asked.request {
             Request::Do(task @ (Task::Session | Task::Check)) => lack_board(rt, task),
-            request => serve_input(rt, alloc, request, STANDARD_INPUT, rt.reader()),
+            request => { serve_input(rt, alloc, request, is_colored, STANDARD_INPUT, rt.reader()) }
         };
     };
     if asked.request == Request::Do(Task::Check) {
@@ -42,6 +44,7 @@ pub fn serve<T: Threads + Wait + Sync + Files + Print + Eprint + Input>(
         };
         let check = AskedCheck {
             style,
+            is_colored: is_colored && !asked.is_tap,
             protocols: asked.protocols,
             board: name,
             record: asked.second,
@@ -51,7 +54,7 @@ pub fn serve<T: Threads + Wait + Sync + Files + Print + Eprint + Input>(
     if name == STANDARD {
         return match asked.request {
             Request::Do(Task::Session) => refuse_standard(rt, "BOARD", "each step"),
-            request => serve_input(rt, alloc, request, STANDARD_INPUT, rt.reader()),
+            request => { serve_input(rt, alloc, request, is_colored, STANDARD_INPUT, rt.reader()) }
         };
     }
     match fs::open(rt, name) {
@@ -59,13 +62,21 @@ pub fn serve<T: Threads + Wait + Sync + Files + Print + Eprint + Input>(
             let asked = AskedSession {
                 board: name,
                 save: asked.save,
-                is_typed,
+                terminal,
             };
             serve_session(rt, alloc, asked, file, rt.reader())
         }
-        Ok(file) => serve_input(rt, alloc, asked.request, name, file),
+        Ok(file) => serve_input(rt, alloc, asked.request, is_colored, name, file),
         Err(error) => refuse_file(rt, name, &error),
     }
+}
+
+/// Whether a request asks for a text of the program's own, in which no word shows a fault.
+fn is_text(request: Request) -> bool {
+    matches!(
+        request,
+        Request::Do(Task::Help | Task::Version) | Request::HelpOn(_)
+    )
 }
 
 /// Whether the result of a task is a file of its own, into which no fault belongs.
@@ -82,6 +93,7 @@ fn serve_input<T: Threads + Wait + Sync + Print + Eprint, R: Read + Drop>(
     rt: &T,
     alloc: Global,
     request: Request,
+    is_colored: bool,
     name: &str,
     reader: R,
 ) -> u8 {
@@ -90,8 +102,20 @@ fn serve_input<T: Threads + Wait + Sync + Print + Eprint, R: Read + Drop>(
     }
     // If there is no memory for a buffer, the output goes straight out.
     match BufWriter::new(alloc, io::writer(rt)) {
-        Ok(writer) => serve_on(rt, alloc, request, name, reader, writer),
-        Err(_) => serve_on(rt, alloc, request, name, reader, io::writer(rt)),
+        Ok(writer) => {
+            serve_on(
+                rt,
+                alloc,
+                request,
+                name,
+                reader,
+                Painted::new(writer, is_colored),
+            )
+        }
+        Err(_) => {
+            let writer = Painted::new(io::writer(rt), is_colored);
+            serve_on(rt, alloc, request, name, reader, writer)
+        }
     }
 }
 

@@ -2,11 +2,15 @@
 
 use crate::STANDARD_INPUT;
 use crate::asked::STANDARD;
-use crate::refusal::{WRONG_ARGUMENT, refuse_file, refuse_standard};
+use crate::listed::Listed;
+use crate::painted::Painted;
+use crate::record::run_record;
+use crate::refusal::{BOARD_START, WRONG_ARGUMENT, begins_as_board, refuse_file, refuse_standard};
 use crate::report::report_output;
 use crate::report_board::report_board;
+use crate::report_record::report_record;
 use scmi_board::{Items, byte};
-use scmi_check::{DIFFERS, Style, run_check};
+use scmi_check::{DIFFERS, PROTOCOLS, Style};
 use scmi_explain::{Fault, Kept, LastLine};
 use scmi_io::{FAILED_OUTPUT, INPUT_BYTES};
 use std::alloc::Global;
@@ -17,6 +21,8 @@ use std::io::{self, BufWriter, Eprint, Input, Print, Read, Write};
 #[derive(Clone, Copy)]
 pub struct AskedCheck<'a> {
     pub style: Style,
+    /// Whether words of the report are in colour.
+    pub is_colored: bool,
     /// The protocols that are judged, with commas between their numbers.
     pub protocols: Option<&'a str>,
     /// `-` if the board is standard input.
@@ -68,18 +74,18 @@ impl<'a> AskedCheck<'a> {
         }
     }
 
-    /// The numbers of the protocols that are judged; `None` if one of them is no number below 256.
+    /// The numbers of the protocols that are judged: those of the profile if none are listed, and
+    /// `None` if one that is listed is no number below 256.
     fn judged(&self, alloc: Global) -> Option<Vec<u8>> {
         let mut judged = Vec::new(alloc);
-        for number in self.listed().split(',') {
+        let Some(listed) = self.protocols else {
+            judged.extend_from_slice(&PROTOCOLS).ok()?;
+            return Some(judged);
+        };
+        for number in listed.split(',') {
             judged.push(byte(number.as_bytes())?).ok()?;
         }
         Some(judged)
-    }
-
-    /// The protocols that are judged, as they are listed.
-    fn listed(&self) -> &'a str {
-        self.protocols.unwrap_or(PROFILE)
     }
 
     /// What messages call the board.
@@ -103,8 +109,14 @@ fn check<T: Print + Eprint, B: Read + Drop, R: Read + Drop>(
 ) -> u8 {
     // If there is no memory for a buffer, the output goes straight out.
     match BufWriter::new(alloc, io::writer(rt)) {
-        Ok(writer) => check_on(rt, alloc, asked, board, record, writer),
-        Err(_) => check_on(rt, alloc, asked, board, record, io::writer(rt)),
+        Ok(writer) => {
+            let writer = Painted::new(writer, asked.is_colored);
+            check_on(rt, alloc, asked, board, record, writer)
+        }
+        Err(_) => {
+            let writer = Painted::new(io::writer(rt), asked.is_colored);
+            check_on(rt, alloc, asked, board, record, writer)
+        }
     }
 }
 
@@ -118,10 +130,11 @@ fn check_on<T: Eprint, B: Read + Drop, R: Read + Drop, W: Write + Drop>(
     writer: W,
 ) -> u8 {
     let Some(judged) = asked.judged(alloc) else {
+        let profile = Listed(&PROTOCOLS);
         let _ = eprintln!(rt;
             "scmi: '{}' is not a list of protocols; write numbers below 256 with commas between, \
-            such as {PROFILE}",
-            asked.listed()
+            such as {profile}",
+            asked.protocols.unwrap_or("")
         );
         return WRONG_ARGUMENT;
     };
@@ -129,7 +142,7 @@ fn check_on<T: Eprint, B: Read + Drop, R: Read + Drop, W: Write + Drop>(
     let mut record = Kept::new(alloc, record);
     let mut output = LastLine::new(writer);
     let style = asked.style;
-    let status = run_check(alloc, &mut board, &mut record, &mut output, style, &judged);
+    let status = run_record(alloc, &mut board, &mut record, &mut output, style, &judged);
     let status = report_output(rt, &mut output, status);
     if status != 0 && status != DIFFERS && status != FAILED_OUTPUT {
         if asked.file_of_record().is_some() && is_swapped(&board, &mut record) {
@@ -140,27 +153,20 @@ fn check_on<T: Eprint, B: Read + Drop, R: Read + Drop, W: Write + Drop>(
             );
             return status;
         }
-        report(rt, alloc, asked, &board, &record, output.line());
+        report(rt, alloc, asked, &judged, &board, &record, output.line());
     }
     status
 }
 
-/// The protocols that are judged if none are listed.
-const PROFILE: &str = "0x10,0x11,0x14";
-
 /// The last line if nothing is judged.
 const NOTHING: &[u8] = b"fault empty";
-
-/// What the text of a board begins with.
-const BOARD_START: &[u8] = b"board ";
 
 /// Whether a board is in the place of the record, which was not read, and none in its own place.
 fn is_swapped<B: Read + Drop, R: Read + Drop>(board: &Kept<B>, record: &mut Kept<R>) -> bool {
     if board.bytes().starts_with(BOARD_START) || was_read(record) {
         return false;
     }
-    let mut start = [0; 6];
-    record.read(&mut start).is_ok() && start.as_slice() == BOARD_START
+    begins_as_board(record)
 }
 
 /// Whether something of an input was read.
@@ -173,21 +179,19 @@ fn report<B: Read + Drop, R: Read + Drop>(
     rt: &impl Eprint,
     alloc: Global,
     asked: AskedCheck<'_>,
+    judged: &[u8],
     board: &Kept<B>,
     record: &Kept<R>,
     last_line: &[u8],
 ) {
     let name = asked.file_of_record().unwrap_or(STANDARD_INPUT);
     if let Some(line) = line_of_record(last_line) {
-        let _ = eprintln!(rt;
-            "{name}:{line}: not a line of a record (docs/CHECK.md has the forms), a reply without a \
-            command, or a command before the reply to another"
-        );
+        report_record(rt, alloc, name, board.bytes(), record.bytes(), line);
     } else if last_line == NOTHING {
+        let listed = Listed(judged);
         let _ = eprintln!(rt;
-            "{name}: nothing to check: no command with its reply, and no message, of protocols {}; \
-            docs/CHECK.md has the lines of a record, and --protocols names other protocols",
-            asked.listed()
+            "{name}: nothing to check: no command with its reply, and no message, of protocols \
+            {listed}; docs/CHECK.md has the lines of a record, and --protocols names other protocols"
         );
     } else if let Some(error) = record.error() {
         let _ = eprintln!(rt; "{name}: the record can't be read: {error}");

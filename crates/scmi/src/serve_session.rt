@@ -2,11 +2,13 @@
 
 use crate::STANDARD_INPUT;
 use crate::opened::Opened;
+use crate::painted::Painted;
 use crate::refusal::{NO_FILE, refuse_saved};
 use crate::report::report_output;
 use crate::report_found::report_found;
 use crate::session::run_session;
 use crate::teller::Teller;
+use crate::terminal::Terminal;
 use scmi_explain::{Expected, Fault, Kept, LastLine, explain};
 use scmi_io::{FAILED_OUTPUT, INPUT_BYTES, write_fault};
 use std::alloc::Global;
@@ -21,8 +23,7 @@ pub struct AskedSession<'a> {
     pub board: &'a str,
     /// The file into which the session is saved as a script.
     pub save: Option<&'a str>,
-    /// Whether a person types the lines, on a terminal.
-    pub is_typed: bool,
+    pub terminal: Terminal,
 }
 
 /// Answers the lines of a reader on the board of an opened file, and gives the exit status.
@@ -85,11 +86,13 @@ fn buffer<T: Print + Eprint, R: Read + Drop, S: Write + Drop>(
 ) -> u8 {
     match BufWriter::new(alloc, io::writer(rt)) {
         Ok(writer) => {
+            let writer = Painted::new(writer, asked.terminal.is_colored);
             let teller = Teller::new(rt, alloc, opened, asked, writer, saved);
             answer(rt, alloc, opened, reader, teller)
         }
         Err(_) => {
-            let teller = Teller::new(rt, alloc, opened, asked, io::writer(rt), saved);
+            let writer = Painted::new(io::writer(rt), asked.terminal.is_colored);
+            let teller = Teller::new(rt, alloc, opened, asked, writer, saved);
             answer(rt, alloc, opened, reader, teller)
         }
     }

@@ -1,6 +1,6 @@
 //! What the program does.
 
-/// What the program does with its input.
+/// What the program does, by the word that asks for it.
 #[derive(Clone, Copy, Debug, PartialEq, Eq)]
 pub enum Task {
     /// Runs a session.
@@ -15,4 +15,8 @@ pub enum Task {
     Check,
     /// Prints the tables of a board in C.
     Table,
+    /// Shows how the program is used.
+    Help,
+    /// Shows which program this is.
+    Version,
 }

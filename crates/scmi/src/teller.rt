@@ -55,12 +55,12 @@ impl<'a, T: Eprint, W: Write + Drop, S: Write + Drop> Teller<'a, T, W, S> {
             asked,
             output: LastLine::new(output),
             saved,
-            is_described: asked.is_typed,
+            is_described: asked.terminal.is_typed,
             has_quit: false,
             is_lost: false,
         };
         teller.save_bytes(opened.text());
-        if asked.is_typed {
+        if asked.terminal.is_typed {
             let _ = eprintln!(rt;
                 "Type a step, or help. Replies are described; quit, or Ctrl-D, ends the session."
             );
@@ -150,7 +150,7 @@ impl<T: Eprint, W: Write + Drop, S: Write + Drop> Listener for Teller<'_, T, W, 
     ghost heard = { λ _. None };
 
     fn ready(&mut self) {
-        if self.asked.is_typed {
+        if self.asked.terminal.is_typed {
             let _ = eprint!(self.rt; "{PROMPT}");
         }
     }
@@ -203,7 +203,7 @@ impl<T: Eprint, W: Write + Drop, S: Write + Drop> Listener for Teller<'_, T, W, 
 
     fn ended(&mut self, line: &StepLine, dropped: usize) -> Result<(), LiveError> {
         // After Ctrl-D the prompt still waits on its line.
-        if self.asked.is_typed && !self.has_quit {
+        if self.asked.terminal.is_typed && !self.has_quit {
             let _ = eprintln!(self.rt);
         }
         if dropped > 0 {

@@ -3,6 +3,7 @@
 use crate::form::{Form, form_of};
 use crate::forms::FORMS;
 use crate::request::Request;
+use crate::task::Task;
 use std::io;
 use std::io::Write;
 
@@ -23,13 +24,10 @@ Both sides of Arm's System Control and Management Interface (SCMI, DEN0056B).
 
 Usage:
 ",
-    tail: "  scmi help [COMMAND]
-      prints the help of a command, as scmi COMMAND --help does
-  scmi version
-      prints the version, as scmi --version does
-
+    tail: "
 FILE is read, or standard input if it is - or missing; the result goes to standard output, and
 errors to standard error, with the line that is wrong, what is expected, and the likely mistake.
+On a terminal the words for what is wrong are red, unless the variable NO_COLOR is set.
 Exit status: 0 success; 1 the output failed; 2 the input is rejected; 3 a limit was reached;
 4 out of memory; 5 a record differs; 64 a wrong argument; 66 FILE can't be opened.
 
@@ -42,9 +40,9 @@ Example: scmi run examples/two_agents.in
 /// writer's; some parts may then be written.
 pub fn write_text<W: Write>(writer: &mut W, request: Request) -> io::Result<()> {
     match request {
-        Request::Help => write_help(writer),
+        Request::Do(Task::Help) => write_help(writer),
+        Request::Do(Task::Version) => write_fixed(writer, TEXTS.version),
         Request::HelpOn(task) => write_form(writer, &form_of(task)),
-        Request::Version => write_fixed(writer, TEXTS.version),
         Request::Do(_) | Request::Dumps(_) | Request::Bytes(_) | Request::Diagram => Ok(()),
     }
 }

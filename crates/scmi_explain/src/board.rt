@@ -5,6 +5,7 @@ use crate::fit::{Fit, begins_as, fit_of};
 use crate::forms::{Form, HARDWARE_STEPS, HEADINGS, ORDERS, ROWS, STEPS};
 use crate::mode::is_mode;
 use crate::near::nearest;
+use crate::other_file::slip_of_other_file;
 use crate::rows::Rows;
 use crate::slip::{Slip, slip_of_bytes, slip_of_other_bytes};
 use crate::text::{behind_first, first_line, first_word, line_at};
@@ -79,7 +80,7 @@ fn heading_cause(alloc: Global, line: &[u8]) -> (What<'_>, Option<Slip>) {
         Fit::Unknown if is_mode(line) => (What::NoHeading(line), Some(Slip::SecondMode)),
         Fit::Unknown => (
             What::NoHeading(line),
-            slip_of_word(alloc, FirstWords::of(&HEADINGS), line),
+            slip_of_other_file(line).or(slip_of_word(alloc, FirstWords::of(&HEADINGS), line)),
         ),
     }
 }

@@ -1,6 +1,8 @@
 //! Inputs in which no area is found.
 
 use crate::expected::Expected;
+use crate::fit::begins_as;
+use crate::forms::HEADINGS;
 use crate::mode::is_mode;
 use crate::slip::{Slip, begins_with_mark};
 use crate::text::first_line;
@@ -32,6 +34,9 @@ fn slip_of_dumps(input: &[u8]) -> Option<Slip> {
     }
     if is_mode(line) {
         return Some(Slip::SessionFirst);
+    }
+    if begins_as(&HEADINGS, line) {
+        return Some(Slip::BoardGiven);
     }
     has_halfwords(line).then_some(Slip::Halfwords)
 }

@@ -2,8 +2,9 @@
 
 use crate::expected::Expected;
 use crate::fit::begins_as;
-use crate::forms::{HEADINGS, ROWS, STEPS};
+use crate::forms::{HEADINGS, ROWS};
 use crate::near::nearest;
+use crate::other_file::slip_of_other_file;
 use crate::slip::{Slip, slip_of_bytes, slip_of_other_bytes};
 use crate::text::first_line;
 use crate::what::What;
@@ -66,12 +67,7 @@ fn slip_of_other_input(line: &[u8]) -> Option<Slip> {
     if line.len() >= AREA_LIKE_DIGITS && line.iter().all(|byte| byte.is_ascii_hexdigit()) {
         return Some(Slip::AreaFirst);
     }
-    is_output(line).then_some(Slip::Output)
-}
-
-/// Whether a line looks like one that a run writes: it begins with an agent, or with a word of a step.
-fn is_output(line: &[u8]) -> bool {
-    matches!(line, [digit, b' ', ..] if digit.is_ascii_digit()) || begins_as(&STEPS, line)
+    slip_of_other_file(line)
 }
 
 /// The slip of a line that is nearly a mode.

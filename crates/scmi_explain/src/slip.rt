@@ -29,8 +29,12 @@ pub enum Slip {
     AreaFirst,
     /// The kind of channel is missing after the mode.
     NoKind,
-    /// It is what a run writes.
-    Output,
+    /// It is a line of a record, or of what a run writes.
+    Record,
+    /// It is a row of a dump.
+    Dump,
+    /// It is a board, but dumps are expected.
+    BoardGiven,
     /// It is a picture.
     Picture,
     /// It is a mode that is run and not drawn.
@@ -75,7 +79,11 @@ impl Slip {
             Slip::AreaFirst =>
                 "before an area comes the line \"once\"; scmi decode takes the area alone",
             Slip::NoKind => "is \"words\" or \"rings\" missing after it?",
-            Slip::Output => "it is a line that a run writes",
+            Slip::Record => {
+                "it is a line of a record, which scmi check takes after its board, or of what a run writes"
+            }
+            Slip::Dump => "it is a row of a dump, which scmi decode takes",
+            Slip::BoardGiven => "it is a board, which scmi session, check and table take",
             Slip::Picture => "it is a picture, or text with marks",
             Slip::OnlyRun => "that mode is run by scmi run, and not drawn",
             Slip::SessionFirst => "it is the mode of a script, which scmi run takes",

@@ -1,4 +1,6 @@
 //! The lines of an input, by their numbers from 1.
+ghost use Rattle.std.specs.Prelude.{◌≡◌};
+ghost use Rattle.scmi_io.specs.Lines.{after_line, first_line};
 
 /// The first line, without its line feed.
 pub(crate) fn first_line(input: &[u8]) -> &[u8] {
@@ -30,7 +32,12 @@ pub(crate) fn first_word(line: &[u8]) -> &[u8] {
     line
 }
 
-fn split_first(input: &[u8]) -> (&[u8], &[u8]) {
+/// The first line, without its line feed, and what follows it: all and nothing if no line feed is in
+/// the input.
+pub fn split_first(input: &[u8]) -> (&[u8], &[u8])
+    ensures line { result.0.now ≡ first_line input.now }
+    ensures rest { result.1.now ≡ after_line input.now }
+{
     match input.iter().position(|byte| *byte == b'\n') {
         Some(place) => (&input[..place], &input[place + 1..]),
         None => (input, &[]),

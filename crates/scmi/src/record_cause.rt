@@ -1,0 +1,150 @@
+//! Why a line of a record is refused, found by what the lines before it and the line alone encode.
+
+use crate::refusal::BOARD_START;
+use scmi_board::{Lines, number, read_valid_board};
+use scmi_check::{NoteKind, read_record};
+use scmi_explain::{MODES, split_first};
+use std::alloc::Global;
+
+/// Why a line of a record is refused.
+#[derive(Clone, Copy)]
+pub enum RecordCause {
+    /// The board has fewer agents than this one's number.
+    Agent { agent: u64, agents: u32 },
+    /// The command of the agent at another line still waits for its reply.
+    Waits { agent: u64, command: u32 },
+    /// No command of the agent waits for a reply.
+    NoCommand { agent: u64 },
+    /// A field of the event of a trace is missing or has another form.
+    Event,
+    /// It is the first line of a board.
+    Board,
+    /// It is the first line of a script.
+    Script,
+    /// It is not a line of a record.
+    Form,
+}
+
+/// The event of a trace that shows a message, and its field with the instance.
+const EVENT: &[u8] = b"scmi_msg_dump:";
+
+const INSTANCE: &[u8] = b"id=";
+
+/// The words of lines that post, before the number of an agent.
+const POSTS: [&[u8]; 3] = [b"do", b"raw", b"bad"];
+
+/// Why the line of this number of a record is refused, if the board has this text.
+pub fn record_cause(alloc: Global, board: &[u8], record: &[u8], line: u32) -> RecordCause {
+    cause_in(alloc, board, record, line).unwrap_or(RecordCause::Form)
+}
+
+/// The same; `None` if the line has another form, or there is no memory to find more.
+fn cause_in(alloc: Global, board: &[u8], record: &[u8], line: u32) -> Option<RecordCause> {
+    let agents = read_valid_board(alloc, board).ok()?.plan.agents();
+    let (before, text) = parted(record, line);
+    if text.starts_with(BOARD_START) {
+        return Some(RecordCause::Board);
+    }
+    if MODES.iter().any(|mode| mode.as_bytes() == text) {
+        return Some(RecordCause::Script);
+    }
+    let Some(agent) = agent_of(text) else {
+        return if is_event(text) {
+            Some(RecordCause::Event)
+        } else {
+            None
+        };
+    };
+    if agent == 0 || agent > u64::from(agents) {
+        return Some(RecordCause::Agent { agent, agents });
+    }
+    if is_event(text) {
+        return Some(RecordCause::Event);
+    }
+    if is_read(alloc, agents, text) {
+        let command = waiting_line(alloc, agents, before, record, agent)?;
+        return Some(RecordCause::Waits { agent, command });
+    }
+    let exchange = format!(in alloc; "raw {agent} 0\n{}", str::from_utf8(text).ok()?).ok()?;
+    if is_read(alloc, agents, exchange.as_bytes()) {
+        return Some(RecordCause::NoCommand { agent });
+    }
+    None
+}
+
+/// The line of this number.
+pub(crate) fn line_of(record: &[u8], line: u32) -> &[u8] {
+    parted(record, line).1
+}
+
+/// Whether a line begins as one that posts.
+pub(crate) fn is_post(text: &[u8]) -> bool {
+    POSTS.iter().any(|word| first_item(text) == *word)
+}
+
+/// What is before the first space of a line.
+fn first_item(text: &[u8]) -> &[u8] {
+    text.split(|byte| *byte == b' ').next().unwrap_or(text)
+}
+
+/// What is before a line of a text, and the line.
+fn parted(text: &[u8], line: u32) -> (&[u8], &[u8]) {
+    let mut rest = text;
+    for _ in 1..line {
+        rest = split_first(rest).1;
+    }
+    let end = text.len().saturating_sub(rest.len());
+    (&text[..end], split_first(rest).0)
+}
+
+/// The number of the agent that a line names, if it is one.
+fn agent_of(text: &[u8]) -> Option<u64> {
+    if is_event(text) {
+        for item in text.split(|byte| *byte == b' ') {
+            if let Some(instance) = item.strip_prefix(INSTANCE) {
+                return number(instance)?.checked_add(1);
+            }
+        }
+        return Some(1);
+    }
+    if !is_post(text) {
+        return number(first_item(text));
+    }
+    let mut items = text.split(|byte| *byte == b' ');
+    let _ = items.next()?;
+    number(items.next()?)
+}
+
+/// Whether a line has the event of a trace that shows a message.
+fn is_event(text: &[u8]) -> bool {
+    text.split(|byte| *byte == b' ').any(|item| item == EVENT)
+}
+
+/// Whether a text is a record.
+fn is_read(alloc: Global, agents: u32, text: &[u8]) -> bool {
+    read_record(alloc, &mut Lines::of_text(text), agents, &[]).is_ok()
+}
+
+/// The line of the command of an agent, posted by a line of a script or an area, that waits for its
+/// reply after the first lines of a record.
+fn waiting_line(
+    alloc: Global,
+    agents: u32,
+    before: &[u8],
+    record: &[u8],
+    agent: u64,
+) -> Option<u32> {
+    let mut all = Vec::new(alloc);
+    for protocol in 0..=u8::MAX {
+        all.push(protocol).ok()?;
+    }
+    let read = read_record(alloc, &mut Lines::of_text(before), agents, &all).ok()?;
+    for note in &read.left.notes {
+        let command = line_of(record, note.line);
+        let is_waiting = note.kind == NoteKind::Unanswered && !is_event(command);
+        if is_waiting && agent_of(command) == Some(agent) {
+            return Some(note.line);
+        }
+    }
+    None
+}

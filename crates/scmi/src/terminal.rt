@@ -1,0 +1,37 @@
+//! The terminal at which the program runs, if it does.
+
+use std::env::{self, VarError};
+use std::io::IsTerminal;
+
+/// What of the standard streams is a terminal.
+#[derive(Clone, Copy)]
+pub struct Terminal {
+    /// A person types standard input.
+    pub is_typed: bool,
+    /// Standard output may have colours.
+    pub is_colored: bool,
+}
+
+impl Terminal {
+    /// What of the standard streams is a terminal. Standard output may have colours if it is one, the
+    /// variable NO_COLOR is empty or missing, and TERM is not `dumb`.
+    pub fn of(rt: &HostRuntime) -> Terminal {
+        Terminal {
+            is_typed: rt.stdin().is_terminal(),
+            is_colored: rt.stdout().is_terminal() && allows_colors(rt),
+        }
+    }
+}
+
+/// Whether the variables of the environment allow colours.
+fn allows_colors(rt: &HostRuntime) -> bool {
+    let is_refused = match env::var(rt, "NO_COLOR") {
+        Ok(value) => !value.is_empty(),
+        Err(error) => error != VarError::NotPresent,
+    };
+    let is_dumb = match env::var(rt, "TERM") {
+        Ok(name) => name.as_str() == "dumb",
+        Err(_) => false,
+    };
+    !is_refused && !is_dumb
+}
