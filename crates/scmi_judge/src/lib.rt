@@ -7,6 +7,10 @@
 //! `judge_record` all are the same if and only if the record has a legal history (specs/Law.antt).
 //! In that history the hardware may refuse a change: then the command is answered HARDWARE_ERROR.
 //! After a difference, `Judge::correct` goes on from what the record shows (specs/Correction.antt).
+//!
+//! `ExactJudge` keeps all platforms that may be behind the entries so far, and blames none that is
+//! right: its verdict is `Same` if and only if a legal history is behind them, with all that a
+//! record does not show placed anywhere (specs/Behind.antt).
 #![tactic(auto)]
 
 mod correction;
