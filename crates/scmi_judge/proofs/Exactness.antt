@@ -151,3 +151,9 @@ pub none-wrong : (refuses : Refusals) (board : Board) (entries : List Entry) (le
 none-wrong refuses board entries left exact none history =
     let ends = ends-of refuses board history.2 history.1 in
     among-none refuses board entries ends.0 (subst (IsAmong refuses board entries ends.0) none (exact.all ends.0 ends.1 ends.2))
+
+-- what has a history with one more entry has one
+pub front-right : (refuses : Refusals) (board : Board) (entry : Entry) (entries : List Entry) → HasLegalHistory refuses board (entry ∷ entries) → HasLegalHistory refuses board entries
+front-right refuses board entry entries history =
+    let ends = ends-of refuses board history.2 history.1 in
+    (ends.2.0, legal-front board ends.2.0 ends.2.1 (subst (IsLegal board) ends.2.2 ends.1), ends.2.3)
