@@ -12,12 +12,13 @@ use Rattle.scmi_plan.specs.PlanError.{number}
 use Rattle.scmi_plan.specs.declared.plan_error.PlanError.{PlanError}
 use Rattle.scmi_check.specs.CheckError.{fault_text, status_of}
 use Rattle.scmi_check.specs.Counts.{counts_of}
-use Rattle.scmi_judge.specs.Law.{HasHistory}
-use Rattle.scmi_check.specs.Judged.{entries_of, judged_of}
+use Rattle.scmi_judge.specs.Behind.{IsRight}
+use Rattle.scmi_check.specs.Judged.{AreJudged, entries_of, refusals_of, with_unsure}
 use Rattle.scmi_check.specs.RecordText.{RecordView, record_left}
 use Rattle.scmi_check.specs.Report.{report_text}
 use Rattle.scmi_check.specs.declared.check_error.CheckError.{CheckError}
 use Rattle.scmi_check.specs.declared.check_error.CheckError.TheVariants.{Size, Read, Board as BoardLine, Plan as PlanRule, Record, Empty, Memory, Write}
+use Rattle.scmi_check.specs.declared.judged.Judged.{Judged}
 use Rattle.scmi_check.specs.declared.style.Style.{Style}
 
 -- a text is a board that keeps every rule, and lines `channel` that give its agents these channels
@@ -30,16 +31,18 @@ pub record IsPlanText (text : List ℕ) (board : Board) : Type 0 where
 abbrev pub IsRecordText : List ℕ → Board → List ℕ → RecordView → Type 0
 IsRecordText judged board text read = record_left judged (length board.agents) (whole text) ≡ Ok read
 
--- what is written is the report of a record of a platform of a board, of which this many entries differ; if the texts are known, they encode that board and that record. At least one entry is judged. All entries are the same if and only if they have a legal history
+-- what is written is the report of a record of a platform of a board, of which this many entries differ; if the texts are known, they encode that board and that record. At least one entry is judged, or may be: of those that are judged, however many are taken from the first on, none differs if and only if they have a legal history
 pub record WritesReport (style : Style) (judged : List ℕ) (board_known record_known : Option (List ℕ)) (differ : ℕ) (old new : Option (List ℕ)) : Type 0 where
   pub board : Board
   pub read : RecordView
+  pub found : List Judged
   pub of_board : IfSome board_known (λ text. IsPlanText text board)
   pub of_record : IfSome record_known (λ text. IsRecordText judged board text read)
   pub some : 0 < length read.entries
-  pub text : Appends old new (report_text style (judged_of board read.entries) read.left)
-  pub differ_is : differ ≡ (counts_of (judged_of board read.entries)).differ
-  pub all_same : ((counts_of (judged_of board read.entries)).same ≡ length (judged_of board read.entries)) ↔ HasHistory board (entries_of read.entries)
+  pub are : AreJudged (refusals_of read.entries) board read.entries found
+  pub text : Appends old new (report_text style found (with_unsure read.left read.entries (length found)))
+  pub differ_is : differ ≡ (counts_of found).differ
+  pub all_same : length found ≡ length read.entries → ((counts_of found).same ≡ length found) ↔ IsRight (refusals_of read.entries) board (entries_of read.entries)
 
 -- the report is written, and a status is 0 if and only if no entry differs but by rules of the profile's own
 pub record IsChecked (style : Style) (judged : List ℕ) (board_known record_known : Option (List ℕ)) (status : ℕ) (old new : Option (List ℕ)) : Type 0 where

@@ -11,7 +11,7 @@ use Rattle.scmi_check.specs.declared.note.NoteKind.TheVariants as kind
 use Rattle.scmi_check.specs.declared.note_text.NoteCounts.{NoteCounts}
 use Rattle.scmi_check.specs.declared.style.Style.{Style}
 use Rattle.scmi_check.specs.declared.style.Style.TheVariants.{Plain, Tap}
-use Rattle.scmi_check.specs.declared.texts.TheConstants.{ALSO, LINE, LOST, LOST_SOME, NEXT, NOTE, SKIPPED, SKIPPED_OF_ONE, UNANSWERED, UNMATCHED}
+use Rattle.scmi_check.specs.declared.texts.TheConstants.{ALSO, LINE, LOST, LOST_SOME, NEXT, NOTE, SKIPPED, SKIPPED_OF_ONE, UNANSWERED, UNMATCHED, UNSURE}
 
 -- that events are lost
 abbrev pub lost_text : Lost → List ℕ
@@ -23,6 +23,7 @@ abbrev pub kind_text : NoteKind → List ℕ
 kind_text kind.Unanswered = filled NOTE.now (UNANSWERED.now ∷ [])
 kind_text kind.Unmatched = filled NOTE.now (UNMATCHED.now ∷ [])
 kind_text (kind.Lost lost) = lost_text lost
+kind_text kind.Unsure = filled NOTE.now (UNSURE.now ∷ [])
 
 -- what is written before the number of the line: for a test system it is a comment
 abbrev pub note_mark : Style → List ℕ

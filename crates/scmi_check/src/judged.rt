@@ -1,21 +1,20 @@
 //! The entries of a record with the verdicts on them.
-ghost use Rattle.std.specs.Prelude.{◌≡◌, ◌↔◌, length, IfOk, IfErr};
-ghost use Rattle.std.specs.List.{All};
+ghost use Rattle.std.specs.Prelude.{◌≡◌, ◌<◌, [], length, OnOk, IfOk, IfErr};
 ghost use Rattle.scmi_core.specs.declared.core_error.CoreError.TheVariants.{Memory};
-ghost use Rattle.scmi_judge.specs.Law.{HasHistory};
-ghost use Rattle.scmi_judge.specs.declared.verdict.Verdict.TheVariants.{Same};
-ghost use Rattle.scmi_check.specs.Counts.{counts_of};
+ghost use Rattle.scmi_judge.specs.Judging.{Knows};
 ghost use Rattle.scmi_check.specs.Finding.{finding_of};
-ghost use Rattle.scmi_check.specs.Judged.{entries_of, judged_of};
+ghost use Rattle.scmi_check.specs.Judged.{AreJudged, is_failure, refusals_of, with_unsure};
+ghost use Rattle.scmi_check.specs.LeftOut.{left_view};
 
 use crate::finding::Finding;
+use crate::left_out::LeftOut;
+use crate::note::{Note, NoteKind};
 use crate::placed::Placed;
-use scmi_core::CoreError;
-use scmi_judge::{Entry, Judge, Verdict};
-use scmi_plan::Plan;
+use scmi_core::{CoreError, failed_response};
+use scmi_judge::{Entry, ExactJudge, Refusals, Verdict};
 use std::alloc::Global;
 
-/// An entry of a record at its line, with the definitions' verdict on it.
+/// An entry of a record at its line, with the verdict on it.
 #[derive(PartialEq, Eq, Debug, Drop)]
 pub struct Judged {
     pub line: u32,
@@ -32,34 +31,76 @@ impl Judged {
     }
 }
 
-/// Judges the entries of a record of a platform of a board, in order, each after what those before
-/// it encode; after a difference from what the record shows (`Judge::correct`). All are the same if
-/// and only if the record has a legal history. `Memory` is the only error.
-pub fn judge_all(alloc: Global, plan: Plan, placed: &[Placed]) -> Result<Vec<Judged>, CoreError>
-    ensures judged { IfOk result (λ judged. judged.items ≡ judged_of plan placed.now) }
-    ensures history { IfOk result (λ judged. All (λ one. one.verdict ≡ Same) judged.items
-        ↔ HasHistory plan (entries_of placed.now)) }
-    ensures counted { IfOk result (λ judged. ((counts_of judged.items).same ≡ length judged.items)
-        ↔ HasHistory plan (entries_of placed.now)) }
+/// Judges the entries of a record, in order. For each number of entries from the first on, none of
+/// them differs if and only if a legal history is behind them. It ends before an entry behind which
+/// may be more platforms than the judge has places for. `Memory` is the only error.
+pub fn judge_all(
+    alloc: Global,
+    judge: &mut ExactJudge,
+    placed: &[Placed],
+) -> Result<Vec<Judged>, CoreError>
+    requires { Knows judge.old [] }
+    ensures judged { IfOk result (λ judged.
+        AreJudged judge.old.refuses judge.old.board placed.now judged.items) }
+    ensures unsure { IfOk result (λ judged.
+        length judged.items < length placed.now → judge.new.spare ≡ []) }
     ensures errors { IfErr result (λ e. e ≡ Memory) }
 {
-    let mut judge = Judge::new(alloc, plan);
     let mut judged = Vec::new(alloc);
     'each: for one in placed {
-        let verdict = judge.judge(&one.entry)?;
-        judge.correct(&one.entry, &verdict)?;
+        let Some(verdict) = judge.judge(&one.entry)? else {
+            return Ok(judged);
+        };
         let line = one.line;
         let entry = one.entry.copy();
-        if judged
-            .push(Judged {
-                line,
-                entry,
-                verdict,
-            })
-            .is_err()
-        {
+        let Ok(()) = judged.push(Judged {
+            line,
+            entry,
+            verdict,
+        }) else {
             return Err(CoreError::Memory);
-        }
+        };
     }
     Ok(judged)
+}
+
+/// Which changes of pending sets the hardware may refuse: if the record shows that it refused one,
+/// those to which a delayed response is wanted.
+pub(crate) fn refusals_of(placed: &[Placed]) -> Refusals
+    ensures { result ≡ refusals_of placed.now }
+{
+    if placed.iter().any(|one| is_failure(&one.entry)) {
+        Refusals::Answered
+    } else {
+        Refusals::None
+    }
+}
+
+/// Whether an entry is a delayed response that the hardware refused the change.
+fn is_failure(entry: &Entry) -> bool
+    ensures { result ≡ is_failure entry.now }
+{
+    match entry {
+        Entry::Delivered { message, .. } => failed_response(message.header) == *message,
+        Entry::Answered { .. } => false,
+    }
+}
+
+/// Notes the first entry that is not judged, if as many of these are.
+pub(crate) fn note_unsure(
+    left: &mut LeftOut,
+    placed: &[Placed],
+    judged: usize,
+) -> Result<(), CoreError>
+    ensures { OnOk result (left_view left.new ≡ with_unsure (left_view left.old) placed.now judged) }
+{
+    let Some(one) = placed.get(judged) else {
+        return Ok(());
+    };
+    let line = one.line;
+    let kind = NoteKind::Unsure;
+    let Ok(()) = left.notes.push(Note { line, kind }) else {
+        return Err(CoreError::Memory);
+    };
+    Ok(())
 }

@@ -18,4 +18,6 @@ pub enum NoteKind {
     Unmatched,
     /// Events of a trace that are lost.
     Lost(Lost),
+    /// The first entry that is not judged, since more platforms may be behind it than are kept.
+    Unsure,
 }

@@ -9,7 +9,7 @@ use crate::lost::Lost;
 use crate::note::{Note, NoteKind};
 use crate::style::Style;
 use crate::texts::{
-    ALSO, LINE, LOST, LOST_SOME, NEXT, NOTE, SKIPPED, SKIPPED_OF_ONE, UNANSWERED, UNMATCHED,
+    ALSO, LINE, LOST, LOST_SOME, NEXT, NOTE, SKIPPED, SKIPPED_OF_ONE, UNANSWERED, UNMATCHED, UNSURE,
 };
 use crate::value::Value;
 use scmi_io::write_filled;
@@ -55,6 +55,7 @@ fn write_kind<W: Write>(writer: &mut W, kind: NoteKind) -> io::Result<()>
         NoteKind::Unanswered => write_filled(writer, NOTE, &[Value::Word(UNANSWERED)]),
         NoteKind::Unmatched => write_filled(writer, NOTE, &[Value::Word(UNMATCHED)]),
         NoteKind::Lost(lost) => write_lost(writer, lost),
+        NoteKind::Unsure => write_filled(writer, NOTE, &[Value::Word(UNSURE)]),
     }
 }
 
@@ -88,7 +89,7 @@ impl NoteCounts {
             match note.kind {
                 NoteKind::Unanswered => counts.unanswered += 1,
                 NoteKind::Unmatched => counts.unmatched += 1,
-                NoteKind::Lost(_) => {}
+                NoteKind::Lost(_) | NoteKind::Unsure => {}
             }
         }
         counts

@@ -52,6 +52,8 @@ pub(crate) const UNANSWERED: &str = "unanswered";
 
 pub(crate) const UNMATCHED: &str = "unmatched";
 
+pub(crate) const UNSURE: &str = "unsure, and judged no further";
+
 pub(crate) const LOST: &str = " lost % events";
 
 pub(crate) const LOST_SOME: &str = " lost events";
