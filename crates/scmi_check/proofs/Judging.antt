@@ -7,30 +7,54 @@ use Rattle.std.proofs.lemmas.List.Elements.{All-nil, All-pop, All-push}
 use Rattle.scmi_plan.specs.Board.{Board}
 use Rattle.scmi_core.proofs.Laws.{empty_is_legal}
 use Rattle.scmi_judge.specs.Behind.{Behind, HasLegalHistory, IsRight}
+use Rattle.scmi_judge.specs.Judging.{Judging, Knows}
 use Rattle.scmi_judge.specs.declared.entry.Entry.{Entry}
 use Rattle.scmi_judge.specs.declared.unseen.Refusals.{Refusals}
 use Rattle.scmi_judge.specs.declared.verdict.Verdict.{Verdict}
 use Rattle.scmi_judge.specs.declared.verdict.Verdict.TheVariants as verdict
 use Rattle.scmi_judge.proofs.Exactness.{front-right}
 use Rattle.scmi_judge.proofs.Guessing.{decide}
-use Rattle.scmi_check.specs.Judged.{AreJudged, AreSame, entries_of, placed_of}
+use Rattle.scmi_check.specs.Finding.{Fits, finding_of, judged_as, meant_by}
+use Rattle.scmi_check.specs.Judged.{AreJudged, DoFit, IsJudged, first_judged, placed_of}
+use Rattle.scmi_check.specs.declared.finding.Finding.TheVariants.{Own}
+use Rattle.scmi_check.specs.declared.own_rule.OwnRule.{OwnRule}
 use Rattle.scmi_check.specs.declared.judged.Judged.{Judged}
 use Rattle.scmi_check.specs.declared.placed.Placed.{Placed}
+use Rattle.scmi_check.proofs.Findings.{as-it-is, as-meant, fits-or-not, other-found, own-due, same-or-not}
 
-abbrev pub AllSame : List Judged → Type 0
-AllSame judged = All (λ (one : Judged). one.verdict ≡ verdict.Same) judged
+-- an entry fits
+abbrev pub DoesFit : Judged → Type 0
+DoesFit one = Fits (finding_of one.entry one.verdict)
 
--- a verdict is that an entry is the same, or another
-same-or-not : (v : Verdict) → (v ≡ verdict.Same) ⊎ (v ≢ verdict.Same)
-same-or-not verdict.Same = inl refl
-same-or-not verdict.NoAgent = inr (λ is. absurd (cc))
-same-or-not verdict.NoMessage = inr (λ is. absurd (cc))
-same-or-not (verdict.Answer due) = inr (λ is. absurd (cc))
-same-or-not (verdict.Message due) = inr (λ is. absurd (cc))
+-- what entries are judged as, newest first
+abbrev pub behind : List Judged → List Entry
+behind judged = reverse (map (λ (one : Judged). judged_as one.entry one.verdict) judged)
 
--- the entries with one more, newest first
-pub turned : (placed : List Placed) (one : Placed) → reverse (entries_of (placed ++ one ∷ [])) ≡ one.entry ∷ reverse (entries_of placed)
-turned placed one = ap reverse (map-append (λ (x : Placed). x.entry) placed (one ∷ [])) ∙ reverse-append (entries_of placed) (one.entry ∷ [])
+-- an entry that differs by a rule of the profile's own, judged again with the answer that was due
+pub judged-again : (refuses : Refusals) (board : Board) (mid new : Judging) (entries : List Entry) (entry meant : Entry) (v again : Verdict) (rule : OwnRule)
+    → finding_of entry v ≡ Own rule → meant ≡ meant_by entry v → mid.board ≡ board → mid.refuses ≡ refuses → IsJudged refuses board mid entries entry (Some v)
+    → (Knows mid entries → IsJudged mid.refuses mid.board new entries meant (Some again))
+    → Knows new (judged_as entry v ∷ entries) × HasLegalHistory refuses board (judged_as entry v ∷ entries)
+judged-again refuses board mid new entries entry meant v again rule found is b r first second =
+    (subst (λ e. Knows new (e ∷ entries)) (sym meant-so) (again-judged.knows same), subst (λ e. HasLegalHistory refuses board (e ∷ entries)) (sym (as-meant entry v rule found)) right) where
+  other : v ≢ verdict.Same
+  other = other-found entry v (λ s. absurd (let f = sym found ∙ s in cc))
+
+  again-judged : IsJudged mid.refuses mid.board new entries meant (Some again)
+  again-judged = second (first.stays (λ s. let v-same : v ≡ verdict.Same = (let both = s in cc) in other v-same))
+
+  right : HasLegalHistory refuses board (meant_by entry v ∷ entries)
+  right = own-due entry v rule (λ due. HasLegalHistory refuses board (due ∷ entries)) found first.due
+
+  meant-so : judged_as entry v ≡ meant
+  meant-so = as-meant entry v rule found ∙ sym is
+
+  same : again ≡ verdict.Same
+  same = by (same-or-not again) where
+    by : (again ≡ verdict.Same) ⊎ (again ≢ verdict.Same) → again ≡ verdict.Same
+    by (inl here) = here
+    by (inr away) = absurd (again-judged.differs away (subst (λ x. HasLegalHistory x mid.board (meant ∷ entries)) (sym r) (subst (λ x. HasLegalHistory refuses x (meant ∷ entries)) (sym b)
+        (subst (λ e. HasLegalHistory refuses board (e ∷ entries)) (sym is) right))))
 
 -- no entry
 pub judged-none : (refuses : Refusals) (board : Board) (placed : List Placed) (none : List Judged) → none ≡ [] → AreJudged refuses board placed none
@@ -39,62 +63,53 @@ judged-none refuses board placed none is = subst (AreJudged refuses board placed
       few = omega arith;
       first = refl;
       right = λ count few. let zero : count ≡ 0 = omega (arith, few) in
-          subst (λ n. AreSame n [] ↔ IsRight refuses board (entries_of (take n placed))) (sym zero)
-          (λ all. ([], empty_is_legal board, Behind.nothing), λ has. All-nil (λ (one : Judged). one.verdict ≡ verdict.Same));
+          subst (λ n. DoFit n [] ↔ IsRight refuses board (first_judged n [])) (sym zero)
+          (λ all. ([], empty_is_legal board, Behind.nothing), λ has. All-nil DoesFit);
     })
 
 -- one entry more
 module _ (refuses : Refusals) (board : Board) (placed : List Placed) (judged : List Judged) (one : Placed) (v : Verdict) (are : AreJudged refuses board placed judged)
     (less : length judged < length placed) (is : one ≡ get_or placed (length judged) one)
-    (same : AllSame judged → v ≡ verdict.Same → HasLegalHistory refuses board (one.entry ∷ reverse (entries_of (take (length judged) placed))))
-    (differs : AllSame judged → v ≢ verdict.Same → ¬ (HasLegalHistory refuses board (one.entry ∷ reverse (entries_of (take (length judged) placed))))) where
+    (legal : All DoesFit judged → Fits (finding_of one.entry v) → HasLegalHistory refuses board (judged_as one.entry v ∷ behind judged))
+    (differs : All DoesFit judged → ¬ (Fits (finding_of one.entry v)) → ¬ (HasLegalHistory refuses board (one.entry ∷ behind judged))) where
   abbrev pub next : Judged
   next = record { line = one.line; entry = one.entry; verdict = v }
-
-  pub taken : take (suc (length judged)) placed ≡ take (length judged) placed ++ one ∷ []
-  taken = take-suc placed (length judged) one less ∙ ap (λ x. take (length judged) placed ++ x ∷ []) (sym is)
 
   pub longer : length (judged ++ next ∷ []) ≡ suc (length judged)
   longer = let more = length-append judged (next ∷ []) in omega (arith, more)
 
-  pub shown : reverse (entries_of (take (suc (length judged)) placed)) ≡ one.entry ∷ reverse (entries_of (take (length judged) placed))
-  shown = ap (λ ps. reverse (entries_of ps)) taken ∙ turned (take (length judged) placed) one
+  pub shown : behind (judged ++ next ∷ []) ≡ judged_as one.entry v ∷ behind judged
+  shown = ap reverse (map-append (λ (x : Judged). judged_as x.entry x.verdict) judged (next ∷ []))
+      ∙ reverse-append (map (λ (x : Judged). judged_as x.entry x.verdict) judged) (judged_as one.entry v ∷ [])
 
-  before : AllSame judged ↔ IsRight refuses board (entries_of (take (length judged) placed))
-  before = subst (λ js. AllSame js ↔ IsRight refuses board (entries_of (take (length judged) placed))) (take_all (length judged) judged (omega arith)) (are.right (length judged) (omega arith))
+  before : All DoesFit judged ↔ HasLegalHistory refuses board (behind judged)
+  before = subst (λ js. All DoesFit js ↔ HasLegalHistory refuses board (behind js)) (take_all (length judged) judged (omega arith)) (are.right (length judged) (omega arith))
 
-  whole : AllSame (judged ++ next ∷ []) ↔ HasLegalHistory refuses board (one.entry ∷ reverse (entries_of (take (length judged) placed)))
+  whole : All DoesFit (judged ++ next ∷ []) ↔ HasLegalHistory refuses board (judged_as one.entry v ∷ behind judged)
   whole = (
-    λ all. let both = All-pop (λ (x : Judged). x.verdict ≡ verdict.Same) (judged ++ next ∷ []) judged (Some next) refl all in same both.0 both.1,
-    λ has. let all = before.1 (front-right refuses board one.entry (reverse (entries_of (take (length judged) placed))) has) in by all has (same-or-not v),
+    λ all. let both = All-pop DoesFit (judged ++ next ∷ []) judged (Some next) refl all in legal both.0 both.1,
+    λ has. let all = before.1 (front-right refuses board (judged_as one.entry v) (behind judged) has) in by all has (fits-or-not (finding_of one.entry v)),
   ) where
-    by : AllSame judged → HasLegalHistory refuses board (one.entry ∷ reverse (entries_of (take (length judged) placed))) → (v ≡ verdict.Same) ⊎ (v ≢ verdict.Same)
-        → AllSame (judged ++ next ∷ [])
-    by all has (inl here) = All-push (λ (x : Judged). x.verdict ≡ verdict.Same) judged next all here
-    by all has (inr away) = absurd (differs all away has)
+    by : All DoesFit judged → HasLegalHistory refuses board (judged_as one.entry v ∷ behind judged) → Fits (finding_of one.entry v) ⊎ (¬ (Fits (finding_of one.entry v)))
+        → All DoesFit (judged ++ next ∷ [])
+    by all has (inl fits) = All-push DoesFit judged next all fits
+    by all has (inr away) = absurd (differs all away (subst (λ e. HasLegalHistory refuses board (e ∷ behind judged)) (as-it-is one.entry v away) has))
 
-  right-more : (count : ℕ) → count ≤ length (judged ++ next ∷ []) → AreSame count (judged ++ next ∷ []) ↔ IsRight refuses board (entries_of (take count placed))
+  right-more : (count : ℕ) → count ≤ length (judged ++ next ∷ []) → DoFit count (judged ++ next ∷ []) ↔ IsRight refuses board (first_judged count (judged ++ next ∷ []))
   right-more count few = by (decide count (suc (length judged))) where
-    by : (count ≡ suc (length judged)) ⊎ (count ≢ suc (length judged)) → AreSame count (judged ++ next ∷ []) ↔ IsRight refuses board (entries_of (take count placed))
+    by : (count ≡ suc (length judged)) ⊎ (count ≢ suc (length judged)) → DoFit count (judged ++ next ∷ []) ↔ IsRight refuses board (first_judged count (judged ++ next ∷ []))
     by (inl here) =
-        subst (λ n. AreSame n (judged ++ next ∷ []) ↔ IsRight refuses board (entries_of (take n placed))) (sym here)
-        (subst (λ js. AllSame js ↔ IsRight refuses board (entries_of (take (suc (length judged)) placed))) (sym (take_all (suc (length judged)) (judged ++ next ∷ []) (omega (arith, longer))))
-        (subst (λ es. AllSame (judged ++ next ∷ []) ↔ HasLegalHistory refuses board es) (sym shown) whole))
+        subst (λ n. DoFit n (judged ++ next ∷ []) ↔ IsRight refuses board (first_judged n (judged ++ next ∷ []))) (sym here)
+        (subst (λ js. All DoesFit js ↔ HasLegalHistory refuses board (behind js)) (sym (take_all (suc (length judged)) (judged ++ next ∷ []) (omega (arith, longer))))
+        (subst (λ es. All DoesFit (judged ++ next ∷ []) ↔ HasLegalHistory refuses board es) (sym shown) whole))
     by (inr other) =
         let small : count ≤ length judged = omega (arith, few, longer, other) in
-        subst (λ js. AllSame js ↔ IsRight refuses board (entries_of (take count placed))) (sym (take-append-le count judged (next ∷ []) small)) (are.right count small)
+        subst (λ js. All DoesFit js ↔ HasLegalHistory refuses board (behind js)) (sym (take-append-le count judged (next ∷ []) small)) (are.right count small)
 
   pub judged-more : AreJudged refuses board placed (judged ++ next ∷ [])
-  judged-more =
-      record {
-        few = omega (arith, longer, less);
-        first = map-append placed_of judged (next ∷ []) ∙ ap (λ ps. ps ++ one ∷ []) are.first ∙ sym taken ∙ ap (λ n. take n placed) (sym longer);
-        right = right-more;
-      }
-
--- all of a record
-pub all-judged : (refuses : Refusals) (board : Board) (placed : List Placed) (judged : List Judged) → AreJudged refuses board placed judged → length judged ≡ length placed
-    → AllSame judged ↔ IsRight refuses board (entries_of placed)
-all-judged refuses board placed judged are all =
-    subst (λ ps. AllSame judged ↔ IsRight refuses board (entries_of ps)) (take_all (length judged) placed (omega (arith, all)))
-    (subst (λ js. AllSame js ↔ IsRight refuses board (entries_of (take (length judged) placed))) (take_all (length judged) judged (omega arith)) (are.right (length judged) (omega arith)))
+  judged-more = record {
+    few = omega (arith, less, longer);
+    first = map-append placed_of judged (next ∷ []) ∙ ap (λ ps. ps ++ placed_of next ∷ []) are.first
+        ∙ sym (subst (λ n. take n placed ≡ take (length judged) placed ++ one ∷ []) (sym longer) (take-suc placed (length judged) one less ∙ ap (λ x. take (length judged) placed ++ x ∷ []) (sym is)));
+    right = right-more;
+  }

@@ -1,5 +1,5 @@
 -- A check of a record, from the bytes that are read to the status.
-use Rattle.std.specs.Prelude.{◌≡◌, ◌↔◌, ◌⊎◌, ℕ, ◌<◌, ⊤, List, length, Option, IfSome, Ok, Err}
+use Rattle.std.specs.Prelude.{◌≡◌, ◌⊎◌, ℕ, ◌<◌, ⊤, List, length, Option, IfSome, Ok, Err}
 use Rattle.std.specs.Io.KnownBytes.{Appends}
 use Rattle.scmi_board.specs.Channels.{Described}
 use Rattle.scmi_board.specs.Lines.{whole}
@@ -10,16 +10,13 @@ use Rattle.scmi_io.specs.declared.input.TheConstants.{INPUT_BYTES}
 use Rattle.scmi_plan.specs.Board.{Board}
 use Rattle.scmi_plan.specs.PlanError.{number}
 use Rattle.scmi_plan.specs.declared.plan_error.PlanError.{PlanError}
-use Rattle.scmi_check.specs.CheckError.{fault_text, status_of}
-use Rattle.scmi_check.specs.Counts.{counts_of}
-use Rattle.scmi_judge.specs.Behind.{IsRight}
-use Rattle.scmi_check.specs.Judged.{AreJudged, entries_of, refusals_of, with_unsure}
+use Rattle.scmi_check.specs.CheckError.{fault_status, fault_text}
+use Rattle.scmi_check.specs.Checked.{CheckedView, status_of}
+use Rattle.scmi_check.specs.Judged.{AreJudged, line_at, refusals_of}
 use Rattle.scmi_check.specs.RecordText.{RecordView, record_left}
-use Rattle.scmi_check.specs.Report.{report_text}
 use Rattle.scmi_check.specs.declared.check_error.CheckError.{CheckError}
-use Rattle.scmi_check.specs.declared.check_error.CheckError.TheVariants.{Size, Read, Board as BoardLine, Plan as PlanRule, Record, Empty, Memory, Write}
-use Rattle.scmi_check.specs.declared.judged.Judged.{Judged}
-use Rattle.scmi_check.specs.declared.style.Style.{Style}
+use Rattle.scmi_check.specs.declared.check_error.CheckError.TheVariants.{Size, Read, Board as BoardLine, Plan as PlanRule, Record, Empty, Memory}
+use Rattle.scmi_check.specs.declared.checked.TheConstants.{DIFFERS, UNSURE}
 
 -- a text is a board that keeps every rule, and lines `channel` that give its agents these channels
 pub record IsPlanText (text : List ℕ) (board : Board) : Type 0 where
@@ -31,24 +28,28 @@ pub record IsPlanText (text : List ℕ) (board : Board) : Type 0 where
 abbrev pub IsRecordText : List ℕ → Board → List ℕ → RecordView → Type 0
 IsRecordText judged board text read = record_left judged (length board.agents) (whole text) ≡ Ok read
 
--- what is written is the report of a record of a platform of a board, of which this many entries differ; if the texts are known, they encode that board and that record. At least one entry is judged, or may be: of those that are judged, however many are taken from the first on, none differs if and only if they have a legal history
-pub record WritesReport (style : Style) (judged : List ℕ) (board_known record_known : Option (List ℕ)) (differ : ℕ) (old new : Option (List ℕ)) : Type 0 where
+-- this is found of a record of a platform of a board; if the texts are known, they encode that board and that record. At
+-- least one entry is to be judged: of those that are judged, however many are taken from the first on, none differs if and
+-- only if they have a legal history
+pub record IsCheckedRecord (judged : List ℕ) (board_known record_known : Option (List ℕ)) (checked : CheckedView) : Type 0 where
   pub board : Board
   pub read : RecordView
-  pub found : List Judged
   pub of_board : IfSome board_known (λ text. IsPlanText text board)
   pub of_record : IfSome record_known (λ text. IsRecordText judged board text read)
   pub some : 0 < length read.entries
-  pub are : AreJudged (refusals_of read.entries) board read.entries found
-  pub text : Appends old new (report_text style found (with_unsure read.left read.entries (length found)))
-  pub differ_is : differ ≡ (counts_of found).differ
-  pub all_same : length found ≡ length read.entries → ((counts_of found).same ≡ length found) ↔ IsRight (refusals_of read.entries) board (entries_of read.entries)
+  pub are : AreJudged (refusals_of read.entries) board read.entries checked.judged
+  pub left_is : checked.left ≡ read.left
+  pub unsure_is : checked.unsure ≡ line_at read.entries (length checked.judged)
 
--- the report is written, and a status is 0 if and only if no entry differs but by rules of the profile's own
-pub record IsChecked (style : Style) (judged : List ℕ) (board_known record_known : Option (List ℕ)) (status : ℕ) (old new : Option (List ℕ)) : Type 0 where
-  pub differ : ℕ
-  pub report : WritesReport style judged board_known record_known differ old new
-  pub zero : (status ≡ 0) ↔ (differ ≡ 0)
+-- a record was checked, and this is the status of what was found
+pub record IsChecked (judged : List ℕ) (board_known record_known : Option (List ℕ)) (status : ℕ) : Type 0 where
+  pub checked : CheckedView
+  pub record_is : IsCheckedRecord judged board_known record_known checked
+  pub status_is : status ≡ status_of checked
+
+-- a status is that of a record that was checked
+abbrev pub HasVerdict : ℕ → Type 0
+HasVerdict status = (status ≡ 0) ⊎ (status ≡ DIFFERS) ⊎ (status ≡ UNSURE)
 
 -- a fault of a board's text: its length, its first line that is not one of a board or follows it, or the first rule that the board breaks. A failed read, or out of memory, shows nothing of it
 abbrev pub IsFaultOfBoard : List ℕ → CheckError → Type 0
@@ -70,7 +71,6 @@ IsFaultOfRecord judged board text (Record line) = record_left judged (length boa
 IsFaultOfRecord judged board text Empty = IsNothingJudged judged board text
 IsFaultOfRecord judged board text Read = ⊤
 IsFaultOfRecord judged board text Memory = ⊤
-IsFaultOfRecord judged board text Write = ⊤
 IsFaultOfRecord judged board text _ = ⊥
 
 -- a fault of the board's text, or else of the record's
@@ -82,8 +82,8 @@ IsFaultOf judged board_known record_known fault =
 -- a check ends with this status and the line of a fault, which has that status and is one of the texts, if they are known. If a text is rejected nothing else is written
 pub record EndsWithFault (judged : List ℕ) (board_known record_known : Option (List ℕ)) (status : ℕ) (old new : Option (List ℕ)) : Type 0 where
   pub fault : CheckError
-  pub status_is : status ≡ status_of fault
+  pub status_is : status ≡ fault_status fault
   pub of_texts : IsFaultOf judged board_known record_known fault
   pub before : Option (List ℕ)
-  pub refused : status_of fault ≡ 2 → before ≡ old
+  pub refused : fault_status fault ≡ 2 → before ≡ old
   pub text : Appends before new (fault_line (fault_text fault))

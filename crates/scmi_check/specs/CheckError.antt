@@ -8,15 +8,15 @@ use Rattle.scmi_io.specs.declared.fault_words.TheConstants.{BOARD, MEMORY, PLAN,
 use Rattle.scmi_io.specs.declared.input_error.InputError.{InputError}
 use Rattle.scmi_io.specs.declared.input_error.InputError.TheVariants as input
 use Rattle.scmi_plan.specs.PlanError.{number}
-use Rattle.scmi_check.specs.declared.texts.TheConstants.{EMPTY}
+use Rattle.scmi_check.specs.declared.check_error.TheConstants.{EMPTY}
 use Rattle.scmi_check.specs.declared.check_error.CheckError.{CheckError}
 use Rattle.scmi_check.specs.declared.check_error.CheckError.TheVariants.{Size, Read, Board, Plan, Record, Empty, Memory, Write}
 
 -- 1 for a failed output, 4 for out of memory, and 2 for a rejected input (own)
-abbrev pub status_of : CheckError → ℕ
-status_of Write = 1
-status_of Memory = 4
-status_of _ = 2
+abbrev pub fault_status : CheckError → ℕ
+fault_status Write = 1
+fault_status Memory = 4
+fault_status _ = 2
 
 -- the text of a fault (own)
 abbrev pub fault_text : CheckError → List ℕ

@@ -1,5 +1,5 @@
 -- What is found of an entry, by the verdict on it.
-use Rattle.std.specs.Prelude.{if◌then◌else◌, Some, None}
+use Rattle.std.specs.Prelude.{⊤, if◌then◌else◌, Some, None}
 use Rattle.scmi_codec.specs.Command.{command_of}
 use Rattle.scmi_codec.specs.declared.frame.Answer.TheVariants.{Reply}
 use Rattle.scmi_codec.specs.declared.frame.Frame.TheVariants.{Good}
@@ -30,3 +30,18 @@ abbrev pub finding_of : Entry → Verdict → Finding
 finding_of entry verdict.Same = Same
 finding_of entry (verdict.Answer (Reply due)) = answer_finding entry due
 finding_of entry _ = Differs
+
+-- an entry does not differ, but by a rule of the profile's own
+abbrev pub Fits : Finding → Type 0
+Fits Same = ⊤
+Fits (Own rule) = ⊤
+Fits Differs = ⊥
+
+-- an entry with the answer that was due
+abbrev pub meant_by : Entry → Verdict → Entry
+meant_by (Answered a frame answer) (verdict.Answer due) = Answered a frame due
+meant_by entry v = entry
+
+-- what an entry is judged as: a reply that differs by a rule of the profile's own is judged as the one that was due
+abbrev pub judged_as : Entry → Verdict → Entry
+judged_as entry v = elim (finding_of entry v) [ Same ↦ entry | Own rule ↦ meant_by entry v | Differs ↦ entry ]

@@ -1,53 +1,69 @@
-//! The texts of a board and of a record, and the report of it.
-ghost use Rattle.std.specs.Prelude.{◌≡◌, ◌<◌, [], length, IfOk, IfErr, IfSome};
-ghost use Rattle.scmi_judge.specs.Judging.{Knows};
-ghost use Rattle.scmi_check.specs.Check.{IsFaultOf, IsFaultOfBoard, IsFaultOfRecord, IsPlanText, IsRecordText, WritesReport};
-ghost use Rattle.scmi_check.specs.CheckError.{status_of};
+//! The texts of a board and of a record, and what is found of them.
+ghost use Rattle.std.specs.Prelude.{◌≡◌, ◌<◌, length, IfOk, IfErr, IfSome};
+ghost use Rattle.scmi_check.specs.Check.{IsCheckedRecord, IsFaultOf, IsFaultOfBoard, IsFaultOfRecord, IsPlanText, IsRecordText};
+ghost use Rattle.scmi_check.specs.Checked.{checked_view};
+ghost use Rattle.scmi_check.specs.Judged.{AreJudged, refusals_of};
 ghost use Rattle.scmi_check.specs.RecordText.{record_view};
 
 use crate::check_error::CheckError;
-use crate::counts::Counts;
-use crate::judged::{judge_all, note_unsure, refusals_of};
+use crate::checked::Checked;
+use crate::judged::{Judged, judge_all, line_at, refusals_of};
+use crate::placed::Placed;
+use crate::places::{PLACES, Places};
 use crate::record::{Record, read_record};
-use crate::report::write_report;
-use crate::style::Style;
 use scmi_board::{Lines, read_valid_board};
 use scmi_core::CoreError;
 use scmi_io::{CountedReader, read_rest};
-use scmi_judge::{ExactJudge, Refusals};
+use scmi_judge::Judge;
 use scmi_plan::Plan;
 use std::alloc::Global;
-use std::io::{Read, Write};
+use std::io::Read;
 
-/// The places for platforms that may be behind a record, beside that of one.
-pub(crate) const PLACES: usize = 254;
-
-/// Checks a record by the messages of these protocols, writes the report, and gives how many entries
-/// differ.
-pub(crate) fn check<B: Read, R: Read, W: Write>(
+/// Checks a record of a platform of a board by the messages of these protocols. The hardware may
+/// have refused a change that no entry shows if an entry shows that it refused one.
+///
+/// `Size`, `Read`, `Board` and `Plan` are of the board's text, or else `Size`, `Read`, `Record` and
+/// `Empty` of the record's. `Memory` if out of memory.
+pub fn check_record<B: Read, R: Read>(
     alloc: Global,
     board: &mut B,
     record: &mut R,
-    writer: &mut W,
-    style: Style,
     judged: &[u8],
-) -> Result<usize, CheckError>
-    ensures report { IfOk result (λ differ. WritesReport style judged.now (B.remaining board.old)
-        (R.remaining record.old) differ (W.contents writer.old) (W.contents writer.new)) }
+) -> Result<Checked, CheckError>
+    ensures checked { IfOk result (λ c. IsCheckedRecord judged.now (B.remaining board.old)
+        (R.remaining record.old) (checked_view c)) }
     ensures faults { IfErr result (IsFaultOf judged.now (B.remaining board.old)
         (R.remaining record.old)) }
-    ensures kept { IfErr result (λ e. status_of e ≡ 2 → writer.new ≡ writer.old) }
 {
-    let said = read_board(alloc, board)?;
-    let read = read_text(alloc, record, &said.plan, judged)?;
-    let Record { entries, mut left } = read;
-    let mut judge = judge_of(alloc, said, refusals_of(&entries))?;
-    let found = judge_all(alloc, &mut judge, &entries)?;
-    note_unsure(&mut left, &entries, found.len())?;
-    if write_report(writer, style, &found, &left).is_err() {
-        return Err(CheckError::Write);
-    }
-    Ok(Counts::of(&found).differ)
+    let Said { text, plan } = read_board(alloc, board)?;
+    let Record { entries, left } = read_text(alloc, record, &plan, judged)?;
+    let found = judge_record(alloc, &text, plan, &entries)?;
+    let unsure = line_at(&entries, found.len());
+    Ok(Checked {
+        judged: found,
+        left,
+        unsure,
+    })
+}
+
+/// The entries of a record of a platform of a board with this text, with the verdicts on them.
+fn judge_record(
+    alloc: Global,
+    text: &[u8],
+    plan: Plan,
+    entries: &[Placed],
+) -> Result<Vec<Judged>, CoreError>
+    requires { IsPlanText text.now plan }
+    ensures judged { IfOk result (λ judged. AreJudged (refusals_of entries.now) plan entries.now
+        judged.items) }
+    ensures errors { IfErr result (λ e. e ≡ CoreError.Memory) }
+{
+    let Ok(place) = plan_of(alloc, text) else {
+        return Err(CoreError::Memory);
+    };
+    let mut judge = Judge::new(alloc, plan, place, refusals_of(entries))?;
+    let mut places = Places { text, left: PLACES };
+    judge_all(alloc, &mut judge, &mut places, entries)
 }
 
 /// The text of a board with its plan.
@@ -70,29 +86,8 @@ fn read_board<B: Read>(alloc: Global, board: &mut B) -> Result<Said, CheckError>
     Ok(Said { text, plan })
 }
 
-/// A judge of a board, with its places. `Memory` is the only error.
-fn judge_of(alloc: Global, said: Said, refuses: Refusals) -> Result<ExactJudge, CoreError>
-    requires { IsPlanText said.text.items said.plan }
-    ensures knows { IfOk result (λ judge. Knows judge []) }
-    ensures board { IfOk result (λ judge. judge.board ≡ said.plan) }
-    ensures refuses { IfOk result (λ judge. judge.refuses ≡ refuses) }
-    ensures errors { IfErr result (λ e. e ≡ CoreError.Memory) }
-{
-    let Said { text, plan } = said;
-    let Ok(place) = plan_of(alloc, &text) else {
-        return Err(CoreError::Memory);
-    };
-    let mut judge = ExactJudge::new(alloc, plan, place, refuses)?;
-    'places: for _place in 0..PLACES {
-        let Ok(place) = plan_of(alloc, &text) else {
-            return Err(CoreError::Memory);
-        };
-        judge.add_place(place)?;
-    }
-    Ok(judge)
-}
-
-fn plan_of(alloc: Global, text: &[u8]) -> Result<Plan, CheckError>
+/// The plan of the board of a text.
+pub(crate) fn plan_of(alloc: Global, text: &[u8]) -> Result<Plan, CheckError>
     ensures board { IfOk result (IsPlanText text.now) }
     ensures faults { IfErr result (IsFaultOfBoard text.now) }
 {

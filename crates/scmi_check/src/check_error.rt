@@ -1,15 +1,17 @@
 //! Why a record is not checked.
 ghost use Rattle.std.specs.Prelude.{◌≡◌, ◌≢◌};
-ghost use Rattle.scmi_check.specs.CheckError.{error_of_board, error_of_input, error_of_text, status_of};
+ghost use Rattle.scmi_check.specs.CheckError.{error_of_board, error_of_input, error_of_text, fault_status};
 ghost use Rattle.scmi_check.specs.declared.check_error.CheckError.TheVariants.{Memory};
-ghost use Rattle.scmi_check.specs.declared.run.TheConstants.{DIFFERS};
+ghost use Rattle.scmi_check.specs.declared.checked.TheConstants.{DIFFERS, UNSURE};
 
-use crate::texts::EMPTY;
 use scmi_board::{BoardError, TextError};
 use scmi_core::CoreError;
 use scmi_io::{BOARD, InputError, MEMORY, PLAN, READ, RECORD, SIZE, WRITE};
 use std::error::Error;
 use std::fmt;
+
+/// The fault of a record of which nothing is judged.
+const EMPTY: &str = "empty";
 
 /// Why a record is not checked. Its text is what follows the word `fault`.
 #[derive(Clone, Copy, Debug, PartialEq, Eq)]
@@ -35,8 +37,8 @@ pub enum CheckError {
 impl CheckError {
     /// The exit status: 1 for a failed output, 2 for a rejected input, 4 for out of memory.
     pub fn status(&self) -> u8
-        ensures status { result ≡ status_of self.now }
-        ensures not_checked { (result ≢ 0) × (result ≢ DIFFERS) }
+        ensures status { result ≡ fault_status self.now }
+        ensures not_checked { (result ≢ 0) × (result ≢ DIFFERS) × (result ≢ UNSURE) }
     {
         match self {
             CheckError::Write => 1,

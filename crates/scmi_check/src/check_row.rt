@@ -19,18 +19,12 @@ pub(crate) enum When {
 }
 
 /// The word of the check of a command that gives a status.
-///
-/// It is generic because a constant has a name in definitions only if its struct holds no reference
-/// of its own.
 #[derive(Clone, Copy)]
-pub(crate) struct CheckRow<W> {
+pub(crate) struct CheckRow {
     pub when: When,
     pub status: Status,
-    pub word: W,
+    pub word: &'static str,
 }
-
-/// A row of the table.
-pub(crate) type HeldCheck = CheckRow<&'static str>;
 
 macro_rules! rows {
     ($($when:ident $(($protocol:literal $id:literal))? $status:ident $word:literal;)*) => {
@@ -47,7 +41,7 @@ pub(crate) const LENGTH: &str = "length";
 
 /// The checks of all messages and of each command (`docs/PROTOCOL.md`), by the status that they
 /// give. If two rows fit, the first one counts.
-pub(crate) const CHECKS: [HeldCheck; 43] = rows![
+pub(crate) const CHECKS: [CheckRow; 43] = rows![
     OtherType ProtocolError "type";
     UnknownProtocol NotSupported "unknown-protocol";
     UnknownMessage NotSupported "unknown-message";

@@ -1,17 +1,19 @@
 //! The entries of a record with the verdicts on them.
-ghost use Rattle.std.specs.Prelude.{◌≡◌, ◌<◌, [], length, OnOk, IfOk, IfErr};
+ghost use Rattle.std.specs.Prelude.{◌≡◌, [], ◌∷◌, List, IfOk, IfErr, IfSome};
+ghost use Rattle.std.specs.List.{list_any};
 ghost use Rattle.scmi_core.specs.declared.core_error.CoreError.TheVariants.{Memory};
+ghost use Rattle.scmi_judge.specs.Behind.{HasLegalHistory};
 ghost use Rattle.scmi_judge.specs.Judging.{Knows};
-ghost use Rattle.scmi_check.specs.Finding.{finding_of};
-ghost use Rattle.scmi_check.specs.Judged.{AreJudged, is_failure, refusals_of, with_unsure};
-ghost use Rattle.scmi_check.specs.LeftOut.{left_view};
+ghost use Rattle.scmi_judge.specs.declared.entry.Entry.{Entry as Shown};
+ghost use Rattle.scmi_check.specs.Check.{IsPlanText};
+ghost use Rattle.scmi_check.specs.Finding.{Fits, finding_of, judged_as, meant_by};
+ghost use Rattle.scmi_check.specs.Judged.{AreJudged, is_failure, line_at, refusals_of};
 
 use crate::finding::Finding;
-use crate::left_out::LeftOut;
-use crate::note::{Note, NoteKind};
 use crate::placed::Placed;
+use crate::places::Places;
 use scmi_core::{CoreError, failed_response};
-use scmi_judge::{Entry, ExactJudge, Refusals, Verdict};
+use scmi_judge::{Entry, Judge, Refusals, Verdict};
 use std::alloc::Global;
 
 /// An entry of a record at its line, with the verdict on it.
@@ -32,23 +34,24 @@ impl Judged {
 }
 
 /// Judges the entries of a record, in order. For each number of entries from the first on, none of
-/// them differs if and only if a legal history is behind them. It ends before an entry behind which
-/// may be more platforms than the judge has places for. `Memory` is the only error.
-pub fn judge_all(
+/// them differs, but by a rule of the profile's own, if and only if a legal history is behind them,
+/// with the reply that was due in place of each that differs by such a rule. It ends before an entry
+/// behind which may be more platforms than are kept. `Memory` is the only error.
+pub(crate) fn judge_all(
     alloc: Global,
-    judge: &mut ExactJudge,
+    judge: &mut Judge,
+    places: &mut Places<'_>,
     placed: &[Placed],
 ) -> Result<Vec<Judged>, CoreError>
-    requires { Knows judge.old [] }
+    requires knows { Knows judge.old [] }
+    requires places { IsPlanText places.old.text.now judge.old.board }
     ensures judged { IfOk result (λ judged.
         AreJudged judge.old.refuses judge.old.board placed.now judged.items) }
-    ensures unsure { IfOk result (λ judged.
-        length judged.items < length placed.now → judge.new.spare ≡ []) }
     ensures errors { IfErr result (λ e. e ≡ Memory) }
 {
     let mut judged = Vec::new(alloc);
     'each: for one in placed {
-        let Some(verdict) = judge.judge(&one.entry)? else {
+        let Some(verdict) = judge_one(alloc, judge, places, &one.entry)? else {
             return Ok(judged);
         };
         let line = one.line;
@@ -64,16 +67,81 @@ pub fn judge_all(
     Ok(judged)
 }
 
+/// Judges the next entry of a record. `None` if more platforms may be behind it than are kept.
+fn judge_one(
+    alloc: Global,
+    judge: &mut Judge,
+    places: &mut Places<'_>,
+    entry: &Entry,
+) -> Result<Option<Verdict>, CoreError>
+    requires places { IsPlanText places.old.text.now judge.old.board }
+    ensures fits { (entries : List Shown) → Knows judge.old entries
+        → IfOk result (λ o. IfSome o (λ verdict. Fits (finding_of entry.now verdict)
+        → Knows judge.new (judged_as entry.now verdict ∷ entries))) }
+    ensures legal { (entries : List Shown) → Knows judge.old entries
+        → IfOk result (λ o. IfSome o (λ verdict. Fits (finding_of entry.now verdict)
+        → HasLegalHistory judge.old.refuses judge.old.board
+        (judged_as entry.now verdict ∷ entries))) }
+    ensures differs { (entries : List Shown) → Knows judge.old entries
+        → IfOk result (λ o. IfSome o (λ verdict. ¬ (Fits (finding_of entry.now verdict))
+        → ¬ (HasLegalHistory judge.old.refuses judge.old.board (entry.now ∷ entries)))) }
+    ensures board { judge.new.board ≡ judge.old.board }
+    ensures refuses { judge.new.refuses ≡ judge.old.refuses }
+    ensures text { places.new.text ≡ places.old.text }
+    ensures errors { IfErr result (λ e. e ≡ Memory) }
+{
+    let Some(verdict) = places.judge(alloc, judge, entry)? else {
+        return Ok(None);
+    };
+    match Finding::of(entry, &verdict) {
+        Finding::Same => Ok(Some(verdict)),
+        Finding::Own(_) => match places.judge(alloc, judge, &meant_by(entry, &verdict))? {
+            Some(_) => Ok(Some(verdict)),
+            None => Ok(None),
+        },
+        Finding::Differs => {
+            judge.go_on(entry)?;
+            Ok(Some(verdict))
+        }
+    }
+}
+
+/// An entry with the answer that was due.
+fn meant_by(entry: &Entry, verdict: &Verdict) -> Entry
+    ensures { result ≡ meant_by entry.now verdict.now }
+{
+    match (entry, verdict) {
+        (Entry::Answered { agent, frame, .. }, Verdict::Answer(due)) => Entry::Answered {
+            agent: *agent,
+            frame: frame.copy(),
+            answer: due.copy(),
+        },
+        _ => entry.copy(),
+    }
+}
+
 /// Which changes of pending sets the hardware may refuse: if the record shows that it refused one,
 /// those to which a delayed response is wanted.
 pub(crate) fn refusals_of(placed: &[Placed]) -> Refusals
     ensures { result ≡ refusals_of placed.now }
 {
-    if placed.iter().any(|one| is_failure(&one.entry)) {
+    if has_failure(placed) {
         Refusals::Answered
     } else {
         Refusals::None
     }
+}
+
+fn has_failure(mut placed: &[Placed]) -> bool
+    ensures { result ≡ list_any (λ one. is_failure one.entry) placed.entry.now }
+{
+    'each: while let [one, others @ ..] = placed {
+        if is_failure(&one.entry) {
+            return true;
+        }
+        placed = others;
+    }
+    false
 }
 
 /// Whether an entry is a delayed response that the hardware refused the change.
@@ -86,21 +154,9 @@ fn is_failure(entry: &Entry) -> bool
     }
 }
 
-/// Notes the first entry that is not judged, if as many of these are.
-pub(crate) fn note_unsure(
-    left: &mut LeftOut,
-    placed: &[Placed],
-    judged: usize,
-) -> Result<(), CoreError>
-    ensures { OnOk result (left_view left.new ≡ with_unsure (left_view left.old) placed.now judged) }
+/// The line of an entry of a record, by its place.
+pub(crate) fn line_at(placed: &[Placed], place: usize) -> Option<u32>
+    ensures { result ≡ line_at placed.now place }
 {
-    let Some(one) = placed.get(judged) else {
-        return Ok(());
-    };
-    let line = one.line;
-    let kind = NoteKind::Unsure;
-    let Ok(()) = left.notes.push(Note { line, kind }) else {
-        return Err(CoreError::Memory);
-    };
-    Ok(())
+    placed.get(place).map(|one| one.line)
 }

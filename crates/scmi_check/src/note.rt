@@ -18,6 +18,4 @@ pub enum NoteKind {
     Unmatched,
     /// Events of a trace that are lost.
     Lost(Lost),
-    /// The first entry that is not judged, since more platforms may be behind it than are kept.
-    Unsure,
 }

@@ -1,68 +1,71 @@
-//! The lines of sets and of differences so far.
-ghost use Rattle.std.specs.Prelude.{◌≡◌};
-ghost use Rattle.scmi_check.specs.Origin.{differs, sets};
-ghost use Rattle.scmi_check.specs.Origins.{no_origins, origin_in, origins_with};
-
+//! What a difference may follow from.
 use crate::finding::Finding;
 use crate::judged::Judged;
-use crate::last_lines::LastLines;
-use crate::origin::Origin;
-use crate::sets::is_set;
-use crate::subject::subject_of;
+use crate::subject::{is_set, subject_of};
+use scmi_plan::{CLOCKS, DOMAINS, Resource};
 
-/// The lines of the last sets and of the last differences so far, by domain and clock.
+/// The lines of earlier entries that a difference may follow from, with the same subject as it.
+#[derive(Clone, Copy)]
+pub(crate) struct Origin {
+    /// The line of the last set of the subject that was answered by SUCCESS.
+    pub set: Option<u32>,
+    /// The line of the last difference.
+    pub after: Option<u32>,
+}
+
+const NOTHING: Origin = Origin {
+    set: None,
+    after: None,
+};
+
+/// The same for each domain and each clock that a board may have, by the entries so far.
 #[derive(Clone, Copy)]
 pub(crate) struct Origins {
-    sets: LastLines,
-    differences: LastLines,
+    domains: [Origin; DOMAINS],
+    clocks: [Origin; CLOCKS],
 }
 
 impl Origins {
     /// No entry is noted.
-    pub fn new() -> Origins
-        ensures { result ≡ no_origins }
-    {
+    pub fn new() -> Origins {
         Origins {
-            sets: LastLines::new(),
-            differences: LastLines::new(),
+            domains: [NOTHING; DOMAINS],
+            clocks: [NOTHING; CLOCKS],
         }
     }
 
-    /// What an entry may follow from, by the entries that are noted: nothing unless it differs.
-    pub fn origin_of(&self, one: &Judged) -> Origin
-        ensures { result ≡ origin_in self.now one.now }
-    {
-        if !differs(one) {
-            return Origin::NONE;
-        }
-        match subject_of(&one.entry) {
-            Some(resource) => Origin {
-                set: self.sets.get(resource),
-                after: self.differences.get(resource),
-            },
-            None => Origin::NONE,
-        }
-    }
-
-    /// Notes an entry.
-    pub fn add(&mut self, one: &Judged)
-        ensures { self.new ≡ origins_with self.old one.now }
-    {
-        let Some(resource) = subject_of(&one.entry) else {
-            return;
+    /// What an entry may follow from.
+    pub fn origin_of(&self, one: &Judged) -> Origin {
+        let noted = match subject_of(&one.entry) {
+            Some(Resource::Domain(domain)) => self.domains.get(domain as usize),
+            Some(Resource::Clock(clock)) => self.clocks.get(clock as usize),
+            None => None,
         };
-        if is_set(&one.entry) {
-            self.sets.set(resource, one.line);
-        }
-        if differs(one) {
-            self.differences.set(resource, one.line);
+        noted.copied().unwrap_or(NOTHING)
+    }
+
+    /// Notes an entry with what is found of it.
+    pub fn add(&mut self, one: &Judged, finding: Finding) {
+        match subject_of(&one.entry) {
+            Some(Resource::Domain(domain)) if (domain as usize) < DOMAINS => {
+                self.domains[domain as usize].add(one, finding);
+            }
+            Some(Resource::Clock(clock)) if (clock as usize) < CLOCKS => {
+                self.clocks[clock as usize].add(one, finding);
+            }
+            _ => {}
         }
     }
 }
 
-/// Whether an entry differs, and by no rule of the profile's own.
-pub(crate) fn differs(one: &Judged) -> bool
-    ensures { result ≡ differs one.now }
-{
-    matches!(one.finding(), Finding::Differs)
+impl Origin {
+    /// Notes an entry of this domain or clock.
+    fn add(&mut self, one: &Judged, finding: Finding) {
+        if is_set(&one.entry) {
+            self.set = Some(one.line);
+        }
+        if finding == Finding::Differs {
+            self.after = Some(one.line);
+        }
+    }
 }

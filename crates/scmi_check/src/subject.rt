@@ -1,43 +1,17 @@
 //! The power domain or clock that an entry is about.
-ghost use Rattle.std.specs.Prelude.{◌≡◌};
-ghost use Rattle.scmi_check.specs.Subject.{clock_named, command_subject, domain_named, is_possible, is_state_changed, message_subject, named_by, named_first, named_in, subject_of};
-
-use crate::later::later_parts;
 use scmi_codec::{
-    ClockCommand, Command, DELAYED_RESPONSE, Frame, Header, Message, NOTIFICATION, POWER_PROTOCOL,
-    Part, PowerCommand, Status,
+    ClockCommand, Command, DELAYED_RESPONSE, Frame, Message, NOTIFICATION, POWER_PROTOCOL, Part,
+    PowerCommand, Status, listed_row,
 };
-use scmi_judge::Entry;
-use scmi_plan::{CLOCKS, DOMAINS, Resource};
+use scmi_judge::{Entry, has_succeeded, sets_value};
+use scmi_plan::Resource;
 
 /// The message id of the notification POWER_STATE_CHANGED, which no table has.
-pub(crate) const POWER_STATE_CHANGED: u8 = 0x0;
+const POWER_STATE_CHANGED: u8 = 0x0;
 
 /// The subject of an entry: the power domain or clock that its command or its message names. `None`
-/// if it names none, or one that no board can have.
-pub(crate) fn subject_of(entry: &Entry) -> Option<Resource>
-    ensures { result ≡ subject_of entry.now }
-{
-    match named_by(entry) {
-        Some(resource) if is_possible(resource) => Some(resource),
-        _ => None,
-    }
-}
-
-/// Whether a board may have this domain or clock.
-fn is_possible(resource: Resource) -> bool
-    ensures { result ≡ is_possible resource }
-{
-    match resource {
-        Resource::Domain(domain) => (domain as usize) < DOMAINS,
-        Resource::Clock(clock) => (clock as usize) < CLOCKS,
-    }
-}
-
-/// What an entry names.
-fn named_by(entry: &Entry) -> Option<Resource>
-    ensures { result ≡ named_by entry.now }
-{
+/// if it names none.
+pub(crate) fn subject_of(entry: &Entry) -> Option<Resource> {
     match entry {
         Entry::Answered {
             frame: Frame::Good(command),
@@ -48,10 +22,20 @@ fn named_by(entry: &Entry) -> Option<Resource>
     }
 }
 
+/// Whether an entry is a set that was answered by SUCCESS.
+pub(crate) fn is_set(entry: &Entry) -> bool {
+    match entry {
+        Entry::Answered {
+            frame: Frame::Good(command),
+            answer,
+            ..
+        } => sets_value(&Command::read(command)) && has_succeeded(answer),
+        _ => false,
+    }
+}
+
 /// What a command names that was read so.
-fn command_subject(command: &Result<Command, Status>) -> Option<Resource>
-    ensures { result ≡ command_subject command.now }
-{
+fn command_subject(command: &Result<Command, Status>) -> Option<Resource> {
     match command {
         Ok(Command::Power(power)) => domain_named(power),
         Ok(Command::Clock(clock)) => clock_named(clock),
@@ -59,71 +43,44 @@ fn command_subject(command: &Result<Command, Status>) -> Option<Resource>
     }
 }
 
-fn domain_named(command: &PowerCommand) -> Option<Resource>
-    ensures { result ≡ domain_named command.now }
-{
+fn domain_named(command: &PowerCommand) -> Option<Resource> {
     match command {
-        PowerCommand::DomainAttributes { domain } => Some(Resource::Domain(*domain)),
-        PowerCommand::Set { domain, .. } => Some(Resource::Domain(*domain)),
-        PowerCommand::Get { domain } => Some(Resource::Domain(*domain)),
-        PowerCommand::Notify { domain, .. } => Some(Resource::Domain(*domain)),
+        PowerCommand::DomainAttributes { domain }
+        | PowerCommand::Set { domain, .. }
+        | PowerCommand::Get { domain }
+        | PowerCommand::Notify { domain, .. } => Some(Resource::Domain(*domain)),
         _ => None,
     }
 }
 
-fn clock_named(command: &ClockCommand) -> Option<Resource>
-    ensures { result ≡ clock_named command.now }
-{
+fn clock_named(command: &ClockCommand) -> Option<Resource> {
     match command {
-        ClockCommand::ClockAttributes { clock } => Some(Resource::Clock(*clock)),
-        ClockCommand::Describe { clock, .. } => Some(Resource::Clock(*clock)),
-        ClockCommand::SetRate { clock, .. } => Some(Resource::Clock(*clock)),
-        ClockCommand::GetRate { clock } => Some(Resource::Clock(*clock)),
-        ClockCommand::Config { clock, .. } => Some(Resource::Clock(*clock)),
+        ClockCommand::ClockAttributes { clock }
+        | ClockCommand::Describe { clock, .. }
+        | ClockCommand::SetRate { clock, .. }
+        | ClockCommand::GetRate { clock }
+        | ClockCommand::Config { clock, .. } => Some(Resource::Clock(*clock)),
         _ => None,
     }
 }
 
-/// What a message of the platform names, by its second word.
-fn message_subject(message: &Message) -> Option<Resource>
-    ensures { result ≡ message_subject message.now }
-{
-    match message.payload.as_slice() {
-        [_, word, ..] => named_in(&message.header, *word),
+/// What a message of the platform names, by its second word: that of a delayed response is the first
+/// part after its status.
+fn message_subject(message: &Message) -> Option<Resource> {
+    let [_, word, ..] = message.payload.as_slice() else {
+        return None;
+    };
+    let header = &message.header;
+    let (kind, protocol, id) = (header.kind(), header.protocol(), header.id());
+    if kind == NOTIFICATION && protocol == POWER_PROTOCOL && id == POWER_STATE_CHANGED {
+        return Some(Resource::Domain(*word));
+    }
+    if kind != DELAYED_RESPONSE {
+        return None;
+    }
+    match listed_row(protocol, u32::from(id))?.later {
+        [Part::Domain, ..] => Some(Resource::Domain(*word)),
+        [Part::Clock, ..] => Some(Resource::Clock(*word)),
         _ => None,
     }
-}
-
-/// What a message of this header names, whose second word this is: that of a delayed response is the
-/// first part after its status.
-fn named_in(header: &Header, word: u32) -> Option<Resource>
-    ensures { result ≡ named_in header.now word }
-{
-    if header.kind() == DELAYED_RESPONSE {
-        named_first(later_parts(header.protocol(), header.id()), word)
-    } else if is_state_changed(header) {
-        Some(Resource::Domain(word))
-    } else {
-        None
-    }
-}
-
-/// What a word names that is the first of these parts.
-fn named_first(parts: &[Part], word: u32) -> Option<Resource>
-    ensures { result ≡ named_first parts.now word }
-{
-    match parts {
-        [Part::Domain, ..] => Some(Resource::Domain(word)),
-        [Part::Clock, ..] => Some(Resource::Clock(word)),
-        _ => None,
-    }
-}
-
-/// Whether a message of this header is POWER_STATE_CHANGED.
-fn is_state_changed(header: &Header) -> bool
-    ensures { result ≡ is_state_changed header.now }
-{
-    header.kind() == NOTIFICATION
-        && header.protocol() == POWER_PROTOCOL
-        && header.id() == POWER_STATE_CHANGED
 }

@@ -1,7 +1,8 @@
-use Rattle.std.proofs.Common.{◌≡◌, true, length, reverse, take}
+use Rattle.std.proofs.Common.{◌≡◌, length}
+use Rattle.std.specs.List.{All}
 use Rattle.scmi_judge.specs.Judging.{Knows}
-use Rattle.scmi_check.specs.Judged.{AreJudged, entries_of}
-use Rattle.scmi_check.proofs.Judging.{AllSame}
+use Rattle.scmi_check.specs.Judged.{AreJudged}
+use Rattle.scmi_check.proofs.Judging.{DoesFit, behind}
 use Rattle.scmi_check.proofs.judged.judge_all.Given as goal
 
 abbrev pub invariant-each : goal.invariant-each
@@ -9,8 +10,8 @@ invariant-each l =
     record {
       board : l.judge.board ≡ l.initial.judge.board;
       refuses : l.judge.refuses ≡ l.initial.judge.refuses;
-      sure : l.judge.sure ≡ true;
+      text : l.places.text ≡ l.initial.places.text;
       count : length l.judged.items ≡ l.one-index;
       judged : AreJudged l.initial.judge.refuses l.initial.judge.board l.placed l.judged.items;
-      knows : AllSame l.judged.items → Knows l.judge (reverse (entries_of (take (length l.judged.items) l.placed)));
+      knows : All DoesFit l.judged.items → Knows l.judge (behind l.judged.items);
     }
