@@ -1,12 +1,11 @@
 //! A record, as it is checked: with numbers in place of the names in its commands.
-ghost use Rattle.std.specs.Prelude.{◌≡◌, ◌⊎◌, IfOk, IfSome};
-ghost use Rattle.scmi_check.specs.Check.{IsChecked};
-ghost use Rattle.scmi_check.specs.declared.run.TheConstants.{DIFFERS};
+ghost use Rattle.std.specs.Prelude.{◌≡◌, IfOk, IfSome};
+ghost use Rattle.scmi_check.specs.Check.{HasVerdict, IsChecked};
 ghost use Rattle.scmi.specs.Record.{IsGivenRecord, OfGivenRecord, after_board};
 
 use crate::given::behind_line;
 use scmi_board::read_valid_board;
-use scmi_check::{CheckError, DIFFERS, Style, run_check};
+use scmi_check::{CheckError, Style, run_check};
 use scmi_explain::split_first;
 use scmi_io::{CountedReader, read_rest, write_fault};
 use scmi_live::numbered;
@@ -23,9 +22,8 @@ pub fn run_record<B: Read, R: Read, W: Write>(
     style: Style,
     judged: &[u8],
 ) -> u8
-    ensures { (result ≡ 0) ⊎ (result ≡ DIFFERS) → OfGivenRecord (λ board given.
-        IsChecked style judged.now board given result (W.contents writer.old)
-        (W.contents writer.new)) (B.remaining board.old) (R.remaining shown.old) }
+    ensures { HasVerdict result → OfGivenRecord (λ board given.
+        IsChecked judged.now board given result) (B.remaining board.old) (R.remaining shown.old) }
 {
     let text = match board_text(alloc, board) {
         Ok(text) => text,

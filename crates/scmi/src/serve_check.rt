@@ -10,7 +10,7 @@ use crate::report::report_output;
 use crate::report_board::report_board;
 use crate::report_record::report_record;
 use scmi_board::{Items, byte};
-use scmi_check::{DIFFERS, PROTOCOLS, Style};
+use scmi_check::{DIFFERS, PROTOCOLS, Style, UNSURE};
 use scmi_explain::{Fault, Kept, LastLine};
 use scmi_io::{FAILED_OUTPUT, INPUT_BYTES};
 use std::alloc::Global;
@@ -144,7 +144,7 @@ fn check_on<T: Eprint, B: Read + Drop, R: Read + Drop, W: Write + Drop>(
     let style = asked.style;
     let status = run_record(alloc, &mut board, &mut record, &mut output, style, &judged);
     let status = report_output(rt, &mut output, status);
-    if status != 0 && status != DIFFERS && status != FAILED_OUTPUT {
+    if !matches!(status, 0 | DIFFERS | UNSURE | FAILED_OUTPUT) {
         if asked.file_of_record().is_some() && is_swapped(&board, &mut record) {
             let _ = eprintln!(rt;
                 "{}: this is a record, and {} a board; scmi check takes BOARD before RECORD",

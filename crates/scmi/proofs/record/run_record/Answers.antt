@@ -7,7 +7,7 @@ use Rattle.scmi.proofs.record.run_record.Goals as goal
 pub returns : goal.returns
 returns g c = λ is.
     let Does : Option (List ℕ) → Option (List ℕ) → Type 0 =
-    λ board given. IsChecked c.args.style c.args.judged.now board given c.run_check.result (g.W.Write.contents c.args.writer.now) (g.W.Write.contents c.run_check.new.writer) in
+    λ board given. IsChecked c.args.judged.now board given c.run_check.result in
     let text = c.in-Ok.text.items in
     let given = c.in-Ok-given_record.given.items in
     let board_known = g.B.Read.remaining c.args.board.now in
