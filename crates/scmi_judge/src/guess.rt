@@ -14,8 +14,8 @@ ghost use Rattle.scmi_judge.specs.declared.unseen.Refusals.{Refusals as Refused}
 ghost use Rattle.scmi_core.specs.declared.event.Event.TheVariants.{AdvanceFailed, Command, Sent};
 
 use crate::entry::Entry;
-use crate::refusals::has_succeeded;
 use crate::same::{is_same_answer, is_same_message};
+use crate::shown::has_succeeded;
 use crate::unseen::{Refusals, Step};
 use scmi_codec::{Answer, Frame, Message};
 use scmi_core::{Answered, Platform};

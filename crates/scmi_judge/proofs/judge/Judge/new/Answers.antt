@@ -1,7 +1,7 @@
 use Rattle.std.proofs.Common.{◌≡◌, ◌∷◌, ◌++◌, [], refl, ap, sym, ◌∙◌, subst}
 use Rattle.scmi_judge.specs.Exact.{AreExact}
 use Rattle.scmi_judge.proofs.Exactness.{exact-start}
-use Rattle.scmi_judge.proofs.exact_judge.ExactJudge.new.Goals as goal
+use Rattle.scmi_judge.proofs.judge.Judge.new.Goals as goal
 
 pub returns-clause-start : goal.returns-clause-start
 returns-clause-start c =

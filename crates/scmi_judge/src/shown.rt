@@ -1,8 +1,20 @@
-//! The set of the value that a reply shows.
+//! What the answer of an entry shows.
 ghost use Rattle.std.specs.Prelude.{◌≡◌};
-ghost use Rattle.scmi_judge.specs.Correction.{set_shown, sets_value, value_shown};
+ghost use Rattle.scmi_judge.specs.Shown.{has_succeeded, set_shown, sets_value, value_shown};
 
-use scmi_codec::{ClockCommand, Command, Message, PowerCommand, Status, rate_of};
+use scmi_codec::{
+    Answer, ClockCommand, Command, Message, PowerCommand, Status, is_success, rate_of,
+};
+
+/// Whether an answer is a reply that begins with SUCCESS.
+pub fn has_succeeded(answer: &Answer) -> bool
+    ensures { result ≡ has_succeeded answer.now }
+{
+    match answer {
+        Answer::Reply(message) => is_success(&message.payload),
+        Answer::Released | Answer::ChannelError => false,
+    }
+}
 
 /// The set of the value that a reply of success shows: the command itself if it is a set, or else
 /// one of the value that it read.
