@@ -1,7 +1,7 @@
 //! The judge of a platform by a record of its channels.
-ghost use Rattle.std.specs.Prelude.{◌≡◌, ◌≢◌, ◌∷◌, [], List, Ok, None, Some, true, false, IfOk, IfSome, IfErr};
+ghost use Rattle.std.specs.Prelude.{◌≡◌, ◌≢◌, ◌+◌, ◌∷◌, [], List, length, Ok, None, Some, true, false, IfOk, IfSome, IfErr, OnOk};
 ghost use Rattle.scmi_judge.specs.Behind.{HasLegalHistory};
-ghost use Rattle.scmi_judge.specs.Judging.{Knows};
+ghost use Rattle.scmi_judge.specs.Judging.{AreTooMany, Knows};
 ghost use Rattle.scmi_judge.specs.declared.entry.Entry.{Entry as Shown};
 ghost use Rattle.scmi_judge.specs.declared.verdict.Verdict.TheVariants.{Same};
 
@@ -43,8 +43,9 @@ impl Model for Judge {
 }
 
 impl Judge {
-    /// A judge of a platform of a board, before the first entry, and a place for another platform of
-    /// it. `refuses` is which changes the hardware may refuse. `Memory` is the only error.
+    /// A judge of a platform of a board, before the first entry. It needs a plan of the same board
+    /// for a place in which it makes others. `refuses` is which changes the hardware may refuse.
+    /// `Memory` is the only error.
     pub fn new(
         alloc: Global,
         plan: Plan,
@@ -82,6 +83,7 @@ impl Judge {
         ensures refuses { self.new.refuses ≡ self.old.refuses }
         ensures guesses { self.new.guesses ≡ self.old.guesses }
         ensures sure { self.new.sure ≡ self.old.sure }
+        ensures place { OnOk result (length self.new.spare ≡ 1 + length self.old.spare) }
         ensures errors { IfErr result (λ e. e ≡ CoreError.Memory) }
     {
         let Ok(()) = self.guesses.spare.push(Guess::new(place)) else {
@@ -92,8 +94,8 @@ impl Judge {
 
     /// Judges the next entry. If the entries so far had a legal history, the verdict is `Same` if
     /// and only if they have one with this entry. If it is another, the judge goes on, but nothing
-    /// is promised from there on. `None` once there are more platforms than places, and from then
-    /// on. `Memory` is the only error.
+    /// is promised from there on but its places. `None` once more different platforms may be behind
+    /// the entries so far than there are places, and from then on. `Memory` is the only error.
     pub fn judge(&mut self, entry: &Entry) -> Result<Option<Verdict>, CoreError>
         ensures same { (entries : List Shown) → Knows self.old entries
             → IfOk result (λ o. IfSome o (λ verdict. verdict ≡ Same
@@ -104,8 +106,12 @@ impl Judge {
         ensures knows { (entries : List Shown) → Knows self.old entries
             → IfOk result (λ o. IfSome o (λ verdict. verdict ≡ Same
             → Knows self.new (entry.now ∷ entries))) }
-        ensures unsure { result ≡ Ok None → self.old.sure ≡ true → self.new.spare ≡ [] }
+        ensures unsure { (entries : List Shown) → Knows self.old entries
+            → result ≡ Ok None → AreTooMany self.old entries }
         ensures sure { IfOk result (λ o. IfSome o (λ verdict. self.new.sure ≡ true)) }
+        ensures places { IfOk result (λ o. IfSome o (λ verdict.
+            length self.new.guesses + length self.new.spare
+            ≡ length self.old.guesses + length self.old.spare)) }
         ensures stays { self.old.sure ≡ false → result ≡ Ok None }
         ensures board { self.new.board ≡ self.old.board }
         ensures refuses { self.new.refuses ≡ self.old.refuses }

@@ -1,8 +1,8 @@
 //! The judging of an entry by all platforms that may be behind those before it.
-ghost use Rattle.std.specs.Prelude.{◌≡◌, ◌≢◌, ◌∷◌, [], List, IfOk, IfErr, OnOk};
+ghost use Rattle.std.specs.Prelude.{◌≡◌, ◌≢◌, ◌+◌, ◌∷◌, [], List, IfOk, IfErr, OnOk};
 ghost use Rattle.scmi_plan.specs.Board.{Board};
 ghost use Rattle.scmi_judge.specs.Exact.{AreExact};
-ghost use Rattle.scmi_judge.specs.Guesses.{HaveBoard, KeepBoard};
+ghost use Rattle.scmi_judge.specs.Guesses.{AreDifferent, FindsMany, HaveBoard, KeepBoard, places};
 ghost use Rattle.scmi_judge.specs.declared.entry.Entry.{Entry as Shown};
 ghost use Rattle.scmi_judge.specs.declared.verdict.Verdict.TheVariants.{Same};
 
@@ -15,19 +15,25 @@ impl Guesses {
     /// Judges the next entry: leaves what gives it, or goes on if nothing does.
     pub fn judge(&mut self, entry: &Entry) -> Result<Verdict, Stop>
         requires boards { HaveBoard self.old }
-        requires none { self.old.tried.items ≡ [] }
+        requires tried { self.old.tried.items ≡ [] }
+        requires others { self.old.others.items ≡ [] }
         ensures exact { (board : Board) (entries : List Shown)
             → AreExact self.old.refuses board entries self.old.left.items
             → IfOk result (λ verdict. verdict ≡ Same
             → AreExact self.old.refuses board (entry.now ∷ entries) self.new.left.items) }
+        ensures different { IfOk result (λ verdict. verdict ≡ Same
+            → AreDifferent self.new.left.items) }
         ensures some { IfOk result (λ verdict. verdict ≡ Same → self.new.left.items ≢ []) }
         ensures lost { (board : Board) (entries : List Shown)
             → AreExact self.old.refuses board entries self.old.left.items
             → IfOk result (λ verdict. verdict ≢ Same
             → AreExact self.old.refuses board (entry.now ∷ entries) []) }
         ensures tried { OnOk result (self.new.tried.items ≡ []) }
+        ensures others { OnOk result (self.new.others.items ≡ []) }
+        ensures places { OnOk result (places self.new ≡ places self.old) }
         ensures keeps { KeepBoard self.old self.new }
-        ensures full { IfErr result (λ stop. stop ≡ Stop.Full → self.new.spare.items ≡ []) }
+        ensures full { IfErr result (λ stop. stop ≡ Stop.Full
+            → FindsMany self.old.refuses [] self.old.left.items (1 + places self.old)) }
     {
         self.close()?;
         self.give(entry)?;

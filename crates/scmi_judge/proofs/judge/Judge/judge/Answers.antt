@@ -1,7 +1,9 @@
-use Rattle.std.proofs.Common.{◌≡◌, ◌∷◌, [], refl, ap, sym, ◌∙◌, subst}
+use Rattle.std.proofs.Common.{◌≡◌, ◌+◌, ◌∷◌, [], length, refl, ap, sym, ◌∙◌, subst, arith}
 use Rattle.scmi_judge.specs.Behind.{HasLegalHistory}
 use Rattle.scmi_judge.specs.Exact.{AreExact}
-use Rattle.scmi_judge.specs.Judging.{Judging, Knows}
+use Rattle.scmi_judge.specs.Guesses.{AreMany, places}
+use Rattle.scmi_judge.specs.Judging.{AreTooMany, Judging, Knows}
+use Rattle.scmi_judge.proofs.Different.{found-start}
 use Rattle.scmi_judge.proofs.Exactness.{none-wrong, some-right}
 use Rattle.scmi_judge.proofs.judge.Judge.judge.Goals as goal
 
@@ -32,4 +34,15 @@ returns-in-Ok-clause-knows c entries knows same =
       sure = refl;
       exact = subst (λ r. AreExact r c.judge.new.self.made.platform.board (c.args.entry.now ∷ entries) c.judge.new.self.left.items) (sym c.judge.ensures.keeps.refuses)
           (subst (λ b. AreExact inside.refuses b (c.args.entry.now ∷ entries) c.judge.new.self.left.items) (sym board) exact);
+      different = c.in-Ok.ensures.different same;
     }
+
+pub returns-in-Err-Full-clause-unsure : goal.returns-in-Err-Full-clause-unsure
+returns-in-Err-Full-clause-unsure c entries knows full =
+    let inside = c.self.inside.guesses in
+    let before = subst (λ (j : Judging). Knows j entries) (sym c.self.view_is) knows in
+    let none : length inside.tried.items ≡ 0 = ap length (c.self.invariant.tried before.sure) in
+    let count : 1 + places inside ≡ 1 + length inside.left.items + length inside.spare.items = omega (arith, none) in
+    let many = c.in-Err-Full.ensures.full c.in-Err-Full.field-0-is inside.made.platform.board entries
+    (found-start inside.refuses inside.made.platform.board entries inside.left.items before.exact.real before.different) in
+    subst (λ (j : Judging). AreTooMany j entries) c.self.view_is (subst (AreMany inside.refuses inside.made.platform.board entries) count many)

@@ -1,5 +1,7 @@
 use Rattle.std.proofs.Common.{◌≡◌, ◌∷◌, ◌++◌, [], refl, ap, sym, ◌∙◌, subst}
 use Rattle.scmi_judge.specs.Exact.{AreExact}
+use Rattle.scmi_judge.specs.Guesses.{AreDifferent}
+use Rattle.scmi_judge.proofs.Different.{different-one}
 use Rattle.scmi_judge.proofs.Exactness.{exact-start}
 use Rattle.scmi_judge.proofs.judge.Judge.new.Goals as goal
 
@@ -11,4 +13,5 @@ returns-clause-start c =
       sure = refl;
       exact = subst (λ b. AreExact c.args.refuses b [] c.push.new.self.items) (sym board)
           (subst (λ xs. AreExact c.args.refuses c.args.plan [] xs) (sym one) (exact-start c.args.refuses c.args.plan c.new.result (c.new.ensures.start c.args.refuses)));
+      different = subst AreDifferent (sym one) (different-one c.new.result);
     }
