@@ -15,45 +15,37 @@ use Rattle.scmi_judge.specs.declared.verdict.Verdict.TheVariants as verdict
 use Rattle.scmi_judge.proofs.Exactness.{front-right}
 use Rattle.scmi_judge.proofs.Guessing.{decide}
 use Rattle.scmi_check.specs.Finding.{Fits, finding_of, judged_as, meant_by}
-use Rattle.scmi_check.specs.Judged.{AreJudged, DoFit, IsJudged, first_judged, placed_of}
+use Rattle.scmi_check.specs.Judged.{AreJudged, DoesFit, IsJudged, behind, meant, placed_of}
 use Rattle.scmi_check.specs.declared.finding.Finding.TheVariants.{Own}
 use Rattle.scmi_check.specs.declared.own_rule.OwnRule.{OwnRule}
 use Rattle.scmi_check.specs.declared.judged.Judged.{Judged}
 use Rattle.scmi_check.specs.declared.placed.Placed.{Placed}
 use Rattle.scmi_check.proofs.Findings.{as-it-is, as-meant, fits-or-not, other-found, own-due, same-or-not}
 
--- an entry fits
-abbrev pub DoesFit : Judged → Type 0
-DoesFit one = Fits (finding_of one.entry one.verdict)
-
--- what entries are judged as, newest first
-abbrev pub behind : List Judged → List Entry
-behind judged = reverse (map (λ (one : Judged). judged_as one.entry one.verdict) judged)
-
 -- an entry that differs by a rule of the profile's own, judged again with the answer that was due
-pub judged-again : (refuses : Refusals) (board : Board) (mid new : Judging) (entries : List Entry) (entry meant : Entry) (v again : Verdict) (rule : OwnRule)
-    → finding_of entry v ≡ Own rule → meant ≡ meant_by entry v → mid.board ≡ board → mid.refuses ≡ refuses → IsJudged refuses board mid entries entry (Some v)
-    → (Knows mid entries → IsJudged mid.refuses mid.board new entries meant (Some again))
+pub judged-again : (refuses : Refusals) (board : Board) (mid new : Judging) (entries : List Entry) (entry given : Entry) (places later : ℕ) (v again : Verdict) (rule : OwnRule)
+    → finding_of entry v ≡ Own rule → given ≡ meant_by entry v → mid.board ≡ board → mid.refuses ≡ refuses → IsJudged refuses board mid entries entry places (Some v)
+    → (Knows mid entries → IsJudged mid.refuses mid.board new entries given later (Some again))
     → Knows new (judged_as entry v ∷ entries) × HasLegalHistory refuses board (judged_as entry v ∷ entries)
-judged-again refuses board mid new entries entry meant v again rule found is b r first second =
+judged-again refuses board mid new entries entry given places later v again rule found is b r first second =
     (subst (λ e. Knows new (e ∷ entries)) (sym meant-so) (again-judged.knows same), subst (λ e. HasLegalHistory refuses board (e ∷ entries)) (sym (as-meant entry v rule found)) right) where
   other : v ≢ verdict.Same
   other = other-found entry v (λ s. absurd (let f = sym found ∙ s in cc))
 
-  again-judged : IsJudged mid.refuses mid.board new entries meant (Some again)
+  again-judged : IsJudged mid.refuses mid.board new entries given later (Some again)
   again-judged = second (first.stays (λ s. let v-same : v ≡ verdict.Same = (let both = s in cc) in other v-same))
 
   right : HasLegalHistory refuses board (meant_by entry v ∷ entries)
   right = own-due entry v rule (λ due. HasLegalHistory refuses board (due ∷ entries)) found first.due
 
-  meant-so : judged_as entry v ≡ meant
+  meant-so : judged_as entry v ≡ given
   meant-so = as-meant entry v rule found ∙ sym is
 
   same : again ≡ verdict.Same
   same = by (same-or-not again) where
     by : (again ≡ verdict.Same) ⊎ (again ≢ verdict.Same) → again ≡ verdict.Same
     by (inl here) = here
-    by (inr away) = absurd (again-judged.differs away (subst (λ x. HasLegalHistory x mid.board (meant ∷ entries)) (sym r) (subst (λ x. HasLegalHistory refuses x (meant ∷ entries)) (sym b)
+    by (inr away) = absurd (again-judged.differs away (subst (λ x. HasLegalHistory x mid.board (given ∷ entries)) (sym r) (subst (λ x. HasLegalHistory refuses x (given ∷ entries)) (sym b)
         (subst (λ e. HasLegalHistory refuses board (e ∷ entries)) (sym is) right))))
 
 -- no entry
@@ -63,7 +55,7 @@ judged-none refuses board placed none is = subst (AreJudged refuses board placed
       few = omega arith;
       first = refl;
       right = λ count few. let zero : count ≡ 0 = omega (arith, few) in
-          subst (λ n. DoFit n [] ↔ IsRight refuses board (first_judged n [])) (sym zero)
+          subst (λ n. All DoesFit (take n []) ↔ IsRight refuses board (map meant (take n []))) (sym zero)
           (λ all. ([], empty_is_legal board, Behind.nothing), λ has. All-nil DoesFit);
     })
 
@@ -79,8 +71,8 @@ module _ (refuses : Refusals) (board : Board) (placed : List Placed) (judged : L
   longer = let more = length-append judged (next ∷ []) in omega (arith, more)
 
   pub shown : behind (judged ++ next ∷ []) ≡ judged_as one.entry v ∷ behind judged
-  shown = ap reverse (map-append (λ (x : Judged). judged_as x.entry x.verdict) judged (next ∷ []))
-      ∙ reverse-append (map (λ (x : Judged). judged_as x.entry x.verdict) judged) (judged_as one.entry v ∷ [])
+  shown = ap reverse (map-append meant judged (next ∷ []))
+      ∙ reverse-append (map meant judged) (judged_as one.entry v ∷ [])
 
   before : All DoesFit judged ↔ HasLegalHistory refuses board (behind judged)
   before = subst (λ js. All DoesFit js ↔ HasLegalHistory refuses board (behind js)) (take_all (length judged) judged (omega arith)) (are.right (length judged) (omega arith))
@@ -95,11 +87,11 @@ module _ (refuses : Refusals) (board : Board) (placed : List Placed) (judged : L
     by all has (inl fits) = All-push DoesFit judged next all fits
     by all has (inr away) = absurd (differs all away (subst (λ e. HasLegalHistory refuses board (e ∷ behind judged)) (as-it-is one.entry v away) has))
 
-  right-more : (count : ℕ) → count ≤ length (judged ++ next ∷ []) → DoFit count (judged ++ next ∷ []) ↔ IsRight refuses board (first_judged count (judged ++ next ∷ []))
+  right-more : (count : ℕ) → count ≤ length (judged ++ next ∷ []) → All DoesFit (take count (judged ++ next ∷ [])) ↔ IsRight refuses board (map meant (take count (judged ++ next ∷ [])))
   right-more count few = by (decide count (suc (length judged))) where
-    by : (count ≡ suc (length judged)) ⊎ (count ≢ suc (length judged)) → DoFit count (judged ++ next ∷ []) ↔ IsRight refuses board (first_judged count (judged ++ next ∷ []))
+    by : (count ≡ suc (length judged)) ⊎ (count ≢ suc (length judged)) → All DoesFit (take count (judged ++ next ∷ [])) ↔ IsRight refuses board (map meant (take count (judged ++ next ∷ [])))
     by (inl here) =
-        subst (λ n. DoFit n (judged ++ next ∷ []) ↔ IsRight refuses board (first_judged n (judged ++ next ∷ []))) (sym here)
+        subst (λ n. All DoesFit (take n (judged ++ next ∷ [])) ↔ IsRight refuses board (map meant (take n (judged ++ next ∷ [])))) (sym here)
         (subst (λ js. All DoesFit js ↔ HasLegalHistory refuses board (behind js)) (sym (take_all (suc (length judged)) (judged ++ next ∷ []) (omega (arith, longer))))
         (subst (λ es. All DoesFit (judged ++ next ∷ []) ↔ HasLegalHistory refuses board es) (sym shown) whole))
     by (inr other) =

@@ -1,6 +1,7 @@
 -- A check of a record, from the bytes that are read to the status.
-use Rattle.std.specs.Prelude.{◌≡◌, ◌⊎◌, ℕ, ◌<◌, ⊤, List, length, Option, IfSome, Ok, Err}
+use Rattle.std.specs.Prelude.{◌≡◌, ◌⊎◌, ℕ, ◌+◌, ◌<◌, ⊤, List, length, Option, IfSome, Ok, Err}
 use Rattle.std.specs.Io.KnownBytes.{Appends}
+use Rattle.std.specs.List.{All}
 use Rattle.scmi_board.specs.Channels.{Described}
 use Rattle.scmi_board.specs.Lines.{whole}
 use Rattle.scmi_board.specs.ValidBoard.{IsBoardFault, IsBoardText, said_in, with_its_channels}
@@ -10,13 +11,15 @@ use Rattle.scmi_io.specs.declared.input.TheConstants.{INPUT_BYTES}
 use Rattle.scmi_plan.specs.Board.{Board}
 use Rattle.scmi_plan.specs.PlanError.{number}
 use Rattle.scmi_plan.specs.declared.plan_error.PlanError.{PlanError}
+use Rattle.scmi_judge.specs.Guesses.{AreMany}
 use Rattle.scmi_check.specs.CheckError.{fault_status, fault_text}
 use Rattle.scmi_check.specs.Checked.{CheckedView, status_of}
-use Rattle.scmi_check.specs.Judged.{AreJudged, line_at, refusals_of}
+use Rattle.scmi_check.specs.Judged.{AreJudged, DoesFit, behind, line_at, refusals_of}
 use Rattle.scmi_check.specs.RecordText.{RecordView, record_left}
 use Rattle.scmi_check.specs.declared.check_error.CheckError.{CheckError}
 use Rattle.scmi_check.specs.declared.check_error.CheckError.TheVariants.{Size, Read, Board as BoardLine, Plan as PlanRule, Record, Empty, Memory}
 use Rattle.scmi_check.specs.declared.checked.TheConstants.{DIFFERS, UNSURE}
+use Rattle.scmi_check.specs.declared.places.TheConstants.{PLACES}
 
 -- a text is a board that keeps every rule, and lines `channel` that give its agents these channels
 pub record IsPlanText (text : List ℕ) (board : Board) : Type 0 where
@@ -30,7 +33,8 @@ IsRecordText judged board text read = record_left judged (length board.agents) (
 
 -- this is found of a record of a platform of a board; if the texts are known, they encode that board and that record. At
 -- least one entry is to be judged: of those that are judged, however many are taken from the first on, none differs if and
--- only if they have a legal history
+-- only if they have a legal history. If not all are judged, and none of these differs, then there are more platforms than are
+-- kept, no two the same, each of which may be behind these
 pub record IsCheckedRecord (judged : List ℕ) (board_known record_known : Option (List ℕ)) (checked : CheckedView) : Type 0 where
   pub board : Board
   pub read : RecordView
@@ -38,6 +42,8 @@ pub record IsCheckedRecord (judged : List ℕ) (board_known record_known : Optio
   pub of_record : IfSome record_known (λ text. IsRecordText judged board text read)
   pub some : 0 < length read.entries
   pub are : AreJudged (refusals_of read.entries) board read.entries checked.judged
+  pub many : length checked.judged < length read.entries → All DoesFit checked.judged
+      → AreMany (refusals_of read.entries) board (behind checked.judged) (2 + PLACES)
   pub left_is : checked.left ≡ read.left
   pub unsure_is : checked.unsure ≡ line_at read.entries (length checked.judged)
 

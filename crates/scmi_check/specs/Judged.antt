@@ -1,11 +1,12 @@
 -- The entries of a record with the verdicts on them.
-use Rattle.std.specs.Prelude.{◌≡◌, ◌≢◌, ◌∷◌, IfSome, Some, ◌↔◌, ℕ, ◌≤◌, ◌&&◌, Bool, false, if◌then◌else◌, List, length, map, take, Option, slice_get}
+use Rattle.std.specs.Prelude.{◌≡◌, ◌≢◌, ◌∷◌, IfSome, Some, ◌↔◌, ℕ, ◌+◌, ◌≤◌, ◌&&◌, Bool, false, if◌then◌else◌, List, length, map, reverse, take, Option, None, slice_get}
 use Rattle.std.specs.List.{All, list_any}
 use Rattle.std.specs.Option.{option_map}
 use Rattle.scmi_plan.specs.Board.{Board}
 use Rattle.scmi_codec.specs.Header.{is_same_header}
 use Rattle.scmi_core.specs.Outbox.{failed_response_to}
 use Rattle.scmi_judge.specs.Behind.{HasLegalHistory, IsRight}
+use Rattle.scmi_judge.specs.Guesses.{AreMany}
 use Rattle.scmi_judge.specs.Judging.{IsDue, Judging, Knows}
 use Rattle.scmi_judge.specs.Same.{is_same_message}
 use Rattle.scmi_judge.specs.declared.entry.Entry.{Entry}
@@ -22,13 +23,17 @@ use Rattle.scmi_check.specs.declared.placed.Placed.{Placed}
 abbrev pub placed_of : Judged → Placed
 placed_of one = record { line = one.line; entry = one.entry }
 
--- none of the first entries differs, but by rules of the profile's own
-abbrev pub DoFit : ℕ → List Judged → Type 0
-DoFit count judged = All (λ (one : Judged). Fits (finding_of one.entry one.verdict)) (take count judged)
+-- an entry does not differ, but by a rule of the profile's own
+abbrev pub DoesFit : Judged → Type 0
+DoesFit one = Fits (finding_of one.entry one.verdict)
 
--- what the first entries are judged as
-abbrev pub first_judged : ℕ → List Judged → List Entry
-first_judged count judged = map (λ (one : Judged). judged_as one.entry one.verdict) (take count judged)
+-- what an entry is judged as
+abbrev pub meant : Judged → Entry
+meant one = judged_as one.entry one.verdict
+
+-- what entries are judged as, newest first
+abbrev pub behind : List Judged → List Entry
+behind judged = reverse (map meant judged)
 
 -- these are the first entries of a record with the verdicts on them: however many of them are taken, none of these
 -- differs, but by rules of the profile's own, if and only if a legal history of the board is behind them, with the reply
@@ -36,15 +41,21 @@ first_judged count judged = map (λ (one : Judged). judged_as one.entry one.verd
 pub record AreJudged (refuses : Refusals) (board : Board) (placed : List Placed) (judged : List Judged) : Type 0 where
   pub few : length judged ≤ length placed
   pub first : map placed_of judged ≡ take (length judged) placed
-  pub right : (count : ℕ) → count ≤ length judged → DoFit count judged ↔ IsRight refuses board (first_judged count judged)
+  pub right : (count : ℕ) → count ≤ length judged → All DoesFit (take count judged) ↔ IsRight refuses board (map meant (take count judged))
+
+-- how many places a judge has, and may have more
+abbrev pub places_of : Judging → ℕ → ℕ
+places_of j left = length j.guesses + length j.spare + left
 
 -- a judge of these entries has judged one more: it knows which platforms may be behind them with it if it is the same, and
--- else still those behind them; and what is said to be due is right in its place
-pub record IsJudged (refuses : Refusals) (board : Board) (new : Judging) (entries : List Entry) (entry : Entry) (o : Option Verdict) : Type 0 where
+-- else still those behind them; what is said to be due is right in its place; and without a verdict there are more
+-- platforms behind them than places
+pub record IsJudged (refuses : Refusals) (board : Board) (new : Judging) (entries : List Entry) (entry : Entry) (places : ℕ) (o : Option Verdict) : Type 0 where
   pub same : IfSome o (λ v. v ≡ verdict.Same → HasLegalHistory refuses board (entry ∷ entries))
   pub differs : IfSome o (λ v. v ≢ verdict.Same → ¬ (HasLegalHistory refuses board (entry ∷ entries)))
   pub knows : IfSome o (λ v. v ≡ verdict.Same → Knows new (entry ∷ entries))
   pub stays : o ≢ Some verdict.Same → Knows new entries
+  pub full : o ≡ None → AreMany refuses board entries (1 + places)
   pub due : IfSome o (λ v. IsDue v entry (λ due. HasLegalHistory refuses board (due ∷ entries)))
 
 -- an entry is a delayed response that the hardware refused the change

@@ -1,8 +1,11 @@
 //! The texts of a board and of a record, and what is found of them.
-ghost use Rattle.std.specs.Prelude.{◌≡◌, ◌<◌, length, IfOk, IfErr, IfSome};
+ghost use Rattle.std.specs.Prelude.{◌≡◌, ◌+◌, ◌<◌, length, IfOk, IfErr, IfSome};
+ghost use Rattle.std.specs.List.{All};
+ghost use Rattle.scmi_judge.specs.Guesses.{AreMany};
+ghost use Rattle.scmi_check.specs.declared.places.TheConstants.{PLACES as PLACES_KEPT};
 ghost use Rattle.scmi_check.specs.Check.{IsCheckedRecord, IsFaultOf, IsFaultOfBoard, IsFaultOfRecord, IsPlanText, IsRecordText};
 ghost use Rattle.scmi_check.specs.Checked.{checked_view};
-ghost use Rattle.scmi_check.specs.Judged.{AreJudged, refusals_of};
+ghost use Rattle.scmi_check.specs.Judged.{AreJudged, DoesFit, behind, refusals_of};
 ghost use Rattle.scmi_check.specs.RecordText.{record_view};
 
 use crate::check_error::CheckError;
@@ -56,6 +59,9 @@ fn judge_record(
     requires { IsPlanText text.now plan }
     ensures judged { IfOk result (λ judged. AreJudged (refusals_of entries.now) plan entries.now
         judged.items) }
+    ensures many { IfOk result (λ judged. length judged.items < length entries.now
+        → All DoesFit judged.items
+        → AreMany (refusals_of entries.now) plan (behind judged.items) (2 + PLACES_KEPT)) }
     ensures errors { IfErr result (λ e. e ≡ CoreError.Memory) }
 {
     let Ok(place) = plan_of(alloc, text) else {

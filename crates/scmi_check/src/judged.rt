@@ -1,13 +1,14 @@
 //! The entries of a record with the verdicts on them.
-ghost use Rattle.std.specs.Prelude.{◌≡◌, [], ◌∷◌, List, IfOk, IfErr, IfSome};
-ghost use Rattle.std.specs.List.{list_any};
+ghost use Rattle.std.specs.Prelude.{◌≡◌, ◌+◌, ◌<◌, [], ◌∷◌, List, length, None, Ok, IfOk, IfErr, IfSome, OnOk};
+ghost use Rattle.std.specs.List.{All, list_any};
 ghost use Rattle.scmi_core.specs.declared.core_error.CoreError.TheVariants.{Memory};
 ghost use Rattle.scmi_judge.specs.Behind.{HasLegalHistory};
+ghost use Rattle.scmi_judge.specs.Guesses.{AreMany};
 ghost use Rattle.scmi_judge.specs.Judging.{Knows};
 ghost use Rattle.scmi_judge.specs.declared.entry.Entry.{Entry as Shown};
 ghost use Rattle.scmi_check.specs.Check.{IsPlanText};
 ghost use Rattle.scmi_check.specs.Finding.{Fits, finding_of, judged_as, meant_by};
-ghost use Rattle.scmi_check.specs.Judged.{AreJudged, is_failure, line_at, refusals_of};
+ghost use Rattle.scmi_check.specs.Judged.{AreJudged, DoesFit, behind, is_failure, line_at, places_of, refusals_of};
 
 use crate::finding::Finding;
 use crate::placed::Placed;
@@ -47,6 +48,10 @@ pub(crate) fn judge_all(
     requires places { IsPlanText places.old.text.now judge.old.board }
     ensures judged { IfOk result (λ judged.
         AreJudged judge.old.refuses judge.old.board placed.now judged.items) }
+    ensures many { IfOk result (λ judged. length judged.items < length placed.now
+        → All DoesFit judged.items
+        → AreMany judge.old.refuses judge.old.board (behind judged.items)
+            (1 + places_of judge.old places.old.left)) }
     ensures errors { IfErr result (λ e. e ≡ Memory) }
 {
     let mut judged = Vec::new(alloc);
@@ -85,6 +90,11 @@ fn judge_one(
     ensures differs { (entries : List Shown) → Knows judge.old entries
         → IfOk result (λ o. IfSome o (λ verdict. ¬ (Fits (finding_of entry.now verdict))
         → ¬ (HasLegalHistory judge.old.refuses judge.old.board (entry.now ∷ entries)))) }
+    ensures full { (entries : List Shown) → Knows judge.old entries → result ≡ Ok None
+        → AreMany judge.old.refuses judge.old.board entries
+            (1 + places_of judge.old places.old.left) }
+    ensures places { OnOk result (places_of judge.new places.new.left
+        ≡ places_of judge.old places.old.left) }
     ensures board { judge.new.board ≡ judge.old.board }
     ensures refuses { judge.new.refuses ≡ judge.old.refuses }
     ensures text { places.new.text ≡ places.old.text }

@@ -1,10 +1,10 @@
 //! The places of a judge, which are made as they are needed.
-ghost use Rattle.std.specs.Prelude.{◌≡◌, List, IfOk, IfErr};
+ghost use Rattle.std.specs.Prelude.{◌≡◌, List, IfOk, IfErr, OnOk};
 ghost use Rattle.scmi_core.specs.declared.core_error.CoreError.TheVariants.{Memory};
 ghost use Rattle.scmi_judge.specs.Judging.{Knows};
 ghost use Rattle.scmi_judge.specs.declared.entry.Entry.{Entry as Shown};
 ghost use Rattle.scmi_check.specs.Check.{IsPlanText};
-ghost use Rattle.scmi_check.specs.Judged.{IsJudged};
+ghost use Rattle.scmi_check.specs.Judged.{IsJudged, places_of};
 
 use crate::check::plan_of;
 use scmi_core::CoreError;
@@ -32,7 +32,10 @@ impl Places<'_> {
     ) -> Result<Option<Verdict>, CoreError>
         requires { IsPlanText self.old.text.now judge.old.board }
         ensures judged { (entries : List Shown) → Knows judge.old entries
-            → IfOk result (IsJudged judge.old.refuses judge.old.board judge.new entries entry.now) }
+            → IfOk result (IsJudged judge.old.refuses judge.old.board judge.new entries entry.now
+            (places_of judge.old self.old.left)) }
+        ensures places { OnOk result (places_of judge.new self.new.left
+            ≡ places_of judge.old self.old.left) }
         ensures board { judge.new.board ≡ judge.old.board }
         ensures refuses { judge.new.refuses ≡ judge.old.refuses }
         ensures text { self.new.text ≡ self.old.text }
@@ -40,7 +43,10 @@ impl Places<'_> {
     {
         'places: loop {
             let judged = judge.judge(entry)?;
-            if judged.is_some() || self.left == 0 {
+            if judged.is_some() {
+                return Ok(judged);
+            }
+            if self.left == 0 {
                 return Ok(judged);
             }
             self.left -= 1;
@@ -53,6 +59,7 @@ impl Places<'_> {
 fn add_place(alloc: Global, judge: &mut Judge, text: &[u8]) -> Result<(), CoreError>
     requires { IsPlanText text.now judge.old.board }
     ensures knows { (entries : List Shown) → Knows judge.old entries → Knows judge.new entries }
+    ensures place { OnOk result (places_of judge.new 0 ≡ places_of judge.old 1) }
     ensures board { judge.new.board ≡ judge.old.board }
     ensures refuses { judge.new.refuses ≡ judge.old.refuses }
     ensures errors { IfErr result (λ e. e ≡ Memory) }

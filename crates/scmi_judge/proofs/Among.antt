@@ -10,7 +10,7 @@ use Rattle.scmi_core.specs.Legal.{IsLegal}
 use Rattle.scmi_core.proofs.Legal.{IsLegal-front, IsLegal-last}
 use Rattle.scmi_judge.specs.Behind.{Behind}
 use Rattle.scmi_judge.specs.Exact.{AreClosed, AreTried, EndsShown, HaveGrown, HaveKept, IsKept, IsTried, IsTriedAbove, IsTriedWhole}
-use Rattle.scmi_judge.specs.Guess.{CannotCome, GoesOn, IsAmong, IsGuess, IsReal, IsSameGuess}
+use Rattle.scmi_judge.specs.Guess.{CannotCome, GoesOn, IsAmong, IsGuess, IsReal}
 use Rattle.scmi_judge.specs.declared.entry.Entry.{Entry}
 use Rattle.scmi_judge.specs.declared.guess.Guess.{Guess}
 use Rattle.scmi_judge.specs.declared.unseen.Refusals.{Refusals}
@@ -33,7 +33,7 @@ get-either [] ys k x is = inr (k, is)
 get-either (y ∷ xs) ys zero x is = inl is
 get-either (y ∷ xs) ys (suc k) x is = get-either xs ys k x is
 
-get-one : {X : Type 0} (y : X) (k : ℕ) (x : X) → slice_get (y ∷ []) k ≡ Some x → y ≡ x
+pub get-one : {X : Type 0} (y : X) (k : ℕ) (x : X) → slice_get (y ∷ []) k ≡ Some x → y ≡ x
 get-one y zero x is = ap (λ o. unwrap_or o y) is
 get-one y (suc k) x is = absurd (let no : None ≡ Some x = is in cc)
 

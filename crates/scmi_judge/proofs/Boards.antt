@@ -1,5 +1,5 @@
 -- Guesses stay platforms of their board.
-use Rattle.std.proofs.Common.{◌≡◌, ℕ, ◌<◌, Bool, true, false, List, [], ◌∷◌, ◌++◌, length, get_or, Some, if◌then◌else◌, refl, sym, ap, ◌∙◌, subst}
+use Rattle.std.proofs.Common.{◌≡◌, ℕ, ◌<◌, Bool, true, false, List, [], ◌∷◌, ◌++◌, length, get_or, Some, if◌then◌else◌, sym, ap, ◌∙◌, subst}
 use Rattle.std.proofs.lemmas.List.Elements.{All-get_or, All-pop, All-push}
 use Rattle.scmi_plan.specs.Board.{Board}
 use Rattle.scmi_judge.specs.Exact.{IsOfBoard}
@@ -23,3 +23,20 @@ keep-again a b c first second = record { boards = λ board of. second.boards boa
 -- of whatever board all are, a guess of their board is
 pub of-their : (old : Guesses) (g : Guess) → (board : Board) × AreOfBoard board old × (g.platform.board ≡ board) → (board : Board) → AreOfBoard board old → g.platform.board ≡ board
 of-their old g one board of = one.2 ∙ sym one.1.made ∙ of.made
+
+-- what is made from a guess of their board is of it
+pub keep-made : (old new : Guesses) (g copy made : Guess) → (board : Board) × AreOfBoard board old × (g.platform.board ≡ board) → copy ≡ g → made.platform.board ≡ copy.platform.board
+    → KeepBoard (record old { made = made }) new → KeepBoard old new
+keep-made old new g copy made one same is keeps =
+    record {
+      boards = λ board of.
+          keeps.boards board
+          (record {
+            left = of.left;
+            tried = of.tried;
+            others = of.others;
+            spare = of.spare;
+            made = is ∙ ap (λ (x : Guess). x.platform.board) same ∙ of-their old g one board of;
+          });
+      refuses = keeps.refuses;
+    }

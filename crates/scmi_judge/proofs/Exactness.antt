@@ -1,6 +1,5 @@
 -- What an exact set of platforms says of one more entry.
 use Rattle.std.proofs.Common.{◌≡◌, ◌≢◌, ◌⊎◌, inl, inr, List, [], ◌∷◌, ◌++◌, Some, refl, sym, ap, ◌∙◌, subst}
-use Rattle.std.specs.List.{All}
 use Rattle.std.proofs.lemmas.List.{append_assoc}
 use Rattle.std.proofs.lemmas.List.Elements.{All-cons, All-head, All-nil, All-pop, All-push}
 use Rattle.scmi_plan.specs.Board.{Board}
@@ -9,7 +8,7 @@ use Rattle.scmi_core.specs.Legal.{IsLegal}
 use Rattle.scmi_core.proofs.Legal.{IsLegal-front}
 use Rattle.scmi_judge.specs.Behind.{Behind, Fits, HasLegalHistory}
 use Rattle.scmi_judge.specs.Exact.{AreClosed, AreExact, AreGiven, EndsShown, HaveGiven, HaveKept}
-use Rattle.scmi_judge.specs.Guess.{CanShow, Gives, GivesNot, IsAmong, IsGuess, IsReal, IsSameGuess}
+use Rattle.scmi_judge.specs.Guess.{CanShow, Gives, GivesNot, IsAmong, IsGuess, IsReal}
 use Rattle.scmi_judge.specs.declared.entry.Entry.{Entry}
 use Rattle.scmi_judge.specs.declared.guess.Guess.{Guess}
 use Rattle.scmi_judge.specs.declared.unseen.Refusals.{Refusals}

@@ -1,16 +1,7 @@
-pub mod Agents
 pub mod Alike
 pub mod Among
 pub mod Answering
 pub mod Boards
-pub mod Changes
-pub mod Corrections
-pub mod Ending
+pub mod Different
 pub mod Exactness
-pub mod Examples
 pub mod Guessing
-pub mod Histories
-pub mod Laws
-pub mod PlainRecords
-pub mod Records
-pub mod Verdicts

@@ -11,7 +11,7 @@ use Rattle.scmi_core.specs.History.{answer_to, deeds, delivered_messages}
 use Rattle.scmi_core.specs.Legal.{IsLegal}
 use Rattle.scmi_core.specs.Pending.{pending_sets}
 use Rattle.scmi_core.specs.Reply.{failed_answer}
-use Rattle.scmi_judge.specs.Law.{message_shown}
+use Rattle.scmi_judge.specs.Shown.{message_shown}
 use Rattle.scmi_judge.specs.declared.entry.Entry.{Entry}
 use Rattle.scmi_judge.specs.declared.entry.Entry.TheVariants as entry
 use Rattle.scmi_judge.specs.declared.unseen.Refusals.{Refusals}

@@ -1,8 +1,8 @@
 -- What contracts see of a judge of a record.
-use Rattle.std.specs.Prelude.{◌≡◌, Bool, true, List, []}
+use Rattle.std.specs.Prelude.{◌≡◌, ◌+◌, Bool, true, List, [], length}
 use Rattle.scmi_plan.specs.Board.{Board}
 use Rattle.scmi_judge.specs.Exact.{AreExact}
-use Rattle.scmi_judge.specs.Guesses.{HaveBoard}
+use Rattle.scmi_judge.specs.Guesses.{AreDifferent, AreMany, HaveBoard}
 use Rattle.scmi_judge.specs.declared.entry.Entry.{Entry}
 use Rattle.scmi_judge.specs.declared.guess.Guess.{Guess}
 use Rattle.scmi_judge.specs.declared.guesses.Guesses.{Guesses}
@@ -17,12 +17,18 @@ pub record Judging : Type 0 where
   pub spare : List Guess
   pub sure : Bool
 
--- a judge that still judges has exactly the platforms that may be behind these entries, newest first
+-- a judge that still judges has exactly the platforms that may be behind these entries, newest first, and each once
 pub record Knows (j : Judging) (entries : List Entry) : Type 0 where
   pub sure : j.sure ≡ true
   pub exact : AreExact j.refuses j.board entries j.guesses
+  pub different : AreDifferent j.guesses
 
--- guesses are of one board; and none is tried yet, if the judge still judges
+-- there are more different platforms that may be behind these entries than a judge has places
+abbrev pub AreTooMany : Judging → List Entry → Type 0
+AreTooMany j entries = AreMany j.refuses j.board entries (1 + length j.guesses + length j.spare)
+
+-- guesses are of one board; and all are left, if the judge still judges
 pub record IsReady (sure : Bool) (g : Guesses) : Type 0 where
   pub boards : HaveBoard g
-  pub none : sure ≡ true → g.tried.items ≡ []
+  pub tried : sure ≡ true → g.tried.items ≡ []
+  pub others : sure ≡ true → g.others.items ≡ []

@@ -1,13 +1,8 @@
 pub mod Behind
-pub mod Correction
 pub mod Exact
 pub mod Guess
 pub mod Guesses
 pub mod Judging
-pub mod Kept
-pub mod Law
-pub mod Record
 pub mod Same
+pub mod Shown
 pub mod Unseen
-pub mod Verdict
-pub mod Whole

@@ -1,6 +1,6 @@
 //! What was due at an entry that differs.
 ghost use Rattle.std.specs.Prelude.{◌≡◌, ◌≢◌, OnOk};
-ghost use Rattle.scmi_judge.specs.Guesses.{HaveBoard, KeepBoard};
+ghost use Rattle.scmi_judge.specs.Guesses.{HaveBoard, KeepBoard, all_places};
 ghost use Rattle.scmi_judge.specs.declared.verdict.Verdict.TheVariants.{Same};
 
 use crate::entry::Entry;
@@ -18,6 +18,7 @@ impl Guesses {
         ensures differs { result ≢ Same }
         ensures keeps { KeepBoard self.old self.new }
         ensures tried { self.new.tried ≡ self.old.tried }
+        ensures places { all_places self.new ≡ all_places self.old }
     {
         match entry {
             Entry::Answered { agent, frame, .. } => self.due_answer(*agent, frame),
@@ -30,6 +31,7 @@ impl Guesses {
         ensures differs { result ≢ Same }
         ensures keeps { KeepBoard self.old self.new }
         ensures tried { self.new.tried ≡ self.old.tried }
+        ensures places { all_places self.new ≡ all_places self.old }
     {
         if let Some(guess) = self.others.last() {
             self.made.copy_from(guess);

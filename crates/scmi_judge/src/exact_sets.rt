@@ -22,11 +22,11 @@ pub fn every_exact_set()
         (guesses all left : List Guess) → AreExact refuses board entries guesses
         → HaveKept refuses guesses all → AreClosed refuses all
         → HaveGiven refuses all entry left → AreExact refuses board (entry ∷ entries) left }
-    ensures right { (refuses : Refusals) (board : Board) (entries : List Entry) (guesses : List Guess)
-        → AreExact refuses board entries guesses → guesses ≢ []
+    ensures right { (refuses : Refusals) (board : Board) (entries : List Entry)
+        (guesses : List Guess) → AreExact refuses board entries guesses → guesses ≢ []
         → HasLegalHistory refuses board entries }
-    ensures wrong { (refuses : Refusals) (board : Board) (entries : List Entry) (guesses : List Guess)
-        → AreExact refuses board entries guesses → guesses ≡ []
+    ensures wrong { (refuses : Refusals) (board : Board) (entries : List Entry)
+        (guesses : List Guess) → AreExact refuses board entries guesses → guesses ≡ []
         → ¬ (HasLegalHistory refuses board entries) }
 {
     // Nothing to do: the clauses hold of every set.

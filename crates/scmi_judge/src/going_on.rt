@@ -1,27 +1,33 @@
 //! How a judge goes on after an entry that differs. Nothing is promised of the guesses from there
 //! on but that they are of the board.
-ghost use Rattle.std.specs.Prelude.{◌≡◌, [], IfErr, OnOk};
+ghost use Rattle.std.specs.Prelude.{◌≡◌, ◌+◌, [], IfErr, OnOk};
 ghost use Rattle.scmi_plan.specs.Board.{Board};
-ghost use Rattle.scmi_judge.specs.Guesses.{AreOfBoard, HaveBoard, KeepBoard};
+ghost use Rattle.scmi_judge.specs.Exact.{IsOfBoard};
+ghost use Rattle.scmi_judge.specs.Guesses.{AreOfBoard, HaveBoard, KeepBoard, all_places, places};
 
 use crate::entry::Entry;
 use crate::guess::Guess;
 use crate::guesses::{Guesses, has};
-use crate::refusals::has_succeeded;
-use crate::set_shown::set_shown;
+use crate::shown::{has_succeeded, set_shown};
 use crate::stop::Stop;
 use scmi_codec::{Answer, Frame, Message};
 use scmi_core::{Effect, Platform};
 
+/// The most guesses that are left after an entry that differs. Nothing is promised from there on,
+/// and each guess costs a step of every later entry.
+const GOING_ON: usize = 8;
+
 impl Guesses {
-    /// Leaves what the others may be after an entry that none of them gives: those that executed
-    /// the command, or have the value that the entry shows, or took the message that was due, as
-    /// far as places are free; and all as they are.
+    /// Leaves what the others may be after an entry that none of them gives, from those on that
+    /// have moved on least, until as many are left as may go on: one that executed the command, or
+    /// took the message that was due; one that has the value that the entry shows; and the guess as
+    /// it is. The other places are free again.
     pub fn go_on(&mut self, entry: &Entry) -> Result<(), Stop>
         requires boards { HaveBoard self.old }
         ensures keeps { KeepBoard self.old self.new }
         ensures others { OnOk result (self.new.others.items ≡ []) }
         ensures tried { self.new.tried ≡ self.old.tried }
+        ensures places { OnOk result (places self.new ≡ all_places self.old) }
         ensures memory { IfErr result (λ stop. stop ≡ Stop.Memory) }
     {
         'each: while let Some(guess) = self.others.pop() {
@@ -31,15 +37,19 @@ impl Guesses {
         Ok(())
     }
 
-    /// Leaves what one of the others may be after the entry.
+    /// Leaves what one of the others may be after the entry, if more may go on.
     fn go_on_from(&mut self, guess: &Guess, entry: &Entry) -> Result<(), Stop>
         requires boards { (board : Board) × AreOfBoard board self.old
             × (guess.now.platform.board ≡ board) }
         ensures keeps { KeepBoard self.old self.new }
         ensures tried { self.new.tried ≡ self.old.tried }
+        ensures places { OnOk result (places self.new ≡ places self.old) }
         ensures others { self.new.others ≡ self.old.others }
         ensures memory { IfErr result (λ stop. stop ≡ Stop.Memory) }
     {
+        if self.left.len() >= GOING_ON {
+            return Ok(());
+        }
         self.made.copy_from(guess);
         self.made.pass(entry);
         self.keep_new()?;
@@ -48,41 +58,47 @@ impl Guesses {
         self.keep_new()
     }
 
-    /// The guess that was made is left, if it is not left yet and a place is free.
+    /// The guess that was made is left, if it may go on and a place is free for another.
     fn keep_new(&mut self) -> Result<(), Stop>
         requires boards { HaveBoard self.old }
         ensures keeps { KeepBoard self.old self.new }
         ensures tried { self.new.tried ≡ self.old.tried }
+        ensures places { OnOk result (places self.new ≡ places self.old) }
         ensures others { self.new.others ≡ self.old.others }
         ensures memory { IfErr result (λ stop. stop ≡ Stop.Memory) }
     {
-        if has(&self.left, &self.made) {
+        if self.spare.is_empty() || !self.may_go_on(&self.made) {
             return Ok(());
         }
-        match self.keep_made() {
-            Err(Stop::Full) => Ok(()),
-            kept => kept,
-        }
+        self.keep_made()
     }
 
-    /// A guess is left, if it is not left yet.
+    /// A guess is left, if it may go on, or else its place is free.
     fn put(&mut self, guess: Guess) -> Result<(), Stop>
         requires boards { (board : Board) × AreOfBoard board self.old
             × (guess.platform.board ≡ board) }
         ensures keeps { KeepBoard self.old self.new }
         ensures tried { self.new.tried ≡ self.old.tried }
+        ensures places { OnOk result (places self.new ≡ 1 + places self.old) }
         ensures others { self.new.others ≡ self.old.others }
         ensures memory { IfErr result (λ stop. stop ≡ Stop.Memory) }
     {
-        let pushed = if has(&self.left, &guess) {
-            self.spare.push(guess)
-        } else {
+        let pushed = if self.may_go_on(&guess) {
             self.left.push(guess)
+        } else {
+            self.spare.push(guess)
         };
         let Ok(()) = pushed else {
             return Err(Stop::Memory);
         };
         Ok(())
+    }
+
+    /// Whether a guess may go on: fewer are left than may, and it is not left yet.
+    fn may_go_on(&self, guess: &Guess) -> bool
+        requires boards { IsOfBoard guess.now.platform.board self.now.left.items }
+    {
+        self.left.len() < GOING_ON && !has(&self.left, guess)
     }
 }
 

@@ -14,8 +14,8 @@ ghost use Rattle.scmi_judge.specs.declared.unseen.Refusals.{Refusals as Refused}
 ghost use Rattle.scmi_core.specs.declared.event.Event.TheVariants.{AdvanceFailed, Command, Sent};
 
 use crate::entry::Entry;
-use crate::refusals::has_succeeded;
 use crate::same::{is_same_answer, is_same_message};
+use crate::shown::has_succeeded;
 use crate::unseen::{Refusals, Step};
 use scmi_codec::{Answer, Frame, Message};
 use scmi_core::{Answered, Platform};
@@ -53,7 +53,7 @@ impl Guess {
     /// Whether another guess of this board is the same.
     pub fn is_same(&self, other: &Guess) -> bool
         requires { self.now.platform.board ≡ other.now.platform.board }
-        ensures { result ≡ true → self.now ≡ other.now }
+        ensures { (result ≡ true) ↔ (self.now ≡ other.now) }
     {
         self.platform.is_same(&other.platform) && self.posted == other.posted
     }
@@ -95,7 +95,8 @@ impl Guess {
         ensures agent { result ≡ true → IsAgent (length self.now.platform.board.agents) agent }
         ensures few { result ≡ true → agent ≤ MOST }
         ensures empty { result ≡ true → posted_to self.now agent ≡ None }
-        ensures cannot { result ≡ false → (refuses : Refused) → CannotCome refuses self.now (Sent agent) }
+        ensures cannot { result ≡ false → (refuses : Refused)
+            → CannotCome refuses self.now (Sent agent) }
     {
         if !self.has_agent(agent) || self.platform.first(agent).is_none() {
             return false;

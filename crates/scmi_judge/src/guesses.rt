@@ -1,7 +1,7 @@
 //! The platforms that may be behind a record, one beside the other.
-ghost use Rattle.std.specs.Prelude.{◌≡◌, ℕ, ◌+◌, ◌∷◌, ◌++◌, [], length, true, OnOk, IfErr};
+ghost use Rattle.std.specs.Prelude.{◌≡◌, ◌↔◌, ℕ, ◌+◌, ◌∷◌, ◌++◌, [], length, true, OnOk, IfErr};
 ghost use Rattle.scmi_judge.specs.Exact.{AreClosed, HaveGiven, HaveGrown, HaveKept, IsOfBoard, IsTried, IsTriedAbove, IsTriedWhole};
-ghost use Rattle.scmi_judge.specs.Guesses.{AreOfBoard, HaveBoard, IsGiven, IsIn, KeepBoard, places};
+ghost use Rattle.scmi_judge.specs.Guesses.{AreDifferent, AreOfBoard, FindsMany, HaveBoard, IsGiven, IsIn, KeepBoard, StayFound, all_places, places};
 ghost use Rattle.scmi_judge.specs.Unseen.{event_of};
 ghost use Rattle.scmi_plan.specs.Board.{Board};
 
@@ -14,7 +14,8 @@ use std::mem;
 /// Guesses of one board, in places that are there from the start.
 #[derive(Debug, Drop)]
 pub(crate) struct Guesses {
-    // Those of which it is still to be tried what they move on to. Between two entries these are all.
+    // Those of which it is still to be tried what they move on to. Between two entries these are
+    // all.
     pub left: Vec<Guess>,
     // Those of which it was tried.
     pub tried: Vec<Guess>,
@@ -37,9 +38,11 @@ impl Guesses {
             (HaveKept self.old.refuses self.old.left.items self.new.tried.items) }
         ensures closed { OnOk result (AreClosed self.old.refuses self.new.tried.items) }
         ensures left { OnOk result (self.new.left.items ≡ []) }
+        ensures places { OnOk result (places self.new ≡ places self.old) }
         ensures keeps { KeepBoard self.old self.new }
         ensures others { self.new.others ≡ self.old.others }
-        ensures full { IfErr result (λ stop. stop ≡ Stop.Full → self.new.spare.items ≡ []) }
+        ensures full { IfErr result (λ stop. stop ≡ Stop.Full
+            → FindsMany self.old.refuses [] self.old.left.items (1 + places self.old)) }
     {
         'each: while let Some(guess) = self.left.pop() {
             self.try_steps(&guess)?;
@@ -58,11 +61,15 @@ impl Guesses {
             (self.old.tried.items ++ self.new.left.items)) }
         ensures grown { OnOk result
             (HaveGrown self.old.refuses guess.now self.old.left.items self.new.left.items) }
+        ensures found { OnOk result (StayFound self.old.refuses guess.now
+            self.old.tried.items self.old.left.items self.new.left.items) }
         ensures places { OnOk result (places self.new ≡ places self.old) }
         ensures keeps { KeepBoard self.old self.new }
         ensures tried { self.new.tried ≡ self.old.tried }
         ensures others { self.new.others ≡ self.old.others }
-        ensures full { IfErr result (λ stop. stop ≡ Stop.Full → self.new.spare.items ≡ []) }
+        ensures full { IfErr result (λ stop. stop ≡ Stop.Full
+            → FindsMany self.old.refuses (self.old.tried.items ++ guess.now ∷ [])
+            self.old.left.items (2 + places self.old)) }
     {
         self.try_step(guess, Step::Complete)?;
         self.try_step(guess, Step::Refuse)?;
@@ -78,11 +85,15 @@ impl Guesses {
             (self.old.tried.items ++ self.new.left.items)) }
         ensures grown { OnOk result
             (HaveGrown self.old.refuses guess.now self.old.left.items self.new.left.items) }
+        ensures found { OnOk result (StayFound self.old.refuses guess.now
+            self.old.tried.items self.old.left.items self.new.left.items) }
         ensures places { OnOk result (places self.new ≡ places self.old) }
         ensures keeps { KeepBoard self.old self.new }
         ensures tried { self.new.tried ≡ self.old.tried }
         ensures others { self.new.others ≡ self.old.others }
-        ensures full { IfErr result (λ stop. stop ≡ Stop.Full → self.new.spare.items ≡ []) }
+        ensures full { IfErr result (λ stop. stop ≡ Stop.Full
+            → FindsMany self.old.refuses (self.old.tried.items ++ guess.now ∷ [])
+            self.old.left.items (2 + places self.old)) }
     {
         let mut agent = guess.platform.agents();
         'agents: while agent > 0 {
@@ -100,11 +111,15 @@ impl Guesses {
             (self.old.tried.items ++ self.new.left.items)) }
         ensures grown { OnOk result
             (HaveGrown self.old.refuses guess.now self.old.left.items self.new.left.items) }
+        ensures found { OnOk result (StayFound self.old.refuses guess.now
+            self.old.tried.items self.old.left.items self.new.left.items) }
         ensures places { OnOk result (places self.new ≡ places self.old) }
         ensures keeps { KeepBoard self.old self.new }
         ensures tried { self.new.tried ≡ self.old.tried }
         ensures others { self.new.others ≡ self.old.others }
-        ensures full { IfErr result (λ stop. stop ≡ Stop.Full → self.new.spare.items ≡ []) }
+        ensures full { IfErr result (λ stop. stop ≡ Stop.Full
+            → FindsMany self.old.refuses (self.old.tried.items ++ guess.now ∷ [])
+            self.old.left.items (2 + places self.old)) }
     {
         if !guess.can_come(step, self.refuses) {
             return Ok(());
@@ -132,7 +147,7 @@ impl Guesses {
         ensures keeps { KeepBoard self.old self.new }
         ensures tried { self.new.tried ≡ self.old.tried }
         ensures others { self.new.others ≡ self.old.others }
-        ensures full { IfErr result (λ stop. stop ≡ Stop.Full → self.new.spare.items ≡ []) }
+        ensures full { IfErr result (λ stop. stop ≡ Stop.Full → self.old.spare.items ≡ []) }
     {
         let Some(place) = self.spare.pop() else {
             return Err(Stop::Full);
@@ -165,7 +180,9 @@ impl Guesses {
         requires none { self.old.left.items ≡ [] }
         ensures given { OnOk result
             (HaveGiven self.old.refuses self.old.tried.items entry.now self.new.left.items) }
+        ensures different { OnOk result (AreDifferent self.new.left.items) }
         ensures tried { OnOk result (self.new.tried.items ≡ []) }
+        ensures places { OnOk result (all_places self.new ≡ all_places self.old) }
         ensures keeps { KeepBoard self.old self.new }
         ensures memory { IfErr result (λ stop. stop ≡ Stop.Memory) }
     {
@@ -181,6 +198,9 @@ impl Guesses {
             × (guess.platform.board ≡ board) }
         ensures given { OnOk result (IsGiven self.old.refuses guess entry.now
             self.old.left.items self.new.left.items) }
+        ensures different { OnOk result
+            (AreDifferent self.old.left.items → AreDifferent self.new.left.items) }
+        ensures places { OnOk result (all_places self.new ≡ 1 + all_places self.old) }
         ensures keeps { KeepBoard self.old self.new }
         ensures tried { self.new.tried ≡ self.old.tried }
         ensures memory { IfErr result (λ stop. stop ≡ Stop.Memory) }
@@ -199,6 +219,7 @@ impl Guesses {
     pub fn free_others(&mut self) -> Result<(), Stop>
         requires boards { HaveBoard self.old }
         ensures none { OnOk result (self.new.others.items ≡ []) }
+        ensures places { OnOk result (places self.new ≡ all_places self.old) }
         ensures keeps { KeepBoard self.old self.new }
         ensures left { self.new.left ≡ self.old.left }
         ensures tried { self.new.tried ≡ self.old.tried }
@@ -216,7 +237,7 @@ impl Guesses {
 /// Whether a guess is among others of its board.
 pub(crate) fn has(guesses: &[Guess], guess: &Guess) -> bool
     requires { IsOfBoard guess.now.platform.board guesses.now }
-    ensures { result ≡ true → IsIn guess.now guesses.now }
+    ensures { (result ≡ true) ↔ IsIn guess.now guesses.now }
 {
     'each: for one in guesses {
         if one.is_same(guess) {

@@ -1,73 +1,48 @@
-//! The judging of one entry, by a controller of the definitions.
-ghost use Rattle.std.specs.Prelude.{◌≡◌, ◌<◌, ◌++◌, IsOk, IfOk, OnOk, OnErr, IfErr};
-ghost use Rattle.scmi_judge.specs.Kept.{GoesOnLegally, IsOutOfMemory};
-ghost use Rattle.scmi_judge.specs.Record.{events_of};
-ghost use Rattle.scmi_judge.specs.Verdict.{verdict_of};
-ghost use Rattle.scmi_judge.specs.declared.entry.Entry.TheVariants.{Answered, Delivered};
+//! The judging of an entry by all platforms that may be behind those before it.
+ghost use Rattle.std.specs.Prelude.{◌≡◌, ◌≢◌, ◌+◌, ◌∷◌, [], List, IfOk, IfErr, OnOk};
+ghost use Rattle.scmi_plan.specs.Board.{Board};
+ghost use Rattle.scmi_judge.specs.Exact.{AreExact};
+ghost use Rattle.scmi_judge.specs.Guesses.{AreDifferent, FindsMany, HaveBoard, KeepBoard, places};
+ghost use Rattle.scmi_judge.specs.declared.entry.Entry.{Entry as Shown};
+ghost use Rattle.scmi_judge.specs.declared.verdict.Verdict.TheVariants.{Same};
 
-use crate::endings::{end_for, has_agent};
-use crate::refusals::{is_refusal, judge_refusal};
+use crate::entry::Entry;
+use crate::guesses::Guesses;
+use crate::stop::Stop;
 use crate::verdict::Verdict;
-use scmi_codec::{Answer, Frame, Message};
-use scmi_core::{Core, CoreError};
 
-/// Judges the answer that a record shows to a command, and executes the command, unless the answer
-/// shows that the hardware refused the change that it was to make.
-pub(crate) fn judge_answer(
-    core: &mut Core,
-    agent: u32,
-    frame: &Frame,
-    answer: &Answer,
-) -> Result<Verdict, CoreError>
-    ensures verdict { IfOk result (λ verdict. verdict
-        ≡ verdict_of core.old.board core.old.history (Answered agent frame.now answer.now)) }
-    ensures event { OnOk result (core.new.history ≡ core.old.history
-        ++ events_of core.old.board core.old.history (Answered agent frame.now answer.now)) }
-    ensures goes { GoesOnLegally core.old core.new }
-    ensures errors { IfErr result IsOutOfMemory }
-    ensures memory { 0 < core.old.room → IsOk result }
-    ensures err { OnErr result (core.new ≡ core.old) }
-{
-    if !has_agent(core, agent) {
-        return Ok(Verdict::NoAgent);
+impl Guesses {
+    /// Judges the next entry: leaves what gives it, or goes on if nothing does.
+    pub fn judge(&mut self, entry: &Entry) -> Result<Verdict, Stop>
+        requires boards { HaveBoard self.old }
+        requires tried { self.old.tried.items ≡ [] }
+        requires others { self.old.others.items ≡ [] }
+        ensures exact { (board : Board) (entries : List Shown)
+            → AreExact self.old.refuses board entries self.old.left.items
+            → IfOk result (λ verdict. verdict ≡ Same
+            → AreExact self.old.refuses board (entry.now ∷ entries) self.new.left.items) }
+        ensures different { IfOk result (λ verdict. verdict ≡ Same
+            → AreDifferent self.new.left.items) }
+        ensures some { IfOk result (λ verdict. verdict ≡ Same → self.new.left.items ≢ []) }
+        ensures lost { (board : Board) (entries : List Shown)
+            → AreExact self.old.refuses board entries self.old.left.items
+            → IfOk result (λ verdict. verdict ≢ Same
+            → AreExact self.old.refuses board (entry.now ∷ entries) []) }
+        ensures tried { OnOk result (self.new.tried.items ≡ []) }
+        ensures others { OnOk result (self.new.others.items ≡ []) }
+        ensures places { OnOk result (places self.new ≡ places self.old) }
+        ensures keeps { KeepBoard self.old self.new }
+        ensures full { IfErr result (λ stop. stop ≡ Stop.Full
+            → FindsMany self.old.refuses [] self.old.left.items (1 + places self.old)) }
+    {
+        self.close()?;
+        self.give(entry)?;
+        if !self.left.is_empty() {
+            self.free_others()?;
+            return Ok(Verdict::Same);
+        }
+        let due = self.due(entry);
+        self.go_on(entry)?;
+        Ok(due)
     }
-    if is_refusal(core, agent, frame, answer) {
-        return judge_refusal(core, agent, frame, answer);
-    }
-    let due = core.command(agent, frame)?;
-    Ok(Verdict::on_answer(due, answer))
-}
-
-/// Judges a message that a record shows an agent took, and takes the one that was due.
-pub(crate) fn judge_message(
-    core: &mut Core,
-    agent: u32,
-    message: &Message,
-) -> Result<Verdict, CoreError>
-    ensures verdict { IfOk result (λ verdict. verdict
-        ≡ verdict_of core.old.board core.old.history (Delivered agent message.now)) }
-    ensures event { OnOk result (core.new.history ≡ core.old.history
-        ++ events_of core.old.board core.old.history (Delivered agent message.now)) }
-    ensures goes { GoesOnLegally core.old core.new }
-    ensures errors { IfErr result IsOutOfMemory }
-    ensures again { OnErr result
-        (verdict_of core.new.board core.new.history (Delivered agent message.now)
-        ≡ verdict_of core.old.board core.old.history (Delivered agent message.now)) }
-    ensures left { OnErr result
-        (core.new.history
-        ++ events_of core.new.board core.new.history (Delivered agent message.now)
-        ≡ core.old.history
-        ++ events_of core.old.board core.old.history (Delivered agent message.now)) }
-{
-    if !has_agent(core, agent) {
-        return Ok(Verdict::NoAgent);
-    }
-    end_for(core, agent, message)?;
-    let Some(due) = core.first(agent) else {
-        return Ok(Verdict::NoMessage);
-    };
-    let verdict = Verdict::on_message(due, message);
-    core.reserve()?;
-    core.mark_sent(agent);
-    Ok(verdict)
 }

@@ -4,9 +4,9 @@ use Rattle.std.proofs.lemmas.List.Elements.{All-pop}
 use Rattle.scmi_judge.specs.Behind.{HasLegalHistory}
 use Rattle.scmi_judge.specs.Judging.{Knows}
 use Rattle.scmi_check.specs.Finding.{Fits, finding_of, judged_as}
-use Rattle.scmi_check.specs.Judged.{AreJudged}
+use Rattle.scmi_check.specs.Judged.{AreJudged, DoesFit, behind, places_of}
 use Rattle.scmi_check.specs.declared.judged.Judged.{Judged}
-use Rattle.scmi_check.proofs.Judging.{DoesFit, behind, judged-more, judged-none, longer, shown}
+use Rattle.scmi_check.proofs.Judging.{judged-more, judged-none, longer, shown}
 use Rattle.scmi_check.proofs.judged.judge_all.Goals as goal
 
 pub each-init : goal.each-init
@@ -15,6 +15,7 @@ each-init c =
       board = refl;
       refuses = refl;
       text = refl;
+      places = refl;
       count = ap length c.new-judged.ensures.items;
       judged = judged-none c.args.judge.now.refuses c.args.judge.now.board c.args.placed.now c.new-judged.result.items c.new-judged.ensures.items;
       knows = λ all. subst (λ js. Knows c.args.judge.now (behind js)) (sym c.new-judged.ensures.items) c.requires.knows;
@@ -48,6 +49,7 @@ each-preserved c =
       board = c.judge_one.ensures.board ∙ before.board;
       refuses = c.judge_one.ensures.refuses ∙ before.refuses;
       text = c.judge_one.ensures.text ∙ before.text;
+      places = c.in_ok-verdict.ensures.places ∙ before.places;
       count = let count = before.count in let items = ap length pushed in omega (arith, more, items, count);
       judged = subst (AreJudged r b placed) (sym pushed) (judged-more r b placed js one v before.judged less is legal differs);
       knows = λ all.

@@ -1,4 +1,4 @@
-use Rattle.std.proofs.Common.{◌≡◌, ◌∙◌, ◌∷◌, [], length, rules, arith}
+use Rattle.std.proofs.Common.{◌≡◌, ◌∷◌, [], length, rules, arith}
 use Rattle.std.proofs.lemmas.Grind.{common_steps}
 use Rattle.scmi_judge.proofs.Guessing.{eight-are}
 use Rattle.scmi_judge.proofs.guess.copy_all.Goals as goal

@@ -1,10 +1,9 @@
-use Rattle.std.proofs.Common.{◌≡◌, ◌≢◌, true, false, List, None, Ok, Err, refl, sym, ◌∙◌, rules}
-use Rattle.scmi_core.specs.declared.core_error.CoreError.TheVariants.{Nothing}
+use Rattle.std.proofs.Common.{◌≡◌, ◌≢◌, true, false, List, None, refl, sym, ◌∙◌, rules}
 use Rattle.scmi_core.specs.declared.event.Event.{Event}
 use Rattle.scmi_core.specs.declared.event.Event.TheVariants.{Command}
 use Rattle.scmi_core.specs.Effect.{effect_after}
 use Rattle.scmi_core.specs.Standing.{StandsAfter}
-use Rattle.scmi_judge.proofs.Answering.{done-not-failed, failed-not-done}
+use Rattle.scmi_judge.proofs.Answering.{failed-not-done}
 use Rattle.scmi_judge.proofs.Guessing.{gives-failed, other-answer}
 use Rattle.scmi_judge.proofs.guess.Guess.answer.Goals as goal
 

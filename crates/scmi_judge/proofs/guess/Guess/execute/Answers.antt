@@ -1,5 +1,4 @@
-use Rattle.std.proofs.Common.{◌≡◌, Ok, refl, sym, ap, ◌∙◌}
-use Rattle.scmi_codec.specs.declared.frame.Answer.TheVariants.{Reply, ChannelError}
+use Rattle.std.proofs.Common.{refl, sym, ap, ◌∙◌}
 use Rattle.scmi_core.specs.History.{answer_with}
 use Rattle.scmi_judge.proofs.Guessing.{gives-done}
 use Rattle.scmi_judge.proofs.guess.Guess.execute.Goals as goal

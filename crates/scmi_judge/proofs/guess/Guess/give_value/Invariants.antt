@@ -1,4 +1,4 @@
-use Rattle.std.proofs.Common.{◌≡◌, ◌≤◌, length}
+use Rattle.std.proofs.Common.{◌≡◌}
 use Rattle.scmi_judge.proofs.guess.Guess.give_value.Given as goal
 
 abbrev pub invariant-agents : goal.invariant-agents

@@ -1,11 +1,13 @@
-use Rattle.std.proofs.Common.{◌≡◌, ◌++◌, ◌∷◌, [], List, is_ok, rules, arith, sym, ap, ◌∙◌, subst}
+use Rattle.std.proofs.Common.{◌≡◌, ◌+◌, ◌++◌, ◌∷◌, [], Err, length, is_ok, rules, arith, sym, ap, ◌∙◌, subst}
 use Rattle.std.specs.List.{All}
 use Rattle.std.proofs.lemmas.Grind.{common_steps}
+use Rattle.std.proofs.lemmas.List.{length-append}
 use Rattle.scmi_judge.specs.Exact.{AreTried, HaveGrown, IsKept, IsTriedWhole}
 use Rattle.scmi_judge.specs.Guess.{IsReal}
-use Rattle.scmi_judge.specs.Guesses.{KeepBoard}
+use Rattle.scmi_judge.specs.Guesses.{AreFound, AreMany, FindsMany, KeepBoard, StayFound, places}
 use Rattle.scmi_judge.proofs.Among.{all-kept, kept-moved, real-moved, tried-moved}
 use Rattle.scmi_judge.proofs.Boards.{of-popped, of-pushed}
+use Rattle.scmi_judge.proofs.Different.{found-moved, if-err}
 use Rattle.scmi_judge.proofs.guesses.Guesses.close.Goals as goal
 
 pub try_steps-requires : goal.try_steps-requires
@@ -87,6 +89,16 @@ each-preserved c =
         refuses = from.refuses;
       };
       others = c.try_steps.ensures.others ∙ before.others;
+      places =
+          let popped : length untried ≡ length rest + 1 = ap length are ∙ length-append rest (g ∷ []) in
+          let more : length c.push.new.self.items ≡ length all + 1 = ap length pushed ∙ length-append all (g ∷ []) in
+          let so_far = c.in_ok-try_steps.ensures.places in
+          let same = before.places in
+          let tried = ap (λ v. length v.items) c.try_steps.ensures.tried in
+          omega (arith, popped, more, so_far, same, tried);
+      found = λ board entries found.
+          subst (λ xs. AreFound r board entries xs new) (sym pushed)
+          (subst (λ x. StayFound x g all rest new) before.keeps.refuses c.in_ok-try_steps.ensures.found board entries (found-moved r board entries all untried rest g are (before.found board entries found)));
       kept = subst (λ xs. IsKept r guesses xs new) (sym pushed) (kept-moved r all untried rest new g are grown guesses before.kept);
       tried = subst (λ xs. AreTried r xs new) (sym pushed) (tried-moved r all untried rest new g are grown whole before.tried);
       real = λ board entries real. subst (λ xs. All (IsReal r board entries) xs × All (IsReal r board entries) new) (sym pushed)
@@ -98,3 +110,34 @@ returns-clause-kept c =
     let before = c.each.invariant in
     let none : c.each.self.left.items ≡ [] = first_of (search rules, grind (arith, common_steps)) in
     all-kept c.args.self.now.refuses c.args.self.now.left.items c.each.self.tried.items c.each.self.left.items none before.kept before.real
+
+pub returns-in_err-try_steps-clause-full : goal.returns-in_err-try_steps-clause-full
+returns-in_err-try_steps-clause-full c =
+    let r = c.args.self.now.refuses in
+    let g = c.in-Some.guess in
+    let all = c.each.self.tried.items in
+    let untried = c.each.self.left.items in
+    let rest = c.pop.new.self.items in
+    let before = c.each.invariant in
+    let are = c.in-Some.ensures.items in
+    let count : 2 + (length rest + length all + length c.each.self.spare.items) ≡ 1 + places c.args.self.now =
+    let popped : length untried ≡ length rest + 1 = ap length are ∙ length-append rest (g ∷ []) in let same = before.places in omega (arith, popped, same) in
+    let failed : c.from_residual.result ≡ Err c.in_err-try_steps.field-0.0 = first_of (search rules, grind (arith, common_steps)) in
+    if-err c.from_residual.result c.in_err-try_steps.field-0.0 _ failed
+    (λ full board entries found.
+    subst (λ x. AreMany r board entries x) count
+    (subst (λ x. FindsMany x (all ++ g ∷ []) rest (2 + (length rest + length all + length c.each.self.spare.items))) before.keeps.refuses (c.in_err-try_steps.ensures.full full) board entries
+    (found-moved r board entries all untried rest g are (before.found board entries found))))
+
+pub each-smaller : goal.each-smaller
+each-smaller c =
+    let popped : length c.each.self.left.items ≡ length c.pop.new.self.items + 1 = ap length c.in-Some.ensures.items ∙ length-append c.pop.new.self.items (c.in-Some.guess ∷ []) in
+    let so_far = c.in_ok-try_steps.ensures.places in
+    let tried = ap (λ v. length v.items) c.try_steps.ensures.tried in
+    omega (arith, popped, so_far, tried)
+
+pub returns-clause-places : goal.returns-clause-places
+returns-clause-places c =
+    let none : length c.pop.new.self.items ≡ length c.each.self.left.items = first_of (search rules, grind (arith, common_steps)) in
+    let same = c.each.invariant.places in
+    omega (arith, none, same)

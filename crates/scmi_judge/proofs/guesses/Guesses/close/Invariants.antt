@@ -1,9 +1,9 @@
-use Rattle.std.proofs.Common.{◌≡◌, List}
+use Rattle.std.proofs.Common.{◌≡◌, ◌+◌, List, [], length}
 use Rattle.std.specs.List.{All}
 use Rattle.scmi_plan.specs.Board.{Board}
 use Rattle.scmi_judge.specs.Exact.{AreTried, IsKept}
 use Rattle.scmi_judge.specs.Guess.{IsReal}
-use Rattle.scmi_judge.specs.Guesses.{KeepBoard, places}
+use Rattle.scmi_judge.specs.Guesses.{AreFound, KeepBoard, places}
 use Rattle.scmi_judge.specs.declared.entry.Entry.{Entry}
 use Rattle.scmi_judge.proofs.guesses.Guesses.close.Given as goal
 
@@ -12,6 +12,9 @@ invariant-each l =
     record {
       keeps : KeepBoard l.initial.self l.self;
       others : l.self.others ≡ l.initial.self.others;
+      places : places l.self ≡ places l.initial.self;
+      found : (board : Board) (entries : List Entry) → AreFound l.initial.self.refuses board entries [] l.initial.self.left.items
+          → AreFound l.initial.self.refuses board entries l.self.tried.items l.self.left.items;
       kept : IsKept l.initial.self.refuses l.initial.self.left.items l.self.tried.items l.self.left.items;
       tried : AreTried l.initial.self.refuses l.self.tried.items l.self.left.items;
       real : (board : Board) (entries : List Entry) → All (IsReal l.initial.self.refuses board entries) l.initial.self.left.items
@@ -19,4 +22,4 @@ invariant-each l =
     }
 
 abbrev pub decreases-each : goal.decreases-each
-decreases-each l = places l.self
+decreases-each l = length l.self.left.items + length l.self.spare.items

@@ -1,4 +1,4 @@
-use Rattle.std.proofs.Common.{◌≡◌, ◌-◌, ◌<◌, length, sym, ◌∙◌, subst, arith}
+use Rattle.std.proofs.Common.{◌-◌, length, sym, ◌∙◌, subst, arith}
 use Rattle.scmi_judge.specs.Exact.{IsOfBoard}
 use Rattle.scmi_judge.proofs.Boards.{of-one}
 use Rattle.scmi_judge.proofs.guesses.Guesses.due_answer.Goals as goal

@@ -1,11 +1,12 @@
 use Rattle.std.proofs.Common.{◌≡◌, length}
-use Rattle.scmi_judge.specs.Guesses.{KeepBoard}
+use Rattle.scmi_judge.specs.Guesses.{KeepBoard, all_places}
 use Rattle.scmi_judge.proofs.guesses.Guesses.free_others.Given as goal
 
 abbrev pub invariant-each : goal.invariant-each
 invariant-each l =
     record {
       keeps : KeepBoard l.initial.self l.self;
+      places : all_places l.self ≡ all_places l.initial.self;
       left : l.self.left ≡ l.initial.self.left;
       tried : l.self.tried ≡ l.initial.self.tried;
     }

@@ -1,4 +1,6 @@
-use Rattle.std.proofs.Common.{◌≡◌, sym, ap, ◌∙◌, subst}
+use Rattle.std.proofs.Common.{◌≡◌, ◌+◌, ◌∷◌, [], length, sym, ap, ◌∙◌, subst, rules, arith}
+use Rattle.std.proofs.lemmas.Grind.{common_steps}
+use Rattle.std.proofs.lemmas.List.{length-append}
 use Rattle.scmi_judge.specs.Exact.{AreGiven}
 use Rattle.scmi_judge.specs.Guesses.{IsGiven}
 use Rattle.scmi_judge.proofs.Boards.{of-popped}
@@ -22,6 +24,12 @@ each-preserved c =
             c.give_by.ensures.keeps.boards board (record { left = before.left; tried = both.0; others = before.others; spare = before.spare; made = before.made });
         refuses = c.give_by.ensures.keeps.refuses ∙ c.each.invariant.keeps.refuses;
       };
+      different = c.in_ok-give_by.ensures.different c.each.invariant.different;
+      places =
+          let popped : length c.each.self.tried.items ≡ length c.pop.new.self.items + 1 = ap length c.in-Some.ensures.items ∙ length-append c.pop.new.self.items (c.in-Some.guess ∷ []) in
+          let given = c.in_ok-give_by.ensures.places in
+          let same = c.each.invariant.places in
+          omega (arith, popped, given, same);
       given = subst (λ v. AreGiven c.args.self.now.refuses c.args.self.now.tried.items c.args.entry.now c.give_by.new.self.left.items v.items) (sym c.give_by.ensures.tried)
           (given-step c.args.self.now.refuses c.args.self.now.tried.items c.each.self.left.items c.each.self.tried.items c.pop.new.self.items c.args.entry.now c.in-Some.guess c.each.invariant.given c.in-Some.ensures.items
           c.give_by.new.self.left.items (subst (λ r. IsGiven r c.in-Some.guess c.args.entry.now c.each.self.left.items c.give_by.new.self.left.items) c.each.invariant.keeps.refuses c.in_ok-give_by.ensures.given));
@@ -36,3 +44,12 @@ returns-in_err-give_by-clause-keeps c =
           c.give_by.ensures.keeps.boards board (record { left = before.left; tried = both.0; others = before.others; spare = before.spare; made = before.made });
       refuses = c.give_by.ensures.keeps.refuses ∙ c.each.invariant.keeps.refuses;
     }
+
+pub returns-clause-different : goal.returns-clause-different
+returns-clause-different c = c.each.invariant.different
+
+pub returns-clause-places : goal.returns-clause-places
+returns-clause-places c =
+    let none : length c.pop.new.self.items ≡ length c.each.self.tried.items = first_of (search rules, grind (arith, common_steps)) in
+    let same = c.each.invariant.places in
+    omega (arith, none, same)

@@ -1,6 +1,7 @@
-use Rattle.std.proofs.Common.{◌≡◌, ◌∙◌}
-use Rattle.scmi_plan.specs.Board.{Board}
-use Rattle.scmi_judge.specs.Guesses.{AreOfBoard, KeepBoard}
+use Rattle.std.proofs.Common.{◌≡◌, ◌+◌, ◌∷◌, [], length, ap, ◌∙◌, rules, arith}
+use Rattle.std.proofs.lemmas.Grind.{common_steps}
+use Rattle.std.proofs.lemmas.List.{length-append}
+use Rattle.scmi_judge.specs.Guesses.{KeepBoard}
 use Rattle.scmi_judge.proofs.Boards.{keep-again, of-popped}
 use Rattle.scmi_judge.proofs.guesses.Guesses.go_on.Goals as goal
 
@@ -47,6 +48,13 @@ each-preserved c =
     } in
     record {
       keeps = keep-again c.args.self.now c.go_on_from.new.self c.put.new.self from c.put.ensures.keeps;
+      places =
+          let popped : length c.each.self.others.items ≡ length c.pop.new.self.items + 1 = ap length c.in-Some.ensures.items ∙ length-append c.pop.new.self.items (c.in-Some.guess ∷ []) in
+          let gone = c.in_ok-go_on_from.ensures.places in
+          let put = c.in_ok-put.ensures.places in
+          let same = c.each.invariant.places in
+          let others = ap (λ v. length v.items) (c.put.ensures.others ∙ c.go_on_from.ensures.others) in
+          omega (arith, popped, gone, put, same, others);
       tried = c.put.ensures.tried ∙ c.go_on_from.ensures.tried ∙ c.each.invariant.tried;
     }
 
@@ -61,3 +69,9 @@ returns-in_err-put-clause-keeps c =
       refuses = c.go_on_from.ensures.keeps.refuses ∙ c.each.invariant.keeps.refuses;
     } in
     keep-again c.args.self.now c.go_on_from.new.self c.put.new.self from c.put.ensures.keeps
+
+pub returns-clause-places : goal.returns-clause-places
+returns-clause-places c =
+    let none : length c.each.self.others.items ≡ 0 = first_of (search rules, grind (arith, common_steps)) in
+    let same = c.each.invariant.places in
+    omega (arith, none, same)

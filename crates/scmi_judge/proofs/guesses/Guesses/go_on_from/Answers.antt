@@ -1,4 +1,4 @@
-use Rattle.std.proofs.Common.{◌≡◌, ap, ◌∙◌}
+use Rattle.std.proofs.Common.{ap, ◌∙◌}
 use Rattle.scmi_judge.specs.declared.guess.Guess.{Guess}
 use Rattle.scmi_judge.proofs.Boards.{of-their}
 use Rattle.scmi_judge.proofs.guesses.Guesses.go_on_from.Goals as goal

@@ -1,8 +1,11 @@
-use Rattle.std.proofs.Common.{◌≡◌, ◌<◌, ◌++◌, ◌∙◌, subst, arith}
+use Rattle.std.proofs.Common.{◌≡◌, ◌+◌, ◌<◌, ◌++◌, Err, ap, ◌∙◌, subst, rules, arith}
+use Rattle.std.proofs.lemmas.Grind.{common_steps}
 use Rattle.scmi_core.specs.declared.event.Event.TheVariants.{Sent}
 use Rattle.scmi_judge.specs.Exact.{HaveGrown, IsTried}
 use Rattle.scmi_judge.proofs.Among.{above-later, grown-again, tried-down}
 use Rattle.scmi_judge.proofs.Boards.{keep-again}
+use Rattle.scmi_judge.specs.Guesses.{places}
+use Rattle.scmi_judge.proofs.Different.{finds-later, if-err, stays-found}
 use Rattle.scmi_judge.proofs.guesses.Guesses.try_postings.Goals as goal
 
 pub agents-preserved : goal.agents-preserved
@@ -22,5 +25,16 @@ agents-preserved c =
       others = c.try_step.ensures.others ∙ before.others;
       places = c.in_ok-try_step.ensures.places ∙ before.places;
       grown = grown-again r g c.args.self.now.left.items c.agents.self.left.items new before.grown grown;
+      found = stays-found r c.agents.self.refuses g all c.agents.self.tried.items c.args.self.now.left.items c.agents.self.left.items new before.keeps.refuses (ap (λ v. v.items) before.tried) before.found
+          c.in_ok-try_step.ensures.found;
       posts = tried-down r g c.agents.agent (all ++ new) some tried (above-later r g g c.agents.agent all c.agents.self.left.items new grown before.posts);
     }
+
+pub returns-in_err-try_step-clause-full : goal.returns-in_err-try_step-clause-full
+returns-in_err-try_step-clause-full c =
+    let before = c.agents.invariant in
+    let failed : c.from_residual.result ≡ Err c.in_err-try_step.field-0.0 = first_of (search rules, grind (arith, common_steps)) in
+    if-err c.from_residual.result c.in_err-try_step.field-0.0 _ failed
+    (λ full.
+    finds-later c.args.self.now.refuses c.agents.self.refuses c.args.guess.now c.args.self.now.tried.items c.agents.self.tried.items c.args.self.now.left.items c.agents.self.left.items
+    (2 + places c.args.self.now) (2 + places c.agents.self) before.keeps.refuses (ap (λ v. v.items) before.tried) (ap (λ n. 2 + n) before.places) before.found (c.in_err-try_step.ensures.full full))

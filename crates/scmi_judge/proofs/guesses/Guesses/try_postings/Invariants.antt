@@ -1,6 +1,6 @@
-use Rattle.std.proofs.Common.{◌≡◌, ◌≤◌, ◌++◌, length}
+use Rattle.std.proofs.Common.{◌≡◌, ◌++◌}
 use Rattle.scmi_judge.specs.Exact.{HaveGrown, IsTriedAbove}
-use Rattle.scmi_judge.specs.Guesses.{KeepBoard, places}
+use Rattle.scmi_judge.specs.Guesses.{KeepBoard, StayFound, places}
 use Rattle.scmi_judge.proofs.guesses.Guesses.try_postings.Given as goal
 
 abbrev pub invariant-agents : goal.invariant-agents
@@ -11,6 +11,7 @@ invariant-agents l =
       others : l.self.others ≡ l.initial.self.others;
       places : places l.self ≡ places l.initial.self;
       grown : HaveGrown l.initial.self.refuses l.guess l.initial.self.left.items l.self.left.items;
+      found : StayFound l.initial.self.refuses l.guess l.initial.self.tried.items l.initial.self.left.items l.self.left.items;
       posts : IsTriedAbove l.initial.self.refuses l.guess l.agent (l.initial.self.tried.items ++ l.self.left.items);
     }
 

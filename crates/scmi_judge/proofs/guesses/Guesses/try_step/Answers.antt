@@ -1,22 +1,26 @@
-use Rattle.std.proofs.Common.{◌≡◌, ◌++◌, true, sym, ap, ◌∙◌, subst, rules}
-use Rattle.scmi_judge.specs.Guesses.{IsIn}
+use Rattle.std.proofs.Common.{◌≡◌, ◌+◌, ◌++◌, ◌∷◌, [], Err, true, sym, subst, rules, arith}
+use Rattle.std.specs.Prelude.{IfErr}
+use Rattle.std.proofs.lemmas.Grind.{common_steps}
+use Rattle.scmi_judge.specs.Guess.{GoesOn}
+use Rattle.scmi_judge.specs.Guesses.{FindsMany, IsIn, places}
 use Rattle.scmi_judge.specs.Unseen.{event_of}
-use Rattle.scmi_judge.specs.declared.guess.Guess.{Guess}
+use Rattle.scmi_judge.specs.declared.stop.Stop.TheVariants.{Full}
 use Rattle.scmi_judge.proofs.Among.{in-back, in-front, in-last, tried-there}
-use Rattle.scmi_judge.proofs.Boards.{of-their}
+use Rattle.scmi_judge.proofs.Boards.{keep-made}
+use Rattle.scmi_judge.proofs.Different.{absent, step-found, step-many}
 use Rattle.scmi_judge.proofs.guesses.Guesses.try_step.Goals as goal
 
 pub returns-then-has-clause-moves : goal.returns-then-has-clause-moves
 returns-then-has-clause-moves c =
     let did : c.make.result ≡ true = search rules in
     tried-there c.args.self.now.refuses c.args.guess.now c.copy_from.new.self c.make.new.self (event_of c.args.step) _ c.copy_from.ensures (c.make.ensures.goes did)
-    (in-front c.make.new.self c.args.self.now.tried.items c.args.self.now.left.items (subst (IsIn c.make.new.self) c.deref.ensures.value (c.has.ensures c.if-has.true)))
+    (in-front c.make.new.self c.args.self.now.tried.items c.args.self.now.left.items (subst (IsIn c.make.new.self) c.deref.ensures.value (c.has.ensures.0 c.if-has.true)))
 
 pub returns-then-has-2-clause-moves : goal.returns-then-has-2-clause-moves
 returns-then-has-2-clause-moves c =
     let did : c.make.result ≡ true = search rules in
     tried-there c.args.self.now.refuses c.args.guess.now c.copy_from.new.self c.make.new.self (event_of c.args.step) _ c.copy_from.ensures (c.make.ensures.goes did)
-    (in-back c.make.new.self c.args.self.now.tried.items c.args.self.now.left.items (subst (IsIn c.make.new.self) c.deref-2.ensures.value (c.has-2.ensures c.if-has-2.true)))
+    (in-back c.make.new.self c.args.self.now.tried.items c.args.self.now.left.items (subst (IsIn c.make.new.self) c.deref-2.ensures.value (c.has-2.ensures.0 c.if-has-2.true)))
 
 pub returns-clause-moves : goal.returns-clause-moves
 returns-clause-moves c =
@@ -27,15 +31,31 @@ returns-clause-moves c =
 
 pub returns-clause-keeps : goal.returns-clause-keeps
 returns-clause-keeps c =
-    record {
-      boards = λ board of.
-          c.keep_made.ensures.keeps.boards board
-          (record {
-            left = of.left;
-            tried = of.tried;
-            others = of.others;
-            spare = of.spare;
-            made = c.make.ensures.board ∙ ap (λ (g : Guess). g.platform.board) c.copy_from.ensures ∙ of-their c.args.self.now c.args.guess.now c.requires.boards board of;
-          });
-      refuses = c.keep_made.ensures.keeps.refuses;
-    }
+    keep-made c.args.self.now _ c.args.guess.now c.copy_from.new.self c.make.new.self c.requires.boards c.copy_from.ensures c.make.ensures.board c.keep_made.ensures.keeps
+
+pub returns-in_err-keep_made-clause-keeps : goal.returns-in_err-keep_made-clause-keeps
+returns-in_err-keep_made-clause-keeps c =
+    keep-made c.args.self.now _ c.args.guess.now c.copy_from.new.self c.make.new.self c.requires.boards c.copy_from.ensures c.make.ensures.board c.keep_made.ensures.keeps
+
+pub returns-clause-found : goal.returns-clause-found
+returns-clause-found c board entries found =
+    let did : c.make.result ≡ true = search rules in
+    let made = c.make.new.self in
+    let goes = subst (λ x. GoesOn c.args.self.now.refuses x (event_of c.args.step) made) c.copy_from.ensures (c.make.ensures.goes did) in
+    let untried = absent c.args.self.now.tried.items _ made c.has.result c.deref.ensures.value c.has.ensures c.if-has.false in
+    let unleft = absent c.args.self.now.left.items _ made c.has-2.result c.deref-2.ensures.value c.has-2.ensures c.if-has-2.false in
+    step-found c.args.self.now.refuses c.args.guess.now made c.args.step goes _ _ untried unleft board entries found _ c.in_ok-keep_made.ensures.kept
+
+pub returns-in_err-keep_made-clause-full : goal.returns-in_err-keep_made-clause-full
+returns-in_err-keep_made-clause-full c =
+    let did : c.make.result ≡ true = search rules in
+    let made = c.make.new.self in
+    let goes = subst (λ x. GoesOn c.args.self.now.refuses x (event_of c.args.step) made) c.copy_from.ensures (c.make.ensures.goes did) in
+    let untried = absent c.args.self.now.tried.items _ made c.has.result c.deref.ensures.value c.has.ensures c.if-has.false in
+    let unleft = absent c.args.self.now.left.items _ made c.has-2.result c.deref-2.ensures.value c.has-2.ensures c.if-has-2.false in
+    let failed : c.from_residual.result ≡ Err c.in_err-keep_made.field-0.0 = first_of (search rules, grind (arith, common_steps)) in
+    subst (λ r. IfErr r (λ stop. stop ≡ Full → FindsMany c.args.self.now.refuses (c.args.self.now.tried.items ++ c.args.guess.now ∷ []) c.args.self.now.left.items (2 + places c.args.self.now))) (sym failed)
+    (λ full board entries found.
+    let none = c.in_err-keep_made.ensures.full full in
+    step-many c.args.self.now.refuses c.args.guess.now made c.args.step goes _ _ untried unleft board entries found (2 + places c.args.self.now)
+    (rw none (omega arith)))

@@ -1,9 +1,48 @@
-use Rattle.std.proofs.Common.{rules}
-use Rattle.scmi_judge.proofs.Verdicts.{same_in}
+use Rattle.std.proofs.Common.{◌≡◌, ◌+◌, ◌∷◌, [], length, refl, ap, sym, ◌∙◌, subst, arith}
+use Rattle.scmi_judge.specs.Behind.{HasLegalHistory}
+use Rattle.scmi_judge.specs.Exact.{AreExact}
+use Rattle.scmi_judge.specs.Guesses.{AreMany, places}
+use Rattle.scmi_judge.specs.Judging.{AreTooMany, Judging, Knows}
+use Rattle.scmi_judge.proofs.Different.{found-start}
+use Rattle.scmi_judge.proofs.Exactness.{none-wrong, some-right}
 use Rattle.scmi_judge.proofs.judge.Judge.judge.Goals as goal
 
-pub returns-in-Answered-clause-same : goal.returns-in-Answered-clause-same
-returns-in-Answered-clause-same c = same_in c.args.self.now.board c.args.self.now.history c.args.entry.now c.judge_answer.result (search rules)
+pub returns-in-Ok-clause-same : goal.returns-in-Ok-clause-same
+returns-in-Ok-clause-same c entries knows same =
+    let inside = c.self.inside.guesses in
+    let before = subst (λ (j : Judging). Knows j entries) (sym c.self.view_is) knows in
+    let exact = c.in-Ok.ensures.exact inside.made.platform.board entries before.exact same in
+    subst (λ (j : Judging). HasLegalHistory j.refuses j.board (c.args.entry.now ∷ entries)) c.self.view_is
+    (some-right inside.refuses inside.made.platform.board (c.args.entry.now ∷ entries) c.judge.new.self.left.items exact (c.in-Ok.ensures.some same))
 
-pub returns-in-Delivered-clause-same : goal.returns-in-Delivered-clause-same
-returns-in-Delivered-clause-same c = same_in c.args.self.now.board c.args.self.now.history c.args.entry.now c.judge_message.result (search rules)
+pub returns-in-Ok-clause-differs : goal.returns-in-Ok-clause-differs
+returns-in-Ok-clause-differs c entries knows differs =
+    let inside = c.self.inside.guesses in
+    let before = subst (λ (j : Judging). Knows j entries) (sym c.self.view_is) knows in
+    let exact = c.in-Ok.ensures.lost inside.made.platform.board entries before.exact differs in
+    subst (λ (j : Judging). ¬ (HasLegalHistory j.refuses j.board (c.args.entry.now ∷ entries))) c.self.view_is
+    (none-wrong inside.refuses inside.made.platform.board (c.args.entry.now ∷ entries) [] exact refl)
+
+pub returns-in-Ok-clause-knows : goal.returns-in-Ok-clause-knows
+returns-in-Ok-clause-knows c entries knows same =
+    let inside = c.self.inside.guesses in
+    let before = subst (λ (j : Judging). Knows j entries) (sym c.self.view_is) knows in
+    let exact = c.in-Ok.ensures.exact inside.made.platform.board entries before.exact same in
+    let boards = c.self.invariant.boards in
+    let board = (c.judge.ensures.keeps.boards boards.0 boards.1).made ∙ sym boards.1.made in
+    record {
+      sure = refl;
+      exact = subst (λ r. AreExact r c.judge.new.self.made.platform.board (c.args.entry.now ∷ entries) c.judge.new.self.left.items) (sym c.judge.ensures.keeps.refuses)
+          (subst (λ b. AreExact inside.refuses b (c.args.entry.now ∷ entries) c.judge.new.self.left.items) (sym board) exact);
+      different = c.in-Ok.ensures.different same;
+    }
+
+pub returns-in-Err-Full-clause-unsure : goal.returns-in-Err-Full-clause-unsure
+returns-in-Err-Full-clause-unsure c entries knows full =
+    let inside = c.self.inside.guesses in
+    let before = subst (λ (j : Judging). Knows j entries) (sym c.self.view_is) knows in
+    let none : length inside.tried.items ≡ 0 = ap length (c.self.invariant.tried before.sure) in
+    let count : 1 + places inside ≡ 1 + length inside.left.items + length inside.spare.items = omega (arith, none) in
+    let many = c.in-Err-Full.ensures.full c.in-Err-Full.field-0-is inside.made.platform.board entries
+    (found-start inside.refuses inside.made.platform.board entries inside.left.items before.exact.real before.different) in
+    subst (λ (j : Judging). AreTooMany j entries) c.self.view_is (subst (AreMany inside.refuses inside.made.platform.board entries) count many)
