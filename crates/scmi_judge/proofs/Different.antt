@@ -1,11 +1,11 @@
 -- Guesses of which no two are the same.
-use Rattle.std.proofs.Common.{◌≡◌, ◌≢◌, ◌↔◌, ◌⊎◌, inl, inr, Bool, true, false, ℕ, ◌+◌, ◌-◌, ◌<◌, ◌≤◌, List, [], ◌∷◌, ◌++◌, length, get_or, slice_get, drop, Some, None, refl, sym, ap, ◌∙◌, subst, arith}
+use Rattle.std.proofs.Common.{◌≡◌, ◌≢◌, ◌↔◌, ◌⊎◌, inl, inr, Bool, true, false, ℕ, ◌+◌, ◌-◌, ◌<◌, ◌≤◌, List, [], ◌∷◌, ◌++◌, length, get_or, slice_get, drop, reverse, suc, Some, None, refl, sym, ap, ◌∙◌, subst, arith}
 use Rattle.std.specs.List.{All}
 use Rattle.std.specs.Prelude.{Result, Ok, Err, IfErr, OnOk}
 use Rattle.std.specs.Option.{option_to_list}
 use Rattle.std.proofs.lemmas.Bool.{cases_lt}
-use Rattle.std.proofs.lemmas.List.{get_or_append_left, get_or-append_right, length-append, length-drop}
-use Rattle.std.proofs.lemmas.List.Elements.{All-append, All-nil, All-pop, All-push}
+use Rattle.std.proofs.lemmas.List.{append_assoc, get_or_append_left, get_or-append_right, length-append, length-drop, reverse-append}
+use Rattle.std.proofs.lemmas.List.Elements.{All-append, All-head, All-nil, All-pop, All-push}
 use Rattle.std.proofs.lemmas.List.Quantifiers.{all_pairs_push}
 use Rattle.std.proofs.lemmas.Option.{get_or_from_slice_get, slice_get-get_or, slice_get_within}
 use Rattle.std.proofs.Math.Seq.{get_or-append_seam}
@@ -33,6 +33,19 @@ use Rattle.scmi_judge.proofs.Among.{get-either, get-one, in-front, in-last, move
 
 at-place : (xs : List Guess) (k : ℕ) (d : Guess) → k < length xs → IsIn (get_or xs k d) xs
 at-place xs k d within = (k, slice_get-get_or xs k d within)
+
+-- the last of some guesses moved behind others, of which the first is the last then
+pub moved-behind : (left rest others : List Guess) (g : Guess) → others ≡ rest ++ g ∷ [] → (left ++ g ∷ []) ++ reverse rest ≡ left ++ reverse others
+moved-behind left rest others g are =
+    append_assoc left (g ∷ []) (reverse rest) ∙ ap (λ xs. left ++ xs) (sym (reverse-append rest (g ∷ []))) ∙ ap (λ xs. left ++ reverse xs) (sym are)
+
+-- guesses are as real in the other order
+pub real-reversed : (refuses : Refusals) (board : Board) (entries : List Entry) (guesses : List Guess) → All (IsReal refuses board entries) guesses → All (IsReal refuses board entries) (reverse guesses)
+real-reversed refuses board entries [] real = real
+real-reversed refuses board entries (g ∷ gs) real =
+    subst (All (IsReal refuses board entries)) (sym (reverse-append (g ∷ []) gs))
+    (All-push (IsReal refuses board entries) (reverse gs) g (real-reversed refuses board entries gs (λ k d less. real (suc k) d (omega (arith, less))))
+    (All-head (IsReal refuses board entries) g gs real))
 
 different-none : AreDifferent []
 different-none i j d less within = absurd (omega (arith, within))

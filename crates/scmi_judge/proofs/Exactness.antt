@@ -117,6 +117,12 @@ exact-start refuses board g guess =
       all = λ h legal none. (0, g, refl, subst (IsGuess refuses board g []) (sym none) guess);
     }
 
+-- with what they move on to
+pub exact-kept : (refuses : Refusals) (board : Board) (entries : List Entry) (guesses all : List Guess) → AreExact refuses board entries guesses → HaveKept refuses guesses all
+    → AreExact refuses board entries all
+exact-kept refuses board entries guesses all exact expanded =
+    record { real = expanded.real board entries exact.real; all = λ h legal ends. expanded.kept board entries h (exact.all h legal ends) }
+
 -- after one more entry
 pub exact-more : (refuses : Refusals) (board : Board) (entries : List Entry) (entry : Entry) (guesses all left : List Guess) → AreExact refuses board entries guesses
     → HaveKept refuses guesses all → AreClosed refuses all → HaveGiven refuses all entry left → AreExact refuses board (entry ∷ entries) left

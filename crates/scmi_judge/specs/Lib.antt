@@ -1,4 +1,5 @@
 pub mod Behind
+pub mod Due
 pub mod Exact
 pub mod Guess
 pub mod Guesses

@@ -1,6 +1,12 @@
 //! What was due at an entry that differs.
-ghost use Rattle.std.specs.Prelude.{◌≡◌, ◌≢◌, OnOk};
+ghost use Rattle.std.specs.Prelude.{◌≡◌, ◌≢◌, ◌∷◌, List, IfSome};
+ghost use Rattle.std.specs.List.{All};
+ghost use Rattle.scmi_plan.specs.Board.{Board};
+ghost use Rattle.scmi_judge.specs.Behind.{HasLegalHistory};
+ghost use Rattle.scmi_judge.specs.Due.{IsDue, in_place};
+ghost use Rattle.scmi_judge.specs.Guess.{IsReal};
 ghost use Rattle.scmi_judge.specs.Guesses.{HaveBoard, KeepBoard, all_places};
+ghost use Rattle.scmi_judge.specs.declared.entry.Entry.{Entry as Shown};
 ghost use Rattle.scmi_judge.specs.declared.verdict.Verdict.TheVariants.{Same};
 
 use crate::entry::Entry;
@@ -11,14 +17,44 @@ use scmi_codec::{Answer, Frame, Message};
 use scmi_core::Answered;
 
 impl Guesses {
-    /// What was due, by the guess that has moved on least: the answer that it gives, or the message
-    /// that is in the channel of one of the others, the first of them that has one.
+    /// What was due in place of an entry that none of the others gives: what the last of them gives
+    /// that gives one of its kind.
     pub fn due(&mut self, entry: &Entry) -> Verdict
         requires boards { HaveBoard self.old }
         ensures differs { result ≢ Same }
+        ensures right { (board : Board) (entries : List Shown)
+            → All (IsReal self.old.refuses board entries) self.old.others.items
+            → IsDue result entry.now (λ due. HasLegalHistory self.old.refuses board (due ∷ entries)) }
         ensures keeps { KeepBoard self.old self.new }
+        ensures left { self.new.left ≡ self.old.left }
         ensures tried { self.new.tried ≡ self.old.tried }
+        ensures others { self.new.others ≡ self.old.others }
         ensures places { all_places self.new ≡ all_places self.old }
+    {
+        let mut place = self.others.len();
+        'others: while place > 0 {
+            place -= 1;
+            self.made.copy_from(&self.others[place]);
+            if let Some(due) = self.made.due(entry) {
+                self.made.copy_from(&self.others[place]);
+                if self.made.show(&in_place(entry, &due)) {
+                    return due;
+                }
+            }
+        }
+        match entry {
+            Entry::Delivered { agent, .. } if self.made.has_agent(*agent) => Verdict::NoMessage,
+            _ => Verdict::NoAgent,
+        }
+    }
+}
+
+impl Guess {
+    /// The answer or the message that it may give in place of that of an entry. It may be any of
+    /// its board then.
+    fn due(&mut self, entry: &Entry) -> Option<Verdict>
+        ensures differs { IfSome result (λ due. due ≢ Same) }
+        ensures board { self.new.platform.board ≡ self.old.platform.board }
     {
         match entry {
             Entry::Answered { agent, frame, .. } => self.due_answer(*agent, frame),
@@ -26,47 +62,45 @@ impl Guesses {
         }
     }
 
-    fn due_answer(&mut self, agent: u32, frame: &Frame) -> Verdict
-        requires boards { HaveBoard self.old }
-        ensures differs { result ≢ Same }
-        ensures keeps { KeepBoard self.old self.new }
-        ensures tried { self.new.tried ≡ self.old.tried }
-        ensures places { all_places self.new ≡ all_places self.old }
+    fn due_answer(&mut self, agent: u32, frame: &Frame) -> Option<Verdict>
+        ensures differs { IfSome result (λ due. due ≢ Same) }
+        ensures board { self.new.platform.board ≡ self.old.platform.board }
     {
-        if let Some(guess) = self.others.last() {
-            self.made.copy_from(guess);
-        }
         let mut reply = Message::default();
-        match self.made.platform.command(agent, frame, &mut reply) {
-            Ok(Answered::Reply) => Verdict::Answer(Answer::Reply(reply)),
-            Ok(Answered::ChannelError) => Verdict::Answer(Answer::ChannelError),
-            Err(_) => Verdict::NoAgent,
+        match self.platform.command(agent, frame, &mut reply) {
+            Ok(Answered::Reply) => Some(Verdict::Answer(Answer::Reply(reply))),
+            Ok(Answered::ChannelError) => Some(Verdict::Answer(Answer::ChannelError)),
+            Err(_) => None,
         }
     }
 
-    fn due_message(&self, agent: u32) -> Verdict
-        ensures { result ≢ Same }
+    fn due_message(&self, agent: u32) -> Option<Verdict>
+        ensures { IfSome result (λ due. due ≢ Same) }
     {
-        if !self.made.has_agent(agent) {
-            return Verdict::NoAgent;
+        if !self.has_agent(agent) {
+            return None;
         }
-        let mut due = Verdict::NoMessage;
-        'each: for guess in &self.others {
-            if let Some(message) = message_to(guess, agent) {
-                due = Verdict::Message(message);
-            }
+        match &self.posted[agent as usize - 1] {
+            Some(message) => Some(Verdict::Message(message.copy())),
+            None => None,
         }
-        due
     }
 }
 
-/// The message in the channel to an agent.
-fn message_to(guess: &Guess, agent: u32) -> Option<Message> {
-    if !guess.has_agent(agent) {
-        return None;
-    }
-    match &guess.posted[agent as usize - 1] {
-        Some(message) => Some(message.copy()),
-        None => None,
+/// An entry with the answer or the message that a verdict says was due.
+pub fn in_place(entry: &Entry, verdict: &Verdict) -> Entry
+    ensures { result ≡ in_place entry.now verdict.now }
+{
+    match (entry, verdict) {
+        (Entry::Answered { agent, frame, .. }, Verdict::Answer(due)) => Entry::Answered {
+            agent: *agent,
+            frame: frame.copy(),
+            answer: due.copy(),
+        },
+        (Entry::Delivered { agent, .. }, Verdict::Message(due)) => Entry::Delivered {
+            agent: *agent,
+            message: due.copy(),
+        },
+        _ => entry.copy(),
     }
 }

@@ -12,12 +12,28 @@ use crate::shown::{has_succeeded, set_shown};
 use crate::stop::Stop;
 use scmi_codec::{Answer, Frame, Message};
 use scmi_core::{Effect, Platform};
+use std::mem;
 
 /// The most guesses that are left after an entry that differs. Nothing is promised from there on,
 /// and each guess costs a step of every later entry.
 const GOING_ON: usize = 8;
 
 impl Guesses {
+    /// Passes over an entry that none of the guesses gives.
+    pub fn pass_over(&mut self, entry: &Entry) -> Result<(), Stop>
+        requires boards { HaveBoard self.old }
+        requires tried { self.old.tried.items ≡ [] }
+        requires others { self.old.others.items ≡ [] }
+        ensures keeps { KeepBoard self.old self.new }
+        ensures others { OnOk result (self.new.others.items ≡ []) }
+        ensures tried { OnOk result (self.new.tried.items ≡ []) }
+        ensures places { OnOk result (places self.new ≡ places self.old) }
+        ensures memory { IfErr result (λ stop. stop ≡ Stop.Memory) }
+    {
+        mem::swap(&mut self.left, &mut self.others);
+        self.go_on(entry)
+    }
+
     /// Leaves what the others may be after an entry that none of them gives, from those on that
     /// have moved on least, until as many are left as may go on: one that executed the command, or
     /// took the message that was due; one that has the value that the entry shows; and the guess as

@@ -1,7 +1,8 @@
 //! The platforms that may be behind a record, one beside the other.
-ghost use Rattle.std.specs.Prelude.{◌≡◌, ◌↔◌, ℕ, ◌+◌, ◌∷◌, ◌++◌, [], length, true, OnOk, IfErr};
+ghost use Rattle.std.specs.Prelude.{◌≡◌, ◌↔◌, ℕ, ◌+◌, ◌∷◌, ◌++◌, [], List, length, reverse, true, OnOk, IfErr};
 ghost use Rattle.scmi_judge.specs.Exact.{AreClosed, HaveGiven, HaveGrown, HaveKept, IsOfBoard, IsTried, IsTriedAbove, IsTriedWhole};
-ghost use Rattle.scmi_judge.specs.Guesses.{AreDifferent, AreOfBoard, FindsMany, HaveBoard, IsGiven, IsIn, KeepBoard, StayFound, all_places, places};
+ghost use Rattle.scmi_judge.specs.Guesses.{AreDifferent, AreFound, AreOfBoard, FindsMany, HaveBoard, IsGiven, IsIn, KeepBoard, StayFound, all_places, places};
+ghost use Rattle.scmi_judge.specs.declared.entry.Entry.{Entry as Shown};
 ghost use Rattle.scmi_judge.specs.Unseen.{event_of};
 ghost use Rattle.scmi_plan.specs.Board.{Board};
 
@@ -38,6 +39,9 @@ impl Guesses {
             (HaveKept self.old.refuses self.old.left.items self.new.tried.items) }
         ensures closed { OnOk result (AreClosed self.old.refuses self.new.tried.items) }
         ensures left { OnOk result (self.new.left.items ≡ []) }
+        ensures found { (board : Board) (entries : List Shown)
+            → AreFound self.old.refuses board entries [] self.old.left.items
+            → OnOk result (AreFound self.old.refuses board entries self.new.tried.items []) }
         ensures places { OnOk result (places self.new ≡ places self.old) }
         ensures keeps { KeepBoard self.old self.new }
         ensures others { self.new.others ≡ self.old.others }
@@ -180,6 +184,8 @@ impl Guesses {
         requires none { self.old.left.items ≡ [] }
         ensures given { OnOk result
             (HaveGiven self.old.refuses self.old.tried.items entry.now self.new.left.items) }
+        ensures apart { OnOk result (self.new.left.items ≡ [] → self.new.others.items
+            ≡ self.old.others.items ++ reverse self.old.tried.items) }
         ensures different { OnOk result (AreDifferent self.new.left.items) }
         ensures tried { OnOk result (self.new.tried.items ≡ []) }
         ensures places { OnOk result (all_places self.new ≡ all_places self.old) }
@@ -198,6 +204,8 @@ impl Guesses {
             × (guess.platform.board ≡ board) }
         ensures given { OnOk result (IsGiven self.old.refuses guess entry.now
             self.old.left.items self.new.left.items) }
+        ensures apart { OnOk result (self.new.left.items ≡ [] → (self.old.left.items ≡ [])
+            × (self.new.others.items ≡ self.old.others.items ++ guess ∷ [])) }
         ensures different { OnOk result
             (AreDifferent self.old.left.items → AreDifferent self.new.left.items) }
         ensures places { OnOk result (all_places self.new ≡ 1 + all_places self.old) }
@@ -227,6 +235,25 @@ impl Guesses {
     {
         'each: while let Some(guess) = self.others.pop() {
             let Ok(()) = self.spare.push(guess) else {
+                return Err(Stop::Memory);
+            };
+        }
+        Ok(())
+    }
+
+    /// The others are left again, the last of them first.
+    pub fn keep_others(&mut self) -> Result<(), Stop>
+        requires boards { HaveBoard self.old }
+        ensures left { OnOk result (self.new.left.items
+            ≡ self.old.left.items ++ reverse self.old.others.items) }
+        ensures none { OnOk result (self.new.others.items ≡ []) }
+        ensures places { OnOk result (places self.new ≡ all_places self.old) }
+        ensures keeps { KeepBoard self.old self.new }
+        ensures tried { self.new.tried ≡ self.old.tried }
+        ensures memory { IfErr result (λ stop. stop ≡ Stop.Memory) }
+    {
+        'each: while let Some(guess) = self.others.pop() {
+            let Ok(()) = self.left.push(guess) else {
                 return Err(Stop::Memory);
             };
         }

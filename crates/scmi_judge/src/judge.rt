@@ -1,6 +1,7 @@
 //! The judge of a platform by a record of its channels.
 ghost use Rattle.std.specs.Prelude.{◌≡◌, ◌≢◌, ◌+◌, ◌∷◌, [], List, length, Ok, None, Some, true, false, IfOk, IfSome, IfErr, OnOk};
 ghost use Rattle.scmi_judge.specs.Behind.{HasLegalHistory};
+ghost use Rattle.scmi_judge.specs.Due.{IsDue};
 ghost use Rattle.scmi_judge.specs.Judging.{AreTooMany, Knows};
 ghost use Rattle.scmi_judge.specs.declared.entry.Entry.{Entry as Shown};
 ghost use Rattle.scmi_judge.specs.declared.verdict.Verdict.TheVariants.{Same};
@@ -27,6 +28,7 @@ pub struct Judge {
 }
 
 impl Model for Judge {
+    ghost use Rattle.scmi_judge.specs.Due.{IsDue};
     ghost use Rattle.scmi_judge.specs.Judging.{Judging, IsReady};
 
     ghost Value = { Judging };
@@ -53,6 +55,7 @@ impl Judge {
         refuses: Refusals,
     ) -> Result<Judge, CoreError>
         requires { place ≡ plan }
+        ensures places { IfOk result (λ judge. length judge.guesses + length judge.spare ≡ 1) }
         ensures start { IfOk result (λ judge. Knows judge []) }
         ensures board { IfOk result (λ judge. judge.board ≡ plan) }
         ensures refuses { IfOk result (λ judge. judge.refuses ≡ refuses) }
@@ -79,11 +82,11 @@ impl Judge {
     /// Makes a place for one more platform of the board. `Memory` is the only error.
     pub fn add_place(&mut self, place: Plan) -> Result<(), CoreError>
         requires { place ≡ self.old.board }
+        ensures knows { (entries : List Shown) → Knows self.old entries → Knows self.new entries }
         ensures board { self.new.board ≡ self.old.board }
         ensures refuses { self.new.refuses ≡ self.old.refuses }
-        ensures guesses { self.new.guesses ≡ self.old.guesses }
-        ensures sure { self.new.sure ≡ self.old.sure }
-        ensures place { OnOk result (length self.new.spare ≡ 1 + length self.old.spare) }
+        ensures place { OnOk result (length self.new.guesses + length self.new.spare
+            ≡ 1 + (length self.old.guesses + length self.old.spare)) }
         ensures errors { IfErr result (λ e. e ≡ CoreError.Memory) }
     {
         let Ok(()) = self.guesses.spare.push(Guess::new(place)) else {
@@ -92,10 +95,13 @@ impl Judge {
         Ok(())
     }
 
-    /// Judges the next entry. If the entries so far had a legal history, the verdict is `Same` if
-    /// and only if they have one with this entry. If it is another, the judge goes on, but nothing
-    /// is promised from there on but its places. `None` once more different platforms may be behind
-    /// the entries so far than there are places, and from then on. `Memory` is the only error.
+    /// Judges the next entry. If the entries so far have a legal history, the verdict is `Same` if
+    /// and only if they have one with this entry. After `Same` it is one of the entries so far. After
+    /// another verdict the judge knows what it knew: judge another entry in its place, or `go_on`.
+    /// What the verdict says was due is right in its place.
+    ///
+    /// `None` once more different platforms may be behind the entries so far than there are places,
+    /// and from then on. `Memory` is the only error.
     pub fn judge(&mut self, entry: &Entry) -> Result<Option<Verdict>, CoreError>
         ensures same { (entries : List Shown) → Knows self.old entries
             → IfOk result (λ o. IfSome o (λ verdict. verdict ≡ Same
@@ -106,13 +112,19 @@ impl Judge {
         ensures knows { (entries : List Shown) → Knows self.old entries
             → IfOk result (λ o. IfSome o (λ verdict. verdict ≡ Same
             → Knows self.new (entry.now ∷ entries))) }
+        ensures stays { (entries : List Shown) → Knows self.old entries
+            → IfOk result (λ o. IfSome o (λ verdict. verdict ≢ Same
+            → Knows self.new entries)) }
+        ensures due { (entries : List Shown) → Knows self.old entries
+            → IfOk result (λ o. IfSome o (λ verdict. IsDue verdict entry.now
+            (λ due. HasLegalHistory self.old.refuses self.old.board (due ∷ entries)))) }
         ensures unsure { (entries : List Shown) → Knows self.old entries
             → result ≡ Ok None → AreTooMany self.old entries }
         ensures sure { IfOk result (λ o. IfSome o (λ verdict. self.new.sure ≡ true)) }
         ensures places { IfOk result (λ o. IfSome o (λ verdict.
             length self.new.guesses + length self.new.spare
             ≡ length self.old.guesses + length self.old.spare)) }
-        ensures stays { self.old.sure ≡ false → result ≡ Ok None }
+        ensures ended { self.old.sure ≡ false → result ≡ Ok None }
         ensures board { self.new.board ≡ self.old.board }
         ensures refuses { self.new.refuses ≡ self.old.refuses }
         ensures errors { IfErr result (λ e. e ≡ CoreError.Memory) }
@@ -128,6 +140,28 @@ impl Judge {
             }
             Err(Stop::Full) => Ok(None),
             Err(Stop::Memory) => Err(CoreError::Memory),
+        }
+    }
+
+    /// Passes over an entry that differs, and goes on from what it shows, if that can be. From there
+    /// on nothing is promised but that the places stay. `Memory` is the only error.
+    pub fn go_on(&mut self, entry: &Entry) -> Result<(), CoreError>
+        ensures places { OnOk result (length self.new.guesses + length self.new.spare
+            ≡ length self.old.guesses + length self.old.spare) }
+        ensures board { self.new.board ≡ self.old.board }
+        ensures refuses { self.new.refuses ≡ self.old.refuses }
+        ensures errors { IfErr result (λ e. e ≡ CoreError.Memory) }
+    {
+        if !self.sure {
+            return Ok(());
+        }
+        self.sure = false;
+        match self.guesses.pass_over(entry) {
+            Ok(()) => {
+                self.sure = true;
+                Ok(())
+            }
+            Err(_) => Err(CoreError::Memory),
         }
     }
 }

@@ -1,6 +1,8 @@
 //! The judging of an entry by all platforms that may be behind those before it.
 ghost use Rattle.std.specs.Prelude.{◌≡◌, ◌≢◌, ◌+◌, ◌∷◌, [], List, IfOk, IfErr, OnOk};
 ghost use Rattle.scmi_plan.specs.Board.{Board};
+ghost use Rattle.scmi_judge.specs.Behind.{HasLegalHistory};
+ghost use Rattle.scmi_judge.specs.Due.{IsDue};
 ghost use Rattle.scmi_judge.specs.Exact.{AreExact};
 ghost use Rattle.scmi_judge.specs.Guesses.{AreDifferent, FindsMany, HaveBoard, KeepBoard, places};
 ghost use Rattle.scmi_judge.specs.declared.entry.Entry.{Entry as Shown};
@@ -12,7 +14,8 @@ use crate::stop::Stop;
 use crate::verdict::Verdict;
 
 impl Guesses {
-    /// Judges the next entry: leaves what gives it, or goes on if nothing does.
+    /// Judges the next entry: leaves what gives it, or, if nothing does, what was left before and
+    /// what that moves on to.
     pub fn judge(&mut self, entry: &Entry) -> Result<Verdict, Stop>
         requires boards { HaveBoard self.old }
         requires tried { self.old.tried.items ≡ [] }
@@ -28,6 +31,15 @@ impl Guesses {
             → AreExact self.old.refuses board entries self.old.left.items
             → IfOk result (λ verdict. verdict ≢ Same
             → AreExact self.old.refuses board (entry.now ∷ entries) []) }
+        ensures stays { (board : Board) (entries : List Shown)
+            → AreExact self.old.refuses board entries self.old.left.items
+            → AreDifferent self.old.left.items → IfOk result (λ verdict. verdict ≢ Same
+            → AreExact self.old.refuses board entries self.new.left.items
+            × AreDifferent self.new.left.items) }
+        ensures due { (board : Board) (entries : List Shown)
+            → AreExact self.old.refuses board entries self.old.left.items
+            → IfOk result (λ verdict. IsDue verdict entry.now
+            (λ due. HasLegalHistory self.old.refuses board (due ∷ entries))) }
         ensures tried { OnOk result (self.new.tried.items ≡ []) }
         ensures others { OnOk result (self.new.others.items ≡ []) }
         ensures places { OnOk result (places self.new ≡ places self.old) }
@@ -42,7 +54,7 @@ impl Guesses {
             return Ok(Verdict::Same);
         }
         let due = self.due(entry);
-        self.go_on(entry)?;
+        self.keep_others()?;
         Ok(due)
     }
 }

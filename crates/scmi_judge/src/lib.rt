@@ -20,6 +20,7 @@ mod stop;
 mod unseen;
 mod verdict;
 
+pub use due::in_place;
 pub use entry::Entry;
 pub use exact_sets::every_exact_set;
 pub use judge::Judge;

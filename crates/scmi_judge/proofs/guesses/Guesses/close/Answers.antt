@@ -141,3 +141,8 @@ returns-clause-places c =
     let none : length c.pop.new.self.items ≡ length c.each.self.left.items = first_of (search rules, grind (arith, common_steps)) in
     let same = c.each.invariant.places in
     omega (arith, none, same)
+
+pub returns-clause-found : goal.returns-clause-found
+returns-clause-found c board entries found =
+    let none : c.each.self.left.items ≡ [] = first_of (search rules, grind (arith, common_steps)) in
+    subst (AreFound c.args.self.now.refuses board entries c.each.self.tried.items) none (c.each.invariant.found board entries found)

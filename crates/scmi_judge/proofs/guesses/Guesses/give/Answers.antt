@@ -1,9 +1,10 @@
-use Rattle.std.proofs.Common.{◌≡◌, ◌+◌, ◌∷◌, [], length, sym, ap, ◌∙◌, subst, rules, arith}
+use Rattle.std.proofs.Common.{◌≡◌, ◌+◌, ◌++◌, ◌∷◌, [], length, reverse, sym, ap, ◌∙◌, subst, rules, arith}
 use Rattle.std.proofs.lemmas.Grind.{common_steps}
-use Rattle.std.proofs.lemmas.List.{length-append}
+use Rattle.std.proofs.lemmas.List.{append-nil, length-append}
 use Rattle.scmi_judge.specs.Exact.{AreGiven}
 use Rattle.scmi_judge.specs.Guesses.{IsGiven}
 use Rattle.scmi_judge.proofs.Boards.{of-popped}
+use Rattle.scmi_judge.proofs.Different.{moved-behind}
 use Rattle.scmi_judge.proofs.Exactness.{given-step}
 use Rattle.scmi_judge.proofs.guesses.Guesses.give.Goals as goal
 
@@ -24,6 +25,11 @@ each-preserved c =
             c.give_by.ensures.keeps.boards board (record { left = before.left; tried = both.0; others = before.others; spare = before.spare; made = before.made });
         refuses = c.give_by.ensures.keeps.refuses ∙ c.each.invariant.keeps.refuses;
       };
+      apart = λ none.
+          let both = c.in_ok-give_by.ensures.apart none in
+          ap (λ xs. xs ++ reverse c.give_by.new.self.tried.items) both.1
+          ∙ ap (λ v. (c.each.self.others.items ++ c.in-Some.guess ∷ []) ++ reverse v.items) c.give_by.ensures.tried
+          ∙ moved-behind c.each.self.others.items c.pop.new.self.items c.each.self.tried.items c.in-Some.guess c.in-Some.ensures.items ∙ c.each.invariant.apart both.0;
       different = c.in_ok-give_by.ensures.different c.each.invariant.different;
       places =
           let popped : length c.each.self.tried.items ≡ length c.pop.new.self.items + 1 = ap length c.in-Some.ensures.items ∙ length-append c.pop.new.self.items (c.in-Some.guess ∷ []) in
@@ -53,3 +59,8 @@ returns-clause-places c =
     let none : length c.pop.new.self.items ≡ length c.each.self.tried.items = first_of (search rules, grind (arith, common_steps)) in
     let same = c.each.invariant.places in
     omega (arith, none, same)
+
+pub returns-clause-apart : goal.returns-clause-apart
+returns-clause-apart c none =
+    let empty : c.each.self.tried.items ≡ [] = first_of (search rules, grind (arith, common_steps)) in
+    sym (append-nil c.each.self.others.items) ∙ ap (λ xs. c.each.self.others.items ++ reverse xs) (sym empty) ∙ c.each.invariant.apart none

@@ -1,5 +1,6 @@
 use Rattle.std.proofs.Common.{◌≡◌, ◌+◌, ◌∷◌, [], length, refl, ap, sym, ◌∙◌, subst, arith}
 use Rattle.scmi_judge.specs.Behind.{HasLegalHistory}
+use Rattle.scmi_judge.specs.Due.{IsDue}
 use Rattle.scmi_judge.specs.Exact.{AreExact}
 use Rattle.scmi_judge.specs.Guesses.{AreMany, places}
 use Rattle.scmi_judge.specs.Judging.{AreTooMany, Judging, Knows}
@@ -46,3 +47,24 @@ returns-in-Err-Full-clause-unsure c entries knows full =
     let many = c.in-Err-Full.ensures.full c.in-Err-Full.field-0-is inside.made.platform.board entries
     (found-start inside.refuses inside.made.platform.board entries inside.left.items before.exact.real before.different) in
     subst (λ (j : Judging). AreTooMany j entries) c.self.view_is (subst (AreMany inside.refuses inside.made.platform.board entries) count many)
+
+pub returns-in-Ok-clause-stays : goal.returns-in-Ok-clause-stays
+returns-in-Ok-clause-stays c entries knows other =
+    let inside = c.self.inside.guesses in
+    let before = subst (λ (j : Judging). Knows j entries) (sym c.self.view_is) knows in
+    let both = c.in-Ok.ensures.stays inside.made.platform.board entries before.exact before.different other in
+    let boards = c.self.invariant.boards in
+    let board = (c.judge.ensures.keeps.boards boards.0 boards.1).made ∙ sym boards.1.made in
+    record {
+      sure = refl;
+      exact = subst (λ r. AreExact r c.judge.new.self.made.platform.board entries c.judge.new.self.left.items) (sym c.judge.ensures.keeps.refuses)
+          (subst (λ b. AreExact inside.refuses b entries c.judge.new.self.left.items) (sym board) both.0);
+      different = both.1;
+    }
+
+pub returns-in-Ok-clause-due : goal.returns-in-Ok-clause-due
+returns-in-Ok-clause-due c entries knows =
+    let inside = c.self.inside.guesses in
+    let before = subst (λ (j : Judging). Knows j entries) (sym c.self.view_is) knows in
+    subst (λ (j : Judging). IsDue c.in-Ok.verdict c.args.entry.now (λ due. HasLegalHistory j.refuses j.board (due ∷ entries))) c.self.view_is
+    (c.in-Ok.ensures.due inside.made.platform.board entries before.exact)
