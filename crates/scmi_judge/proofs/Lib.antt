@@ -5,3 +5,4 @@ pub mod Boards
 pub mod Different
 pub mod Exactness
 pub mod Guessing
+pub mod Showing
