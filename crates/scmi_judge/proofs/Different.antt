@@ -181,7 +181,7 @@ finds-later refuses r g tried t left mid count n is are many first second board 
     (subst (λ x. FindsMany x (tried ++ g ∷ []) mid n) is (subst (λ xs. FindsMany r (xs ++ g ∷ []) mid n) are second) board entries (first board entries found))
 
 -- the first of the messages
-first-of : (ms : List Message) → 0 < length ms → (m : Message) × (slice_get ms 0 ≡ Some m)
+pub first-of : (ms : List Message) → 0 < length ms → (m : Message) × (slice_get ms 0 ≡ Some m)
 first-of [] some = absurd (omega (arith, some))
 first-of (m ∷ ms) some = (m, refl)
 

@@ -17,7 +17,7 @@ use Rattle.scmi_judge.proofs.Among.{among-either, among-grown, among-last, among
 use Rattle.scmi_judge.proofs.Guessing.{guess-legal}
 
 -- the first events of a legal history are legal
-legal-front : (board : Board) (h more : List Event) → IsLegal board (h ++ more) → IsLegal board h
+pub legal-front : (board : Board) (h more : List Event) → IsLegal board (h ++ more) → IsLegal board h
 legal-front board h more legal =
     record { each = λ before after event is. legal.each before (after ++ more) event (ap (λ k. k ++ more) is ∙ append_assoc before (event ∷ after) more) }
 

@@ -6,3 +6,4 @@ pub mod Different
 pub mod Dues
 pub mod Exactness
 pub mod Guessing
+pub mod Showing

@@ -1,5 +1,5 @@
 -- The histories that may be behind a record. The entries of a record stand newest first here.
-use Rattle.std.specs.Prelude.{◌≡◌, ◌⊎◌, ℕ, Bool, true, false, List, [], ◌∷◌, ◌++◌, length, reverse, slice_get}
+use Rattle.std.specs.Prelude.{◌≡◌, ◌⊎◌, ℕ, Bool, true, false, List, [], ◌∷◌, ◌++◌, length, reverse, slice_get, Option}
 use Rattle.std.specs.Option.{option_map_or, option_to_list}
 use Rattle.scmi_plan.specs.Agent.{IsAgent}
 use Rattle.scmi_plan.specs.Board.{Board}
@@ -25,6 +25,10 @@ taken_by a (entry ∷ entries) = taken_by a entries ++ option_to_list (message_s
 -- after a history agent a has been seen to take all that was posted to it, so that its channel is empty
 abbrev pub HasEmptyChannel : Board → List Entry → List Event → ℕ → Type 0
 HasEmptyChannel board entries h a = delivered_messages board a h ≡ taken_by a entries
+
+-- after a history agent a has been seen to take all that was posted to it, or all but the last
+abbrev pub HasAtMostOne : Board → List Entry → List Event → ℕ → Type 0
+HasAtMostOne board entries h a = (posted : Option Message) × (delivered_messages board a h ≡ taken_by a entries ++ option_to_list posted)
 
 -- whether a delayed response is wanted to the first set that is pending after a history
 abbrev pub is_first_wanted : Board → List Event → Bool
