@@ -5,12 +5,12 @@ use Rattle.scmi_codec.specs.Header.{is_same_header}
 use Rattle.scmi_codec.specs.declared.frame.Answer.TheVariants.{Reply, Released, ChannelError}
 use Rattle.scmi_codec.specs.declared.frame.Frame.TheVariants.{Good, Malformed}
 use Rattle.scmi_codec.specs.declared.message.Message.{Message}
-use Rattle.scmi_judge.specs.Judging.{IsDue}
+use Rattle.scmi_judge.specs.Due.{IsDue, in_place}
 use Rattle.scmi_judge.specs.declared.entry.Entry.{Entry}
 use Rattle.scmi_judge.specs.declared.entry.Entry.TheVariants.{Answered, Delivered}
 use Rattle.scmi_judge.specs.declared.verdict.Verdict.{Verdict}
 use Rattle.scmi_judge.specs.declared.verdict.Verdict.TheVariants as verdict
-use Rattle.scmi_check.specs.Finding.{Fits, answer_finding, finding_of, judged_as, meant_by, reply_finding}
+use Rattle.scmi_check.specs.Finding.{Fits, answer_finding, finding_of, judged_as, reply_finding}
 use Rattle.scmi_check.specs.Own.{own_rule}
 use Rattle.scmi_check.specs.declared.finding.Finding.{Finding}
 use Rattle.scmi_check.specs.declared.finding.Finding.TheVariants.{Same, Own, Differs}
@@ -33,7 +33,7 @@ fits-or-not Differs = inr (λ none. none)
 -- an entry that differs is judged as it is
 pub as-it-is : (entry : Entry) (v : Verdict) → ¬ (Fits (finding_of entry v)) → judged_as entry v ≡ entry
 as-it-is entry v differs = by (finding_of entry v) differs where
-  by : (f : Finding) → ¬ (Fits f) → elim f [ Same ↦ entry | Own rule ↦ meant_by entry v | Differs ↦ entry ] ≡ entry
+  by : (f : Finding) → ¬ (Fits f) → elim f [ Same ↦ entry | Own rule ↦ in_place entry v | Differs ↦ entry ] ≡ entry
   by Same away = refl
   by (Own rule) away = absurd (away tt)
   by Differs away = refl
@@ -41,15 +41,15 @@ as-it-is entry v differs = by (finding_of entry v) differs where
 -- so is one that is the same
 pub as-same : (entry : Entry) (v : Verdict) → finding_of entry v ≡ Same → judged_as entry v ≡ entry
 as-same entry v is = by (finding_of entry v) is where
-  by : (f : Finding) → f ≡ Same → elim f [ Same ↦ entry | Own rule ↦ meant_by entry v | Differs ↦ entry ] ≡ entry
+  by : (f : Finding) → f ≡ Same → elim f [ Same ↦ entry | Own rule ↦ in_place entry v | Differs ↦ entry ] ≡ entry
   by Same is = refl
   by (Own rule) is = absurd (cc)
   by Differs is = refl
 
 -- one that differs by a rule of the profile's own is judged with the answer that was due
-pub as-meant : (entry : Entry) (v : Verdict) (rule : OwnRule) → finding_of entry v ≡ Own rule → judged_as entry v ≡ meant_by entry v
+pub as-meant : (entry : Entry) (v : Verdict) (rule : OwnRule) → finding_of entry v ≡ Own rule → judged_as entry v ≡ in_place entry v
 as-meant entry v rule is = by (finding_of entry v) is where
-  by : (f : Finding) → f ≡ Own rule → elim f [ Same ↦ entry | Own rule ↦ meant_by entry v | Differs ↦ entry ] ≡ meant_by entry v
+  by : (f : Finding) → f ≡ Own rule → elim f [ Same ↦ entry | Own rule ↦ in_place entry v | Differs ↦ entry ] ≡ in_place entry v
   by Same is = absurd (cc)
   by (Own other) is = refl
   by Differs is = absurd (cc)
@@ -84,7 +84,7 @@ pub other-found : (entry : Entry) (v : Verdict) → finding_of entry v ≢ Same 
 other-found entry v away is = away (subst (λ x. finding_of entry x ≡ Same) (sym is) refl)
 
 -- a reply that differs by a rule of the profile's own has one that was due
-pub own-due : (entry : Entry) (v : Verdict) (rule : OwnRule) (Does : Entry → Type 0) → finding_of entry v ≡ Own rule → IsDue v entry Does → Does (meant_by entry v)
+pub own-due : (entry : Entry) (v : Verdict) (rule : OwnRule) (Does : Entry → Type 0) → finding_of entry v ≡ Own rule → IsDue v entry Does → Does (in_place entry v)
 own-due entry verdict.Same rule Does is due = absurd (cc)
 own-due entry verdict.NoAgent rule Does is due = absurd (cc)
 own-due entry verdict.NoMessage rule Does is due = absurd (cc)

@@ -7,6 +7,7 @@ use Rattle.std.proofs.lemmas.List.Elements.{All-nil, All-pop, All-push}
 use Rattle.scmi_plan.specs.Board.{Board}
 use Rattle.scmi_core.proofs.Laws.{empty_is_legal}
 use Rattle.scmi_judge.specs.Behind.{Behind, HasLegalHistory, IsRight}
+use Rattle.scmi_judge.specs.Due.{IsDue, in_place}
 use Rattle.scmi_judge.specs.Judging.{Judging, Knows}
 use Rattle.scmi_judge.specs.declared.entry.Entry.{Entry}
 use Rattle.scmi_judge.specs.declared.unseen.Refusals.{Refusals}
@@ -14,8 +15,8 @@ use Rattle.scmi_judge.specs.declared.verdict.Verdict.{Verdict}
 use Rattle.scmi_judge.specs.declared.verdict.Verdict.TheVariants as verdict
 use Rattle.scmi_judge.proofs.Exactness.{front-right}
 use Rattle.scmi_judge.proofs.Guessing.{decide}
-use Rattle.scmi_check.specs.Finding.{Fits, finding_of, judged_as, meant_by}
-use Rattle.scmi_check.specs.Judged.{AreJudged, DoesFit, IsJudged, behind, meant, placed_of}
+use Rattle.scmi_check.specs.Finding.{Fits, finding_of, judged_as}
+use Rattle.scmi_check.specs.Judged.{AreJudged, DoesFit, behind, meant, placed_of}
 use Rattle.scmi_check.specs.declared.finding.Finding.TheVariants.{Own}
 use Rattle.scmi_check.specs.declared.own_rule.OwnRule.{OwnRule}
 use Rattle.scmi_check.specs.declared.judged.Judged.{Judged}
@@ -23,30 +24,21 @@ use Rattle.scmi_check.specs.declared.placed.Placed.{Placed}
 use Rattle.scmi_check.proofs.Findings.{as-it-is, as-meant, fits-or-not, other-found, own-due, same-or-not}
 
 -- an entry that differs by a rule of the profile's own, judged again with the answer that was due
-pub judged-again : (refuses : Refusals) (board : Board) (mid new : Judging) (entries : List Entry) (entry given : Entry) (places later : ℕ) (v again : Verdict) (rule : OwnRule)
-    → finding_of entry v ≡ Own rule → given ≡ meant_by entry v → mid.board ≡ board → mid.refuses ≡ refuses → IsJudged refuses board mid entries entry places (Some v)
-    → (Knows mid entries → IsJudged mid.refuses mid.board new entries given later (Some again))
-    → Knows new (judged_as entry v ∷ entries) × HasLegalHistory refuses board (judged_as entry v ∷ entries)
-judged-again refuses board mid new entries entry given places later v again rule found is b r first second =
-    (subst (λ e. Knows new (e ∷ entries)) (sym meant-so) (again-judged.knows same), subst (λ e. HasLegalHistory refuses board (e ∷ entries)) (sym (as-meant entry v rule found)) right) where
-  other : v ≢ verdict.Same
+module _ (refuses : Refusals) (board : Board) (mid new : Judging) (entries : List Entry) (entry given : Entry) (v again : Verdict) (rule : OwnRule)
+    (found : finding_of entry v ≡ Own rule) (is : given ≡ in_place entry v) (b : mid.board ≡ board) (r : mid.refuses ≡ refuses) where
+  pub other : v ≢ verdict.Same
   other = other-found entry v (λ s. absurd (let f = sym found ∙ s in cc))
 
-  again-judged : IsJudged mid.refuses mid.board new entries given later (Some again)
-  again-judged = second (first.stays (λ s. let v-same : v ≡ verdict.Same = (let both = s in cc) in other v-same))
+  pub judged-legal : IsDue v entry (λ due. HasLegalHistory refuses board (due ∷ entries)) → HasLegalHistory refuses board (judged_as entry v ∷ entries)
+  judged-legal due = subst (λ e. HasLegalHistory refuses board (e ∷ entries)) (sym (as-meant entry v rule found)) (own-due entry v rule (λ due. HasLegalHistory refuses board (due ∷ entries)) found due)
 
-  right : HasLegalHistory refuses board (meant_by entry v ∷ entries)
-  right = own-due entry v rule (λ due. HasLegalHistory refuses board (due ∷ entries)) found first.due
-
-  meant-so : judged_as entry v ≡ given
-  meant-so = as-meant entry v rule found ∙ sym is
-
-  same : again ≡ verdict.Same
-  same = by (same-or-not again) where
+  pub judged-knows : IsDue v entry (λ due. HasLegalHistory refuses board (due ∷ entries)) → (again ≢ verdict.Same → ¬ (HasLegalHistory mid.refuses mid.board (given ∷ entries)))
+      → (again ≡ verdict.Same → Knows new (given ∷ entries)) → Knows new (judged_as entry v ∷ entries)
+  judged-knows due differs knows = subst (λ e. Knows new (e ∷ entries)) (sym (as-meant entry v rule found ∙ sym is)) (knows (by (same-or-not again))) where
     by : (again ≡ verdict.Same) ⊎ (again ≢ verdict.Same) → again ≡ verdict.Same
     by (inl here) = here
-    by (inr away) = absurd (again-judged.differs away (subst (λ x. HasLegalHistory x mid.board (given ∷ entries)) (sym r) (subst (λ x. HasLegalHistory refuses x (given ∷ entries)) (sym b)
-        (subst (λ e. HasLegalHistory refuses board (e ∷ entries)) (sym is) right))))
+    by (inr away) = absurd (differs away (subst (λ x. HasLegalHistory x mid.board (given ∷ entries)) (sym r) (subst (λ x. HasLegalHistory refuses x (given ∷ entries)) (sym b)
+        (subst (λ e. HasLegalHistory refuses board (e ∷ entries)) (sym is) (own-due entry v rule (λ due. HasLegalHistory refuses board (due ∷ entries)) found due)))))
 
 -- no entry
 pub judged-none : (refuses : Refusals) (board : Board) (placed : List Placed) (none : List Judged) → none ≡ [] → AreJudged refuses board placed none

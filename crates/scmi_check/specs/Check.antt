@@ -19,7 +19,7 @@ use Rattle.scmi_check.specs.RecordText.{RecordView, record_left}
 use Rattle.scmi_check.specs.declared.check_error.CheckError.{CheckError}
 use Rattle.scmi_check.specs.declared.check_error.CheckError.TheVariants.{Size, Read, Board as BoardLine, Plan as PlanRule, Record, Empty, Memory}
 use Rattle.scmi_check.specs.declared.checked.TheConstants.{DIFFERS, UNSURE}
-use Rattle.scmi_check.specs.declared.places.TheConstants.{PLACES}
+use Rattle.scmi_check.specs.declared.check.TheConstants.{PLACES}
 
 -- a text is a board that keeps every rule, and lines `channel` that give its agents these channels
 pub record IsPlanText (text : List ℕ) (board : Board) : Type 0 where

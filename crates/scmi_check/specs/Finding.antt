@@ -5,6 +5,7 @@ use Rattle.scmi_codec.specs.declared.frame.Answer.TheVariants.{Reply}
 use Rattle.scmi_codec.specs.declared.frame.Frame.TheVariants.{Good}
 use Rattle.scmi_codec.specs.declared.message.Message.{Message}
 use Rattle.scmi_codec.specs.Header.{is_same_header}
+use Rattle.scmi_judge.specs.Due.{in_place}
 use Rattle.scmi_judge.specs.declared.entry.Entry.{Entry}
 use Rattle.scmi_judge.specs.declared.entry.Entry.TheVariants.{Answered}
 use Rattle.scmi_judge.specs.declared.verdict.Verdict.{Verdict}
@@ -37,11 +38,6 @@ Fits Same = ⊤
 Fits (Own rule) = ⊤
 Fits Differs = ⊥
 
--- an entry with the answer that was due
-abbrev pub meant_by : Entry → Verdict → Entry
-meant_by (Answered a frame answer) (verdict.Answer due) = Answered a frame due
-meant_by entry v = entry
-
 -- what an entry is judged as: a reply that differs by a rule of the profile's own is judged as the one that was due
 abbrev pub judged_as : Entry → Verdict → Entry
-judged_as entry v = elim (finding_of entry v) [ Same ↦ entry | Own rule ↦ meant_by entry v | Differs ↦ entry ]
+judged_as entry v = elim (finding_of entry v) [ Same ↦ entry | Own rule ↦ in_place entry v | Differs ↦ entry ]

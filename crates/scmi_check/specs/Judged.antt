@@ -5,9 +5,7 @@ use Rattle.std.specs.Option.{option_map}
 use Rattle.scmi_plan.specs.Board.{Board}
 use Rattle.scmi_codec.specs.Header.{is_same_header}
 use Rattle.scmi_core.specs.Outbox.{failed_response_to}
-use Rattle.scmi_judge.specs.Behind.{HasLegalHistory, IsRight}
-use Rattle.scmi_judge.specs.Guesses.{AreMany}
-use Rattle.scmi_judge.specs.Judging.{IsDue, Judging, Knows}
+use Rattle.scmi_judge.specs.Behind.{IsRight}
 use Rattle.scmi_judge.specs.Same.{is_same_message}
 use Rattle.scmi_judge.specs.declared.entry.Entry.{Entry}
 use Rattle.scmi_judge.specs.declared.entry.Entry.TheVariants.{Answered, Delivered}
@@ -42,21 +40,6 @@ pub record AreJudged (refuses : Refusals) (board : Board) (placed : List Placed)
   pub few : length judged ≤ length placed
   pub first : map placed_of judged ≡ take (length judged) placed
   pub right : (count : ℕ) → count ≤ length judged → All DoesFit (take count judged) ↔ IsRight refuses board (map meant (take count judged))
-
--- how many places a judge has, and may have more
-abbrev pub places_of : Judging → ℕ → ℕ
-places_of j left = length j.guesses + length j.spare + left
-
--- a judge of these entries has judged one more: it knows which platforms may be behind them with it if it is the same, and
--- else still those behind them; what is said to be due is right in its place; and without a verdict there are more
--- platforms behind them than places
-pub record IsJudged (refuses : Refusals) (board : Board) (new : Judging) (entries : List Entry) (entry : Entry) (places : ℕ) (o : Option Verdict) : Type 0 where
-  pub same : IfSome o (λ v. v ≡ verdict.Same → HasLegalHistory refuses board (entry ∷ entries))
-  pub differs : IfSome o (λ v. v ≢ verdict.Same → ¬ (HasLegalHistory refuses board (entry ∷ entries)))
-  pub knows : IfSome o (λ v. v ≡ verdict.Same → Knows new (entry ∷ entries))
-  pub stays : o ≢ Some verdict.Same → Knows new entries
-  pub full : o ≡ None → AreMany refuses board entries (1 + places)
-  pub due : IfSome o (λ v. IsDue v entry (λ due. HasLegalHistory refuses board (due ∷ entries)))
 
 -- an entry is a delayed response that the hardware refused the change
 abbrev pub is_failure : Entry → Bool

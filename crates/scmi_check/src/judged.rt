@@ -1,20 +1,17 @@
 //! The entries of a record with the verdicts on them.
-ghost use Rattle.std.specs.Prelude.{◌≡◌, ◌+◌, ◌<◌, [], ◌∷◌, List, length, None, Ok, IfOk, IfErr, IfSome, OnOk};
+ghost use Rattle.std.specs.Prelude.{◌≡◌, ◌+◌, ◌<◌, [], ◌∷◌, List, length, None, Ok, IfOk, IfErr, IfSome};
 ghost use Rattle.std.specs.List.{All, list_any};
 ghost use Rattle.scmi_core.specs.declared.core_error.CoreError.TheVariants.{Memory};
 ghost use Rattle.scmi_judge.specs.Behind.{HasLegalHistory};
-ghost use Rattle.scmi_judge.specs.Guesses.{AreMany};
-ghost use Rattle.scmi_judge.specs.Judging.{Knows};
+ghost use Rattle.scmi_judge.specs.Judging.{AreTooMany, Knows};
 ghost use Rattle.scmi_judge.specs.declared.entry.Entry.{Entry as Shown};
-ghost use Rattle.scmi_check.specs.Check.{IsPlanText};
-ghost use Rattle.scmi_check.specs.Finding.{Fits, finding_of, judged_as, meant_by};
-ghost use Rattle.scmi_check.specs.Judged.{AreJudged, DoesFit, behind, is_failure, line_at, places_of, refusals_of};
+ghost use Rattle.scmi_check.specs.Finding.{Fits, finding_of, judged_as};
+ghost use Rattle.scmi_check.specs.Judged.{AreJudged, DoesFit, behind, is_failure, line_at, refusals_of};
 
 use crate::finding::Finding;
 use crate::placed::Placed;
-use crate::places::Places;
 use scmi_core::{CoreError, failed_response};
-use scmi_judge::{Entry, Judge, Refusals, Verdict};
+use scmi_judge::{Entry, Judge, Refusals, Verdict, in_place};
 use std::alloc::Global;
 
 /// An entry of a record at its line, with the verdict on it.
@@ -37,26 +34,22 @@ impl Judged {
 /// Judges the entries of a record, in order. For each number of entries from the first on, none of
 /// them differs, but by a rule of the profile's own, if and only if a legal history is behind them,
 /// with the reply that was due in place of each that differs by such a rule. It ends before an entry
-/// behind which may be more platforms than are kept. `Memory` is the only error.
+/// behind which may be more platforms than there are places. `Memory` is the only error.
 pub(crate) fn judge_all(
     alloc: Global,
     judge: &mut Judge,
-    places: &mut Places<'_>,
     placed: &[Placed],
 ) -> Result<Vec<Judged>, CoreError>
     requires knows { Knows judge.old [] }
-    requires places { IsPlanText places.old.text.now judge.old.board }
     ensures judged { IfOk result (λ judged.
         AreJudged judge.old.refuses judge.old.board placed.now judged.items) }
     ensures many { IfOk result (λ judged. length judged.items < length placed.now
-        → All DoesFit judged.items
-        → AreMany judge.old.refuses judge.old.board (behind judged.items)
-            (1 + places_of judge.old places.old.left)) }
+        → All DoesFit judged.items → AreTooMany judge.old (behind judged.items)) }
     ensures errors { IfErr result (λ e. e ≡ Memory) }
 {
     let mut judged = Vec::new(alloc);
     'each: for one in placed {
-        let Some(verdict) = judge_one(alloc, judge, places, &one.entry)? else {
+        let Some(verdict) = judge_one(judge, &one.entry)? else {
             return Ok(judged);
         };
         let line = one.line;
@@ -72,40 +65,34 @@ pub(crate) fn judge_all(
     Ok(judged)
 }
 
-/// Judges the next entry of a record. `None` if more platforms may be behind it than are kept.
-fn judge_one(
-    alloc: Global,
-    judge: &mut Judge,
-    places: &mut Places<'_>,
-    entry: &Entry,
-) -> Result<Option<Verdict>, CoreError>
-    requires places { IsPlanText places.old.text.now judge.old.board }
+/// Judges the next entry of a record. `None` if more platforms may be behind it than there are
+/// places. `Memory` is the only error.
+fn judge_one(judge: &mut Judge, entry: &Entry) -> Result<Option<Verdict>, CoreError>
     ensures fits { (entries : List Shown) → Knows judge.old entries
         → IfOk result (λ o. IfSome o (λ verdict. Fits (finding_of entry.now verdict)
         → Knows judge.new (judged_as entry.now verdict ∷ entries))) }
     ensures legal { (entries : List Shown) → Knows judge.old entries
         → IfOk result (λ o. IfSome o (λ verdict. Fits (finding_of entry.now verdict)
         → HasLegalHistory judge.old.refuses judge.old.board
-        (judged_as entry.now verdict ∷ entries))) }
+            (judged_as entry.now verdict ∷ entries))) }
     ensures differs { (entries : List Shown) → Knows judge.old entries
         → IfOk result (λ o. IfSome o (λ verdict. ¬ (Fits (finding_of entry.now verdict))
         → ¬ (HasLegalHistory judge.old.refuses judge.old.board (entry.now ∷ entries)))) }
-    ensures full { (entries : List Shown) → Knows judge.old entries → result ≡ Ok None
-        → AreMany judge.old.refuses judge.old.board entries
-            (1 + places_of judge.old places.old.left) }
-    ensures places { OnOk result (places_of judge.new places.new.left
-        ≡ places_of judge.old places.old.left) }
+    ensures many { (entries : List Shown) → Knows judge.old entries → result ≡ Ok None
+        → AreTooMany judge.old entries }
+    ensures places { IfOk result (λ o. IfSome o (λ verdict.
+        length judge.new.guesses + length judge.new.spare
+        ≡ length judge.old.guesses + length judge.old.spare)) }
     ensures board { judge.new.board ≡ judge.old.board }
     ensures refuses { judge.new.refuses ≡ judge.old.refuses }
-    ensures text { places.new.text ≡ places.old.text }
     ensures errors { IfErr result (λ e. e ≡ Memory) }
 {
-    let Some(verdict) = places.judge(alloc, judge, entry)? else {
+    let Some(verdict) = judge.judge(entry)? else {
         return Ok(None);
     };
     match Finding::of(entry, &verdict) {
         Finding::Same => Ok(Some(verdict)),
-        Finding::Own(_) => match places.judge(alloc, judge, &meant_by(entry, &verdict))? {
+        Finding::Own(_) => match judge.judge(&in_place(entry, &verdict))? {
             Some(_) => Ok(Some(verdict)),
             None => Ok(None),
         },
@@ -113,20 +100,6 @@ fn judge_one(
             judge.go_on(entry)?;
             Ok(Some(verdict))
         }
-    }
-}
-
-/// An entry with the answer that was due.
-fn meant_by(entry: &Entry, verdict: &Verdict) -> Entry
-    ensures { result ≡ meant_by entry.now verdict.now }
-{
-    match (entry, verdict) {
-        (Entry::Answered { agent, frame, .. }, Verdict::Answer(due)) => Entry::Answered {
-            agent: *agent,
-            frame: frame.copy(),
-            answer: due.copy(),
-        },
-        _ => entry.copy(),
     }
 }
 

@@ -1,7 +1,7 @@
 use Rattle.std.proofs.Common.{◌≡◌, ◌+◌, ◌<◌, ◌∙◌, length, ap, refl, subst, rules}
 use Rattle.std.specs.List.{All}
 use Rattle.scmi_judge.specs.Guesses.{AreMany}
-use Rattle.scmi_check.specs.declared.places.TheConstants.{PLACES}
+use Rattle.scmi_check.specs.declared.check.TheConstants.{PLACES}
 use Rattle.scmi_check.specs.Judged.{AreJudged, DoesFit, behind, line_at, refusals_of}
 use Rattle.scmi_check.specs.RecordText.{record_view}
 use Rattle.scmi_check.proofs.check.check_record.Goals as goal

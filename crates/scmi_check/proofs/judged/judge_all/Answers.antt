@@ -1,10 +1,12 @@
-use Rattle.std.proofs.Common.{◌≡◌, ◌<◌, ◌∷◌, ◌++◌, [], length, get_or, Some, IfSome, refl, sym, ap, ◌∙◌, subst, rules, arith}
+use Rattle.std.proofs.Common.{◌≡◌, ◌+◌, ◌<◌, ◌∷◌, ◌++◌, [], length, get_or, None, Ok, Some, IfSome, refl, sym, ap, ◌∙◌, subst, rules, arith}
 use Rattle.std.specs.List.{All}
 use Rattle.std.proofs.lemmas.List.Elements.{All-pop}
 use Rattle.scmi_judge.specs.Behind.{HasLegalHistory}
+use Rattle.std.proofs.lemmas.Grind.{common_steps}
+use Rattle.scmi_judge.specs.Guesses.{AreMany}
 use Rattle.scmi_judge.specs.Judging.{Knows}
 use Rattle.scmi_check.specs.Finding.{Fits, finding_of, judged_as}
-use Rattle.scmi_check.specs.Judged.{AreJudged, DoesFit, behind, places_of}
+use Rattle.scmi_check.specs.Judged.{AreJudged, DoesFit, behind}
 use Rattle.scmi_check.specs.declared.judged.Judged.{Judged}
 use Rattle.scmi_check.proofs.Judging.{judged-more, judged-none, longer, shown}
 use Rattle.scmi_check.proofs.judged.judge_all.Goals as goal
@@ -14,7 +16,6 @@ each-init c =
     record {
       board = refl;
       refuses = refl;
-      text = refl;
       places = refl;
       count = ap length c.new-judged.ensures.items;
       judged = judged-none c.args.judge.now.refuses c.args.judge.now.board c.args.placed.now c.new-judged.result.items c.new-judged.ensures.items;
@@ -48,8 +49,8 @@ each-preserved c =
     record {
       board = c.judge_one.ensures.board ∙ before.board;
       refuses = c.judge_one.ensures.refuses ∙ before.refuses;
-      text = c.judge_one.ensures.text ∙ before.text;
-      places = c.in_ok-verdict.ensures.places ∙ before.places;
+      places = subst (λ o. IfSome o (λ w. length c.judge_one.new.judge.guesses + length c.judge_one.new.judge.spare ≡ length c.each.judge.guesses + length c.each.judge.spare)) c.in-Some.is
+          c.in_ok-verdict.ensures.places ∙ before.places;
       count = let count = before.count in let items = ap length pushed in omega (arith, more, items, count);
       judged = subst (AreJudged r b placed) (sym pushed) (judged-more r b placed js one v before.judged less is legal differs);
       knows = λ all.
@@ -58,3 +59,18 @@ each-preserved c =
           (subst (λ o. IfSome o (λ w. Fits (finding_of one.entry w) → Knows c.judge_one.new.judge (judged_as one.entry w ∷ es))) c.in-Some.is
           (c.in_ok-verdict.ensures.fits es (before.knows both.0)) both.1);
     }
+
+pub returns-in_default-clause-many : goal.returns-in_default-clause-many
+returns-in_default-clause-many c few all =
+    let r = c.args.judge.now.refuses in
+    let b = c.args.judge.now.board in
+    let judge = c.each.judge in
+    let before = c.each.invariant in
+    let es = behind c.each.judged.items in
+    let none : c.in_ok-verdict.field-0 ≡ None = first_of (search rules, grind (arith, common_steps)) in
+    let many = c.in_ok-verdict.ensures.many es (before.knows all) (ap Ok none) in
+    let same = before.places in
+    let count : 1 + length judge.guesses + length judge.spare ≡ 1 + length c.args.judge.now.guesses + length c.args.judge.now.spare = omega (arith, same) in
+    subst (AreMany r b es) count
+    (subst (λ x. AreMany r x es (1 + length judge.guesses + length judge.spare)) before.board
+    (subst (λ x. AreMany x judge.board es (1 + length judge.guesses + length judge.spare)) before.refuses many))

@@ -1,54 +1,70 @@
-use Rattle.std.proofs.Common.{◌≡◌, ◌≢◌, ◌+◌, ◌∙◌, ◌∷◌, Some, sym, subst}
+use Rattle.std.proofs.Common.{◌≡◌, ◌≢◌, ◌+◌, ◌∙◌, ◌∷◌, Ok, length, Some, IfSome, sym, ap, subst, arith}
 use Rattle.scmi_judge.specs.Behind.{HasLegalHistory}
+use Rattle.scmi_judge.specs.Due.{IsDue}
 use Rattle.scmi_judge.specs.Guesses.{AreMany}
 use Rattle.scmi_judge.specs.Judging.{Knows}
 use Rattle.scmi_judge.specs.declared.verdict.Verdict.TheVariants.{Same}
-use Rattle.scmi_check.specs.Judged.{IsJudged, places_of}
 use Rattle.scmi_check.proofs.Findings.{as-same, other-found, same-found}
-use Rattle.scmi_check.proofs.Judging.{judged-again}
+use Rattle.scmi_check.proofs.Judging.{judged-knows, judged-legal, other}
 use Rattle.scmi_check.proofs.judged.judge_one.Goals as goal
 
 pub returns-in-Same-clause-fits : goal.returns-in-Same-clause-fits
 returns-in-Same-clause-fits c entries knew fits =
     let found = sym c.of.ensures ∙ c.in-Same.is in
-    let first = subst (IsJudged c.args.judge.now.refuses c.args.judge.now.board c.judge.new.judge entries c.args.entry.now (places_of c.args.judge.now c.args.places.now.left)) c.in-Some.is (c.in_ok-verdict.ensures.judged entries knew) in
-    subst (λ e. Knows c.judge.new.judge (e ∷ entries)) (sym (as-same c.args.entry.now c.in-Some.verdict found)) (first.knows (same-found c.args.entry.now c.in-Some.verdict found))
+    let knows = subst (λ o. IfSome o (λ v. v ≡ Same → Knows c.judge.new.self (c.args.entry.now ∷ entries))) c.in-Some.is (c.in_ok-verdict.ensures.knows entries knew) in
+    subst (λ e. Knows c.judge.new.self (e ∷ entries)) (sym (as-same c.args.entry.now c.in-Some.verdict found)) (knows (same-found c.args.entry.now c.in-Some.verdict found))
 
 pub returns-in-Same-clause-legal : goal.returns-in-Same-clause-legal
 returns-in-Same-clause-legal c entries knew fits =
+    let r = c.args.judge.now.refuses in
+    let b = c.args.judge.now.board in
     let found = sym c.of.ensures ∙ c.in-Same.is in
-    let first = subst (IsJudged c.args.judge.now.refuses c.args.judge.now.board c.judge.new.judge entries c.args.entry.now (places_of c.args.judge.now c.args.places.now.left)) c.in-Some.is (c.in_ok-verdict.ensures.judged entries knew) in
-    subst (λ e. HasLegalHistory c.args.judge.now.refuses c.args.judge.now.board (e ∷ entries)) (sym (as-same c.args.entry.now c.in-Some.verdict found))
-    (first.same (same-found c.args.entry.now c.in-Some.verdict found))
+    let same = subst (λ o. IfSome o (λ v. v ≡ Same → HasLegalHistory r b (c.args.entry.now ∷ entries))) c.in-Some.is (c.in_ok-verdict.ensures.same entries knew) in
+    subst (λ e. HasLegalHistory r b (e ∷ entries)) (sym (as-same c.args.entry.now c.in-Some.verdict found)) (same (same-found c.args.entry.now c.in-Some.verdict found))
 
 pub returns-in-Some-2-clause-fits : goal.returns-in-Some-2-clause-fits
 returns-in-Some-2-clause-fits c entries knew fits =
-    let first = subst (IsJudged c.args.judge.now.refuses c.args.judge.now.board c.judge.new.judge entries c.args.entry.now (places_of c.args.judge.now c.args.places.now.left)) c.in-Some.is (c.in_ok-verdict.ensures.judged entries knew) in
-    (judged-again c.args.judge.now.refuses c.args.judge.now.board c.judge.new.judge c.judge-in-Own.new.judge entries c.args.entry.now c.meant_by.result (places_of c.args.judge.now c.args.places.now.left) (places_of c.judge.new.judge c.judge.new.self.left) c.in-Some.verdict c.in-Some-2.field-0 c.in-Own.field-0
-    (sym c.of.ensures ∙ c.in-Own.is) c.meant_by.ensures c.judge.ensures.board c.judge.ensures.refuses first
-    (λ knows. subst (IsJudged c.judge.new.judge.refuses c.judge.new.judge.board c.judge-in-Own.new.judge entries c.meant_by.result (places_of c.judge.new.judge c.judge.new.self.left)) c.in-Some-2.is (c.in_ok-judge-in-Own.ensures.judged entries knows))).0
+    let r = c.args.judge.now.refuses in
+    let b = c.args.judge.now.board in
+    let entry = c.args.entry.now in
+    let v = c.in-Some.verdict in
+    let rule = c.in-Own.field-0 in
+    let mid = c.judge.new.self in
+    let new = c.judge-in-Own.new.self in
+    let given = c.in_place.result in
+    let again = c.in-Some-2.field-0 in
+    let found = sym c.of.ensures ∙ c.in-Own.is in
+    let not-same = other r b mid new entries entry given v again rule found c.in_place.ensures c.judge.ensures.board c.judge.ensures.refuses in
+    let stays = subst (λ o. IfSome o (λ w. w ≢ Same → Knows mid entries)) c.in-Some.is (c.in_ok-verdict.ensures.stays entries knew) not-same in
+    judged-knows r b mid new entries entry given v again rule found c.in_place.ensures c.judge.ensures.board c.judge.ensures.refuses
+    (subst (λ o. IfSome o (λ w. IsDue w entry (λ due. HasLegalHistory r b (due ∷ entries)))) c.in-Some.is (c.in_ok-verdict.ensures.due entries knew))
+    (subst (λ o. IfSome o (λ w. w ≢ Same → ¬ (HasLegalHistory mid.refuses mid.board (given ∷ entries)))) c.in-Some-2.is (c.in_ok-judge-in-Own.ensures.differs entries stays))
+    (subst (λ o. IfSome o (λ w. w ≡ Same → Knows new (given ∷ entries))) c.in-Some-2.is (c.in_ok-judge-in-Own.ensures.knows entries stays))
 
 pub returns-in-Some-2-clause-legal : goal.returns-in-Some-2-clause-legal
 returns-in-Some-2-clause-legal c entries knew fits =
-    let first = subst (IsJudged c.args.judge.now.refuses c.args.judge.now.board c.judge.new.judge entries c.args.entry.now (places_of c.args.judge.now c.args.places.now.left)) c.in-Some.is (c.in_ok-verdict.ensures.judged entries knew) in
-    (judged-again c.args.judge.now.refuses c.args.judge.now.board c.judge.new.judge c.judge-in-Own.new.judge entries c.args.entry.now c.meant_by.result (places_of c.args.judge.now c.args.places.now.left) (places_of c.judge.new.judge c.judge.new.self.left) c.in-Some.verdict c.in-Some-2.field-0 c.in-Own.field-0
-    (sym c.of.ensures ∙ c.in-Own.is) c.meant_by.ensures c.judge.ensures.board c.judge.ensures.refuses first
-    (λ knows. subst (IsJudged c.judge.new.judge.refuses c.judge.new.judge.board c.judge-in-Own.new.judge entries c.meant_by.result (places_of c.judge.new.judge c.judge.new.self.left)) c.in-Some-2.is (c.in_ok-judge-in-Own.ensures.judged entries knows))).1
+    let r = c.args.judge.now.refuses in
+    let b = c.args.judge.now.board in
+    let found = sym c.of.ensures ∙ c.in-Own.is in
+    judged-legal r b c.judge.new.self c.judge-in-Own.new.self entries c.args.entry.now c.in_place.result c.in-Some.verdict c.in-Some-2.field-0 c.in-Own.field-0 found
+    c.in_place.ensures c.judge.ensures.board c.judge.ensures.refuses
+    (subst (λ o. IfSome o (λ w. IsDue w c.args.entry.now (λ due. HasLegalHistory r b (due ∷ entries)))) c.in-Some.is (c.in_ok-verdict.ensures.due entries knew))
 
 pub returns-in_ok-go_on-in-Differs-clause-differs : goal.returns-in_ok-go_on-in-Differs-clause-differs
 returns-in_ok-go_on-in-Differs-clause-differs c entries knew away has =
-    let first = subst (IsJudged c.args.judge.now.refuses c.args.judge.now.board c.judge.new.judge entries c.args.entry.now (places_of c.args.judge.now c.args.places.now.left)) c.in-Some.is (c.in_ok-verdict.ensures.judged entries knew) in
     let found = sym c.of.ensures ∙ c.in-Differs.is in
-    first.differs (other-found c.args.entry.now c.in-Some.verdict (λ s. absurd (let f = sym found ∙ s in cc))) has
+    subst (λ o. IfSome o (λ w. w ≢ Same → ¬ (HasLegalHistory c.args.judge.now.refuses c.args.judge.now.board (c.args.entry.now ∷ entries)))) c.in-Some.is
+    (c.in_ok-verdict.ensures.differs entries knew) (other-found c.args.entry.now c.in-Some.verdict (λ s. absurd (let f = sym found ∙ s in cc))) has
 
-pub returns-in-None-clause-full : goal.returns-in-None-clause-full
-returns-in-None-clause-full c entries knew is =
-    let first = subst (IsJudged c.args.judge.now.refuses c.args.judge.now.board c.judge.new.judge entries c.args.entry.now (places_of c.args.judge.now c.args.places.now.left)) c.in-Some.is
-      (c.in_ok-verdict.ensures.judged entries knew) in
+pub returns-in-None-clause-many : goal.returns-in-None-clause-many
+returns-in-None-clause-many c entries knew is =
+    let mid = c.judge.new.self in
     let found = sym c.of.ensures ∙ c.in-Own.is in
-    let other = other-found c.args.entry.now c.in-Some.verdict (λ s. absurd (let f = sym found ∙ s in cc)) in
-    let stays = first.stays (λ s. let same : c.in-Some.verdict ≡ Same = (let both = s in cc) in other same) in
-    let many = (c.in_ok-judge-in-Own.ensures.judged entries stays).full c.in-None.is in
-    subst (λ n. AreMany c.args.judge.now.refuses c.args.judge.now.board entries (1 + n)) c.in_ok-verdict.ensures.places
-    (subst (λ b. AreMany c.args.judge.now.refuses b entries (1 + places_of c.judge.new.judge c.judge.new.self.left)) c.judge.ensures.board
-    (subst (λ r. AreMany r c.judge.new.judge.board entries (1 + places_of c.judge.new.judge c.judge.new.self.left)) c.judge.ensures.refuses many))
+    let not-same = other-found c.args.entry.now c.in-Some.verdict (λ s. absurd (let f = sym found ∙ s in cc)) in
+    let stays = subst (λ o. IfSome o (λ w. w ≢ Same → Knows mid entries)) c.in-Some.is (c.in_ok-verdict.ensures.stays entries knew) not-same in
+    let many = c.in_ok-judge-in-Own.ensures.unsure entries stays (ap Ok c.in-None.is) in
+    let kept = subst (λ o. IfSome o (λ w. length mid.guesses + length mid.spare ≡ length c.args.judge.now.guesses + length c.args.judge.now.spare)) c.in-Some.is c.in_ok-verdict.ensures.places in
+    let count : 1 + length mid.guesses + length mid.spare ≡ 1 + length c.args.judge.now.guesses + length c.args.judge.now.spare = omega (arith, kept) in
+    subst (AreMany c.args.judge.now.refuses c.args.judge.now.board entries) count
+    (subst (λ b. AreMany c.args.judge.now.refuses b entries (1 + length mid.guesses + length mid.spare)) c.judge.ensures.board
+    (subst (λ r. AreMany r mid.board entries (1 + length mid.guesses + length mid.spare)) c.judge.ensures.refuses many))

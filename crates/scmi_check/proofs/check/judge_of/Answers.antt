@@ -1,0 +1,12 @@
+use Rattle.std.proofs.Common.{◌≡◌, ◌∙◌, [], arith}
+use Rattle.scmi_check.proofs.check.judge_of.Goals as goal
+
+pub places-preserved : goal.places-preserved
+places-preserved c =
+    let before = c.places.invariant in
+    record {
+      board = c.add_place.ensures.board ∙ before.board;
+      refuses = c.add_place.ensures.refuses ∙ before.refuses;
+      knows = c.add_place.ensures.knows [] before.knows;
+      places = let one = c.in_ok-add_place.ensures.place in let so_far = before.places in omega (arith, one, so_far);
+    }

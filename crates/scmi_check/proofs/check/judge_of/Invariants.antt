@@ -1,0 +1,12 @@
+use Rattle.std.proofs.Common.{◌≡◌, ◌+◌, [], length}
+use Rattle.scmi_judge.specs.Judging.{Knows}
+use Rattle.scmi_check.proofs.check.judge_of.Given as goal
+
+abbrev pub invariant-places : goal.invariant-places
+invariant-places l =
+    record {
+      board : l.judge.board ≡ l.plan;
+      refuses : l.judge.refuses ≡ l.fn.refuses;
+      knows : Knows l.judge [];
+      places : length l.judge.guesses + length l.judge.spare ≡ 1 + l._place;
+    }
