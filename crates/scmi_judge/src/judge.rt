@@ -95,7 +95,8 @@ impl Judge {
     /// Judges the next entry. If the entries so far had a legal history, the verdict is `Same` if
     /// and only if they have one with this entry. If it is another, the judge goes on, but nothing
     /// is promised from there on but its places. `None` once more different platforms may be behind
-    /// the entries so far than there are places, and from then on. `Memory` is the only error.
+    /// the entries so far than there are places, and from then on, also after an error. `Memory` is
+    /// the only error.
     pub fn judge(&mut self, entry: &Entry) -> Result<Option<Verdict>, CoreError>
         ensures same { (entries : List Shown) → Knows self.old entries
             → IfOk result (λ o. IfSome o (λ verdict. verdict ≡ Same
