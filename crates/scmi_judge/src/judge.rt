@@ -101,7 +101,7 @@ impl Judge {
     /// What the verdict says was due is right in its place.
     ///
     /// `None` once more different platforms may be behind the entries so far than there are places,
-    /// and from then on. `Memory` is the only error.
+    /// and from then on, also after an error. `Memory` is the only error.
     pub fn judge(&mut self, entry: &Entry) -> Result<Option<Verdict>, CoreError>
         ensures same { (entries : List Shown) → Knows self.old entries
             → IfOk result (λ o. IfSome o (λ verdict. verdict ≡ Same

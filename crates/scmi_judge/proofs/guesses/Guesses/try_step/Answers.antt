@@ -1,13 +1,11 @@
-use Rattle.std.proofs.Common.{◌≡◌, ◌+◌, ◌++◌, ◌∷◌, [], Err, true, sym, subst, rules, arith}
-use Rattle.std.specs.Prelude.{IfErr}
+use Rattle.std.proofs.Common.{◌≡◌, ◌+◌, Err, true, subst, rules, arith}
 use Rattle.std.proofs.lemmas.Grind.{common_steps}
 use Rattle.scmi_judge.specs.Guess.{GoesOn}
-use Rattle.scmi_judge.specs.Guesses.{FindsMany, IsIn, places}
+use Rattle.scmi_judge.specs.Guesses.{IsIn, places}
 use Rattle.scmi_judge.specs.Unseen.{event_of}
-use Rattle.scmi_judge.specs.declared.stop.Stop.TheVariants.{Full}
 use Rattle.scmi_judge.proofs.Among.{in-back, in-front, in-last, tried-there}
 use Rattle.scmi_judge.proofs.Boards.{keep-made}
-use Rattle.scmi_judge.proofs.Different.{absent, step-found, step-many}
+use Rattle.scmi_judge.proofs.Different.{absent, if-err, step-found, step-many}
 use Rattle.scmi_judge.proofs.guesses.Guesses.try_step.Goals as goal
 
 pub returns-then-has-clause-moves : goal.returns-then-has-clause-moves
@@ -54,7 +52,7 @@ returns-in_err-keep_made-clause-full c =
     let untried = absent c.args.self.now.tried.items _ made c.has.result c.deref.ensures.value c.has.ensures c.if-has.false in
     let unleft = absent c.args.self.now.left.items _ made c.has-2.result c.deref-2.ensures.value c.has-2.ensures c.if-has-2.false in
     let failed : c.from_residual.result ≡ Err c.in_err-keep_made.field-0.0 = first_of (search rules, grind (arith, common_steps)) in
-    subst (λ r. IfErr r (λ stop. stop ≡ Full → FindsMany c.args.self.now.refuses (c.args.self.now.tried.items ++ c.args.guess.now ∷ []) c.args.self.now.left.items (2 + places c.args.self.now))) (sym failed)
+    if-err c.from_residual.result c.in_err-keep_made.field-0.0 _ failed
     (λ full board entries found.
     let none = c.in_err-keep_made.ensures.full full in
     step-many c.args.self.now.refuses c.args.guess.now made c.args.step goes _ _ untried unleft board entries found (2 + places c.args.self.now)
