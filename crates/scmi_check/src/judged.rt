@@ -74,7 +74,7 @@ fn judge_one(judge: &mut Judge, entry: &Entry) -> Result<Option<Verdict>, CoreEr
     ensures legal { (entries : List Shown) → Knows judge.old entries
         → IfOk result (λ o. IfSome o (λ verdict. Fits (finding_of entry.now verdict)
         → HasLegalHistory judge.old.refuses judge.old.board
-            (judged_as entry.now verdict ∷ entries))) }
+        (judged_as entry.now verdict ∷ entries))) }
     ensures differs { (entries : List Shown) → Knows judge.old entries
         → IfOk result (λ o. IfSome o (λ verdict. ¬ (Fits (finding_of entry.now verdict))
         → ¬ (HasLegalHistory judge.old.refuses judge.old.board (entry.now ∷ entries)))) }

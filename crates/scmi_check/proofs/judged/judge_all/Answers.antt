@@ -36,15 +36,15 @@ each-preserved c =
     let less : length js < length placed = let count = before.count in omega (arith, count, in_placed) in
     let is : one ≡ get_or placed (length js) one = c.one-item.is ∙ ap (λ i. get_or placed i one) (sym before.count) in
     let pushed : c.push.new.self.items ≡ js ++ record { line = one.line; entry = one.entry; verdict = v } ∷ [] =
-      c.in-Ok.ensures.items ∙ ap (λ e. js ++ record { line = one.line; entry = e; verdict = v } ∷ []) c.copy-entry.ensures in
+    c.in-Ok.ensures.items ∙ ap (λ e. js ++ record { line = one.line; entry = e; verdict = v } ∷ []) c.copy-entry.ensures in
     let legal = λ (all : All DoesFit js) (fits : Fits (finding_of one.entry v)).
-      subst (λ x. HasLegalHistory x b (judged_as one.entry v ∷ es)) before.refuses (subst (λ x. HasLegalHistory c.each.judge.refuses x (judged_as one.entry v ∷ es)) before.board
-      (subst (λ o. IfSome o (λ w. Fits (finding_of one.entry w) → HasLegalHistory c.each.judge.refuses c.each.judge.board (judged_as one.entry w ∷ es))) c.in-Some.is
-      (c.in_ok-verdict.ensures.legal es (before.knows all)) fits)) in
+    subst (λ x. HasLegalHistory x b (judged_as one.entry v ∷ es)) before.refuses (subst (λ x. HasLegalHistory c.each.judge.refuses x (judged_as one.entry v ∷ es)) before.board
+    (subst (λ o. IfSome o (λ w. Fits (finding_of one.entry w) → HasLegalHistory c.each.judge.refuses c.each.judge.board (judged_as one.entry w ∷ es))) c.in-Some.is
+    (c.in_ok-verdict.ensures.legal es (before.knows all)) fits)) in
     let differs = λ (all : All DoesFit js) (away : ¬ (Fits (finding_of one.entry v))).
-      subst (λ x. ¬ (HasLegalHistory x b (one.entry ∷ es))) before.refuses (subst (λ x. ¬ (HasLegalHistory c.each.judge.refuses x (one.entry ∷ es))) before.board
-      (subst (λ o. IfSome o (λ w. ¬ (Fits (finding_of one.entry w)) → ¬ (HasLegalHistory c.each.judge.refuses c.each.judge.board (one.entry ∷ es)))) c.in-Some.is
-      (c.in_ok-verdict.ensures.differs es (before.knows all)) away)) in
+    subst (λ x. ¬ (HasLegalHistory x b (one.entry ∷ es))) before.refuses (subst (λ x. ¬ (HasLegalHistory c.each.judge.refuses x (one.entry ∷ es))) before.board
+    (subst (λ o. IfSome o (λ w. ¬ (Fits (finding_of one.entry w)) → ¬ (HasLegalHistory c.each.judge.refuses c.each.judge.board (one.entry ∷ es)))) c.in-Some.is
+    (c.in_ok-verdict.ensures.differs es (before.knows all)) away)) in
     let more = longer r b placed js one v before.judged less is legal differs in
     record {
       board = c.judge_one.ensures.board ∙ before.board;
