@@ -52,7 +52,7 @@ domain_0 : lines_text Plain (
     ∷ other 12 0x11 5 (0 ∷ []) (0xfffffffe ∷ []) (0xfffffffc ∷ [])
     ∷ unasked 13 0x11 3 0 (1 ∷ 0 ∷ 7 ∷ [])
     ∷ other 15 0x11 6 (0 ∷ 1 ∷ []) (0xfffffffd ∷ []) (0 ∷ []) ∷ [])
-    ≡ codes "2 same\n4 differs due SUCCESS 0x00044405 0x00000000 0x00000000, seen SUCCESS 0x00044405 0x00000000 0x00000007 set 2\n6 same\n8 differs due SUCCESS 0x00044405 0x00000000 0x00000000, seen SUCCESS 0x00044405 0x00000000 0x00000007\n10 differs due SUCCESS 0x00045006 0x00000000 0x00000000 0x00000000, seen SUCCESS 0x00045006 0x00000000 0x00000007 0x00000000\n12 own unknown-id due NOT_FOUND 0x00044405 0xfffffffc, seen INVALID_PARAMETERS 0x00044405 0xfffffffe\n13 differs due no message, seen 0x00044700 0x00000001 0x00000000 0x00000007 set 2 after 4\n15 differs due SUCCESS 0x00044406 0x00000000, seen DENIED 0x00044406 0xfffffffd set 2 after 13\n"
+    ≡ codes "2 same\n4 differs expected SUCCESS 0x00044405 0x00000000 0x00000000, got SUCCESS 0x00044405 0x00000000 0x00000007 set 2\n6 same\n8 differs expected SUCCESS 0x00044405 0x00000000 0x00000000, got SUCCESS 0x00044405 0x00000000 0x00000007\n10 differs expected SUCCESS 0x00045006 0x00000000 0x00000000 0x00000000, got SUCCESS 0x00045006 0x00000000 0x00000007 0x00000000\n12 own unknown-id expected NOT_FOUND 0x00044405 0xfffffffc, got INVALID_PARAMETERS 0x00044405 0xfffffffe\n13 differs expected no message, got 0x00044700 0x00000001 0x00000000 0x00000007 set 2 after 4\n15 differs expected SUCCESS 0x00044406 0x00000000, got DENIED 0x00044406 0xfffffffd set 2 after 13\n"
 unfolding own_rule check_word digits filled rows_of
 domain_0 = refl
 
@@ -63,6 +63,6 @@ clock_1 : lines_text Plain (
     ∷ other 5 0x14 7 (1 ∷ 1 ∷ []) (0xfffffffa ∷ []) (0 ∷ [])
     ∷ other 7 0x14 6 (1 ∷ []) (0 ∷ 7 ∷ 0 ∷ []) (0 ∷ 0 ∷ 0 ∷ [])
     ∷ other 9 0x14 1 [] (0 ∷ 2 ∷ []) (0 ∷ 1 ∷ []) ∷ [])
-    ≡ codes "2 differs due SUCCESS 0x00045005 0x00000000, seen BUSY 0x00045005 0xfffffffa\n3 differs due no message, seen 0x00045205 0x00000000 0x00000001 0x00000007 0x00000000 after 2\n5 differs due SUCCESS 0x00045007 0x00000000, seen BUSY 0x00045007 0xfffffffa after 3\n7 differs due SUCCESS 0x00045006 0x00000000 0x00000000 0x00000000, seen SUCCESS 0x00045006 0x00000000 0x00000007 0x00000000 after 5\n9 differs due SUCCESS 0x00045001 0x00000000 0x00000001, seen SUCCESS 0x00045001 0x00000000 0x00000002\n"
+    ≡ codes "2 differs expected SUCCESS 0x00045005 0x00000000, got BUSY 0x00045005 0xfffffffa\n3 differs expected no message, got 0x00045205 0x00000000 0x00000001 0x00000007 0x00000000 after 2\n5 differs expected SUCCESS 0x00045007 0x00000000, got BUSY 0x00045007 0xfffffffa after 3\n7 differs expected SUCCESS 0x00045006 0x00000000 0x00000000 0x00000000, got SUCCESS 0x00045006 0x00000000 0x00000007 0x00000000 after 5\n9 differs expected SUCCESS 0x00045001 0x00000000 0x00000001, got SUCCESS 0x00045001 0x00000000 0x00000002\n"
 unfolding own_rule check_word digits filled rows_of
 clock_1 = refl

@@ -16,16 +16,16 @@ pub(crate) const OWN: &str = " own %";
 pub(crate) const DIFFERS: &str = " differs";
 
 /// What was due.
-pub(crate) const DUE: &str = " due";
+pub(crate) const DUE: &str = " expected";
 
-pub(crate) const NOTHING_DUE: &str = " due no %";
+pub(crate) const NOTHING_DUE: &str = " expected no %";
 
 pub(crate) const AGENT: &str = "agent";
 
 pub(crate) const MESSAGE: &str = "message";
 
 /// What was seen.
-pub(crate) const SEEN: &str = ", seen";
+pub(crate) const SEEN: &str = ", got";
 
 pub(crate) const RELEASED: &str = " released";
 
