@@ -71,19 +71,19 @@ fn task_command<'a>(alloc: Global, form: &Form) -> Result<Command<'a>, AllocErro
         Operands::Input | Operands::Topic => command.arg(Arg::new(alloc, FIRST)),
         Operands::Dumps => command
             .arg(flag(alloc, BINARY).short('b'))?
-            .arg(option(alloc, OFFSET))?
-            .arg(option(alloc, SIZE))?
-            .arg(option(alloc, STRIDE))?
+            .arg(option(alloc, OFFSET, "N"))?
+            .arg(option(alloc, SIZE, "N"))?
+            .arg(option(alloc, STRIDE, "N"))?
             .arg(Arg::new(alloc, FIRST)),
         Operands::Board => command
-            .arg(Arg::new(alloc, SAVE).long(SAVE).value_name("FILE"))?
+            .arg(option(alloc, SAVE, "FILE"))?
             .arg(Arg::new(alloc, FIRST)),
         Operands::Drawn => command
             .arg(flag(alloc, MERMAID))?
             .arg(Arg::new(alloc, FIRST)),
         Operands::BoardAndRecord => command
             .arg(flag(alloc, TAP))?
-            .arg(option(alloc, PROTOCOLS))?
+            .arg(option(alloc, PROTOCOLS, "LIST"))?
             .arg(Arg::new(alloc, FIRST))?
             .arg(Arg::new(alloc, SECOND)),
         Operands::None => Ok(command),
@@ -102,9 +102,9 @@ fn help<'a>(alloc: Global) -> Arg<'a> {
     flag(alloc, HELP).short('h')
 }
 
-/// An option of this name, with a value.
-fn option<'a>(alloc: Global, name: &'a str) -> Arg<'a> {
-    Arg::new(alloc, name).long(name)
+/// An option of this name, with a value, which usage calls so.
+fn option<'a>(alloc: Global, name: &'a str, value: &'a str) -> Arg<'a> {
+    Arg::new(alloc, name).long(name).value_name(value)
 }
 
 /// A flag of this name.

@@ -33,7 +33,7 @@ run that show a message. Standard error says which format each dump is read in.
 A dump is one area. --size N reads areas of N bytes one after the other, --stride N one each N
 bytes, and --offset N begins at byte N of each dump; N is decimal, or hexadecimal after 0x.
 -b, or --binary, reads bytes instead of a dump, as dd copies them.",
-        example: "scmi decode areas.hex",
+        example: "scmi decode --size 128 examples/phone.dump",
     },
     Form {
         task: Task::Chart,
@@ -93,7 +93,7 @@ counts them.
 0x10, 0x11 and 0x14 are checked.
 --tap prints TAP, for a test system. docs/CHECK.md has the lines and the rules.
 Exit status: 0 if nothing differs, 5 if something does, 2 if there is nothing to check.",
-        example: "scmi check phone.board phone.record",
+        example: "scmi check examples/phone.board examples/phone.record",
     },
     Form {
         task: Task::Table,

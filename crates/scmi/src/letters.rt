@@ -12,7 +12,8 @@ const RED: &[u8] = b"\x1b[31m";
 
 const PLAIN: &[u8] = b"\x1b[0m";
 
-/// The most letters that are kept: as many as the longest of the words has.
+/// The most letters that are kept: as many as the longest of the words has, INVALID_PARAMETERS. A
+/// test sees that each status is coloured (`tests/sessions/live/colors`).
 const LETTERS: usize = 18;
 
 /// The letters since the last byte that is none.

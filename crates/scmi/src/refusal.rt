@@ -1,6 +1,6 @@
 //! What is reported of arguments that are refused, and of files that can't be opened.
 
-use crate::asked::{Unread, begins_with_dash};
+use crate::asked::{STANDARD, Unread, begins_with_dash};
 use crate::form::form_of;
 use crate::forms::FORMS;
 use crate::task::Task;
@@ -27,18 +27,23 @@ pub fn refuse<T: Eprint + Files>(rt: &T, alloc: Global, words: &[String], error:
         let _ = eprintln!(rt; "scmi: '{name}' is a file; did you mean 'scmi {word} {name}'?");
         return WRONG_ARGUMENT;
     }
-    if error.kind() == ErrorKind::InvalidSubcommand {
-        return refuse_unread(rt, alloc, Unread::Task(first_word(words)));
+    let word = first_word(words);
+    if error.kind() == ErrorKind::InvalidSubcommand || word == OPTIONS_END {
+        return refuse_unread(rt, alloc, Unread::Task(word));
     }
     let _ = eprintln!(rt; "{error}\nFor more information, try 'scmi --help'.");
     WRONG_ARGUMENT
 }
 
-/// The first word that is no option.
+/// The word after which none is an option; a command comes before it.
+const OPTIONS_END: &str = "--";
+
+/// The first word that is not an option.
 fn first_word(words: &[String]) -> &str {
     for word in words {
-        if !begins_with_dash(word.as_str()) {
-            return word.as_str();
+        let word = word.as_str();
+        if word == STANDARD || word == OPTIONS_END || !begins_with_dash(word) {
+            return word;
         }
     }
     ""
@@ -54,7 +59,7 @@ pub fn refuse_unread(rt: &impl Eprint, alloc: Global, why: Unread<'_>) -> u8 {
             None => eprintln!(rt; "scmi: no command named '{word}'; see scmi --help"),
         },
         Unread::Number(option, word) => eprintln!(rt;
-            "scmi: --{option} needs a number of bytes, decimal or 0x..; '{word}' is none"
+            "scmi: --{option} needs a number of bytes, decimal or 0x..; found '{word}'"
         ),
         Unread::Layout(LayoutError::Size) => eprintln!(rt;
             "scmi: no area has this --size; give a multiple of 4 from {LEAST_AREA_BYTES} to {AREA_BYTES}"

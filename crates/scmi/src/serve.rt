@@ -29,6 +29,11 @@ pub fn serve<T: Threads + Wait + Sync + Files + Print + Eprint + Input>(
     asked: Asked<'_>,
     terminal: Terminal,
 ) -> u8 {
+    if terminal.is_typed && reads_standard(asked) {
+        let _ = eprintln!(rt;
+            "scmi: reading standard input; Ctrl-D ends it, and scmi --help shows how scmi is used"
+        );
+    }
     let is_colored = terminal.is_colored && !is_text(asked.request);
     let Some(name) = asked.first else {
         return match asked.request {
@@ -69,6 +74,20 @@ pub fn serve<T: Threads + Wait + Sync + Files + Print + Eprint + Input>(
         Ok(file) => serve_input(rt, alloc, asked.request, is_colored, name, file),
         Err(error) => refuse_file(rt, name, &error),
     }
+}
+
+/// Whether standard input is read to its end. A session says of itself that it waits for lines.
+fn reads_standard(asked: Asked<'_>) -> bool {
+    match asked.request {
+        Request::Do(Task::Session) => false,
+        Request::Do(Task::Check) => asked.first.is_some() && is_standard(asked.second),
+        request => !is_text(request) && is_standard(asked.first),
+    }
+}
+
+/// Whether an input is standard input, by the name of its file.
+fn is_standard(name: Option<&str>) -> bool {
+    matches!(name, None | Some(STANDARD))
 }
 
 /// Whether a request asks for a text of the program's own, in which no word shows a fault.

@@ -1,7 +1,8 @@
 //! What a session says when it is asked for help.
 
 use crate::unknown_text::Usage;
-use scmi_codec::{BASE_MESSAGES, CLOCK_MESSAGES, HeldRow, POWER_MESSAGES};
+use scmi_codec::{BASE_MESSAGES, CLOCK_MESSAGES, HeldRow, POWER_MESSAGES, Part};
+use scmi_live::flags_of;
 use scmi_plan::RawPlan;
 use std::io::Eprint;
 use std::str::from_utf8;
@@ -41,18 +42,11 @@ const ROWS: [HelpRow; 16] = rows![
     "quit" "" "ends the session";
 ];
 
-/// Words that items may be on every board.
-const WORDS: [&str; 9] = [
-    "base",
-    "power",
-    "clock",
-    "on",
-    "off",
-    "async",
-    "round-up",
-    "round-nearest",
-    "failed",
-];
+/// Words that items may be on every board, besides the names of flags.
+const WORDS: [&str; 6] = ["base", "power", "clock", "on", "off", "failed"];
+
+/// Parts whose flags have names; those of a power domain's set are among those of a rate's.
+const FLAGS: [Part; 3] = [Part::RateFlags, Part::PermitFlags, Part::ResetFlags];
 
 /// Reports what a line asks for: `help`, or `help ` and a topic.
 pub fn report_help(rt: &impl Eprint, board: &RawPlan, text: &[u8]) {
@@ -197,6 +191,12 @@ fn report_all(rt: &impl Eprint, board: &RawPlan) {
     }
     for word in &WORDS {
         let _ = eprintln!(rt; "{word}");
+    }
+    for part in FLAGS {
+        for row in flags_of(part) {
+            let name = from_utf8(row.name).unwrap_or("");
+            let _ = eprintln!(rt; "{name}");
+        }
     }
 }
 

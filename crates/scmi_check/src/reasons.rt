@@ -13,18 +13,18 @@ pub(crate) fn write_reasons<W: Write>(
 ) -> io::Result<()> {
     match verdict {
         Verdict::Same => return Ok(()),
-        Verdict::NoAgent => write!(writer, " due no agent")?,
-        Verdict::NoMessage => write!(writer, " due no message")?,
+        Verdict::NoAgent => write!(writer, " expected no agent")?,
+        Verdict::NoMessage => write!(writer, " expected no message")?,
         Verdict::Answer(due) => {
-            write!(writer, " due")?;
+            write!(writer, " expected")?;
             write_answer(writer, due)?;
         }
         Verdict::Message(due) => {
-            write!(writer, " due")?;
+            write!(writer, " expected")?;
             write_message_text(writer, due)?;
         }
     }
-    write!(writer, ", seen")?;
+    write!(writer, ", got")?;
     match entry {
         Entry::Answered { answer, .. } => write_answer(writer, answer),
         Entry::Delivered { message, .. } => write_message_text(writer, message),

@@ -15,6 +15,8 @@ pub(crate) fn advice_for(text: &[u8]) -> &'static str {
     let parts = parts_of(text);
     if line.starts_with(b":") && line.iter().skip(1).all(|byte| is_digit_or_end(*byte)) {
         "Intel HEX; make bytes of it (objcopy -I ihex -O binary) and decode these with -b"
+    } else if is_s_record(line) {
+        "Motorola S-records; make bytes of them (objcopy -I srec -O binary) and decode these with -b"
     } else if line.starts_with(b"b'\\x")
         || line.starts_with(b"b\"\\x")
         || line.starts_with(b"\"\\x")
@@ -67,6 +69,16 @@ fn has_short_numbers(line: &[u8]) -> bool {
 /// Whether no bar is before a column of text.
 fn text_is_bare(line: &[u8]) -> bool {
     line.iter().all(|byte| *byte != b'|' && *byte != b'>')
+}
+
+/// Whether a line is `S`, its kind, and hexadecimal digits.
+fn is_s_record(line: &[u8]) -> bool {
+    match line {
+        [b'S', digits @ ..] => {
+            digits.len() > 8 && digits.iter().all(|byte| is_digit_or_end(*byte))
+        }
+        _ => false,
+    }
 }
 
 fn is_digit_or_end(byte: u8) -> bool {

@@ -2,7 +2,7 @@
 
 use crate::first_words::FirstWords;
 use crate::fit::{Fit, begins_as, fit_of};
-use crate::forms::{Form, HARDWARE_STEPS, HEADINGS, ORDERS, ROWS, STEPS};
+use crate::forms::{CHANNELS, Form, HARDWARE_STEPS, HEADINGS, ORDERS, ROWS, STEPS};
 use crate::mode::is_mode;
 use crate::near::nearest;
 use crate::other_file::slip_of_other_file;
@@ -31,11 +31,23 @@ pub(crate) fn board_cause(alloc: Global, input: &[u8], number: u32) -> (What<'_>
     if let Some(cause) = channel_cause(input, line, number) {
         return cause;
     }
-    row_cause(alloc, line)
+    row_cause(alloc, line, words_of(input))
 }
 
-/// The first word of a line for the channels of an agent.
-const CHANNEL: &[u8] = b"channel";
+/// Whether the boards of an input have lines for channels, by its mode.
+fn takes_channels(input: &[u8]) -> bool {
+    first_word(first_line(input)) == b"hardware".as_slice()
+}
+
+/// The words that the rows of an input's board begin with.
+fn words_of(input: &[u8]) -> FirstWords {
+    let more: &'static [Form] = if takes_channels(input) {
+        &CHANNELS
+    } else {
+        &[]
+    };
+    FirstWords { forms: &ROWS, more }
+}
 
 /// What is wrong with the line of a number, if it is for channels, or comes after one that is.
 fn channel_cause<'a>(
@@ -43,19 +55,22 @@ fn channel_cause<'a>(
     line: &'a [u8],
     number: u32,
 ) -> Option<(What<'a>, Option<Slip>)> {
-    let takes_channels = first_word(first_line(input)) == b"hardware".as_slice();
-    if first_word(line) == CHANNEL {
+    let takes_channels = takes_channels(input);
+    if begins_as(&CHANNELS, line) {
         return Some(if takes_channels {
             (What::NoChannel, slip_of_bytes(line))
         } else {
-            (What::NoRow(line), Some(Slip::OtherMode("hardware")))
+            (
+                What::NoRow(line, words_of(input)),
+                Some(Slip::OtherMode("hardware")),
+            )
         });
     }
     if !takes_channels || !matches!(&fit_of(&ROWS, line, 0), Fit::Well) {
         return None;
     }
     for row in Rows::of_board(behind_first(input)) {
-        if row.number < number && first_word(row.text) == CHANNEL {
+        if row.number < number && begins_as(&CHANNELS, row.text) {
             return Some((What::AfterChannels, None));
         }
     }
@@ -85,16 +100,16 @@ fn heading_cause(alloc: Global, line: &[u8]) -> (What<'_>, Option<Slip>) {
     }
 }
 
-fn row_cause(alloc: Global, line: &[u8]) -> (What<'_>, Option<Slip>) {
+fn row_cause(alloc: Global, line: &[u8], words: FirstWords) -> (What<'_>, Option<Slip>) {
     if let Some(slip) = slip_of_bytes(line) {
-        return (What::NoRow(line), Some(slip));
+        return (What::NoRow(line, words), Some(slip));
     }
     match fit_of(&ROWS, line, 0) {
         Fit::Until(fault) => (What::Item(fault), slip_of_other_bytes(line)),
         Fit::Well => (What::NoEnd, None),
         Fit::Unknown => {
-            let slip = slip_of_step(line).or(slip_of_word(alloc, FirstWords::of(&ROWS), line));
-            (What::NoRow(line), slip)
+            let slip = slip_of_step(line).or(slip_of_word(alloc, words, line));
+            (What::NoRow(line, words), slip)
         }
     }
 }

@@ -52,6 +52,11 @@ pub(crate) const ROWS: [Form; 6] = forms![
     "end" [] false "end";
 ];
 
+/// The lines of a board after these, where agents' channels have sizes.
+pub(crate) const CHANNELS: [Form; 1] = forms![
+    "channel" [Field::Agent, WORD] false "channel AGENT BYTES";
+];
+
 /// The lines of a script on one thread.
 pub(crate) const STEPS: [Form; 11] = forms![
     "call" [Field::Agent, BYTE, BYTE] true "call A P M W..";

@@ -4,10 +4,12 @@ use crate::expected::Expected;
 use crate::fit::begins_as;
 use crate::forms::{HEADINGS, ROWS};
 use crate::near::nearest;
-use crate::other_file::slip_of_other_file;
+use crate::other_file::{is_of_record, slip_of_other_file};
+use crate::rows::Rows;
 use crate::slip::{Slip, slip_of_bytes, slip_of_other_bytes};
-use crate::text::first_line;
+use crate::text::{behind_first, first_line};
 use crate::what::What;
+use scmi_board::is_significant;
 use std::alloc::Global;
 use std::str::from_utf8;
 
@@ -35,15 +37,19 @@ pub(crate) fn mode_cause(
         return (What::Empty(expected), None);
     }
     let line = first_line(input);
-    (What::NoMode(line, expected), slip_of_mode(alloc, line))
+    (
+        What::NoMode(line, expected),
+        slip_of_mode(alloc, input, line),
+    )
 }
 
 /// The slip that probably caused a first line that is no mode.
-fn slip_of_mode(alloc: Global, line: &[u8]) -> Option<Slip> {
+fn slip_of_mode(alloc: Global, input: &[u8], line: &[u8]) -> Option<Slip> {
     if is_mode(line) {
         return Some(Slip::OnlyRun);
     }
     slip_of_bytes(line)
+        .or(slip_of_record(input, line))
         .or(slip_of_other_input(line))
         .or(slip_of_word(alloc, line))
         .or(slip_of_other_bytes(line))
@@ -52,6 +58,17 @@ fn slip_of_mode(alloc: Global, line: &[u8]) -> Option<Slip> {
 /// Whether a line is the text of a mode.
 pub(crate) fn is_mode(line: &[u8]) -> bool {
     MODES.iter().any(|mode| mode.as_bytes() == line)
+}
+
+/// The slip of an input that begins with comments, and goes on with a line of a record.
+fn slip_of_record(input: &[u8], first: &[u8]) -> Option<Slip> {
+    if is_significant(first) {
+        return None;
+    }
+    for row in Rows::all(behind_first(input)) {
+        return is_of_record(row.text).then_some(Slip::RecordBehind);
+    }
+    None
 }
 
 /// The slip of a line that belongs into another place, or to another program.

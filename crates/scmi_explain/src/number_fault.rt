@@ -47,7 +47,7 @@ pub enum NumberFault {
     /// It has a comma, an underscore or a point.
     Separator,
     /// It is of another form.
-    Form,
+    Form(Width),
 }
 
 impl NumberFault {
@@ -65,6 +65,11 @@ impl NumberFault {
         })
     }
 
+    /// Whether an item is of another form than a number.
+    pub(crate) fn is_form(self) -> bool {
+        matches!(self, NumberFault::Form(_))
+    }
+
     /// The same in words.
     pub(crate) fn text(self) -> &'static str {
         match self {
@@ -76,8 +81,14 @@ impl NumberFault {
             NumberFault::NoDigits => "has no digits after 0x",
             NumberFault::NoMark => "has hexadecimal digits without 0x before them",
             NumberFault::Sign => "has a sign",
-            NumberFault::Separator => "has other bytes between its digits",
-            NumberFault::Form => "is not a number (decimal digits, or 0x and hexadecimal digits)",
+            NumberFault::Separator => "has separators between its digits",
+            // Only a rate has 64 bits.
+            NumberFault::Form(Width::Bits64) => {
+                "is not a number of Hz (decimal digits, or 0x and hexadecimal digits)"
+            }
+            NumberFault::Form(_) => {
+                "is not a number (decimal digits, or 0x and hexadecimal digits)"
+            }
         }
     }
 }
@@ -87,7 +98,7 @@ fn hexadecimal_fault(digits: &[u8], width: Width) -> NumberFault {
     if are_hexadecimal(digits) {
         NumberFault::TooLarge(width)
     } else {
-        NumberFault::Form
+        NumberFault::Form(width)
     }
 }
 
@@ -105,7 +116,7 @@ fn decimal_fault(item: &[u8], width: Width) -> NumberFault {
     if has_decimal(item) && are_separated(item) {
         return NumberFault::Separator;
     }
-    NumberFault::Form
+    NumberFault::Form(width)
 }
 
 fn are_decimal(item: &[u8]) -> bool {

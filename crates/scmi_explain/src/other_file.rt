@@ -21,7 +21,7 @@ pub(crate) fn slip_of_other_file(line: &[u8]) -> Option<Slip> {
 
 /// Whether a line looks like one of a record, or one that a run writes: it begins with an agent, or
 /// with a word of a step, or is one of a trace.
-fn is_of_record(line: &[u8]) -> bool {
+pub(crate) fn is_of_record(line: &[u8]) -> bool {
     matches!(line, [digit, b' ', ..] if digit.is_ascii_digit())
         || begins_as(&STEPS, line)
         || line.split(|byte| *byte == b' ').any(|item| item == EVENT)

@@ -89,10 +89,15 @@ pub(crate) fn script_cause(alloc: Global, input: &[u8], number: u32) -> (What<'_
     }
 }
 
-/// The slip of a line with an item too few or too many for these scripts: it may be one of other modes.
+/// The slip of a line with an item that is not a number, or too few or too many for these scripts: it
+/// may be one of other modes.
 fn slip_of_items(script: Script, line: &[u8], agents: u32, wrong: Wrong) -> Option<Slip> {
-    if !matches!(&wrong, Wrong::Missing | Wrong::Extra) {
-        return None;
+    match wrong {
+        Wrong::Number(fault) if script == Script::Steps && fault.is_form() => {
+            return Some(Slip::Names);
+        }
+        Wrong::Missing | Wrong::Extra => {}
+        _ => return None,
     }
     for (other, forms, modes) in OTHERS {
         if other != script && fits_well(forms, line, agents) {

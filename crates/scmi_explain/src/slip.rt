@@ -31,6 +31,8 @@ pub enum Slip {
     NoKind,
     /// It is a line of a record, or of what a run writes.
     Record,
+    /// Such a line follows the comments.
+    RecordBehind,
     /// It is a row of a dump.
     Dump,
     /// It is a board, but dumps are expected.
@@ -47,6 +49,10 @@ pub enum Slip {
     NoText,
     /// It has numbers of 16 bits after addresses of seven digits.
     Halfwords,
+    /// Its addresses are decimal.
+    DecimalAddresses,
+    /// A name is in place of a number, in a mode without names.
+    Names,
     /// The board has a line `board` already.
     SecondBoard,
     /// The mode is there a second time.
@@ -82,15 +88,22 @@ impl Slip {
             Slip::Record => {
                 "it is a line of a record, which scmi check takes after its board, or of what a run writes"
             }
+            Slip::RecordBehind => {
+                "a line of a record follows, which scmi check takes after its board, or of what a run writes"
+            }
             Slip::Dump => "it is a row of a dump, which scmi decode takes",
             Slip::BoardGiven => "it is a board, which scmi session, check and table take",
-            Slip::Picture => "it is a picture, or text with marks",
+            Slip::Picture => "it is a picture (SVG), or other markup",
             Slip::OnlyRun => "that mode is run by scmi run, and not drawn",
             Slip::SessionFirst => "it is the mode of a script, which scmi run takes",
             Slip::NoText => "it has a zero byte, so it is not text; print it with xxd",
             Slip::Halfwords => {
                 "it looks like hexdump without -C; print it with hexdump -C or od -t x1"
             }
+            Slip::DecimalAddresses => {
+                "its addresses are decimal; print it with xxd or hexdump -C alone, or od -A x"
+            }
+            Slip::Names => "names are for the modes hardware",
             Slip::SecondBoard => "a board has one line \"board\"",
             Slip::SecondMode => "a mode belongs in line 1 of a script; a board has none",
             Slip::BoardEnded => "it belongs on the board, which ended before",

@@ -2,7 +2,6 @@
 
 use crate::expected::Expected;
 use crate::first_words::FirstWords;
-use crate::forms::ROWS;
 use crate::item_fault::ItemFault;
 use crate::mode::MODES;
 use crate::plan_fault::PlanFault;
@@ -20,8 +19,8 @@ pub enum What<'a> {
     NoBoard,
     /// This line is not the first one of a board.
     NoHeading(&'a [u8]),
-    /// This line is no row of a board.
-    NoRow(&'a [u8]),
+    /// This line is not a row of a board, which begin with these words.
+    NoRow(&'a [u8], FirstWords),
     /// It is no line for the channels of an agent that the board has.
     NoChannel,
     /// It comes after a line for channels.
@@ -79,6 +78,11 @@ impl fmt::Display for What<'_> {
                 f.write_str("the input is empty; ")?;
                 write_wanted(f, *expected)
             }
+            What::NoRow(line, words) => write!(
+                f,
+                "unknown board line {}; expected {words}",
+                Quoted(line)
+            ),
             What::NoStep(line, words) => write!(
                 f,
                 "unknown line {} of a script; expected one that begins with {words}",
@@ -99,12 +103,6 @@ fn fmt_line<W: fmt::Write>(what: &What<'_>, f: &mut fmt::Formatter<W>) -> fmt::R
             "a board starts with \"board VENDOR SUBVENDOR VERSION TRUSTED\"; found {}",
             Quoted(line)
         ),
-        What::NoRow(line) => write!(
-            f,
-            "unknown board line {}; expected {}",
-            Quoted(line),
-            FirstWords::of(&ROWS)
-        ),
         What::NoScript(line) => write!(
             f,
             "{} comes before the first line \"script A\", which says whose lines follow",
@@ -113,7 +111,7 @@ fn fmt_line<W: fmt::Write>(what: &What<'_>, f: &mut fmt::Formatter<W>) -> fmt::R
         What::SecondScript(line) => write!(f, "the agent has a script already, at line {line}"),
         What::AreaDigits(digits) => write!(
             f,
-            "an area has 568 hexadecimal digits, and this line {digits}"
+            "an area has 568 hexadecimal digits, and this line has {digits}"
         ),
         What::AreaByte(byte, place) => write!(
             f,
@@ -122,7 +120,7 @@ fn fmt_line<W: fmt::Write>(what: &What<'_>, f: &mut fmt::Formatter<W>) -> fmt::R
         ),
         What::ManySteps(steps) => write!(
             f,
-            "a chart has at most 2,000 steps, and this script {steps}"
+            "a chart has at most 2,000 steps, and this script has {steps}"
         ),
         plain => f.write_str(plain.text()),
     }
@@ -157,7 +155,7 @@ impl What<'_> {
             }
             What::AfterChannels =>
                 "lines for channels come after all other lines, right before end",
-            What::NoEnd => "the board lacks its last line, end",
+            What::NoEnd => "the last line of the board, end, is missing",
             What::NoArea =>
                 "the area is missing: after the mode comes a line of 568 hexadecimal digits",
             What::SecondArea => "once takes one area, and this is a second line",
