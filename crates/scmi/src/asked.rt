@@ -1,7 +1,7 @@
 //! What the matches of a command line ask for.
 
 use crate::command::{
-    BINARY, FIRST, HELP, MERMAID, OFFSET, PROTOCOLS, SAVE, SECOND, SIZE, STRIDE, TAP, VERSION,
+    BINARY, FIRST, HELP, JSON, MERMAID, OFFSET, PROTOCOLS, SAVE, SECOND, SIZE, STRIDE, TAP, VERSION,
 };
 use crate::form::task_of;
 use crate::request::Request;
@@ -9,6 +9,7 @@ use crate::task::Task;
 use clap::ArgMatches;
 use clap::parser::ValueSource;
 use scmi_board::number;
+use scmi_check::Style;
 use scmi_decode::{Layout, LayoutError};
 
 /// The name that standard input has among arguments.
@@ -18,8 +19,8 @@ pub const STANDARD: &str = "-";
 #[derive(Clone, Copy)]
 pub struct Asked<'a> {
     pub request: Request,
-    /// Whether a report is to be one of the Test Anything Protocol.
-    pub is_tap: bool,
+    /// The form of the report of a check.
+    pub style: Style,
     /// The protocols that are judged in a record.
     pub protocols: Option<&'a str>,
     /// The file of the input, or of a board.
@@ -80,7 +81,7 @@ fn task_by<'a>(task: Task, matches: &ArgMatches<'a>) -> Result<Asked<'a>, Unread
     if is_used(matches, HELP) {
         return Ok(with_no_file(Request::HelpOn(task)));
     }
-    let is_tap = is_used(matches, TAP);
+    let style = style_by(matches);
     let first = value_of(matches, FIRST);
     let second = value_of(matches, SECOND);
     let save = value_of(matches, SAVE);
@@ -100,12 +101,23 @@ fn task_by<'a>(task: Task, matches: &ArgMatches<'a>) -> Result<Asked<'a>, Unread
     };
     Ok(Asked {
         request,
-        is_tap,
+        style,
         protocols: value_of(matches, PROTOCOLS),
         first,
         second,
         save,
     })
+}
+
+/// The form of a report of check.
+fn style_by(matches: &ArgMatches<'_>) -> Style {
+    if is_used(matches, JSON) {
+        Style::Json
+    } else if is_used(matches, TAP) {
+        Style::Tap
+    } else {
+        Style::Plain
+    }
 }
 
 /// What the options of decode ask for.
@@ -143,7 +155,7 @@ fn count_of(word: &str) -> Option<usize> {
 fn with_no_file<'a>(request: Request) -> Asked<'a> {
     Asked {
         request,
-        is_tap: false,
+        style: Style::Plain,
         protocols: None,
         first: None,
         second: None,

@@ -15,6 +15,8 @@ pub const HELP: &str = "help";
 pub const VERSION: &str = "version";
 
 /// The flag that asks for a report of the Test Anything Protocol.
+pub const JSON: &str = "json";
+
 pub const TAP: &str = "tap";
 
 /// The option that names the protocols that are judged in a record.
@@ -83,6 +85,7 @@ fn task_command<'a>(alloc: Global, form: &Form) -> Result<Command<'a>, AllocErro
             .arg(Arg::new(alloc, FIRST)),
         Operands::BoardAndRecord => command
             .arg(flag(alloc, TAP))?
+            .arg(flag(alloc, JSON))?
             .arg(option(alloc, PROTOCOLS, "LIST"))?
             .arg(Arg::new(alloc, FIRST))?
             .arg(Arg::new(alloc, SECOND)),

@@ -42,14 +42,9 @@ pub fn serve<T: Threads + Wait + Sync + Files + Print + Eprint + Input>(
         };
     };
     if asked.request == Request::Do(Task::Check) {
-        let style = if asked.is_tap {
-            Style::Tap
-        } else {
-            Style::Plain
-        };
         let check = AskedCheck {
-            style,
-            is_colored: is_colored && !asked.is_tap,
+            style: asked.style,
+            is_colored: is_colored && asked.style == Style::Plain,
             protocols: asked.protocols,
             board: name,
             record: asked.second,

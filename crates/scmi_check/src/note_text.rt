@@ -19,8 +19,8 @@ pub(crate) fn write_notes<W: Write>(
     checked: &Checked,
 ) -> io::Result<()> {
     let mark = match style {
-        Style::Plain => "",
         Style::Tap => "# line ",
+        Style::Plain | Style::Json => "",
     };
     'notes: for note in &checked.left.notes {
         write!(writer, "{mark}{} ", note.line)?;
@@ -57,7 +57,8 @@ pub(crate) fn write_left<W: Write>(writer: &mut W, left: &LeftOut) -> io::Result
     write_skipped(writer, left.skipped, &left.protocols)
 }
 
-fn count_of(notes: &[Note], kind: NoteKind) -> usize {
+/// How many notes are of a kind.
+pub(crate) fn count_of(notes: &[Note], kind: NoteKind) -> usize {
     notes.iter().filter(|note| note.kind == kind).count()
 }
 

@@ -1,5 +1,5 @@
 //! What was due and what was seen, as a line of a report has it.
-use scmi_codec::{Answer, Status};
+use scmi_codec::{Answer, Message, Status};
 use scmi_judge::{Entry, Verdict};
 use scmi_text::write_message_text;
 use std::io;
@@ -35,13 +35,20 @@ pub(crate) fn write_reasons<W: Write>(
 fn write_answer<W: Write>(writer: &mut W, answer: &Answer) -> io::Result<()> {
     match answer {
         Answer::Reply(message) => {
-            let first = message.payload.as_slice().first();
-            if let Some(status) = first.and_then(|word| Status::of_word(*word)) {
+            if let Some(status) = status_of_reply(message) {
                 write!(writer, " {}", status.name())?;
             }
             write_message_text(writer, message)
         }
         Answer::Released => write!(writer, " released"),
         Answer::ChannelError => write!(writer, " error"),
+    }
+}
+
+/// The status that a reply begins with, if it begins with one.
+pub(crate) fn status_of_reply(reply: &Message) -> Option<Status> {
+    match reply.payload.as_slice() {
+        [word, ..] => Status::of_word(*word),
+        [] => None,
     }
 }

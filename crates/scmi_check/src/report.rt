@@ -2,12 +2,15 @@
 use crate::checked::Checked;
 use crate::counts::Counts;
 use crate::deciding::deciding_word;
+use crate::entry_name::entry_name;
 use crate::finding::Finding;
+use crate::json::write_json;
 use crate::judged::Judged;
 use crate::note_text::{write_left, write_notes};
 use crate::origins::{Origin, Origins};
 use crate::reasons::write_reasons;
 use crate::style::Style;
+use scmi_judge::Entry;
 use std::io;
 use std::io::Write;
 
@@ -17,8 +20,10 @@ use std::io::Write;
 /// error was due, and with the lines of earlier entries that it may follow from. The error is the
 /// writer's; some parts may then be written.
 pub fn write_report<W: Write>(writer: &mut W, style: Style, checked: &Checked) -> io::Result<()> {
-    if style == Style::Tap {
-        writeln!(writer, "1..{}", checked.judged.len())?;
+    match style {
+        Style::Json => return write_json(writer, checked),
+        Style::Tap => writeln!(writer, "1..{}", checked.judged.len())?,
+        Style::Plain => {}
     }
     write_lines(writer, style, &checked.judged)?;
     write_notes(writer, style, checked)?;
@@ -36,6 +41,7 @@ fn write_lines<W: Write>(writer: &mut W, style: Style, judged: &[Judged]) -> io:
             Finding::Same => writeln!(writer, " same")?,
             Finding::Own(rule) => {
                 write!(writer, " own {}", rule.name())?;
+                write_name(writer, &one.entry)?;
                 write_reasons(writer, &one.entry, &one.verdict)?;
                 writeln!(writer)?;
             }
@@ -49,6 +55,7 @@ fn write_lines<W: Write>(writer: &mut W, style: Style, judged: &[Judged]) -> io:
 /// Writes what is behind the number of an entry that differs.
 fn write_difference<W: Write>(writer: &mut W, one: &Judged, origin: Origin) -> io::Result<()> {
     write!(writer, " differs")?;
+    write_name(writer, &one.entry)?;
     write_reasons(writer, &one.entry, &one.verdict)?;
     if let Some(word) = deciding_word(&one.entry, &one.verdict) {
         write!(writer, " by {word}")?;
@@ -62,20 +69,27 @@ fn write_difference<W: Write>(writer: &mut W, one: &Judged, origin: Origin) -> i
     writeln!(writer)
 }
 
+fn write_name<W: Write>(writer: &mut W, entry: &Entry) -> io::Result<()> {
+    match entry_name(entry) {
+        Some(name) => write!(writer, " {name}"),
+        None => Ok(()),
+    }
+}
+
 /// What is written before the number of the line.
 fn mark(style: Style, finding: Finding) -> &'static str {
     match (style, finding) {
-        (Style::Plain, _) => "",
         (Style::Tap, Finding::Differs) => "not ok - line ",
         (Style::Tap, _) => "ok - line ",
+        _ => "",
     }
 }
 
 /// Writes how many entries were found to be of each kind. For a test system it is a comment.
 fn write_counts<W: Write>(writer: &mut W, style: Style, counts: Counts) -> io::Result<()> {
     let remark = match style {
-        Style::Plain => "",
         Style::Tap => "# ",
+        Style::Plain | Style::Json => "",
     };
     let Counts { same, own, differ } = counts;
     write!(writer, "{remark}{same} same, {own} own, {differ} differ")

@@ -1,8 +1,12 @@
 //! The form of a report.
 
-/// The form of a report: lines of their own, or those of the Test Anything Protocol.
+/// The form of a report.
 #[derive(Clone, Copy, PartialEq, Eq, Debug)]
 pub enum Style {
+    /// A line for each entry.
     Plain,
+    /// The Test Anything Protocol.
     Tap,
+    /// A JSON object a line.
+    Json,
 }

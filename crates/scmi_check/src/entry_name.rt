@@ -1,0 +1,34 @@
+//! What the message of an entry is called.
+use scmi_codec::{DELAYED_RESPONSE, Frame, Header, NOTIFICATION, message_name};
+use scmi_describe::notification_name;
+use scmi_judge::Entry;
+
+/// The name of an entry's command, or of its message. `None` of a frame that is not well formed, and
+/// of a message that the profile lacks.
+pub(crate) fn entry_name(entry: &Entry) -> Option<&'static str> {
+    match entry {
+        Entry::Answered {
+            frame: Frame::Good(command),
+            ..
+        } => command_name(&command.header),
+        Entry::Answered { .. } => None,
+        Entry::Delivered { message, .. } => delivered_name(&message.header),
+    }
+}
+
+fn command_name(header: &Header) -> Option<&'static str> {
+    if header.kind() == 0 {
+        message_name(header.protocol(), header.id())
+    } else {
+        None
+    }
+}
+
+/// A delayed response has the name of its command.
+fn delivered_name(header: &Header) -> Option<&'static str> {
+    match header.kind() {
+        DELAYED_RESPONSE => message_name(header.protocol(), header.id()),
+        NOTIFICATION => notification_name(header.protocol(), header.id()),
+        _ => None,
+    }
+}

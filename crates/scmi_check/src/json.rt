@@ -1,0 +1,158 @@
+//! A report as JSON, an object a line. No text in it comes from the record but numbers.
+use crate::checked::Checked;
+use crate::counts::Counts;
+use crate::deciding::deciding_word;
+use crate::entry_name::entry_name;
+use crate::finding::Finding;
+use crate::judged::Judged;
+use crate::lost::Lost;
+use crate::note::{Note, NoteKind};
+use crate::note_text::count_of;
+use crate::origins::{Origin, Origins};
+use crate::reasons::status_of_reply;
+use scmi_codec::{Answer, Message};
+use scmi_judge::{Entry, Verdict};
+use std::io;
+use std::io::Write;
+
+/// Writes an object for each entry and each note, and one that counts.
+pub(crate) fn write_json<W: Write>(writer: &mut W, checked: &Checked) -> io::Result<()> {
+    let mut origins = Origins::new();
+    'each: for one in &checked.judged {
+        let finding = one.finding();
+        write_entry(writer, one, finding, origins.origin_of(one))?;
+        origins.add(one, finding);
+    }
+    'notes: for note in &checked.left.notes {
+        write_note(writer, note)?;
+    }
+    if let Some(line) = checked.unsure {
+        writeln!(writer, "{{\"line\":{line},\"found\":\"unsure\"}}")?;
+    }
+    write_counts(writer, checked)
+}
+
+fn write_entry<W: Write>(
+    writer: &mut W,
+    one: &Judged,
+    finding: Finding,
+    origin: Origin,
+) -> io::Result<()> {
+    write!(
+        writer,
+        "{{\"line\":{},\"found\":\"{}\"",
+        one.line,
+        finding_word(finding)
+    )?;
+    if let Some(name) = entry_name(&one.entry) {
+        write!(writer, ",\"message\":\"{name}\"")?;
+    }
+    if let Finding::Own(rule) = finding {
+        write!(writer, ",\"rule\":\"{}\"", rule.name())?;
+    }
+    if finding != Finding::Same {
+        write_reasons(writer, one)?;
+    }
+    if finding == Finding::Differs {
+        write_help(writer, one, origin)?;
+    }
+    writeln!(writer, "}}")
+}
+
+fn finding_word(finding: Finding) -> &'static str {
+    match finding {
+        Finding::Same => "same",
+        Finding::Own(_) => "own",
+        Finding::Differs => "differs",
+    }
+}
+
+/// Writes what was expected and what it got.
+fn write_reasons<W: Write>(writer: &mut W, one: &Judged) -> io::Result<()> {
+    write!(writer, ",\"expected\":")?;
+    match &one.verdict {
+        Verdict::Answer(expected) => write_answer(writer, expected)?,
+        Verdict::Message(expected) => write_words(writer, expected)?,
+        Verdict::Same | Verdict::NoAgent | Verdict::NoMessage => write!(writer, "null")?,
+    }
+    write!(writer, ",\"got\":")?;
+    match &one.entry {
+        Entry::Answered { answer, .. } => write_answer(writer, answer),
+        Entry::Delivered { message, .. } => write_words(writer, message),
+    }
+}
+
+/// Writes the check that decides, and the lines that the difference may follow from.
+fn write_help<W: Write>(writer: &mut W, one: &Judged, origin: Origin) -> io::Result<()> {
+    if let Some(word) = deciding_word(&one.entry, &one.verdict) {
+        write!(writer, ",\"by\":\"{word}\"")?;
+    }
+    if let Some(line) = origin.set {
+        write!(writer, ",\"set\":{line}")?;
+    }
+    if let Some(line) = origin.after {
+        write!(writer, ",\"after\":{line}")?;
+    }
+    Ok(())
+}
+
+fn write_answer<W: Write>(writer: &mut W, answer: &Answer) -> io::Result<()> {
+    match answer {
+        Answer::Reply(message) => {
+            write!(writer, "{{")?;
+            if let Some(status) = status_of_reply(message) {
+                write!(writer, "\"status\":\"{}\",", status.name())?;
+            }
+            write!(writer, "\"words\":")?;
+            write_words(writer, message)?;
+            write!(writer, "}}")
+        }
+        Answer::Released => write!(writer, "\"released\""),
+        Answer::ChannelError => write!(writer, "\"error\""),
+    }
+}
+
+/// Writes the header word and the payload words.
+fn write_words<W: Write>(writer: &mut W, message: &Message) -> io::Result<()> {
+    write!(writer, "[{}", message.header.word())?;
+    'words: for word in message.payload.as_slice() {
+        write!(writer, ",{word}")?;
+    }
+    write!(writer, "]")
+}
+
+fn write_note<W: Write>(writer: &mut W, note: &Note) -> io::Result<()> {
+    write!(writer, "{{\"line\":{},\"found\":", note.line)?;
+    match note.kind {
+        NoteKind::Unanswered => write!(writer, "\"unanswered\"")?,
+        NoteKind::Unmatched => write!(writer, "\"unmatched\"")?,
+        NoteKind::Lost(Lost::Events(events)) => write!(writer, "\"lost\",\"events\":{events}")?,
+        NoteKind::Lost(Lost::Unknown) => write!(writer, "\"lost\"")?,
+    }
+    writeln!(writer, "}}")
+}
+
+fn write_counts<W: Write>(writer: &mut W, checked: &Checked) -> io::Result<()> {
+    let Counts { same, own, differ } = Counts::of(&checked.judged);
+    let unanswered = count_of(&checked.left.notes, NoteKind::Unanswered);
+    let unmatched = count_of(&checked.left.notes, NoteKind::Unmatched);
+    write!(
+        writer,
+        "{{\"same\":{same},\"own\":{own},\"differ\":{differ}"
+    )?;
+    write!(
+        writer,
+        ",\"unanswered\":{unanswered},\"unmatched\":{unmatched}"
+    )?;
+    write!(
+        writer,
+        ",\"skipped\":{},\"protocols\":[",
+        checked.left.skipped
+    )?;
+    let mut before = "";
+    'protocols: for protocol in &checked.left.protocols {
+        write!(writer, "{before}{protocol}")?;
+        before = ",";
+    }
+    writeln!(writer, "]}}")
+}
