@@ -114,7 +114,7 @@ fn write_answer<W: Write>(writer: &mut W, answer: &Answer) -> io::Result<()> {
 
 /// Writes the header word and the payload words.
 fn write_words<W: Write>(writer: &mut W, message: &Message) -> io::Result<()> {
-    write!(writer, "[{}", message.header.word())?;
+    write!(writer, "[{}", message.header.pack())?;
     'words: for word in message.payload.as_slice() {
         write!(writer, ",{word}")?;
     }
