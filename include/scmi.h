@@ -44,7 +44,7 @@ extern "C" {
 
 /*
  * The version of this header and of the library that came with it (scmi_version). TF-A has a number of the other name,
- * so tolbjir/scmi.h, as it is installed, has not its line.
+ * so the installed tolbjir/scmi.h leaves out its line.
  */
 #define SCMI_LIBRARY_VERSION "1.0.0"
 #define SCMI_VERSION SCMI_LIBRARY_VERSION
@@ -277,7 +277,7 @@ uint32_t scmi_ask(scmi_platform *SCMI_ALONE platform, uint32_t agent, uint8_t ar
  * The hardware has made what scmi_ask gave: the command is executed as it was kept, and its answer written into the
  * area whole, status, length, header and payload. Nothing of the area is read, so what an agent does to it after
  * scmi_ask changes neither what is executed nor the answer. SCMI_DONE, SCMI_NO_PLATFORM, SCMI_NOTHING (no command was
- * asked about) or SCMI_WRONG_SIZE (wrong area size: the command was in one of another).
+ * asked about) or SCMI_WRONG_SIZE (wrong area size: commit or fail with the size of the area that was asked about).
  */
 uint32_t scmi_commit(scmi_platform *SCMI_ALONE platform, uint8_t area[SCMI_ALONE SCMI_AREA_BYTES]);
 

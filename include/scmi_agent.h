@@ -1,6 +1,6 @@
 /*
  * How does an agent written in C send commands and read replies? This is the agent's side of SCMI (DEN0056B,
- * version 2.0): libscmi_agent_c.a. It takes no memory.
+ * version 2.0): libscmi_agent_c.a. It allocates nothing.
  *
  * An area has the 284 bytes that scmi.h describes. It is a private copy of the channel's shared memory, which the
  * program reads once, with acquire. The program stores back what a call wrote, the status word last, with release.
