@@ -43,8 +43,8 @@ def words_of(item):
 
 
 def another_word(rng, word):
-    return rng.choice([other for other in (word ^ 1, word ^ ON ^ OFF, word + 1 & 0xFFFFFFFF, word ^ 1 << rng.randrange(32), 0)
-                       if other != word])
+    others = (word ^ 1, word ^ ON ^ OFF, word + 1 & 0xFFFFFFFF, word ^ 1 << rng.randrange(32), 0)
+    return rng.choice([other for other in others if other != word])
 
 
 def another_in(rng, words, first):
@@ -77,7 +77,8 @@ def long(rng, items):
 
 
 def error(rng, items):
-    return changed(rng, items, is_reply, lambda item: item._replace(answer=(rng.choice(("error", "error", "released")),)))
+    answer = (rng.choice(("error", "error", "released")),)
+    return changed(rng, items, is_reply, lambda item: item._replace(answer=answer))
 
 
 def is_value(item):

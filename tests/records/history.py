@@ -217,7 +217,8 @@ class Commands:
 
     def wrong(self):
         """A command with a word that no check may pass, one more or fewer, or of no message."""
-        protocol, message, words = getattr(self, self.rng.choice(("set", "later", "config", "notify", "permit", "read")))()
+        kind = self.rng.choice(("set", "later", "config", "notify", "permit", "read"))
+        protocol, message, words = getattr(self, kind)()
         how = self.rng.randrange(4)
         if how == 0:
             return protocol, self.rng.choice((0x8, 0xC, 0x55, 0xFF)), words

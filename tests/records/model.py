@@ -341,7 +341,7 @@ def describe_rates(board, state, agent, header, clock, index):
 
 
 def neighbours(clock, rate):
-    """The greatest rate of a clock that is at most this one, and the least that is at least it; None if there is none."""
+    """The greatest rate of a clock that is at most this one, and the least that is at least it; None if it has none."""
     if clock.listed:
         return (max((one for one in clock.listed if one <= rate), default=None),
                 min((one for one in clock.listed if one >= rate), default=None))

@@ -18,10 +18,12 @@ PLACES = 255
 
 
 class Wanted(NamedTuple):
-    """The line at which the last history ends, or None, what may be found of it, and the states at each entry."""
+    """The line at which the last history ends, or None if one is behind all; and what may be found of that line."""
     line: int
     findings: set
-    reached: list
+
+
+ALL_SAME = Wanted(None, set())
 
 
 def has_reserved_flag(frame):
@@ -58,13 +60,11 @@ def findings_of(board, states, entry):
 
 def wanted_of(board, entries):
     """What is wanted of the report of a record; raises TooMany if the model does not say."""
-    judge, reached = Judge(board, shows_refusal(entries)), []
+    judge = Judge(board, shows_refusal(entries))
     for entry in entries:
-        right = judge.see(entry)
-        reached.append(len(judge.before))
-        if not right:
-            return Wanted(entry.line, findings_of(board, judge.before, entry), reached)
-    return Wanted(None, set(), reached)
+        if not judge.see(entry):
+            return Wanted(entry.line, findings_of(board, judge.before, entry))
+    return ALL_SAME
 
 
 def states_before(board, entries, line):
@@ -116,15 +116,19 @@ def first_blamed(report):
     return next(((line, finding) for line, finding in report.findings if finding != "same"), (None, None))
 
 
+def told(line):
+    return "no line" if line is None else f"line {line}"
+
+
 def wrong_verdict(report, wanted):
     """What is wrong with the verdicts of a report; None if nothing is."""
     line, finding = first_blamed(report)
-    if report.unsure is not None and wanted.line is not None and wanted.line >= report.unsure and line is None:
+    if line is None and report.unsure is not None and (wanted.line is None or wanted.line >= report.unsure):
         return None
-    if line != wanted.line and not (report.unsure is not None and line is None and wanted.line is None):
-        return f"line {line} is blamed first in place of line {wanted.line}" if line else f"line {wanted.line} is not blamed"
+    if line != wanted.line:
+        return f"{told(line)} is blamed first in place of {told(wanted.line)}"
     if line is not None and finding not in wanted.findings:
-        return f"line {line} is {finding} in place of {', '.join(sorted(wanted.findings))}"
+        return f"{told(line)} is {finding} in place of {', '.join(sorted(wanted.findings))}"
     return None
 
 
