@@ -1,0 +1,67 @@
+"""A check that is run of a record, and what is wrong with its report, by the model."""
+import resource
+import subprocess
+from pathlib import Path
+from typing import NamedTuple
+
+from report import Wanted, first_blamed, read_report, wanted_of, wrong_doubt, wrong_form, wrong_verdict
+from texts import board_text, read_record
+
+SECONDS = 20
+
+
+class Case(NamedTuple):
+    """A record of a board, and what is wanted of its report."""
+    name: str
+    board: object
+    text: str
+    entries: list
+    wanted: Wanted
+
+
+class Checked(NamedTuple):
+    status: int
+    said: str
+    seconds: float
+
+
+class Wrong(NamedTuple):
+    """What is wrong with a report, and the line at which the check was unsure, if it blamed none before."""
+    why: str
+    unsure: int
+
+
+def seconds_of_children():
+    """The seconds of a processor that ended children have taken."""
+    used = resource.getrusage(resource.RUSAGE_CHILDREN)
+    return used.ru_utime + used.ru_stime
+
+
+class Check:
+    """A check, as words that the names of a board and of a record are put behind."""
+
+    def __init__(self, words, room):
+        self.words, self.board, self.record = words, Path(room, "board"), Path(room, "record")
+
+    def of(self, case):
+        self.board.write_text(board_text(case.board))
+        self.record.write_text(case.text)
+        began = seconds_of_children()
+        done = subprocess.run([*self.words, self.board, self.record], stdout=subprocess.PIPE, text=True, check=False,
+                              preexec_fn=lambda: resource.setrlimit(resource.RLIMIT_CPU, (SECONDS, SECONDS)))
+        return Checked(done.returncode, done.stdout, seconds_of_children() - began)
+
+
+def judged(case, checked):
+    if checked.status < 0:
+        return Wrong(f"ended by signal {-checked.status} after {checked.seconds:.1f} s of processor", None)
+    report = read_report(checked.said)
+    why = wrong_form(report, case.entries, checked.status) or wrong_verdict(report, case.wanted) \
+        or wrong_doubt(report, case.board, case.entries)
+    return Wrong(why, None if first_blamed(report)[0] else report.unsure)
+
+
+def case_of(name, board, text):
+    """A case of a record, of which the model says what is wanted; raises TooMany if it does not."""
+    entries = read_record(text)
+    return Case(name, board, text, entries, wanted_of(board, entries))

@@ -1,0 +1,138 @@
+"""What a report of a check has to say, by the model: docs/CHECK.md has its form."""
+import re
+from typing import NamedTuple
+
+from exact import Judge, TooMany, shows_refusal
+from model import (BASE, CLOCK, INVALID_PARAMETERS, NOT_FOUND, OUT_OF_RANGE, POWER, SUCCESS, executed,
+                   protocol_of)
+from texts import Answered
+
+# The word of the flags of a command, and its first reserved bit.
+FLAGS = {(BASE, 0x9): (2, 1), (BASE, 0xA): (3, 1), (BASE, 0xB): (1, 1), (POWER, 0x4): (0, 1), (CLOCK, 0x5): (0, 4),
+         (CLOCK, 0x7): (1, 1)}
+ENTRY = re.compile(r"(\d+) (same|differs|own [a-z-]+)( .*)?")
+UNSURE = re.compile(r"(\d+) unsure, and judged no further")
+COUNTS = re.compile(r"(\d+) same, (\d+) own, (\d+) differ(, .*)?")
+# A check may keep so many states, and be unsure only if there are more.
+PLACES = 255
+
+
+class Wanted(NamedTuple):
+    """The line at which the last history ends, or None if one is behind all; and what may be found of that line."""
+    line: int
+    findings: set
+
+
+ALL_SAME = Wanted(None, set())
+
+
+def has_reserved_flag(frame):
+    at, bit = FLAGS.get((protocol_of(frame[1]), frame[1] & 0xFF), (0, 0))
+    return bit > 0 and len(frame[2]) > at and frame[2][at] >> bit > 0
+
+
+def own_rule(frame, due, seen):
+    """The rule of the project's own by which another reply than the due one is possible; None if there is none."""
+    if seen[0] != "reply" or due[0] != "reply" or seen[1] != due[1]:
+        return None
+    command, want, got = (protocol_of(due[1]), due[1] & 0xFF), due[2], seen[2]
+    succeeded = want[0] == SUCCESS and got[:1] == (SUCCESS,)
+    rules = {
+        "unknown-id": want[0] == NOT_FOUND and got[:1] == (INVALID_PARAMETERS,),
+        "reserved-flags": want[0] == INVALID_PARAMETERS and has_reserved_flag(frame),
+        "skip": want[0] == INVALID_PARAMETERS and command == (BASE, 0x6) and got == (SUCCESS, 0),
+        "index": want[0] == OUT_OF_RANGE and command == (CLOCK, 0x4) and got[:1] == (SUCCESS,) and len(got) == 2,
+        "error-form": want[0] != SUCCESS and got[:1] == want and len(got) > 1,
+        "version": succeeded and command[1] == 0x0,
+        "board-name": succeeded and command in ((BASE, 0x3), (BASE, 0x4), (BASE, 0x5)),
+    }
+    return next((rule for rule, fits in rules.items() if fits), None)
+
+
+def findings_of(board, states, entry):
+    """What may be found of an entry that no history has, by the states before it."""
+    if not isinstance(entry, Answered):
+        return {"differs"}
+    dues = {executed(board, state, entry.agent, entry.frame).answer for state in states}
+    rules = {own_rule(entry.frame, due, entry.answer) for due in dues}
+    return {f"own {rule}" if rule else "differs" for rule in rules}
+
+
+def wanted_of(board, entries):
+    """What is wanted of the report of a record; raises TooMany if the model does not say."""
+    judge = Judge(board, shows_refusal(entries))
+    for entry in entries:
+        if not judge.see(entry):
+            return Wanted(entry.line, findings_of(board, judge.before, entry))
+    return ALL_SAME
+
+
+def states_before(board, entries, line):
+    """How many states are reached before the entry at a line; None if there are too many."""
+    judge = Judge(board, shows_refusal(entries))
+    try:
+        for entry in entries:
+            judge.see(entry)
+            if entry.line == line:
+                return len(judge.before)
+    except TooMany:
+        return None
+
+
+class Report(NamedTuple):
+    """The report of a check: what is found at each line, where it is unsure, and what it counts."""
+    findings: list
+    unsure: int
+    counts: tuple
+
+
+def read_report(text):
+    findings, unsure, counts = [], None, None
+    for line in text.splitlines():
+        if match := ENTRY.fullmatch(line):
+            findings.append((int(match[1]), match[2]))
+        elif match := UNSURE.fullmatch(line):
+            unsure = int(match[1])
+        elif match := COUNTS.fullmatch(line):
+            counts = tuple(int(match[place]) for place in (1, 2, 3))
+    return Report(findings, unsure, counts)
+
+
+def wrong_form(report, entries, status):
+    """What is wrong with the form of a report; None if nothing is."""
+    judged = [entry.line for entry in entries if report.unsure is None or entry.line < report.unsure]
+    words = [finding.split()[0] for _, finding in report.findings]
+    counts = tuple(words.count(word) for word in ("same", "own", "differs"))
+    if [line for line, _ in report.findings] != judged:
+        return "not one line for each entry"
+    if report.counts != counts:
+        return f"counts {report.counts} in place of {counts}"
+    if status != (5 if "differs" in words else 0):
+        return f"status {status}"
+    return None
+
+
+def first_blamed(report):
+    return next(((line, finding) for line, finding in report.findings if finding != "same"), (None, None))
+
+
+def told(line):
+    return "no line" if line is None else f"line {line}"
+
+
+def wrong_verdict(report, wanted):
+    """What is wrong with the verdicts of a report; None if nothing is."""
+    line, finding = first_blamed(report)
+    if line is None and report.unsure is not None and (wanted.line is None or wanted.line >= report.unsure):
+        return None
+    if line != wanted.line:
+        return f"{told(line)} is blamed first in place of {told(wanted.line)}"
+    if line is not None and finding not in wanted.findings:
+        return f"{told(line)} is {finding} in place of {', '.join(sorted(wanted.findings))}"
+    return None
+
+
+def wrong_doubt(report, board, entries):
+    """What is wrong with the line at which a check is unsure; None if nothing is."""
+    states = None if report.unsure is None else states_before(board, entries, report.unsure)
+    return f"unsure at line {report.unsure} with {states} states" if states and states <= PLACES else None

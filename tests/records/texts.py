@@ -1,0 +1,159 @@
+"""The texts of boards and records, read and written: docs/SCRIPTS.md and docs/CHECK.md have their forms."""
+from typing import NamedTuple
+
+from model import OFF, ON, PROTOCOLS, TOKENS, Board, Channel, Clock, Device, Domain, header_of, protocol_of
+
+DEFAULT_WORDS = 64
+HEADER_BYTES = 28
+
+
+class Answered(NamedTuple):
+    """An agent got an answer to a frame."""
+    line: int
+    agent: int
+    frame: tuple
+    answer: tuple
+
+
+class Delivered(NamedTuple):
+    """An agent took a message of the platform."""
+    line: int
+    agent: int
+    message: tuple
+
+
+# Boards
+
+def switched(item):
+    return {"on": 1, "off": 0}[item]
+
+
+def numbers_in(item):
+    return () if item == "-" else tuple(int(one, 0) for one in item.split(","))
+
+
+def domain_of(name, state, kinds):
+    return Domain(name, ON if switched(state) else OFF, frozenset(kinds) - {"-"})
+
+
+def clock_of(name, state, rate, form, *rates):
+    listed = numbers_in(rates[0]) if form == "list" else ()
+    steps = () if listed else tuple(int(one, 0) for one in rates)
+    return Clock(name, switched(state), int(rate, 0), listed, steps)
+
+
+def device_of(domains, clocks):
+    return Device(frozenset(numbers_in(domains)), frozenset(numbers_in(clocks)))
+
+
+def channel_of(size, *one_way):
+    return Channel((int(size, 0) - HEADER_BYTES) // 4, not one_way)
+
+
+def read_board(text):
+    """The board of a text, from its line `board` to `end`."""
+    rows = {"agent": [], "domain": [], "clock": [], "device": [], "channel": []}
+    for line in text.splitlines():
+        word, *items = line.split() or ["#"]
+        if word == "board":
+            names, numbers = items[:2], [int(one, 0) for one in items[2:]]
+        elif word == "end":
+            break
+        elif not word.startswith("#"):
+            rows[word].append(items)
+    channels = {int(agent, 0): channel_of(*what) for agent, *what in rows["channel"]}
+    agents = tuple(name for name, in rows["agent"])
+    return Board(*names, *numbers, agents, tuple(domain_of(*row) for row in rows["domain"]),
+                 tuple(clock_of(*row) for row in rows["clock"]), tuple(device_of(*row) for row in rows["device"]),
+                 tuple(channels.get(agent + 1, Channel(DEFAULT_WORDS, True)) for agent in range(len(agents))))
+
+
+def listed(numbers):
+    return ",".join(str(one) for one in sorted(numbers)) or "-"
+
+
+def clock_line(clock):
+    rates = f"list {listed(clock.listed)}" if clock.listed else "steps {} {} {}".format(*clock.steps)
+    return f"clock {clock.name} {('off', 'on')[clock.enabled]} {clock.rate} {rates}"
+
+
+def domain_line(domain):
+    kinds = "".join(kind for kind in "san" if kind in domain.kinds) or "-"
+    return f"domain {domain.name} {'on' if domain.state == ON else 'off'} {kinds}"
+
+
+def channel_lines(board):
+    for agent, channel in enumerate(board.channels, 1):
+        if channel != Channel(DEFAULT_WORDS, True):
+            yield f"channel {agent} {HEADER_BYTES + 4 * channel.words}" + " one-way" * (not channel.two_way)
+
+
+def board_text(board):
+    lines = [f"board {board.vendor} {board.sub_vendor} {board.version:#010x} {board.trusted}"]
+    lines += [f"agent {name}" for name in board.agents]
+    lines += map(domain_line, board.domains)
+    lines += map(clock_line, board.clocks)
+    lines += [f"device {listed(one.domains)} {listed(one.clocks)}" for one in board.devices]
+    return "".join(line + "\n" for line in [*lines, *channel_lines(board), "end"])
+
+
+# Records
+
+def words_text(words):
+    return "".join(f" {word:#010x}" for word in words)
+
+
+def answer_line(agent, answer):
+    return f"{agent} {answer[0]}" + (words_text((answer[1], *answer[2])) if answer[0] == "reply" else "")
+
+
+def message_line(agent, message):
+    return f"{agent} p2a" + words_text((message[0], *message[1]))
+
+
+class Tokens(dict):
+    """The next token of each agent."""
+
+    def next_of(self, agent):
+        token = self.get(agent, 0)
+        self[agent] = (token + 1) % TOKENS
+        return token
+
+
+def frame_of(word, agent, numbers, tokens):
+    """The frame that an agent posts by the line of a script with this word and these numbers."""
+    if word == "bad":
+        return "bad", *numbers
+    if word == "raw":
+        return "good", numbers[0], tuple(numbers[1:])
+    protocol, message, *words = numbers
+    return "good", header_of(tokens.next_of(agent), protocol, message), tuple(words)
+
+
+def answer_of(word, numbers):
+    return (word, numbers[0], tuple(numbers[1:])) if word == "reply" else (word,)
+
+
+def read_record(text):
+    """The entries of a record: each answer with its frame, and each message, but of protocols that are not checked."""
+    tokens, waiting, entries = Tokens(), {}, []
+    for number, line in enumerate(text.splitlines(), 1):
+        items = line.split()
+        if not items or items[0].startswith("#"):
+            continue
+        if items[0] in ("do", "raw", "bad"):
+            agent, *numbers = (int(item, 0) for item in items[1:])
+            waiting[agent] = frame_of(items[0], agent, numbers, tokens)
+            continue
+        agent, numbers = int(items[0]), [int(item, 0) for item in items[2:]]
+        if items[1] == "p2a":
+            entry = Delivered(number, agent, (numbers[0], tuple(numbers[1:])))
+        else:
+            entry = Answered(number, agent, waiting.pop(agent), answer_of(items[1], numbers))
+        if protocol_of(entry.message[0] if items[1] == "p2a" else header_in(entry.frame)) in PROTOCOLS:
+            entries.append(entry)
+    return entries
+
+
+def header_in(frame):
+    return frame[1] if frame[0] == "good" else frame[2]
