@@ -1,17 +1,14 @@
 -- The entries of a record with the verdicts on them.
-use Rattle.std.specs.Prelude.{◌≡◌, ◌≢◌, ◌∷◌, IfSome, Some, ◌↔◌, ℕ, ◌+◌, ◌≤◌, ◌&&◌, Bool, false, if◌then◌else◌, List, length, map, reverse, take, Option, None, slice_get}
+use Rattle.std.specs.Prelude.{◌≡◌, ◌↔◌, ℕ, ◌≤◌, Bool, false, if◌then◌else◌, List, length, map, reverse, take, Option, slice_get}
 use Rattle.std.specs.List.{All, list_any}
 use Rattle.std.specs.Option.{option_map}
 use Rattle.scmi_plan.specs.Board.{Board}
-use Rattle.scmi_codec.specs.Header.{is_same_header}
 use Rattle.scmi_core.specs.Outbox.{failed_response_to}
 use Rattle.scmi_judge.specs.Behind.{IsRight}
 use Rattle.scmi_judge.specs.Same.{is_same_message}
 use Rattle.scmi_judge.specs.declared.entry.Entry.{Entry}
 use Rattle.scmi_judge.specs.declared.entry.Entry.TheVariants.{Answered, Delivered}
 use Rattle.scmi_judge.specs.declared.unseen.Refusals.{Refusals}
-use Rattle.scmi_judge.specs.declared.verdict.Verdict.{Verdict}
-use Rattle.scmi_judge.specs.declared.verdict.Verdict.TheVariants as verdict
 use Rattle.scmi_judge.specs.declared.unseen.Refusals.TheVariants as refusals
 use Rattle.scmi_check.specs.Finding.{Fits, finding_of, judged_as}
 use Rattle.scmi_check.specs.declared.judged.Judged.{Judged}

@@ -1,4 +1,4 @@
-use Rattle.std.proofs.Common.{◌≡◌, ◌∙◌, [], arith}
+use Rattle.std.proofs.Common.{◌∙◌, [], arith}
 use Rattle.scmi_check.proofs.check.judge_of.Goals as goal
 
 pub places-preserved : goal.places-preserved

@@ -7,7 +7,6 @@ use Rattle.scmi_judge.specs.Guesses.{AreMany}
 use Rattle.scmi_judge.specs.Judging.{Knows}
 use Rattle.scmi_check.specs.Finding.{Fits, finding_of, judged_as}
 use Rattle.scmi_check.specs.Judged.{AreJudged, DoesFit, behind}
-use Rattle.scmi_check.specs.declared.judged.Judged.{Judged}
 use Rattle.scmi_check.proofs.Judging.{judged-more, judged-none, longer, shown}
 use Rattle.scmi_check.proofs.judged.judge_all.Goals as goal
 

@@ -1,4 +1,4 @@
-use Rattle.std.proofs.Common.{◌≡◌, ◌≢◌, ◌+◌, ◌∙◌, ◌∷◌, Ok, length, Some, IfSome, sym, ap, subst, arith}
+use Rattle.std.proofs.Common.{◌≡◌, ◌≢◌, ◌+◌, ◌∙◌, ◌∷◌, Ok, length, IfSome, sym, ap, subst, arith}
 use Rattle.scmi_judge.specs.Behind.{HasLegalHistory}
 use Rattle.scmi_judge.specs.Due.{IsDue}
 use Rattle.scmi_judge.specs.Guesses.{AreMany}
