@@ -23,11 +23,7 @@ pub fn report_input<R: Read + Drop>(
         return;
     };
     if fault == Fault::Area && matches!(request, Request::Bytes(_)) {
-        let _ = eprintln!(rt;
-            "{name}: none of the bytes are an area; --size N gives the size of each, \
-            --offset N the place of the first"
-        );
-        return;
+        return report_bytes(rt, name, input.bytes());
     }
     if request == Request::Do(Task::Table) {
         return report_board(rt, alloc, name, input, fault);
@@ -37,6 +33,24 @@ pub fn report_input<R: Read + Drop>(
     }
     let found = explain(alloc, expected_of(request), input.bytes(), fault);
     report_found(rt, name, fault, found, input.error());
+}
+
+/// Reports that these bytes of an input have no area.
+fn report_bytes(rt: &impl Eprint, name: &str, bytes: &[u8]) {
+    let _ = if is_text(bytes) {
+        eprintln!(rt; "{name}: this is text, not bytes of memory; decode it without -b")
+    } else {
+        eprintln!(rt;
+            "{name}: none of the bytes are an area; --size N gives the size of each, \
+            --offset N the place of the first"
+        )
+    };
+}
+
+/// Whether bytes are some text, as dumps are.
+fn is_text(bytes: &[u8]) -> bool {
+    !bytes.is_empty()
+        && bytes.iter().all(|byte| matches!(*byte, b' '..=b'~' | b'\n' | b'\r' | b'\t'))
 }
 
 /// Why a run failed, by its last line. A decode that failed after its last dump found no area, and

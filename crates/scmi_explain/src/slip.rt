@@ -96,7 +96,7 @@ impl Slip {
             Slip::Picture => "it is a picture (SVG), or other markup",
             Slip::OnlyRun => "that mode is run by scmi run, and not drawn",
             Slip::SessionFirst => "it is the mode of a script, which scmi run takes",
-            Slip::NoText => "it has a zero byte, so it is not text; print it with xxd",
+            Slip::NoText => "it has a zero byte, so it is not text; decode it with -b",
             Slip::Halfwords => {
                 "it looks like hexdump without -C; print it with hexdump -C or od -t x1"
             }
