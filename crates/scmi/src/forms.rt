@@ -76,7 +76,7 @@ adds line editing and history. docs/SCRIPTS.md has more.",
         task: Task::Check,
         word: "check",
         operands: Operands::BoardAndRecord,
-        usage: "scmi check [--tap | --json] [--protocols LIST] BOARD [RECORD]",
+        usage: "scmi check [--tap] [--json] [--protocols LIST] BOARD [RECORD]",
         summary: "checks a record of another platform's replies against SCMI",
         about: "\
 Checks a record of a platform's channels against the definitions of SCMI.",
