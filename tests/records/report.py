@@ -13,8 +13,8 @@ FLAGS = {(BASE, 0x9): (2, 1), (BASE, 0xA): (3, 1), (BASE, 0xB): (1, 1), (POWER, 
 ENTRY = re.compile(r"(\d+) (same|differs|own [a-z-]+)( .*)?")
 UNSURE = re.compile(r"(\d+) unsure, and judged no further")
 COUNTS = re.compile(r"(\d+) same, (\d+) own, (\d+) differ(, .*)?")
-# A check may keep so many states, and be unsure only if there are more.
-PLACES = 255
+# A check keeps so many states, and may be unsure only if there are more.
+PLACES = 256
 
 
 class Wanted(NamedTuple):
@@ -107,7 +107,7 @@ def wrong_form(report, entries, status):
         return "not one line for each entry"
     if report.counts != counts:
         return f"counts {report.counts} in place of {counts}"
-    if status != (5 if "differs" in words else 0):
+    if status != (5 if "differs" in words else 6 if report.unsure else 0):
         return f"status {status}"
     return None
 
