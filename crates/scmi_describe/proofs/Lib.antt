@@ -1,8 +1,3 @@
-pub mod Backward
-pub mod Figures
+pub mod NameExamples
 pub mod Rows
-pub mod Readable
-pub mod SameText
-pub mod TextExamples
-pub mod TextMarks
-pub mod DescriptionAt
+pub mod SameDescription

@@ -1,4 +1,4 @@
--- When two areas are described with the same text.
+-- When two areas are described alike.
 use Rattle.std.specs.Prelude.{◌≡◌, ℕ, ◌%◌, ◌==◌, if◌then◌else◌, List}
 use Rattle.scmi_codec.specs.Area.{frame_of, status_at}
 

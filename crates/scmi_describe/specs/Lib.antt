@@ -1,15 +1,6 @@
 pub mod Alike
 pub mod Commands
-pub mod Digits
-pub mod Field
-pub mod Heading
-pub mod LinePart
-pub mod Lists
-pub mod Literal
+pub mod Description
 pub mod Names
 pub mod Parts
 pub mod Replies
-pub mod Text
-pub mod Value
-pub mod Description
-pub mod Words

@@ -1,21 +1,18 @@
-//! Areas that are described with the same text.
+//! Areas that are described alike.
 ghost use Rattle.std.specs.Prelude.{◌≡◌, ◌↔◌, IsTrue};
 ghost use Rattle.scmi_describe.specs.Alike.{state_of, StandAlike};
 ghost use Rattle.scmi_describe.specs.Description.{described_area};
-ghost use Rattle.scmi_describe.specs.Text.{description_text};
 
 use scmi_codec::{AREA_BYTES, Frame, Message, frame_of, status_at};
 
-/// Whether two areas are described alike, with the same text. This holds if and only if they have
-/// the same frame (header and payload words, or the length and header word of a malformed one) and
-/// their channels are in the same state: busy, free, or free with the error bit. So the text loses
-/// nothing of these; it does not show the other bytes of an area.
-#[tactic(auto, using(crate::proofs::SameText::same_text))]
+/// Whether two areas have the same description. This holds if and only if they have the same frame
+/// (header and payload words, or the length and header word of a malformed one) and their channels
+/// are in the same state: busy, free, or free with the error bit. So a description loses nothing of
+/// these; it does not have the other bytes of an area.
+#[tactic(auto, using(crate::proofs::SameDescription::same_description))]
 pub fn are_described_alike(first: &[u8; AREA_BYTES], second: &[u8; AREA_BYTES]) -> bool
     ensures area { IsTrue result ↔ StandAlike first.now second.now }
     ensures description { IsTrue result ↔ (described_area first.now ≡ described_area second.now) }
-    ensures text { IsTrue result ↔
-        (description_text (described_area first.now) ≡ description_text (described_area second.now)) }
 {
     let is_same_state = state_of(first) == state_of(second);
     is_same_state && are_same(&frame_of(first), &frame_of(second))

@@ -1,70 +1,78 @@
-//! Words of flags in fields, as they are written.
-ghost use Rattle.std.specs.Prelude.{OnOk};
-ghost use Rattle.std.specs.Io.KnownBytes.{Appends};
-ghost use Rattle.scmi_describe.specs.Field.{flag_line, rate_flags_line, supports_line, switch_line};
+//! Words of bits, as they are written.
 
-use crate::field_lines::{
-    ASYNC, ASYNCHRONOUS, FLAGS, NO_DELAYED_RESPONSE, NONE, NOTIFICATIONS, RATE_FLAGS,
-    ROUND_NEAREST, ROUND_UP, SUPPORTS, SYNCHRONOUS,
-};
-use crate::value::Value;
-use scmi_io::write_filled;
-use std::io;
-use std::io::Write;
+use std::fmt;
 
-/// Writes a word whose bit 0 alone has a meaning, and both its values a mark.
-pub(crate) fn write_switch<W: Write>(
-    writer: &mut W,
-    line: &str,
-    word: u32,
-    on: &'static str,
-    off: &'static str,
-) -> io::Result<()>
-    ensures { OnOk result (Appends (W.contents writer.old) (W.contents writer.new)
-        (switch_line line.now word on.now off.now)) }
-{
-    let off = Value::Mark(word % 2 == 0, off);
-    let on = Value::Mark(word % 2 == 1, on);
-    write_filled(writer, line, &[off, on, Value::Reserved(word / 2 * 2)])
+/// A bit, and what is written if it is set.
+type Mark = (u32, &'static str);
+
+/// The flags of a reset.
+pub(crate) const RESET_FLAGS: [Mark; 1] = [(1, "permissions")];
+
+/// The flags of a power state set.
+pub(crate) const POWER_FLAGS: [Mark; 1] = [(1, "async")];
+
+/// The flags of a rate set.
+pub(crate) const RATE_FLAGS: [Mark; 4] = [
+    (1, "async"),
+    (1 << 1, "no-delayed-response"),
+    (1 << 2, "round-up"),
+    (1 << 3, "round-nearest"),
+];
+
+/// What a domain supports.
+pub(crate) const SUPPORTS: [Mark; 3] = [
+    (1 << 31, "notifications"),
+    (1 << 30, "asynchronous"),
+    (1 << 29, "synchronous"),
+];
+
+/// A word of flags: the mark of each bit that is set, after a space, then the bits that have none;
+/// `-` if no bit is set.
+#[derive(Clone, Copy)]
+pub(crate) struct Flags<'a>(pub(crate) u32, pub(crate) &'a [Mark]);
+
+impl fmt::Display for Flags<'_> {
+    fn fmt<W: fmt::Write>(&self, f: &mut fmt::Formatter<W>) -> fmt::Result {
+        let Flags(word, marks) = *self;
+        if word == 0 {
+            return f.write_str(" -");
+        }
+        let mut reserved = word;
+        for (bit, mark) in marks {
+            if word & *bit != 0 {
+                write!(f, " {mark}")?;
+                reserved &= !*bit;
+            }
+        }
+        write!(f, "{}", Reserved(reserved))
+    }
 }
 
-/// Writes a word of flags of which bit 0 alone has a meaning.
-pub(crate) fn write_flag<W: Write>(writer: &mut W, word: u32, on: &'static str) -> io::Result<()>
-    ensures { OnOk result (Appends (W.contents writer.old) (W.contents writer.new)
-        (flag_line word on.now)) }
-{
-    let none = Value::Mark(word == 0, NONE);
-    let on = Value::Mark(word % 2 == 1, on);
-    write_filled(writer, FLAGS, &[none, on, Value::Reserved(word / 2 * 2)])
+/// A word whose bit 0 alone has a meaning, by what is written if it is 1 and if it is 0.
+#[derive(Clone, Copy)]
+pub(crate) struct Switch(
+    pub(crate) u32,
+    pub(crate) &'static str,
+    pub(crate) &'static str,
+);
+
+impl fmt::Display for Switch {
+    fn fmt<W: fmt::Write>(&self, f: &mut fmt::Formatter<W>) -> fmt::Result {
+        let Switch(word, on, off) = *self;
+        f.write_str(if word & 1 == 1 { on } else { off })?;
+        write!(f, "{}", Reserved(word & !1))
+    }
 }
 
-/// Writes the flags of a rate set.
-pub(crate) fn write_rate_flags<W: Write>(writer: &mut W, word: u32) -> io::Result<()>
-    ensures { OnOk result (Appends (W.contents writer.old) (W.contents writer.new)
-        (rate_flags_line word)) }
-{
-    let marks = [
-        Value::Mark(word == 0, NONE),
-        Value::Mark(word % 2 == 1, ASYNC),
-        Value::Mark(word / 2 % 2 == 1, NO_DELAYED_RESPONSE),
-        Value::Mark(word / 4 % 2 == 1, ROUND_UP),
-        Value::Mark(word / 8 % 2 == 1, ROUND_NEAREST),
-        Value::Reserved(word / 16 * 16),
-    ];
-    write_filled(writer, RATE_FLAGS, &marks)
-}
+/// Bits that have no meaning, if any is set.
+#[derive(Clone, Copy)]
+pub(crate) struct Reserved(pub(crate) u32);
 
-/// Writes what a domain supports.
-pub(crate) fn write_supports<W: Write>(writer: &mut W, word: u32) -> io::Result<()>
-    ensures { OnOk result (Appends (W.contents writer.old) (W.contents writer.new)
-        (supports_line word)) }
-{
-    let marks = [
-        Value::Mark(word == 0, NONE),
-        Value::Mark(word / 0x8000_0000 == 1, NOTIFICATIONS),
-        Value::Mark(word / 0x4000_0000 % 2 == 1, ASYNCHRONOUS),
-        Value::Mark(word / 0x2000_0000 % 2 == 1, SYNCHRONOUS),
-        Value::Reserved(word % 0x2000_0000),
-    ];
-    write_filled(writer, SUPPORTS, &marks)
+impl fmt::Display for Reserved {
+    fn fmt<W: fmt::Write>(&self, f: &mut fmt::Formatter<W>) -> fmt::Result {
+        match self.0 {
+            0 => Ok(()),
+            bits => write!(f, " reserved 0x{bits:x}"),
+        }
+    }
 }

@@ -1,118 +1,94 @@
 //! What an area is, in words.
-ghost use Rattle.std.specs.Prelude.{◌≡◌, OnOk};
-ghost use Rattle.std.specs.Io.KnownBytes.{Appends};
-ghost use Rattle.scmi_describe.specs.Text.{delayed_line, delayed_text, description_text, first_status, notification_line, notification_text};
 
-use crate::command_text::{write_command, write_withdrawn};
+use crate::commands::command_fields;
+use crate::describing::describe;
 use crate::description::Description;
 use crate::field_text::write_fields;
-use crate::frame_text::{write_channel_error, write_foreign, write_malformed};
-use crate::line_part::LinePart::{Name, Notification, OwnStatus, OwnToken, State, Taken, Token};
-use crate::lines::{DELAYED, NOTIFICATION, UNUSED};
-use crate::literal::write_text;
-use crate::reply::{delayed_fields, notification_fields};
-use crate::reply_text::{write_reply, write_response};
-use crate::words::write_words;
-use scmi_codec::{Message, Status};
-use scmi_io::write_filled;
+use crate::first_line::write_first_line;
+use crate::lists::{write_protocols, write_rates};
+use crate::reply::{delayed_fields, notification_fields, reply_fields};
+use scmi_codec::{AREA_BYTES, BASE_PROTOCOL, CLOCK_PROTOCOL, Frame, Message};
 use std::io;
 use std::io::Write;
+
+/// Writes what an area is, as `write_description` does of what `describe` gives.
+pub fn write_area<W: Write>(writer: &mut W, area: &[u8; AREA_BYTES]) -> io::Result<()> {
+    write_description(writer, &describe(area))
+}
 
 /// Writes what an area is: one line with the channel's state, the message by name, its token and its
 /// status; then each field on a line of its own, with its unit; then the words of the message. The
 /// error is the writer's; some parts may then be written.
-pub fn write_description<W: Write>(writer: &mut W, description: &Description) -> io::Result<()>
-    ensures { OnOk result (Appends (W.contents writer.old) (W.contents writer.new)
-        (description_text description.now)) }
-{
-    match description {
-        Description::Unused => write_text(writer, UNUSED),
-        Description::Command { message, request } => write_command(writer, message, request),
-        Description::Withdrawn { message, request } => write_withdrawn(writer, message, request),
-        Description::Reply { message } => write_reply(writer, message),
-        Description::Refusal { message, status } => {
-            write_response(writer, message, *status)?;
-            write_words(writer, message)
-        }
-        Description::Delayed { is_free, message } => write_delayed(writer, *is_free, message),
-        Description::Notification { is_free, message } => write_notification(
-            writer, *is_free, message,
-        ),
-        Description::ChannelError { frame } => write_channel_error(writer, frame),
-        Description::Malformed {
-            is_free,
-            length,
-            header,
-        } => write_malformed(writer, *is_free, *length, *header),
-        Description::Foreign { is_free, message } => write_foreign(writer, *is_free, message),
+pub fn write_description<W: Write>(writer: &mut W, description: &Description) -> io::Result<()> {
+    write_first_line(writer, description)?;
+    write_payload(writer, description)?;
+    match message_of(description) {
+        Some(message) => write_words(writer, message),
+        None => Ok(()),
     }
 }
 
-#[tactic(auto, unfolding(crate::specs::Text::delayed_text))]
-fn write_delayed<W: Write>(writer: &mut W, is_free: bool, message: &Message) -> io::Result<()>
-    ensures { OnOk result (Appends (W.contents writer.old) (W.contents writer.new)
-        (delayed_text is_free message.now)) }
-{
-    write_delayed_line(writer, is_free, message)?;
-    let fields = delayed_fields(message);
-    write_fields(writer, fields.as_slice())?;
-    write_words(writer, message)
+/// Writes the fields of a message, or the list that it gives.
+fn write_payload<W: Write>(writer: &mut W, description: &Description) -> io::Result<()> {
+    match description {
+        Description::Command {
+            request: Ok(command),
+            ..
+        }
+        | Description::Withdrawn {
+            request: Ok(command),
+            ..
+        } => write_fields(writer, command_fields(command).as_slice()),
+        Description::Reply { message } => write_reply(writer, message),
+        Description::Delayed { message, .. } => {
+            write_fields(writer, delayed_fields(message).as_slice())
+        }
+        Description::Notification { message, .. } => {
+            write_fields(writer, notification_fields(message).as_slice())
+        }
+        _ => Ok(()),
+    }
 }
 
-/// Writes the first line of a delayed response.
-#[tactic(auto, unfolding(crate::specs::Text::delayed_line))]
-fn write_delayed_line<W: Write>(writer: &mut W, is_free: bool, message: &Message) -> io::Result<()>
-    ensures { OnOk result (Appends (W.contents writer.old) (W.contents writer.new)
-        (delayed_line is_free message.now)) }
-{
-    let header = message.header;
-    let pieces = [
-        State(is_free),
-        Name(header),
-        Token(header),
-        OwnStatus(first_status(message)),
-        Taken(is_free),
-    ];
-    write_filled(writer, DELAYED, &pieces)
-}
-
-/// The status that a message begins with.
-fn first_status(message: &Message) -> Option<Status>
-    ensures { result ≡ first_status message.now.payload.items }
-{
-    let [word, ..] = message.payload.as_slice() else {
-        return None;
+/// Writes what follows the status of a successful reply: a list, or the fields of its row.
+fn write_reply<W: Write>(writer: &mut W, message: &Message) -> io::Result<()> {
+    let [_, words @ ..] = message.payload.as_slice() else {
+        return Ok(());
     };
-    Status::of_word(*word)
+    match (message.header.protocol(), message.header.id()) {
+        (BASE_PROTOCOL, 0x6) => write_protocols(writer, words),
+        (CLOCK_PROTOCOL, 0x4) => write_rates(writer, words),
+        (protocol, id) => match reply_fields(protocol, id, words) {
+            Ok(fields) => write_fields(writer, fields.as_slice()),
+            Err(_) => Ok(()),
+        },
+    }
 }
 
-#[tactic(auto, unfolding(crate::specs::Text::notification_text))]
-fn write_notification<W: Write>(writer: &mut W, is_free: bool, message: &Message) -> io::Result<()>
-    ensures { OnOk result (Appends (W.contents writer.old) (W.contents writer.new)
-        (notification_text is_free message.now)) }
-{
-    write_notification_line(writer, is_free, message)?;
-    let fields = notification_fields(message);
-    write_fields(writer, fields.as_slice())?;
-    write_words(writer, message)
+/// The message that a description has.
+fn message_of(description: &Description) -> Option<&Message> {
+    match description {
+        Description::Command { message, .. }
+        | Description::Withdrawn { message, .. }
+        | Description::Reply { message }
+        | Description::Refusal { message, .. }
+        | Description::Delayed { message, .. }
+        | Description::Notification { message, .. }
+        | Description::Foreign { message, .. } => Some(message),
+        Description::ChannelError { frame } => match frame {
+            Frame::Good(message) => Some(message),
+            Frame::Malformed { .. } => None,
+        },
+        Description::Unused | Description::Malformed { .. } => None,
+    }
 }
 
-/// Writes the first line of a notification.
-#[tactic(auto, unfolding(crate::specs::Text::notification_line))]
-fn write_notification_line<W: Write>(
-    writer: &mut W,
-    is_free: bool,
-    message: &Message,
-) -> io::Result<()>
-    ensures { OnOk result (Appends (W.contents writer.old) (W.contents writer.new)
-        (notification_line is_free message.now)) }
-{
-    let header = message.header;
-    let pieces = [
-        State(is_free),
-        Notification(header),
-        OwnToken(header),
-        Taken(is_free),
-    ];
-    write_filled(writer, NOTIFICATION, &pieces)
+/// Writes the header word and the payload words of a message on a line.
+fn write_words<W: Write>(writer: &mut W, message: &Message) -> io::Result<()> {
+    write!(writer, "    words       {:08x}", message.header.pack())?;
+    for word in message.payload.as_slice() {
+        let word = *word;
+        write!(writer, " {word:08x}")?;
+    }
+    writeln!(writer)
 }
