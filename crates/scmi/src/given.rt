@@ -1,10 +1,9 @@
 //! Inputs of `run` and `chart`, as they are run: with numbers in place of names.
-ghost use Rattle.std.specs.Prelude.{◌≡◌, ◌++◌, ◌∷◌, IfOk, IfSome};
+ghost use Rattle.std.specs.Prelude.{◌≡◌, ◌++◌, ◌∷◌, IfOk};
 ghost use Rattle.scmi.specs.Given.{IsBehindLine, is_hardware, with_end};
 
-use scmi_io::{CountedRead, read_rest};
 use scmi_live::numbered;
-use scmi_modes::{HARDWARE_RINGS, HARDWARE_WORDS, RunError};
+use scmi_modes::{HARDWARE_RINGS, HARDWARE_WORDS};
 use std::alloc::{AllocError, Global};
 
 /// Whether a first line is a mode `hardware`.
@@ -27,19 +26,12 @@ pub(crate) fn with_end(alloc: Global, line: &[u8], is_ended: bool) -> Result<Vec
 }
 
 /// The line of a mode `hardware`, and the board and script behind it, with numbers in place of
-/// names. `Size`, `Read` and `Memory` as `read_rest` has them.
-pub(crate) fn in_numbers<R: CountedRead>(
-    alloc: Global,
-    line: &[u8],
-    behind: &mut R,
-) -> Result<Vec<u8>, RunError>
-    ensures { IfOk result (λ given. IfSome (R.remaining behind.old) (λ rest.
-        IsBehindLine line.now rest given.items)) }
+/// names. The only error is out of memory.
+pub(crate) fn in_numbers(alloc: Global, line: &[u8], text: &[u8]) -> Result<Vec<u8>, AllocError>
+    ensures { IfOk result (λ given. IsBehindLine line.now text.now given.items) }
 {
-    let text = read_rest(alloc, behind)?;
-    let script = numbered(alloc, &text)?;
-    let given = behind_line(alloc, line, &script)?;
-    Ok(given)
+    let script = numbered(alloc, text)?;
+    behind_line(alloc, line, &script)
 }
 
 /// A text behind a line.

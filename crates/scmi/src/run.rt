@@ -12,7 +12,7 @@ use crate::task::Task;
 use crate::texts::write_text;
 use scmi_decode::{Layout, Readings, run_bytes, run_decode};
 use scmi_draw::{Form, run_draw};
-use scmi_io::{CountedReader, Input, write_fault};
+use scmi_io::{CountedReader, Input, read_rest, write_fault};
 use scmi_modes::{Modes, RunError, run_program};
 use scmi_table::run_table;
 use scmi_threads::OpenGate;
@@ -108,9 +108,16 @@ fn run_numbers<T: Threads + Wait + Sync, R: Read, W: Write>(
         → OfGiven (λ given. AnswersOf request given (W.contents writer.old)
         (W.contents writer.new)) (Some bytes) }
 {
-    match in_numbers(alloc, line, &mut input) {
-        Ok(given) => run_given(rt, alloc, request, &mut given.as_slice(), writer),
-        Err(fault) => fail(writer, fault),
+    let written = match read_rest(alloc, &mut input) {
+        Ok(written) => written,
+        Err(error) => return fail(writer, RunError::from(error)),
+    };
+    match in_numbers(alloc, line, &written) {
+        Ok(given) => {
+            let mut given = given.as_slice();
+            run_given(rt, alloc, request, &mut given, writer, Some(&written))
+        }
+        Err(_) => fail(writer, RunError::Memory),
     }
 }
 
@@ -133,26 +140,31 @@ fn run_rest<T: Threads + Wait + Sync, R: Read, W: Write>(
     match with_end(alloc, line, is_ended) {
         Ok(start) => {
             let mut given = start.as_slice().chain(Rest { input });
-            run_given(rt, alloc, request, &mut given, writer)
+            run_given(rt, alloc, request, &mut given, writer, None)
         }
         Err(_) => fail(writer, RunError::Memory),
     }
 }
 
-/// Runs or draws a script of numbers.
+/// Runs or draws a script of numbers, which was `written` so.
 fn run_given<T: Threads + Wait + Sync, R: Read, W: Write>(
     rt: &T,
     alloc: Global,
     request: Request,
     reader: &mut R,
     writer: &mut W,
+    written: Option<&[u8]>,
 ) -> u8
     ensures { result ≡ 0 → AnswersOf request (R.remaining reader.old) (W.contents writer.old)
         (W.contents writer.new) }
 {
     match request {
-        Request::Do(Task::Chart) => run_draw(rt, alloc, &OpenGate, reader, writer, Form::Svg),
-        Request::Diagram => run_draw(rt, alloc, &OpenGate, reader, writer, Form::Mermaid),
+        Request::Do(Task::Chart) => {
+            run_draw(rt, alloc, &OpenGate, reader, writer, Form::Svg, written)
+        }
+        Request::Diagram => {
+            run_draw(rt, alloc, &OpenGate, reader, writer, Form::Mermaid, written)
+        }
         _ => run_program(rt, alloc, &OpenGate, Modes::ForPeople, reader, writer),
     }
 }

@@ -39,3 +39,4 @@ pub use lines::{Lines, TextLine, is_significant};
 pub use numbers::{byte, number, word};
 pub use text_error::TextError;
 pub use valid_board::{ValidBoard, read_valid_board};
+pub use words::{CLOCK, END};

@@ -8,7 +8,8 @@ pub(crate) const AGENT: &[u8] = b"agent";
 
 pub(crate) const DOMAIN: &[u8] = b"domain";
 
-pub(crate) const CLOCK: &[u8] = b"clock";
+/// The first word of a clock's row.
+pub const CLOCK: &[u8] = b"clock";
 
 pub(crate) const DEVICE: &[u8] = b"device";
 
@@ -19,7 +20,7 @@ pub(crate) const CHANNEL: &[u8] = b"channel";
 pub(crate) const ONE_WAY: &[u8] = b"one-way";
 
 /// The line after the last row.
-pub(crate) const END: &[u8] = b"end";
+pub const END: &[u8] = b"end";
 
 /// Whether a domain or a clock is on.
 pub(crate) const ON: &[u8] = b"on";

@@ -23,6 +23,9 @@ use std::thread::Threads;
 
 /// Draws the run of an input in a form and gives the exit status: 0, or that of the error, whose text
 /// is written as the last line. A fault that can't be written gives status 1.
+///
+/// `written` is what follows the first line as somebody wrote it, if that is not what is run: beside
+/// each step of an SVG stands its line of `written`.
 pub fn run_draw<T: Threads + Wait + Sync, G: Gate, R: Read, W: Write>(
     rt: &T,
     alloc: Global,
@@ -30,12 +33,13 @@ pub fn run_draw<T: Threads + Wait + Sync, G: Gate, R: Read, W: Write>(
     reader: &mut R,
     writer: &mut W,
     form: Form,
+    written: Option<&[u8]>,
 ) -> u8
     ensures diagram { form ≡ Form.Mermaid → result ≡ 0 →
         IsDiagram (R.remaining reader.old) (W.contents writer.old) (W.contents writer.new) }
 {
     let mut input = Input::new(CountedReader::new(reader));
-    draw_input(rt, alloc, gate, &mut input, writer, form)
+    draw_input(rt, alloc, gate, &mut input, writer, form, written)
 }
 
 /// The same of a reader that counts. The first line and what follows it take at most
@@ -47,13 +51,14 @@ pub fn draw_input<T: Threads + Wait + Sync, G: Gate, R: CountedRead + Drop, W: W
     input: &mut Input<R>,
     writer: &mut W,
     form: Form,
+    written: Option<&[u8]>,
 ) -> u8
     ensures diagram { form ≡ Form.Mermaid → result ≡ 0 →
         IsDiagram input.old.left (W.contents writer.old) (W.contents writer.new) }
     ensures reads { input.new.reads ≤ input.old.reads + 2 * (INPUT_BYTES + 1) }
     ensures stops { input.old.since_failure ≡ 0 → input.new.since_failure ≤ 1 }
 {
-    match draw(rt, alloc, gate, input, writer, form) {
+    match draw(rt, alloc, gate, input, writer, form, written) {
         Ok(()) => 0,
         Err(RunError::Write) => RunError::Write.status(),
         Err(fault) => write_fault(writer, &fault, fault.status()),
@@ -70,6 +75,7 @@ pub fn draw<T: Threads + Wait + Sync, G: Gate, R: CountedRead + Drop, W: Write>(
     input: &mut Input<R>,
     writer: &mut W,
     form: Form,
+    written: Option<&[u8]>,
 ) -> Result<(), RunError>
     ensures diagram { form ≡ Form.Mermaid → OnOk result
         (IsDiagram input.old.left (W.contents writer.old) (W.contents writer.new)) }
@@ -77,7 +83,7 @@ pub fn draw<T: Threads + Wait + Sync, G: Gate, R: CountedRead + Drop, W: Write>(
     ensures reads { input.new.reads ≤ input.old.reads + 2 * (INPUT_BYTES + 1) }
     ensures stops { StopsAtFailure result input.old.since_failure input.new.since_failure }
 {
-    let chart = read_chart(rt, alloc, gate, input)?;
+    let chart = read_chart(rt, alloc, gate, input, written)?;
     match write_form(writer, &chart, form) {
         Ok(()) => Ok(()),
         Err(_) => Err(RunError::Write),
@@ -102,6 +108,7 @@ pub fn read_chart<T: Threads + Wait + Sync, G: Gate, R: CountedRead + Drop>(
     alloc: Global,
     gate: &G,
     input: &mut Input<R>,
+    written: Option<&[u8]>,
 ) -> Result<Chart, RunError>
     ensures shown { IfOk result (IsChartOf input.old.left) }
     ensures reads { input.new.reads ≤ input.old.reads + 2 * (INPUT_BYTES + 1) }
@@ -110,7 +117,7 @@ pub fn read_chart<T: Threads + Wait + Sync, G: Gate, R: CountedRead + Drop>(
     let line = input.read_first_line()?;
     let mode = AnyMode::of_first_line(&line).ok_or(RunError::Mode)?;
     let bytes = read_rest(alloc, input)?;
-    let chart = chart_in(rt, alloc, gate, mode, &bytes)?;
+    let chart = chart_in(rt, alloc, gate, mode, &bytes, written)?;
     Ok(chart)
 }
 
@@ -121,11 +128,12 @@ fn chart_in<T: Threads + Wait + Sync, G: Gate>(
     gate: &G,
     mode: AnyMode,
     bytes: &[u8],
+    written: Option<&[u8]>,
 ) -> Result<Chart, RunError>
     ensures shown { IfOk result (ShowsInput mode bytes.now) }
 {
     match mode {
-        AnyMode::Script(mode) => chart_of(alloc, mode, bytes),
+        AnyMode::Script(mode) => chart_of(alloc, mode, bytes, written),
         AnyMode::Threads(kind) => chart_of_threads(rt, alloc, gate, kind, bytes),
     }
 }

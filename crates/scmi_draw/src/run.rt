@@ -12,7 +12,7 @@ ghost use Rattle.scmi_draw.specs.Run.{MayHave, ShowsRun, ShowsScript, StandsFor,
 
 use crate::mode::Mode;
 use crate::record_step::record_step;
-use scmi_board::{BoardWithChannels, Lines, TextError, TextLine};
+use scmi_board::{BoardWithChannels, END, Lines, TextError, TextLine};
 use scmi_chart::Recorder;
 use scmi_link::{Channel, RingChannel};
 use scmi_modes::{Kind, RunError, plan_of, read_described};
@@ -27,9 +27,15 @@ use std::alloc::{AllocError, Global};
 pub const STEPS: usize = 2_000;
 
 /// The chart of the run of a board and a script in this mode. `Board`, `Script`, `Size` and `Plan`,
-/// in this order, if the input is rejected; `Memory` if out of memory.
+/// in this order, if the input is rejected; `Memory` if out of memory. Beside each step stands its
+/// line of `written`, or else of the script itself.
 #[tactic(auto, using(crate::proofs::Inputs::steps_of_plan))]
-pub fn chart_of(alloc: Global, mode: Mode, bytes: &[u8]) -> Result<Chart, RunError>
+pub fn chart_of(
+    alloc: Global,
+    mode: Mode,
+    bytes: &[u8],
+    written: Option<&[u8]>,
+) -> Result<Chart, RunError>
     ensures shown { IfOk result (ShowsScript mode bytes.now) }
 {
     let (said, steps) = read_input(alloc, mode, bytes)?;
@@ -37,7 +43,7 @@ pub fn chart_of(alloc: Global, mode: Mode, bytes: &[u8]) -> Result<Chart, RunErr
         return Err(RunError::Size);
     }
     let plan = plan_of(alloc, &said)?;
-    let mut lines = behind_board(bytes);
+    let mut lines = behind_board(written.unwrap_or(bytes));
     match mode {
         Mode::Steps(Kind::Rings) | Mode::Hardware(Kind::Rings) => {
             step_through::<RingChannel>(alloc, mode, plan, &said.board, &steps, &mut lines)
@@ -89,7 +95,7 @@ fn read_script(
 fn behind_board(bytes: &[u8]) -> Lines<'_> {
     let mut lines = Lines::new(bytes);
     while let Some(line) = lines.next_line() {
-        if line.text == b"end".as_slice() {
+        if line.text == END {
             return lines;
         }
     }
