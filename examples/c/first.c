@@ -1,13 +1,17 @@
-/* A first platform: one agent, one domain, one clock, a mailbox, and hardware that prints what it is given. */
+/* A first platform: the board examples/phone.board, a mailbox, and hardware that prints what it is given. */
 #include <stdio.h>
 
 #include "scmi_mailbox.h"
 #include "scmi_memory.h"
 
-static const char board[] = "board Acme Lab 0x00010000 1\n"
+static const char board[] = "board Acme Phone 0x00010000 1\n"
                             "agent ap\n"
-                            "domain cpu off san\n"
-                            "clock core on 100000000 list 100000000,200000000\n"
+                            "agent modem\n"
+                            "domain cpu on san\n"
+                            "domain gpu off sa\n"
+                            "clock uart on 100 list 100,200,400\n"
+                            "clock bus off 1000 steps 1000 5000000000 1000\n"
+                            "device 0 0\n"
                             "end\n";
 static uint8_t memory[16 * 1024];            /* the platform's, from the start on */
 static uint32_t shared[SCMI_AREA_BYTES / 4]; /* on a machine: where the channel's shared memory is */
@@ -46,9 +50,10 @@ int main(void)
         scmi_platform_new_in(&platform, memory, sizeof(memory), (const uint8_t *)board, sizeof(board) - 1) != SCMI_DONE)
         return 1;
     scmi_mailbox_start(&box);
-    /* An agent's part, for this once: POWER_STATE_SET of domain 0 to ON. */
+    /* An agent's part, for this once: POWER_STATE_SET of domain 1 to ON. */
     area.header = 0x00004404;
     area.length = 16;
+    area.payload[1] = 1;
     scmi_mailbox_post(&box, &area);
     serve(&platform, &box, 1);
     scmi_mailbox_collect(&box, &area);

@@ -4,6 +4,7 @@ use Rattle.std.proofs.lemmas.Bool.Decides.{nat_tests}
 use Rattle.std.specs.Fmt.{option_append}
 use Rattle.std.specs.List.{position_or_len}
 use Rattle.scmi_io.specs.Lines.{after_line, first_line, has_line_feed, is_line_feed}
+use Rattle.scmi_live.specs.Hertz.{in_hertz}
 use Rattle.scmi_live.specs.Numbered.{IsInNumbers}
 use Rattle.scmi.specs.Given.{IsBehindLine, IsGiven, IsGivenBy, OfGiven, is_hardware, with_end}
 
@@ -72,7 +73,7 @@ after_kept (x ∷ xs) made = after_kept_step x xs made (is_line_feed x) refl (af
 numbers_given : (input line given : List ℕ) → line ≡ first_line input → is_hardware line ≡ true → IsBehindLine line (after_line input) given → IsGiven input given
 numbers_given input line given line_is hardware behind =
     let is : given ≡ first_line input ++ 10 ∷ behind.made = behind.given_is ∙ ap (λ (l : List ℕ). l ++ 10 ∷ behind.made) line_is in
-    let parts : IsGivenBy true input given = (ap first_line is ∙ first_kept input behind.made, subst (λ (t : List ℕ). IsInNumbers (after_line input) t) (sym (ap after_line is ∙ after_kept input behind.made)) behind.numbers) in
+    let parts : IsGivenBy true input given = (ap first_line is ∙ first_kept input behind.made, subst (λ (t : List ℕ). IsInNumbers (in_hertz (after_line input)) t) (sym (ap after_line is ∙ after_kept input behind.made)) behind.numbers) in
     subst (λ b. IsGivenBy b input given) (sym (sym (ap is_hardware line_is) ∙ hardware)) parts
 
 -- an input in another mode

@@ -2,6 +2,7 @@
 use Rattle.std.specs.Prelude.{◌≡◌, ℕ, ◌||◌, Bool, true, false, List, [], ◌∷◌, ◌++◌, Option, Some, None, ⊤}
 use Rattle.std.specs.Str.{bytes_eq}
 use Rattle.scmi_io.specs.Lines.{after_line, first_line}
+use Rattle.scmi_live.specs.Hertz.{in_hertz}
 use Rattle.scmi_live.specs.Numbered.{IsInNumbers}
 use Rattle.scmi_modes.specs.declared.mode_lines.TheConstants.{HARDWARE_RINGS, HARDWARE_WORDS}
 
@@ -9,10 +10,11 @@ use Rattle.scmi_modes.specs.declared.mode_lines.TheConstants.{HARDWARE_RINGS, HA
 abbrev pub is_hardware : List ℕ → Bool
 is_hardware line = bytes_eq line HARDWARE_RINGS.now || bytes_eq line HARDWARE_WORDS.now
 
--- an input, by whether its mode is one of `hardware`: then it has numbers in place of names, else it is as it was
+-- an input, by whether its mode is one of `hardware`: then its board is in Hz and it has numbers in place of names, else it is as it was
 abbrev pub IsGivenBy : Bool → (input given : List ℕ) → Type 0
 IsGivenBy false input given = given ≡ input
-IsGivenBy true input given = (first_line given ≡ first_line input) × IsInNumbers (after_line input) (after_line given)
+IsGivenBy true input given =
+    (first_line given ≡ first_line input) × IsInNumbers (in_hertz (after_line input)) (after_line given)
 
 -- an input, and what it is run as
 abbrev pub IsGiven : (input given : List ℕ) → Type 0
@@ -31,5 +33,5 @@ with_end line false = line
 -- a line, and what a text behind it becomes
 pub record IsBehindLine (line text given : List ℕ) : Type 0 where
   pub made : List ℕ
-  pub numbers : IsInNumbers text made
+  pub numbers : IsInNumbers (in_hertz text) made
   pub given_is : given ≡ line ++ 10 ∷ made

@@ -1,11 +1,12 @@
 -- What the program writes.
-use Rattle.std.specs.Prelude.{ℕ, List, Option, None, IfSome, IsTrue, ⊤}
+use Rattle.std.specs.Prelude.{ℕ, List, Option, None, Some, IfSome, IsTrue, ⊤}
 use Rattle.scmi_modes.specs.Program.{AnswersOnce, RunsHardware, RunsSteps, RunsThreads}
 use Rattle.scmi_decode.specs.Decoded.{has_area}
 use Rattle.scmi_decode.specs.Finding.{any_area, parts_found}
 use Rattle.scmi_decode.specs.declared.layout.Layout.{Layout}
 use Rattle.scmi_decode.specs.declared.layout.Layout.TheVariants.{Whole}
 use Rattle.scmi_draw.specs.Picture.{IsDiagram}
+use Rattle.scmi_live.specs.Hertz.{in_hertz}
 use Rattle.scmi_table.specs.Run.{WritesTable}
 use Rattle.scmi.specs.Given.{OfGiven}
 use Rattle.scmi.specs.declared.request.Request.{Request}
@@ -34,6 +35,6 @@ Answers (Dumps l) input old new = HasArea l input
 Answers (Bytes l) input old new = IfSome input (λ bytes. IsTrue (any_area (parts_found l None bytes)))
 Answers (Do Session) input old new = ⊥
 Answers (Do Check) input old new = ⊥
-Answers (Do Table) input old new = WritesTable input old new
+Answers (Do Table) input old new = IfSome input (λ text. WritesTable (Some (in_hertz text)) old new)
 Answers Diagram input old new = OfGiven (λ given. AnswersOf Diagram given old new) input
 Answers asked input old new = ⊤

@@ -1,6 +1,7 @@
 -- What the record of a check is checked as.
 use Rattle.std.specs.Prelude.{◌≡◌, ℕ, List, [], ◌∷◌, ◌++◌, Option, Some, None, ⊤, if◌then◌else◌}
 use Rattle.scmi_io.specs.Lines.{after_line, is_line_feed}
+use Rattle.scmi_live.specs.Hertz.{in_hertz}
 use Rattle.scmi_live.specs.Numbered.{IsInNumbers}
 
 -- what follows as many lines of a text as a board's text has, one after its last line feed included
@@ -14,7 +15,8 @@ pub record IsGivenRecord (board text given : List ℕ) : Type 0 where
   pub numbers : IsInNumbers (board ++ 10 ∷ text) made
   pub given_is : given ≡ after_board board made
 
--- a check is made of a board and of what its record becomes, if both are known
+-- a check is made of a board in Hz and of what its record becomes, if both are known
 abbrev pub OfGivenRecord : (Option (List ℕ) → Option (List ℕ) → Type 0) → Option (List ℕ) → Option (List ℕ) → Type 0
-OfGivenRecord Does (Some board) (Some text) = (given : List ℕ) × IsGivenRecord board text given × Does (Some board) (Some given)
+OfGivenRecord Does (Some board) (Some text) =
+    (given : List ℕ) × IsGivenRecord (in_hertz board) text given × Does (Some (in_hertz board)) (Some given)
 OfGivenRecord Does board text = ⊤

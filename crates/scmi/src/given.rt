@@ -2,7 +2,7 @@
 ghost use Rattle.std.specs.Prelude.{◌≡◌, ◌++◌, ◌∷◌, IfOk};
 ghost use Rattle.scmi.specs.Given.{IsBehindLine, is_hardware, with_end};
 
-use scmi_live::numbered;
+use scmi_live::{in_hertz, numbered};
 use scmi_modes::{HARDWARE_RINGS, HARDWARE_WORDS};
 use std::alloc::{AllocError, Global};
 
@@ -25,12 +25,13 @@ pub(crate) fn with_end(alloc: Global, line: &[u8], is_ended: bool) -> Result<Vec
     Ok(start)
 }
 
-/// The line of a mode `hardware`, and the board and script behind it, with numbers in place of
-/// names. The only error is out of memory.
+/// The line of a mode `hardware`, and the board and script behind it, with rates in Hz and numbers
+/// in place of names. The only error is out of memory.
 pub(crate) fn in_numbers(alloc: Global, line: &[u8], text: &[u8]) -> Result<Vec<u8>, AllocError>
     ensures { IfOk result (λ given. IsBehindLine line.now text.now given.items) }
 {
-    let script = numbered(alloc, text)?;
+    let hertz = in_hertz(alloc, text)?;
+    let script = numbered(alloc, &hertz)?;
     behind_line(alloc, line, &script)
 }
 

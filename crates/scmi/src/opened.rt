@@ -7,12 +7,13 @@ use crate::report_found::report_found;
 use scmi_board::{BoardWithChannels, Lines};
 use scmi_explain::{Expected, Fault, explain, split_first};
 use scmi_io::{CountedReader, InputError, read_rest};
+use scmi_live::in_hertz;
 use scmi_modes::{HARDWARE_WORDS, RunError, ScriptKind, plan_of, read_described};
 use scmi_plan::{Plan, PlanError, RawPlan};
 use std::alloc::Global;
 use std::io::{Eprint, Error, Read};
 
-/// A board as its file has it, with its agents' channels, and its text after the line of the mode
+/// A board as its file has it, in Hz, with its agents' channels, and its text after the line of the mode
 /// `hardware words`, whose boards and steps a session has.
 #[derive(Drop)]
 pub struct Opened {
@@ -149,9 +150,13 @@ fn refusal_for(why: Why, text: Vec<u8>) -> Refused {
     Refused { why, text }
 }
 
-/// Appends the line of the mode and a file to a text, and the line feed that its last line may lack.
+/// Appends the line of the mode and a file in Hz to a text, and the line feed that its last line may
+/// lack.
 fn fill<B: Read>(alloc: Global, text: &mut Vec<u8>, file: &mut B) -> Result<(), InputError> {
     let file = read_rest(alloc, &mut CountedReader::new(file))?;
+    let Ok(file) = in_hertz(alloc, &file) else {
+        return Err(InputError::Memory);
+    };
     let is_kept = text.extend_from_slice(HARDWARE_WORDS.as_bytes()).is_ok()
         && text.push(b'\n').is_ok()
         && text.extend_from_slice(&file).is_ok()

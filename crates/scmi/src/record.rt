@@ -1,6 +1,7 @@
 //! A record, as it is checked: with numbers in place of the names in its commands.
 ghost use Rattle.std.specs.Prelude.{◌≡◌, IfOk, IfSome};
 ghost use Rattle.scmi_check.specs.Check.{HasVerdict, IsChecked};
+ghost use Rattle.scmi_live.specs.Hertz.{in_hertz};
 ghost use Rattle.scmi.specs.Record.{IsGivenRecord, OfGivenRecord, after_board};
 
 use crate::given::behind_line;
@@ -8,7 +9,7 @@ use scmi_board::read_valid_board;
 use scmi_check::{CheckError, Style, run_check};
 use scmi_explain::split_first;
 use scmi_io::{CountedReader, read_rest, write_fault};
-use scmi_live::numbered;
+use scmi_live::{in_hertz, numbered};
 use std::alloc::{AllocError, Global};
 use std::io::{Read, Write};
 
@@ -43,13 +44,17 @@ pub fn run_record<B: Read, R: Read, W: Write>(
     )
 }
 
-/// The text of a board that keeps every rule.
+/// The text of a board that keeps every rule, in Hz.
 fn board_text<B: Read>(alloc: Global, board: &mut B) -> Result<Vec<u8>, CheckError>
-    ensures { IfOk result (λ all. IfSome (B.remaining board.old) (λ text. all.items ≡ text)) }
+    ensures { IfOk result (λ all. IfSome (B.remaining board.old)
+        (λ text. all.items ≡ in_hertz text)) }
 {
     let text = read_rest(alloc, &mut CountedReader::new(board))?;
-    let _ = read_valid_board(alloc, &text)?;
-    Ok(text)
+    let Ok(hertz) = in_hertz(alloc, &text) else {
+        return Err(CheckError::Memory);
+    };
+    let _ = read_valid_board(alloc, &hertz)?;
+    Ok(hertz)
 }
 
 /// A record of a platform of a board with this text, as it is checked.

@@ -1,12 +1,14 @@
 //! What is reported on standard error of a run that failed.
 
+use crate::given::is_hardware;
 use crate::report_board::report_board;
 use crate::report_found::report_found;
 use crate::report_unknown::report_unknown;
 use crate::request::Request;
 use crate::task::Task;
-use scmi_explain::{Expected, Fault, Kept, LastLine, explain};
+use scmi_explain::{Expected, Fault, Kept, LastLine, explain, split_first};
 use scmi_io::FAILED_OUTPUT;
+use scmi_live::in_hertz;
 use std::alloc::Global;
 use std::io::{Eprint, ErrorKind, Read, Write};
 
@@ -28,11 +30,22 @@ pub fn report_input<R: Read + Drop>(
     if request == Request::Do(Task::Table) {
         return report_board(rt, alloc, name, input, fault);
     }
-    if report_unknown(rt, alloc, name, input.bytes(), fault) {
+    let hertz = script_in_hertz(alloc, input.bytes());
+    let text = hertz.as_deref().unwrap_or(input.bytes());
+    if report_unknown(rt, alloc, name, text, fault) {
         return;
     }
-    let found = explain(alloc, expected_of(request), input.bytes(), fault);
+    let found = explain(alloc, expected_of(request), text, fault);
     report_found(rt, name, fault, found, input.error());
+}
+
+/// The text of a script of a mode `hardware` as it was read: its board may have rates with units.
+fn script_in_hertz(alloc: Global, text: &[u8]) -> Option<Vec<u8>> {
+    if is_hardware(split_first(text).0) {
+        in_hertz(alloc, text).ok()
+    } else {
+        None
+    }
 }
 
 /// Reports that these bytes of an input have no area.

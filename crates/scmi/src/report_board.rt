@@ -3,6 +3,7 @@
 use crate::opened::Refused;
 use scmi_board::{BoardError, read_valid_board};
 use scmi_explain::{Fault, Kept};
+use scmi_live::in_hertz;
 use std::alloc::Global;
 use std::io::{Eprint, Read};
 
@@ -14,7 +15,9 @@ pub fn report_board<R: Read + Drop>(
     board: &Kept<R>,
     fault: Fault,
 ) {
-    if let Err(BoardError::After(line)) = read_valid_board(alloc, board.bytes()) {
+    let hertz = in_hertz(alloc, board.bytes()).ok();
+    let text = hertz.as_deref().unwrap_or(board.bytes());
+    if let Err(BoardError::After(line)) = read_valid_board(alloc, text) {
         let _ = eprintln!(rt; "{name}:{line}: the file of a board ends after its line end");
         return;
     }

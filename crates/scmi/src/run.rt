@@ -1,6 +1,8 @@
 //! A run by its request.
-ghost use Rattle.std.specs.Prelude.{◌≡◌, ◌≢◌, true, false, List, ℕ, Some};
+ghost use Rattle.std.specs.Prelude.{◌≡◌, ◌≢◌, true, false, List, ℕ, Some, IfSome};
 ghost use Rattle.scmi_io.specs.Lines.{after_line, first_line, has_line_feed};
+ghost use Rattle.scmi_live.specs.Hertz.{in_hertz};
+ghost use Rattle.scmi_table.specs.Run.{WritesTable};
 ghost use Rattle.scmi.specs.Given.{OfGiven, is_hardware};
 ghost use Rattle.scmi.specs.Program.{Answers, AnswersOf};
 
@@ -13,6 +15,7 @@ use crate::texts::write_text;
 use scmi_decode::{Layout, Readings, run_bytes, run_decode};
 use scmi_draw::{Form, run_draw};
 use scmi_io::{CountedReader, Input, read_rest, write_fault};
+use scmi_live::in_hertz;
 use scmi_modes::{Modes, RunError, run_program};
 use scmi_table::run_table;
 use scmi_threads::OpenGate;
@@ -42,7 +45,7 @@ pub fn run_request<T: Threads + Wait + Sync, R: Read, W: Write, N: Readings>(
         Request::Do(Task::Decode) => run_decode(alloc, Layout::Whole, reader, writer, readings),
         Request::Dumps(layout) => run_decode(alloc, layout, reader, writer, readings),
         Request::Bytes(layout) => run_bytes(alloc, layout, reader, writer),
-        Request::Do(Task::Table) => run_table(alloc, reader, writer),
+        Request::Do(Task::Table) => write_tables(alloc, reader, writer),
         // Their boards are read from files.
         Request::Do(Task::Session | Task::Check) => WRONG_ARGUMENT,
         _ => match write_text(writer, request) {
@@ -166,6 +169,21 @@ fn run_given<T: Threads + Wait + Sync, R: Read, W: Write>(
             run_draw(rt, alloc, &OpenGate, reader, writer, Form::Mermaid, written)
         }
         _ => run_program(rt, alloc, &OpenGate, Modes::ForPeople, reader, writer),
+    }
+}
+
+/// Writes the tables of the board of an input, whose rates may have units, and gives the exit status.
+fn write_tables<R: Read, W: Write>(alloc: Global, reader: &mut R, writer: &mut W) -> u8
+    ensures { result ≡ 0 → IfSome (R.remaining reader.old) (λ text. WritesTable
+        (Some (in_hertz text)) (W.contents writer.old) (W.contents writer.new)) }
+{
+    let text = match read_rest(alloc, &mut CountedReader::new(reader)) {
+        Ok(text) => text,
+        Err(error) => return fail(writer, RunError::from(error)),
+    };
+    match in_hertz(alloc, &text) {
+        Ok(board) => run_table(alloc, &mut board.as_slice(), writer),
+        Err(_) => fail(writer, RunError::Memory),
     }
 }
 

@@ -38,7 +38,7 @@ pub fn serve<T: Threads + Wait + Sync + Files + Print + Eprint + Input>(
     let Some(name) = asked.first else {
         return match asked.request {
             Request::Do(task @ (Task::Session | Task::Check)) => lack_board(rt, task),
-            request => { serve_input(rt, alloc, request, is_colored, STANDARD_INPUT, rt.reader()) }
+            request => { serve_standard(rt, alloc, request, is_colored) }
         };
     };
     if asked.request == Request::Do(Task::Check) {
@@ -54,7 +54,7 @@ pub fn serve<T: Threads + Wait + Sync + Files + Print + Eprint + Input>(
     if name == STANDARD {
         return match asked.request {
             Request::Do(Task::Session) => refuse_standard(rt, "BOARD", "each step"),
-            request => { serve_input(rt, alloc, request, is_colored, STANDARD_INPUT, rt.reader()) }
+            request => { serve_standard(rt, alloc, request, is_colored) }
         };
     }
     match fs::open(rt, name) {
@@ -99,6 +99,18 @@ fn is_whole(request: Request) -> bool {
         request,
         Request::Do(Task::Chart | Task::Table) | Request::Diagram
     )
+}
+
+/// Does what is asked for with standard input, and gives the exit status.
+fn serve_standard<T: Threads + Wait + Sync + Print + Eprint + Input>(
+    rt: &T,
+    alloc: Global,
+    request: Request,
+    is_colored: bool,
+) -> u8 {
+    // A terminal goes on behind its end, so nothing is read of it after that.
+    let reader = rt.reader().chain(io::empty());
+    serve_input(rt, alloc, request, is_colored, STANDARD_INPUT, reader)
 }
 
 /// Does what is asked for with an input of this name, and gives the exit status. What is wrong with

@@ -84,7 +84,8 @@ impl NumberFault {
             NumberFault::Separator => "has separators between its digits",
             // Only a rate has 64 bits.
             NumberFault::Form(Width::Bits64) => {
-                "is not a number of Hz (decimal digits, or 0x and hexadecimal digits)"
+                "is not a number of Hz (decimal digits, or 0x and hexadecimal digits; \
+                only the modes hardware and files of boards have units, as 600MHz)"
             }
             NumberFault::Form(_) => {
                 "is not a number (decimal digits, or 0x and hexadecimal digits)"

@@ -2,5 +2,6 @@ mod FewItems
 mod ItemLists
 mod MeantExamples
 mod NameLists
+mod Joined
 mod Numbers
 mod UnderWay

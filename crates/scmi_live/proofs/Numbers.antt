@@ -1,5 +1,5 @@
 -- Lines of a script, in numbers, one after another.
-use Rattle.std.proofs.Common.{◌≡◌, ℕ, ◌<◌, Bool, true, false, List, [], ◌∷◌, ◌++◌, length, Bor, map, Option, Some, None, Result, Ok, Err, refl, sym, ap, ◌∙◌, append_assoc, subst, arith}
+use Rattle.std.proofs.Common.{◌≡◌, ℕ, ◌<◌, Bool, true, false, List, [], ◌∷◌, ◌++◌, length, Bor, map, Option, Some, None, Result, Ok, Err, refl, sym, ap, ◌∙◌, append_assoc, subst}
 use Rattle.std.specs.List.{join_with_byte, slice_split}
 use Rattle.std.proofs.lemmas.List.{map-append}
 use Rattle.std.proofs.lemmas.List.Splits.{join_with_byte-slice_split}
@@ -9,7 +9,9 @@ use Rattle.scmi_io.specs.Lines.{is_line_feed}
 use Rattle.scmi_plan.specs.Board.{Board}
 use Rattle.scmi_text.specs.declared.step.Step.{Step}
 use Rattle.scmi_live.specs.Meant.{hardware_step, step_by_names}
-use Rattle.scmi_live.specs.Numbered.{AddsNumbered, AllStay, AreInNumbers, HasNoNames, HasNoNamesBy, IsInNumbers, IsInNumbersBy, IsInNumbersOf, IsLineBy, IsLineInNumbers, StaysBy, with_feed}
+use Rattle.scmi_live.specs.Pieces.{with_byte}
+use Rattle.scmi_live.proofs.Joined.{first_join, join_more, length_more}
+use Rattle.scmi_live.specs.Numbered.{AddsNumbered, AllStay, AreInNumbers, HasNoNames, HasNoNamesBy, IsInNumbers, IsInNumbersBy, IsInNumbersOf, IsLineBy, IsLineInNumbers, StaysBy}
 
 -- what some lines become, and whether they are the first of all
 pub record AreSoFar (board : Board) (agents : ℕ) (texts : List (List ℕ)) (is_first : Bool) (made : List ℕ) : Type 0 where
@@ -25,25 +27,11 @@ and_line board agents [] (l ∷ lines) text line each one = absurd each
 and_line board agents (t ∷ texts) [] text line each one = absurd each
 and_line board agents (t ∷ texts) (l ∷ lines) text line each one = (each.0, and_line board agents texts lines text line each.1 one)
 
--- one piece more behind others
-join_more : (pieces : List (List ℕ)) (piece : List ℕ) → 0 < length pieces → join_with_byte 10 (pieces ++ piece ∷ []) ≡ join_with_byte 10 pieces ++ 10 ∷ piece
-join_more [] piece some = absurd (omega (arith, some))
-join_more (first ∷ []) piece some = refl
-join_more (first ∷ next ∷ pieces) piece some = ap (λ v. first ++ 10 ∷ v) (join_more (next ∷ pieces) piece (omega arith)) ∙ sym (append_assoc first (10 ∷ join_with_byte 10 (next ∷ pieces)) (10 ∷ piece))
-
-first_join : (lines : List (List ℕ)) (line : List ℕ) → lines ≡ [] → join_with_byte 10 (lines ++ line ∷ []) ≡ join_with_byte 10 lines ++ line
-first_join [] line none = refl
-first_join (l ∷ lines) line none = absurd cc
-
-length_more : (lines : List (List ℕ)) (line : List ℕ) → 0 < length (lines ++ line ∷ [])
-length_more [] line = omega arith
-length_more (l ∷ lines) line = omega arith
-
 on_first : (board : Board) (agents : ℕ) (texts : List (List ℕ)) (text made new : List ℕ) → AreSoFar board agents texts true made → AddsNumbered board agents text made new → AreSoFar board agents (texts ++ text ∷ []) false new
 on_first board agents texts text made new so_far adds = record {
   lines = so_far.lines ++ adds.line ∷ [];
   each = and_line board agents texts so_far.lines text adds.line so_far.each adds.becomes;
-  joined = adds.added ∙ ap (λ (m : List ℕ). m ++ adds.line) so_far.joined ∙ sym (first_join so_far.lines adds.line (so_far.first refl));
+  joined = adds.added ∙ ap (λ (m : List ℕ). m ++ adds.line) so_far.joined ∙ sym (first_join 10 so_far.lines adds.line (so_far.first refl));
   first = λ is. absurd cc;
   more = λ is. length_more so_far.lines adds.line;
 }
@@ -52,18 +40,18 @@ on_next : (board : Board) (agents : ℕ) (texts : List (List ℕ)) (text made en
 on_next board agents texts text made ended new so_far is_ended adds = record {
   lines = so_far.lines ++ adds.line ∷ [];
   each = and_line board agents texts so_far.lines text adds.line so_far.each adds.becomes;
-  joined = adds.added ∙ ap (λ (m : List ℕ). m ++ adds.line) is_ended ∙ append_assoc made (10 ∷ []) adds.line ∙ ap (λ (m : List ℕ). m ++ 10 ∷ adds.line) so_far.joined ∙ sym (join_more so_far.lines adds.line (so_far.more refl));
+  joined = adds.added ∙ ap (λ (m : List ℕ). m ++ adds.line) is_ended ∙ append_assoc made (10 ∷ []) adds.line ∙ ap (λ (m : List ℕ). m ++ 10 ∷ adds.line) so_far.joined ∙ sym (join_more 10 so_far.lines adds.line (so_far.more refl));
   first = λ is. absurd cc;
   more = λ is. length_more so_far.lines adds.line;
 }
 
 -- one line more
-on_line : (board : Board) (agents : ℕ) (texts : List (List ℕ)) (is_first : Bool) (text made ended new : List ℕ) → AreSoFar board agents texts is_first made → ended ≡ with_feed is_first made → AddsNumbered board agents text ended new → AreSoFar board agents (texts ++ text ∷ []) false new
+on_line : (board : Board) (agents : ℕ) (texts : List (List ℕ)) (is_first : Bool) (text made ended new : List ℕ) → AreSoFar board agents texts is_first made → ended ≡ with_byte 10 is_first made → AddsNumbered board agents text ended new → AreSoFar board agents (texts ++ text ∷ []) false new
 on_line board agents texts true text made ended new so_far is_ended adds = on_first board agents texts text made new so_far (subst (λ (m : List ℕ). AddsNumbered board agents text m new) is_ended adds)
 on_line board agents texts false text made ended new so_far is_ended adds = on_next board agents texts text made ended new so_far is_ended adds
 
 -- the same of lines that are borrowed
-pub on_yielded : (board : Board) (agents : ℕ) (texts : List (Bor (List ℕ))) (text : Bor (List ℕ)) (is_first : Bool) (made ended new : List ℕ) → AreSoFar board agents (map (λ x. x.now) texts) is_first made → ended ≡ with_feed is_first made → AddsNumbered board agents text.now ended new
+pub on_yielded : (board : Board) (agents : ℕ) (texts : List (Bor (List ℕ))) (text : Bor (List ℕ)) (is_first : Bool) (made ended new : List ℕ) → AreSoFar board agents (map (λ x. x.now) texts) is_first made → ended ≡ with_byte 10 is_first made → AddsNumbered board agents text.now ended new
     → AreSoFar board agents (map (λ x. x.now) (texts ++ text ∷ [])) false new
 on_yielded board agents texts text is_first made ended new so_far is_ended adds =
     subst (λ (all : List (List ℕ)). AreSoFar board agents all false new) (sym (map-append (λ (x : Bor (List ℕ)). x.now) texts (text ∷ []))) (on_line board agents (map (λ x. x.now) texts) is_first text.now made ended new so_far is_ended adds)

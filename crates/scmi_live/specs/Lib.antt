@@ -10,4 +10,6 @@ pub mod Meant
 pub mod LiveError
 pub mod Heard
 pub mod Live
+pub mod Pieces
+pub mod Hertz
 pub mod Numbered

@@ -1,5 +1,5 @@
 -- What a session does whose lines are answered one by one, and what it gives to its listener.
-use Rattle.std.specs.Prelude.{◌≡◌, ℕ, Bool, true, false, List, [], ◌∷◌, ◌++◌, length, Option, Some, None, Result, ⊤}
+use Rattle.std.specs.Prelude.{◌≡◌, ℕ, Bool, true, false, List, [], ◌∷◌, ◌++◌, length, Option, Some, None, Result}
 use Rattle.std.specs.List.{slice_split}
 use Rattle.scmi_link.specs.View.{CallerView}
 use Rattle.scmi_link.specs.declared.closing.Closing.{Closing}
@@ -17,7 +17,7 @@ use Rattle.scmi_text.specs.declared.step_line.StepLine.TheVariants.{Trace}
 use Rattle.scmi_live.specs.Heard.{Gives, Heard}
 use Rattle.scmi_live.specs.Meant.{line_meant}
 use Rattle.scmi_live.specs.declared.meant.Meant.{Meant}
-use Rattle.scmi_live.specs.declared.meant.Meant.TheVariants.{Describe, Does, Help, Nothing, Quit, Unknown}
+use Rattle.scmi_live.specs.declared.meant.Meant.TheVariants.{Does, Quit}
 
 -- a session: its board, how many agents that has, and its endpoints
 pub record LiveView : Type 0 where

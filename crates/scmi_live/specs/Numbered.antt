@@ -1,5 +1,5 @@
 -- Scripts with numbers in place of names.
-use Rattle.std.specs.Prelude.{◌≡◌, ℕ, Bool, true, false, List, [], ◌∷◌, ◌++◌, length, Option, Some, None, Result, Ok, Err}
+use Rattle.std.specs.Prelude.{◌≡◌, ℕ, List, [], ◌∷◌, ◌++◌, length, Option, Some, None, Result, Ok, Err}
 use Rattle.std.specs.List.{join_with_byte, slice_split}
 use Rattle.scmi_board.specs.Channels.{Described, described_left}
 use Rattle.scmi_board.specs.Lines.{Line}
@@ -29,11 +29,6 @@ pub record IsInNumbersOf (board : Board) (agents : ℕ) (text made : List ℕ) :
   pub lines : List (List ℕ)
   pub each : AreInNumbers board agents (slice_split is_line_feed text) lines
   pub joined : made ≡ join_with_byte 10 lines
-
--- a text before its next line
-abbrev pub with_feed : Bool → List ℕ → List ℕ
-with_feed true text = text
-with_feed false text = text ++ 10 ∷ []
 
 -- what a line becomes is added
 pub record AddsNumbered (board : Board) (agents : ℕ) (text old new : List ℕ) : Type 0 where

@@ -8,6 +8,7 @@
 
 mod flags;
 mod form;
+mod hertz;
 mod items;
 mod left_items;
 mod letters;
@@ -21,6 +22,7 @@ mod named_call;
 mod named_step;
 mod numbering;
 mod payload;
+mod pieces;
 mod plain_step;
 mod rate;
 mod run;
@@ -28,6 +30,7 @@ mod unknown;
 mod word;
 
 pub use flags::{FlagsRow, HeldFlags, flags_of};
+pub use hertz::in_hertz;
 pub use listener::Listener;
 pub use live_error::LiveError;
 pub use meant::{HELP, step_meant};

@@ -2,9 +2,10 @@
 ghost use Rattle.std.specs.Prelude.{◌≡◌, Some, string_bytes, IfOk, OnOk, MatchOption};
 ghost use Rattle.scmi_plan.specs.RawPlan.{asked_board};
 ghost use Rattle.scmi_live.specs.Meant.{hardware_step};
-ghost use Rattle.scmi_live.specs.Numbered.{AddsNumbered, HasNoNames, IsInNumbers, IsInNumbersOf, IsLineInNumbers, with_feed};
+ghost use Rattle.scmi_live.specs.Numbered.{AddsNumbered, HasNoNames, IsInNumbers, IsInNumbersOf, IsLineInNumbers};
 
 use crate::meant::{hardware_step, step_by_names};
+use crate::pieces::{add_byte, copy_of};
 use crate::plain_step::PlainStep;
 use scmi_board::{Lines, TextError, read_board_with_channels};
 use scmi_plan::RawPlan;
@@ -31,15 +32,6 @@ pub fn numbered(alloc: Global, text: &[u8]) -> Result<Vec<u8>, AllocError>
     }
 }
 
-/// A copy of a text.
-fn copy_of(alloc: Global, text: &[u8]) -> Result<Vec<u8>, AllocError>
-    ensures { IfOk result (λ made. made.items ≡ text.now) }
-{
-    let mut made = Vec::new(alloc);
-    made.extend_from_slice(text)?;
-    Ok(made)
-}
-
 /// The lines of a text, with numbers in place of names.
 fn numbered_lines(
     alloc: Global,
@@ -53,21 +45,11 @@ fn numbered_lines(
     let mut made = Vec::new(alloc);
     let mut is_first = true;
     for line in text.split(|byte| *byte == b'\n') {
-        add_feed(is_first, &mut made)?;
+        add_byte(b'\n', is_first, &mut made)?;
         is_first = false;
         add_line(alloc, board, agents, line, &mut made)?;
     }
     Ok(made)
-}
-
-/// Adds a line feed, unless the line that follows is the first.
-fn add_feed(is_first: bool, made: &mut Vec<u8>) -> Result<(), AllocError>
-    ensures { OnOk result (made.new.items ≡ with_feed is_first made.old.items) }
-{
-    if is_first {
-        return Ok(());
-    }
-    Ok(made.push(b'\n')?)
 }
 
 /// Adds a line, with numbers in place of names.

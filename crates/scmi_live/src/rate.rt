@@ -28,7 +28,7 @@ pub fn rate_meant(item: &[u8]) -> Option<u64>
 }
 
 /// A rate with its unit, in Hz.
-fn rate_in_unit(item: &[u8]) -> Option<u64>
+pub(crate) fn rate_in_unit(item: &[u8]) -> Option<u64>
     ensures { result ≡ rate_in_unit item.now }
 {
     let (value, rest) = digits_behind(0, item)?;

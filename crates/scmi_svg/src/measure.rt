@@ -13,7 +13,7 @@ const WIDTHS: [u8; 95] = [
 /// The width of the sign for a byte that is not printable.
 const UNSHOWN_WIDTH: u8 = 59;
 /// The least size of a font.
-const LEAST: u32 = 5;
+const LEAST: u32 = 4;
 /// How many letters of a text are measured: longer ones are as wide as these.
 const MEASURED: usize = 120;
 
@@ -51,7 +51,7 @@ pub(crate) fn width_in(text: &[u8], size: u8) -> u32
 }
 
 /// The size of a font in which a text with this width in hundredths of it has room: at most
-/// this one, and at least 5.
+/// this one, and at least 4.
 pub(crate) fn size_in(width: u32, room: u32, size: u32) -> u32 {
     (room.saturating_mul(100) / width.max(1))
         .min(size)

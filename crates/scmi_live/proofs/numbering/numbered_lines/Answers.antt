@@ -10,7 +10,7 @@ pub loop-line-preserved : goal.loop-line-preserved
 loop-line-preserved c = record {
   can = search rules;
   ends = search rules;
-  so_far = on_yielded (asked_board c.args.board.now) c.args.agents c.loop-line.yielded c.in-Some.line c.loop-line.is_first c.loop-line.made.items c.add_feed.new.made.items c.add_line.new.made.items c.loop-line.invariant.so_far c.in_ok-add_feed.ensures c.in_ok-add_line.ensures;
+  so_far = on_yielded (asked_board c.args.board.now) c.args.agents c.loop-line.yielded c.in-Some.line c.loop-line.is_first c.loop-line.made.items c.add_byte.new.made.items c.add_line.new.made.items c.loop-line.invariant.so_far c.in_ok-add_byte.ensures c.in_ok-add_line.ensures;
 }
 
 pub returns : goal.returns
