@@ -80,10 +80,12 @@ numbers_given input line given line_is hardware behind =
 other_given : (input line : List ℕ) → line ≡ first_line input → is_hardware line ≡ false → IsGiven input input
 other_given input line line_is other = subst (λ b. IsGivenBy b input input) (sym (sym (ap is_hardware line_is) ∙ other)) refl
 
--- what is given of an input, if its mode is one of `hardware`
-pub on_numbers : (Does : Option (List ℕ) → Type 0) (input line given : List ℕ) (left : Option (List ℕ)) → line ≡ first_line input → left ≡ Some (after_line input) → is_hardware line ≡ true → IfSome left (λ rest. IsBehindLine line rest given) → Does (Some given) → OfGiven Does (Some input)
-on_numbers Does input line given left line_is left_is hardware behind does =
-    (given, numbers_given input line given line_is hardware (subst (λ (o : Option (List ℕ)). IfSome o (λ rest. IsBehindLine line rest given)) left_is behind), does)
+-- what is given of an input, if its mode is one of `hardware`, and what is behind its line was read
+pub on_numbers : (Does : Option (List ℕ) → Type 0) (input line written given : List ℕ) (left : Option (List ℕ)) → line ≡ first_line input → left ≡ Some (after_line input) → is_hardware line ≡ true
+    → IfSome left (λ rest. written ≡ rest) → IsBehindLine line written given → Does (Some given) → OfGiven Does (Some input)
+on_numbers Does input line written given left line_is left_is hardware read behind does =
+    let rest_is : written ≡ after_line input = subst (λ (o : Option (List ℕ)). IfSome o (λ rest. written ≡ rest)) left_is read in
+    (given, numbers_given input line given line_is hardware (subst (λ rest. IsBehindLine line rest given) rest_is behind), does)
 
 -- the same of another mode
 pub on_other : (Does : Option (List ℕ) → Type 0) (input line start : List ℕ) (ended : Bool) (left given : Option (List ℕ)) → line ≡ first_line input → ended ≡ has_line_feed input → left ≡ Some (after_line input) → is_hardware line ≡ false

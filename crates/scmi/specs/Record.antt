@@ -1,5 +1,5 @@
 -- What the record of a check is checked as.
-use Rattle.std.specs.Prelude.{◌≡◌, ℕ, List, [], ◌∷◌, ◌++◌, Option, Some, None, ⊤, if◌then◌else◌}
+use Rattle.std.specs.Prelude.{◌≡◌, ℕ, List, [], ◌∷◌, ◌++◌, Option, Some, ⊤, if◌then◌else◌}
 use Rattle.scmi_io.specs.Lines.{after_line, is_line_feed}
 use Rattle.scmi_live.specs.Hertz.{in_hertz}
 use Rattle.scmi_live.specs.Numbered.{IsInNumbers}

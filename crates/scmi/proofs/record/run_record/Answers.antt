@@ -1,4 +1,4 @@
-use Rattle.std.proofs.Common.{◌≡◌, ℕ, List, Option, Some, IfSome, subst}
+use Rattle.std.proofs.Common.{ℕ, List, Option, Some, IfSome, subst}
 use Rattle.scmi_check.specs.Check.{IsChecked}
 use Rattle.scmi.specs.Record.{IsGivenRecord}
 use Rattle.scmi.proofs.Records.{given_known}
