@@ -6,7 +6,7 @@ use Rattle.scmi_decode.specs.Cell.{settled}
 use Rattle.scmi_decode.specs.Decoded.{is_remark}
 use Rattle.scmi_decode.specs.declared.open_dump.TheConstants.{REPEATED_BYTES}
 use Rattle.scmi_decode.specs.declared.layout.Layout.TheVariants.{Whole}
-use Rattle.scmi_decode.specs.OpenDump.{begun, is_star, no_dump}
+use Rattle.scmi_decode.specs.OpenDump.{begun, end_at, is_filled_from, is_star, no_dump, reaches}
 use Rattle.scmi_decode.specs.Row.{row_of, without_prefix, parts_at, parts_row, marked_parts, offset_parts, piped_parts, address_of}
 use Rattle.scmi_decode.specs.declared.form.Form.{Form}
 use Rattle.scmi_decode.specs.declared.form.Form.TheVariants.{Plain, Marked, Offset, Equals, Value}
@@ -114,6 +114,24 @@ pub od_big_endian : read_row (codes "000010 00000000 10000000 04441c00 01000000 
 unfolding row_of without_prefix parts_at parts_row marked_parts offset_parts piped_parts address_of decode_pairs
 od_big_endian = refl
 
+pub od_long_big_endian : read_row (codes "000010 0000000010000000 04441c0001000000  >.........D......<") ≡ Some (row_at Offset 0x10)
+unfolding row_of without_prefix parts_at parts_row marked_parts offset_parts piped_parts address_of decode_pairs
+od_long_big_endian = refl
+
+pub od_half_big_endian : read_row (codes "000010 0000 0000 1000 0000 0444 1c00 0100 0000  >.........D......<") ≡ Some (row_at Offset 0x10)
+unfolding row_of without_prefix parts_at parts_row marked_parts offset_parts piped_parts address_of decode_pairs
+od_half_big_endian = refl
+
+-- a column that shows either order
+pub od_either : read_row (codes "000000 00000000 00000001 00000000 00000000  >................<") ≡ Some (record { form = Offset; address = 0; bytes = None })
+unfolding row_of without_prefix parts_at parts_row marked_parts offset_parts piped_parts address_of decode_pairs
+od_either = refl
+
+-- four bytes in a last row are no bits
+pub od_last_word : read_row (codes "000040 00000000                             >....<") ≡ Some (record { form = Offset; address = 0x40; bytes = Some (0 ∷ 0 ∷ 0 ∷ 0 ∷ []) })
+unfolding row_of without_prefix parts_at parts_row marked_parts offset_parts piped_parts address_of decode_pairs
+od_last_word = refl
+
 -- the kernel's log, and debuggers
 pub kernel : read_row (codes "[   12.345678] scmi: 00000010: 00000000 00000010 001c4404 00000001  .........D......") ≡ Some (row_at Marked 0x10)
 unfolding row_of without_prefix parts_at parts_row marked_parts offset_parts piped_parts address_of decode_pairs
@@ -186,6 +204,27 @@ od_repeats = refl
 pub hexdump_repeats : repeats_at (codes "0000020 0000 0000 0010 0000 4404 001c 0001 0000") ≡ Some false
 unfolding row_of without_prefix parts_at parts_row marked_parts offset_parts piped_parts address_of decode_pairs begun is_star
 hexdump_repeats = refl
+
+-- the address at which a line ends a dump of one row
+abbrev pub ends_at : (line end : List ℕ) → Option (Option ℕ)
+ends_at line end = option_map (λ r. end_at (begun (no_dump Whole) 1 r) end) (row_of line)
+
+pub od_longs_end : ends_at (codes "000110 0000000000000000 0000000000000000") (codes "00011c") ≡ Some (Some 0x11C)
+unfolding row_of without_prefix parts_at parts_row marked_parts offset_parts piped_parts address_of decode_pairs begun reaches is_filled_from end_at
+od_longs_end = refl
+
+pub od_longs_octal_end : ends_at (codes "0000420 0000000000000000 0000000000000000") (codes "0000434") ≡ Some (Some 284)
+unfolding row_of without_prefix parts_at parts_row marked_parts offset_parts piped_parts address_of decode_pairs begun reaches is_filled_from end_at
+od_longs_octal_end = refl
+
+-- an end before the last number, and bytes behind the end
+pub od_early_end : ends_at (codes "000110 0000000000000000 0000000000000000") (codes "000118") ≡ Some None
+unfolding row_of without_prefix parts_at parts_row marked_parts offset_parts piped_parts address_of decode_pairs begun reaches is_filled_from end_at
+od_early_end = refl
+
+pub od_bytes_behind : ends_at (codes "000110 0000000000000000 0000000100000000") (codes "00011c") ≡ Some None
+unfolding row_of without_prefix parts_at parts_row marked_parts offset_parts piped_parts address_of decode_pairs begun reaches is_filled_from end_at
+od_bytes_behind = refl
 
 -- the lines that devmem2 prints beside each number
 pub devmem2_opened : is_remark (codes "/dev/mem opened.") ≡ true

@@ -1,11 +1,11 @@
 -- What is found in an input that is one dump is what is found in its bytes, in whatever form they are.
-use Rattle.std.proofs.Common.{◌≡◌, ℕ, ◌+◌, true, false, List, [], ◌∷◌, ◌++◌, length, Option, None, Some, ◌∙◌, sym, ap, refl, subst, arith, append_assoc, append-nil}
-use Rattle.std.specs.Prelude.{◌==◌, not}
+use Rattle.std.proofs.Common.{◌≡◌, ℕ, ◌+◌, true, false, List, [], ◌∷◌, ◌++◌, length, take, Option, None, Some, ◌∙◌, sym, ap, refl, subst, arith, append_assoc, append-nil}
+use Rattle.std.specs.Prelude.{◌-◌, ◌==◌, not}
 use Rattle.std.specs.List.{slice_split}
 use Rattle.std.proofs.lemmas.Bool.Decides.{nat_tests}
 use Rattle.std.proofs.lemmas.List.{length-append}
 use Rattle.scmi_io.specs.Lines.{is_line_feed}
-use Rattle.scmi_decode.specs.OpenDump.{DumpView, no_dump, added, begun, closed, copies, dump_found, end_at, extended, filled, goes_on, is_open, is_star, last_row, rows_before}
+use Rattle.scmi_decode.specs.OpenDump.{DumpView, no_dump, added, begun, bytes_before, closed, copies, cut, dump_found, end_at, ended, extended, filled, goes_on, is_open, is_star, last_row, rows_before}
 use Rattle.scmi_decode.specs.Finding.{dump_findings}
 use Rattle.scmi_decode.specs.Reported.{Reported}
 use Rattle.scmi_decode.specs.declared.finding.Finding.{Finding}
@@ -16,7 +16,7 @@ use Rattle.scmi_decode.specs.Cell.{settled}
 use Rattle.scmi_decode.specs.declared.cell.Cell.{Cell}
 use Rattle.scmi_decode.specs.declared.no_bytes.NoBytes.TheVariants as lack
 use Rattle.scmi_decode.specs.declared.order.Order.{Order}
-use Rattle.scmi_decode.specs.OneDump.{AreRows, IsDumpOf, IsEnd, IsNextRow, IsRow, ReportsForms, rows_bytes, rows_cells}
+use Rattle.scmi_decode.specs.OneDump.{AreRows, IsDumpOf, IsEnd, IsEndLine, IsNextRow, IsRow, ReportsForms, cells_to, rows_bytes, rows_cells, rows_next}
 
 step_found-row : (d : DumpView) (n : ℕ) (line : List ℕ) (r : RowView) → IsNextRow d line r → step_found d n line ≡ []
 unfolding step_found
@@ -63,6 +63,10 @@ added-order : (d : DumpView) (r : RowView) → (added d r).order ≡ d.order
 unfolding extended filled
 added-order d r = refl
 
+added-next : (d : DumpView) (r : RowView) → (added d r).next ≡ rows_next 0 (r ∷ [])
+unfolding extended filled
+added-next d r = refl
+
 added-layout : (d : DumpView) (r : RowView) → (added d r).layout ≡ d.layout
 unfolding extended filled
 added-layout d r = refl
@@ -76,20 +80,53 @@ end-found d n ([] ∷ []) is = empty-found d n
 end-found d n ((x ∷ xs) ∷ lines) is = absurd is
 end-found d n ([] ∷ line ∷ lines) is = absurd is
 
-found_in_rows : (d : DumpView) (n : ℕ) (rows : List RowView) (lines : List (List ℕ)) → is_open d ≡ true → d.repeats ≡ false → AreRows d rows lines
-    → lines_found d n lines ≡ cells_found d.layout d.first d.order (d.cells ++ rows_cells rows)
-found_in_rows d n [] lines open_now even are = end-found d n lines are ∙ open-found d open_now
-found_in_rows d n (r ∷ rows) [] open_now even are = absurd are
-found_in_rows d n (r ∷ rows) (line ∷ lines) open_now even are =
+-- the line that says where a dump ends
+end_line-found : (d : DumpView) (n : ℕ) (line : List ℕ) (address : ℕ) → IsEndLine d line address → step_found d n line ≡ dump_found (ended d address)
+unfolding step_found
+end_line-found d n line address is = rw (is.no_remark, is.not_empty, is.no_star, is.is_end) refl
+
+end_line-after : (d : DumpView) (n : ℕ) (line : List ℕ) (address : ℕ) → IsEndLine d line address → dump_after d n line ≡ closed (ended d address)
+unfolding dump_after
+end_line-after d n line address is = rw (is.no_remark, is.not_empty, is.no_star, is.is_end) refl
+
+ended-cells : (d : DumpView) (address : ℕ) → d.repeats ≡ false → (ended d address).cells ≡ bytes_before d address
+unfolding cut filled
+ended-cells d address even =
+    ap (λ (k : ℕ). take (length (d.cells ++ copies k (last_row d)) - (d.next - address)) (d.cells ++ copies k (last_row d))) (rows_before-none d address even)
+    ∙ ap (λ (cs : List Cell). take (length cs - (d.next - address)) cs) (append-nil d.cells)
+
+ended-found : (d : DumpView) (address : ℕ) → d.repeats ≡ false → (length (bytes_before d address) == 0) ≡ false → dump_found (ended d address) ≡ cells_found d.layout d.first d.order (bytes_before d address)
+unfolding cut filled
+ended-found d address even some =
+    let cells : (ended d address).cells ≡ bytes_before d address = ended-cells d address even in
+    open-found (ended d address) (ap (λ (cs : List Cell). not (length cs == 0)) cells ∙ ap not some)
+    ∙ ap (λ (cs : List Cell). cells_found d.layout d.first d.order cs) (append-nil (ended d address).cells ∙ cells)
+
+found_in_rows : (d : DumpView) (n : ℕ) (rows : List RowView) (end : Option ℕ) (lines : List (List ℕ)) → is_open d ≡ true → d.repeats ≡ false → AreRows d rows end lines
+    → lines_found d n lines ≡ cells_found d.layout d.first d.order (cells_to end (rows_next d.next rows) (d.cells ++ rows_cells rows))
+found_in_rows d n [] None lines open_now even are = end-found d n lines are ∙ open-found d open_now
+found_in_rows d n [] (Some address) [] open_now even are = absurd are
+found_in_rows d n [] (Some address) (line ∷ lines) open_now even are =
+    let e : DumpView = ended d address in
+    ap (λ (t : List Finding). t ++ lines_found (dump_after d n line) (n + 1) lines) (end_line-found d n line address are.0)
+    ∙ ap (λ (v : DumpView). dump_found e ++ lines_found v (n + 1) lines) (end_line-after d n line address are.0)
+    ∙ ap (λ (t : List Finding). dump_found e ++ t) (end-found (closed e) (n + 1) lines are.1 ∙ closed-found e)
+    ∙ append-nil (dump_found e) ∙ ended-found d address even are.0.has_cells
+    ∙ ap (λ (cs : List Cell). cells_found d.layout d.first d.order (take (length cs - (d.next - address)) cs)) (sym (append-nil d.cells))
+found_in_rows d n (r ∷ rows) end [] open_now even are = absurd are
+found_in_rows d n (r ∷ rows) end (line ∷ lines) open_now even are =
     let here : step_found d n line ≡ [] = step_found-row d n line r are.0 in
     let after : dump_after d n line ≡ added d r = dump_after-row d n line r are.0 in
-    let rest = found_in_rows (added d r) (n + 1) rows lines (added-open d r open_now even) (added-even d r) are.1 in
-    let cells : (added d r).cells ++ rows_cells rows ≡ d.cells ++ (r.cells ++ rows_cells rows) =
+    let rest = found_in_rows (added d r) (n + 1) rows end lines (added-open d r open_now even) (added-even d r) are.1 in
+    let all : List Cell = (added d r).cells ++ rows_cells rows in
+    let cells : all ≡ d.cells ++ (r.cells ++ rows_cells rows) =
     ap (λ (cs : List Cell). cs ++ rows_cells rows) (added-cells d r even) ∙ append_assoc d.cells r.cells (rows_cells rows) in
     ap (λ (t : List Finding). t ++ lines_found (dump_after d n line) (n + 1) lines) here ∙ ap (λ (v : DumpView). lines_found v (n + 1) lines) after
-    ∙ rest ∙ ap (λ (k : ℕ). cells_found (added d r).layout k (added d r).order ((added d r).cells ++ rows_cells rows)) (added-first d r)
-    ∙ ap (λ (o : Order). cells_found (added d r).layout d.first o ((added d r).cells ++ rows_cells rows)) (added-order d r)
-    ∙ ap (λ (l : Layout). cells_found l d.first d.order ((added d r).cells ++ rows_cells rows)) (added-layout d r) ∙ ap (λ (cs : List Cell). cells_found d.layout d.first d.order cs) cells
+    ∙ rest ∙ ap (λ (k : ℕ). cells_found (added d r).layout k (added d r).order (cells_to end (rows_next (added d r).next rows) all)) (added-first d r)
+    ∙ ap (λ (o : Order). cells_found (added d r).layout d.first o (cells_to end (rows_next (added d r).next rows) all)) (added-order d r)
+    ∙ ap (λ (l : Layout). cells_found l d.first d.order (cells_to end (rows_next (added d r).next rows) all)) (added-layout d r)
+    ∙ ap (λ (k : ℕ). cells_found d.layout d.first d.order (cells_to end (rows_next k rows) all)) (added-next d r)
+    ∙ ap (λ (cs : List Cell). cells_found d.layout d.first d.order (cells_to end (rows_next (rows_next 0 (r ∷ [])) rows) cs)) cells
 
 first_found : (l : Layout) (line : List ℕ) (r : RowView) → IsRow line r → step_found (no_dump l) 1 line ≡ []
 unfolding step_found is_star end_at goes_on
@@ -119,23 +156,28 @@ begun-order : (l : Layout) (r : RowView) → (begun (no_dump l) 1 r).order ≡ r
 unfolding begun
 begun-order l r = refl
 
+begun-next : (l : Layout) (r : RowView) → (begun (no_dump l) 1 r).next ≡ rows_next 0 (r ∷ [])
+unfolding begun
+begun-next l r = refl
+
 begun-layout : (l : Layout) (r : RowView) → (begun (no_dump l) 1 r).layout ≡ l
 unfolding begun
 begun-layout l r = refl
 
-found_in_dump : (l : Layout) (rows : List RowView) (lines : List (List ℕ)) → IsDumpOf l rows lines → lines_found (no_dump l) 1 lines ≡ dump_findings l 1 lack.Order (rows_bytes rows)
-found_in_dump l (r ∷ rows) (line ∷ lines) is =
+found_in_dump : (l : Layout) (rows : List RowView) (end : Option ℕ) (lines : List (List ℕ)) → IsDumpOf l rows end lines → lines_found (no_dump l) 1 lines ≡ dump_findings l 1 lack.Order (rows_bytes rows end)
+found_in_dump l (r ∷ rows) end (line ∷ lines) is =
     let d : DumpView = begun (no_dump l) 1 r in
-    let rest = found_in_rows d 2 rows lines (begun-open l r is.0.has_cells) (begun-even l r) is.1 in
+    let rest = found_in_rows d 2 rows end lines (begun-open l r is.0.has_cells) (begun-even l r) is.1 in
     ap (λ (t : List Finding). t ++ lines_found (dump_after (no_dump l) 1 line) 2 lines) (first_found l line r is.0)
     ∙ ap (λ (v : DumpView). lines_found v 2 lines) (first_dump l line r is.0)
-    ∙ rest ∙ ap (λ (k : ℕ). cells_found d.layout k d.order (d.cells ++ rows_cells rows)) (begun-first l r)
-    ∙ ap (λ (o : Order). cells_found d.layout 1 o (d.cells ++ rows_cells rows)) (begun-order l r)
-    ∙ ap (λ (m : Layout). cells_found m 1 r.order (d.cells ++ rows_cells rows)) (begun-layout l r)
-    ∙ ap (λ (cs : List Cell). cells_found l 1 r.order (cs ++ rows_cells rows)) (begun-cells l r)
-found_in_dump l [] lines is = absurd is
-found_in_dump l (r ∷ rows) [] is = absurd is
+    ∙ rest ∙ ap (λ (k : ℕ). cells_found d.layout k d.order (cells_to end (rows_next d.next rows) (d.cells ++ rows_cells rows))) (begun-first l r)
+    ∙ ap (λ (o : Order). cells_found d.layout 1 o (cells_to end (rows_next d.next rows) (d.cells ++ rows_cells rows))) (begun-order l r)
+    ∙ ap (λ (m : Layout). cells_found m 1 r.order (cells_to end (rows_next d.next rows) (d.cells ++ rows_cells rows))) (begun-layout l r)
+    ∙ ap (λ (k : ℕ). cells_found l 1 r.order (cells_to end (rows_next k rows) (d.cells ++ rows_cells rows))) (begun-next l r)
+    ∙ ap (λ (cs : List Cell). cells_found l 1 r.order (cells_to end (rows_next (rows_next 0 (r ∷ [])) rows) (cs ++ rows_cells rows))) (begun-cells l r)
+found_in_dump l [] end lines is = absurd is
+found_in_dump l (r ∷ rows) end [] is = absurd is
 
 pub forms_reported : (l : Layout) (input : Option (List ℕ)) (old new : Option (List Finding)) → IsDecoded l input old new → ReportsForms l input old new
 forms_reported l None old new is = tt
-forms_reported l (Some bytes) old new is = λ rows dump. subst (λ (t : List Finding). Reported old new t) (found_in_dump l rows (slice_split is_line_feed bytes) dump) is
+forms_reported l (Some bytes) old new is = λ rows end dump. subst (λ (t : List Finding). Reported old new t) (found_in_dump l rows end (slice_split is_line_feed bytes) dump) is

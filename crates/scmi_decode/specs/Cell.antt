@@ -53,6 +53,12 @@ order_by false false o = o
 abbrev pub order_shown : Order → List Cell → Order
 order_shown o cells = order_by (shows false cells) (shows true cells) o
 
+-- whether a byte is 0 in an order, in either if that is unclear
+abbrev pub is_zero_in : Order → Cell → Bool
+is_zero_in Straight c = c.straight == 0
+is_zero_in Turned c = c.turned == 0
+is_zero_in Unclear c = (c.straight == 0) && (c.turned == 0)
+
 -- the bytes of cells in an order; of an unclear one only if both are the same
 abbrev pub bytes_of_order : Order → List Cell → Option (List ℕ)
 bytes_of_order Straight cells = Some (bytes_in false cells)

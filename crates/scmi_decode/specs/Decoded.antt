@@ -5,7 +5,7 @@ use Rattle.scmi_io.specs.Lines.{is_line_feed}
 use Rattle.scmi_decode.specs.Dump.{is_gap}
 use Rattle.scmi_decode.specs.Finding.{any_area, dump_findings}
 use Rattle.scmi_decode.specs.MessageLine.{alone_bytes, alone_lack, items_layout}
-use Rattle.scmi_decode.specs.OpenDump.{DumpView, no_dump, dump_found, goes_on, added, begun, beside, closed, filled, repeated, is_star, end_at}
+use Rattle.scmi_decode.specs.OpenDump.{DumpView, no_dump, dump_found, goes_on, added, begun, beside, closed, ended, repeated, is_star, end_at}
 use Rattle.scmi_decode.specs.Reported.{Reported}
 use Rattle.scmi_decode.specs.Row.{RowView, row_of}
 use Rattle.scmi_decode.specs.declared.finding.Finding.{Finding}
@@ -41,12 +41,12 @@ dump_after_row d number line (Some r) = if goes_on d r then added d r else begun
 
 -- what is found at a line that ends the dump at an address, or else by its row
 abbrev pub end_found : DumpView → ℕ → List ℕ → Option ℕ → List Finding
-end_found d number line (Some address) = dump_found (filled d address)
+end_found d number line (Some address) = dump_found (ended d address)
 end_found d number line None = row_found d number line (row_of line)
 
 -- the dump after such a line
 abbrev pub dump_after_end : DumpView → ℕ → List ℕ → Option ℕ → DumpView
-dump_after_end d number line (Some address) = closed (filled d address)
+dump_after_end d number line (Some address) = closed (ended d address)
 dump_after_end d number line None = dump_after_row d number line (row_of line)
 
 -- what is found at a line: nothing at a comment; an empty line ends the dump

@@ -1,6 +1,7 @@
 -- What is found in the bytes of a dump.
-use Rattle.std.specs.Prelude.{ℕ, ◌&&◌, nat_lt, not, Bool, true, false, if◌then◌else◌, List, [], ◌∷◌, length, map, Option, Some, None}
+use Rattle.std.specs.Prelude.{ℕ, ◌+◌, ◌*◌, ◌^◌, nat_lt, Bool, true, false, if◌then◌else◌, List, [], ◌∷◌, length, map, Option, Some, None}
 use Rattle.std.specs.List.{list_any}
+use Rattle.std.specs.Option.{option_or}
 use Rattle.byteorder.specs.Endian.{big_from}
 use Rattle.scmi_codec.specs.Area.{is_well_formed, length_at}
 use Rattle.scmi_codec.specs.ChannelArea.{is_channel_size}
@@ -18,17 +19,35 @@ use Rattle.scmi_decode.specs.declared.no_bytes.NoBytes.{NoBytes}
 abbrev pub is_area : List ℕ → Bool
 is_area bytes = is_channel_size (length bytes)
 
--- the length of an area's frame as a word of the other byte order
-abbrev pub swapped_length : List ℕ → ℕ
-swapped_length area = big_from 0x14 4 area
+-- a length, if a frame may have it
+abbrev pub if_well_formed : ℕ → Option ℕ
+if_well_formed n = if is_well_formed n then Some n else None
 
--- whether the length of an area's frame is that of no frame, but with its bytes the other way round that of one
-abbrev pub looks_swapped : List ℕ → Bool
-looks_swapped area = not (is_well_formed (length_at area)) && is_well_formed (swapped_length area)
+-- the length of an area's frame if the numbers are printed in the other byte order: of 32 bits
+abbrev pub length_of_words : List ℕ → ℕ
+length_of_words area = big_from 0x14 4 area
 
--- that length, if it looks so
+-- of 16 bits
+abbrev pub length_of_halves : List ℕ → ℕ
+length_of_halves area = big_from 0x14 2 area + big_from 0x16 2 area * 2 ^ 16
+
+-- of 64 bits, of which the second half is the length
+abbrev pub length_of_longs : List ℕ → ℕ
+length_of_longs area = big_from 0x10 4 area
+
+-- of 64 bits, of which the first half is the length, since the area begins in the middle of one
+abbrev pub length_of_shifted_longs : List ℕ → ℕ
+length_of_shifted_longs area = big_from 0x18 4 area
+
+-- the first of these that a frame may have
+abbrev pub swapped_length : List ℕ → Option ℕ
+swapped_length area =
+    option_or (if_well_formed (length_of_words area)) (option_or (if_well_formed (length_of_halves area))
+    (option_or (if_well_formed (length_of_longs area)) (if_well_formed (length_of_shifted_longs area))))
+
+-- that length, if the length of an area's frame as it is printed is that of no frame
 abbrev pub swapped_of : List ℕ → Option ℕ
-swapped_of area = if looks_swapped area then Some (swapped_length area) else None
+swapped_of area = if is_well_formed (length_at area) then None else swapped_length area
 
 -- what bytes are
 abbrev pub bytes_found : List ℕ → Found

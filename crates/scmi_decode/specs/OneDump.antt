@@ -1,11 +1,11 @@
 -- Inputs that are one dump.
-use Rattle.std.specs.Prelude.{◌≡◌, ℕ, ◌==◌, false, true, List, [], ◌∷◌, ◌++◌, length, Option, Some, None, IfSome}
+use Rattle.std.specs.Prelude.{◌≡◌, ℕ, ◌+◌, ◌-◌, ◌%◌, ◌^◌, ◌==◌, false, true, List, [], ◌∷◌, ◌++◌, length, take, Option, Some, None, IfSome}
 use Rattle.std.specs.List.{slice_split}
 use Rattle.scmi_io.specs.Lines.{is_line_feed}
 use Rattle.scmi_decode.specs.Cell.{settled}
 use Rattle.scmi_decode.specs.declared.cell.Cell.{Cell}
 use Rattle.scmi_decode.specs.declared.no_bytes.NoBytes.TheVariants.{Order}
-use Rattle.scmi_decode.specs.OpenDump.{DumpView, no_dump, added, begun, end_at, goes_on, is_star}
+use Rattle.scmi_decode.specs.OpenDump.{DumpView, no_dump, added, begun, bytes_before, end_at, goes_on, is_star}
 use Rattle.scmi_decode.specs.Row.{RowView, row_of}
 use Rattle.scmi_decode.specs.Decoded.{is_remark}
 use Rattle.scmi_decode.specs.Finding.{dump_findings}
@@ -27,34 +27,58 @@ pub record IsNextRow (d : DumpView) (line : List ℕ) (r : RowView) : Type 0 whe
   pub no_end : end_at d line ≡ None
   pub next : goes_on d r ≡ true
 
+-- a line says that a dump's bytes end at an address, and some come before it
+pub record IsEndLine (d : DumpView) (line : List ℕ) (address : ℕ) : Type 0 where
+  pub no_remark : is_remark line ≡ false
+  pub not_empty : (length line == 0) ≡ false
+  pub no_star : is_star d line ≡ false
+  pub is_end : end_at d line ≡ Some address
+  pub has_cells : (length (bytes_before d address) == 0) ≡ false
+
 -- nothing, or the empty line after the last line feed
 abbrev pub IsEnd : List (List ℕ) → Type 0
 IsEnd [] = Unit {0}
 IsEnd ([] ∷ []) = Unit {0}
 IsEnd _ = ⊥
 
--- rows, each of which goes on with the dump so far, are these lines
-abbrev pub AreRows : DumpView → List RowView → List (List ℕ) → Type 0
-AreRows d [] lines = IsEnd lines
-AreRows d (r ∷ rows) [] = ⊥
-AreRows d (r ∷ rows) (line ∷ lines) = IsNextRow d line r × AreRows (added d r) rows lines
+-- lines end a dump at an address, or where its rows end
+abbrev pub EndsAt : DumpView → Option ℕ → List (List ℕ) → Type 0
+EndsAt d None lines = IsEnd lines
+EndsAt d (Some address) [] = ⊥
+EndsAt d (Some address) (line ∷ lines) = IsEndLine d line address × IsEnd lines
 
--- the rows of one dump are these lines
-abbrev pub IsDumpOf : Layout → List RowView → List (List ℕ) → Type 0
-IsDumpOf l (r ∷ rows) (line ∷ lines) = IsRow line r × AreRows (begun (no_dump l) 1 r) rows lines
-IsDumpOf l _ _ = ⊥
+-- rows, each of which goes on with the dump so far, are these lines, up to the end
+abbrev pub AreRows : DumpView → List RowView → Option ℕ → List (List ℕ) → Type 0
+AreRows d [] end lines = EndsAt d end lines
+AreRows d (r ∷ rows) end [] = ⊥
+AreRows d (r ∷ rows) end (line ∷ lines) = IsNextRow d line r × AreRows (added d r) rows end lines
+
+-- the rows of one dump, and its end, are these lines
+abbrev pub IsDumpOf : Layout → List RowView → Option ℕ → List (List ℕ) → Type 0
+IsDumpOf l (r ∷ rows) end (line ∷ lines) = IsRow line r × AreRows (begun (no_dump l) 1 r) rows end lines
+IsDumpOf l _ _ _ = ⊥
 
 -- the cells of rows, one after the other
 abbrev pub rows_cells : List RowView → List Cell
 rows_cells [] = []
 rows_cells (r ∷ rows) = r.cells ++ rows_cells rows
 
--- the bytes of rows, in the order that a column of text shows, or else in that of the first row
-abbrev pub rows_bytes : List RowView → Option (List ℕ)
-rows_bytes [] = None
-rows_bytes (r ∷ rows) = settled r.order (rows_cells (r ∷ rows))
+-- the address after rows, or this one after none
+abbrev pub rows_next : ℕ → List RowView → ℕ
+rows_next next [] = next
+rows_next next (r ∷ rows) = rows_next ((r.address + length r.cells) % 2 ^ 64) rows
+
+-- the cells before an address, of those that end at another
+abbrev pub cells_to : Option ℕ → (next : ℕ) → List Cell → List Cell
+cells_to None next cells = cells
+cells_to (Some address) next cells = take (length cells - (next - address)) cells
+
+-- the bytes of rows up to the end of their dump, in the order that a column of text shows, or else in that of the first row
+abbrev pub rows_bytes : List RowView → Option ℕ → Option (List ℕ)
+rows_bytes [] end = None
+rows_bytes (r ∷ rows) end = settled r.order (cells_to end (rows_next 0 (r ∷ rows)) (rows_cells (r ∷ rows)))
 
 -- of an input that is one dump, in whatever form, what is found in its bytes is reported
 abbrev pub ReportsForms : Layout → (input : Option (List ℕ)) → (old new : Option (List Finding)) → Type 0
 ReportsForms l input old new =
-    IfSome input (λ bytes. (rows : List RowView) → IsDumpOf l rows (slice_split is_line_feed bytes) → Reported old new (dump_findings l 1 Order (rows_bytes rows)))
+    IfSome input (λ bytes. (rows : List RowView) (end : Option ℕ) → IsDumpOf l rows end (slice_split is_line_feed bytes) → Reported old new (dump_findings l 1 Order (rows_bytes rows end)))

@@ -1,6 +1,7 @@
 -- A dump over several lines, as far as it was read.
-use Rattle.std.specs.Prelude.{ℕ, zero, suc, ◌+◌, ◌-◌, ◌/◌, ◌%◌, ◌^◌, ◌==◌, ◌&&◌, ◌||◌, nat_le, nat_lt, not, Bool, true, false, if◌then◌else◌, List, [], ◌++◌, length, drop, slice_index, Option, Some, None}
-use Rattle.scmi_decode.specs.Cell.{settled}
+use Rattle.std.specs.Prelude.{ℕ, zero, suc, ◌+◌, ◌-◌, ◌/◌, ◌%◌, ◌^◌, ◌==◌, ◌&&◌, ◌||◌, nat_le, nat_lt, not, Bool, true, false, if◌then◌else◌, List, [], ◌++◌, length, take, drop, slice_index, Option, Some, None}
+use Rattle.std.specs.List.{list_all}
+use Rattle.scmi_decode.specs.Cell.{is_zero_in, order_shown, settled}
 use Rattle.scmi_decode.specs.Finding.{any_area, dump_findings}
 use Rattle.scmi_decode.specs.Row.{RowView, address_of, first_item, after_item, after_gap}
 use Rattle.scmi_decode.specs.declared.cell.Cell.{Cell}
@@ -13,7 +14,7 @@ use Rattle.scmi_decode.specs.declared.open_dump.TheConstants.{REPEATED_BYTES}
 use Rattle.scmi_decode.specs.declared.order.Order.{Order}
 use Rattle.scmi_decode.specs.declared.order.Order.TheVariants.{Straight}
 
--- a dump, which has no bytes if none is open: which bytes of it are areas; the number of its first line, its form, the address after its last row, how many bytes its first row has, how many digits the first group of that and their order, whether its rows repeat up to the next address, its bytes; and whether an area was found before
+-- a dump, which has no bytes if none is open: which bytes of it are areas; the number of its first line, its form, the address after its last row, how many bytes its first row has, how many digits the first group of its last row, in which order those of its first row are, whether its rows repeat up to the next address, its bytes; and whether an area was found before
 pub record DumpView : Type 0 where
   pub layout : Layout
   pub first : ℕ
@@ -87,9 +88,25 @@ last_row d = drop (length d.cells - d.width) d.cells
 unfoldable pub filled : DumpView → ℕ → DumpView
 filled d address = record d { cells = d.cells ++ copies (rows_before d address) (last_row d); repeats = false }
 
+-- the bytes of a dump before an address, if that is not after the last row
+abbrev pub bytes_before : DumpView → ℕ → List Cell
+bytes_before d address = take (length d.cells - (d.next - address)) d.cells
+
+-- the bytes of a dump from such an address on
+abbrev pub bytes_behind : DumpView → ℕ → List Cell
+bytes_behind d address = drop (length d.cells - (d.next - address)) d.cells
+
+-- a dump without its bytes from such an address on
+unfoldable pub cut : DumpView → ℕ → DumpView
+cut d address = record d { cells = bytes_before d address }
+
+-- a dump that ends at an address: its last row is repeated up to there, or what fills its last group is no part of it
+abbrev pub ended : DumpView → ℕ → DumpView
+ended d address = cut (filled d address) address
+
 -- a dump with one more row after it
 unfoldable pub extended : DumpView → RowView → DumpView
-extended d r = record d { cells = d.cells ++ r.cells; next = (r.address + length r.cells) % 2 ^ 64 }
+extended d r = record d { cells = d.cells ++ r.cells; next = (r.address + length r.cells) % 2 ^ 64; group = r.group }
 
 -- a dump that goes on with a row
 abbrev pub added : DumpView → RowView → DumpView
@@ -135,11 +152,23 @@ unfoldable pub is_star : DumpView → List ℕ → Bool
 is_star d line =
     is_open d && not (same_form d.form Plain) && may_repeat d && (length (first_item line) == 1) && (slice_index (first_item line) 0 == 42) && has_one_item line
 
--- an address, if a dump reaches it
-abbrev pub if_reached : DumpView → Option ℕ → Option ℕ
-if_reached d None = None
-if_reached d (Some address) = if reaches d address then Some address else None
+-- whether an address is in the last group, and not at its begin
+abbrev pub is_in_last_group : DumpView → ℕ → Bool
+is_in_last_group d address = not d.repeats && nat_lt address d.next && nat_lt (d.next - address) (d.group / 2)
+
+-- whether bytes are zeros in the order that the bytes before them have
+abbrev pub are_zeros : Order → (before behind : List Cell) → Bool
+are_zeros o before behind = list_all (is_zero_in (order_shown o before)) behind
+
+-- whether the last group of a dump is filled up from an address on, as `od` does by zeros
+unfoldable pub is_filled_from : DumpView → ℕ → Bool
+is_filled_from d address = is_in_last_group d address && are_zeros d.order (bytes_before d address) (bytes_behind d address)
+
+-- an address, if a dump may end there
+abbrev pub if_end : DumpView → Option ℕ → Option ℕ
+if_end d None = None
+if_end d (Some address) = if reaches d address || is_filled_from d address then Some address else None
 
 -- the address of a line that ends a dump as `hexdump` and `od` do: it has an address alone, that at which the dump's bytes end
 unfoldable pub end_at : DumpView → List ℕ → Option ℕ
-end_at d line = if is_open d && same_form d.form Offset && has_one_item line then if_reached d (address_of Offset (first_item line)) else None
+end_at d line = if is_open d && same_form d.form Offset && has_one_item line then if_end d (address_of Offset (first_item line)) else None

@@ -3,7 +3,7 @@ use Rattle.std.specs.Prelude.{ℕ, ◌+◌, ◌-◌, ◌*◌, ◌/◌, ◌^◌, 
 use Rattle.std.specs.Int.{to_le_bytes, w32}
 use Rattle.std.specs.List.{list_all, starts_with}
 use Rattle.std.specs.Option.{option_map}
-use Rattle.scmi_decode.specs.Cell.{cells_of}
+use Rattle.scmi_decode.specs.Cell.{cells_of, later_bytes}
 use Rattle.scmi_decode.specs.Dump.{is_gap, has_mark, line_bytes}
 use Rattle.scmi_decode.specs.declared.cell.Cell.{Cell}
 use Rattle.scmi_decode.specs.declared.form.Form.{Form}
@@ -134,7 +134,7 @@ offset_parts digits behind = record {
   form = Offset;
   digits = digits;
   bytes = take (bar_length behind) behind;
-  column = without_last (without_return (drop (bar_length behind) behind));
+  column = without_last (without_return (later_bytes (drop (bar_length behind) behind)));
 }
 
 -- how long sixteen bytes are in groups of so many digits, with a space between them
@@ -239,20 +239,26 @@ has_bits_alone groups = list_all is_bit groups
 abbrev pub shown_text : List ℕ → List ℕ
 shown_text column = without_return (after_gap column)
 
--- whether data are bits, as `xxd -b` prints them: groups of eight digits 0 and 1, and a column of text with at most one character for each
-abbrev pub are_bits : (groups column : List ℕ) → Bool
-are_bits groups column =
+-- whether data are bits, as `xxd -b` prints them after an address and a colon: groups of eight digits 0 and 1, and a column of text with at most one character for each
+abbrev pub are_bits : Form → (groups column : List ℕ) → Bool
+are_bits Marked groups column =
     (length (first_item groups) == 8) && nat_lt 0 (length (shown_text column)) && nat_le (length (shown_text column)) (length groups / 9 + 1)
     && has_bits_alone groups
+are_bits f groups column = false
 
 -- what a column shows of so many bytes: the last characters
 abbrev pub column_text : (count : ℕ) → List ℕ → List ℕ
 column_text count column = if nat_lt count (length column) then drop (length column - count) column else []
 
+-- what a column shows of so many bytes: one between bars begins with the first byte, and has fewer characters where `od` filled the last group; any other ends with the last byte
+abbrev pub shown_of : Form → (count : ℕ) → (column : List ℕ) → List ℕ
+shown_of Offset count column = column
+shown_of f count column = column_text count (without_return column)
+
 -- the cells of data in either order, and of the column after them
-abbrev pub both_cells : (straight turned : Option (List ℕ)) → (column : List ℕ) → Option (List Cell)
-both_cells (Some straight) (Some turned) column = Some (cells_of straight turned (column_text (length straight) (without_return column)))
-both_cells _ _ column = None
+abbrev pub both_cells : Form → (straight turned : Option (List ℕ)) → (column : List ℕ) → Option (List Cell)
+both_cells f (Some straight) (Some turned) column = Some (cells_of straight turned (shown_of f (length straight) column))
+both_cells f _ _ column = None
 
 -- the bytes of a number below 2^32, the lowest first
 abbrev pub word_bytes_of : Option ℕ → Option (List ℕ)
@@ -265,17 +271,26 @@ word_cells item =
     if has_mark item then option_map (λ bytes. cells_of bytes bytes []) (word_bytes_of (number_from 16 0 (drop 2 item))) else None
 
 -- the cells of data and of the column after them, if the data are digits
-abbrev pub data_cells : (groups column : List ℕ) → Option (List Cell)
-data_cells groups column = both_cells (line_bytes false groups) (line_bytes true groups) column
+abbrev pub data_cells : Form → (groups column : List ℕ) → Option (List Cell)
+data_cells f groups column = both_cells f (line_bytes false groups) (line_bytes true groups) column
 
 -- the cells of data of a form
 abbrev pub form_cells : Form → (groups column : List ℕ) → Option (List Cell)
 form_cells Value groups column = word_cells (first_item groups)
-form_cells f groups column = data_cells groups column
+form_cells f groups column = data_cells f groups column
+
+-- an order, beside a column of text or not: `od` prints numbers in either byte order, so only the column shows in which
+abbrev pub beside_text : Form → (has_text : Bool) → Order → Order
+beside_text Offset true Turned = Unclear
+beside_text f has_text o = o
+
+-- the order of groups of data, by the spaces before their column of text
+abbrev pub groups_order : Form → (groups : List ℕ) → (gap : ℕ) → Order
+groups_order f groups gap = order_of f (group_of (first_item groups)) gap (length (after_gap (after_item groups)) == 0)
 
 -- the order of the digits of data, if no column shows it
 abbrev pub data_order : Form → (groups column : List ℕ) → Order
-data_order f groups column = order_of f (group_of (first_item groups)) (gap_before column) (length (after_gap (after_item groups)) == 0)
+data_order f groups column = beside_text f (not (length column == 0)) (groups_order f groups (gap_before column))
 
 -- a row of cells, if it has some and not too many
 abbrev pub row_with : Form → (address group : ℕ) → Order → List Cell → Option RowView
@@ -290,7 +305,7 @@ row_if f _ group order _ = None
 
 -- the row of a form, the digits of an address, the data, and the column after them; bits are none
 unfoldable pub parts_row : Form → (digits groups column : List ℕ) → Option RowView
-parts_row f digits groups column = if are_bits groups column then None else row_if f (address_of f digits) (group_of (first_item groups)) (data_order f groups column) (form_cells f groups column)
+parts_row f digits groups column = if are_bits f groups column then None else row_if f (address_of f digits) (group_of (first_item groups)) (data_order f groups column) (form_cells f groups column)
 
 -- whether a text begins with an address and a colon: eight digits at least
 abbrev pub begins_with_address : List ℕ → Bool

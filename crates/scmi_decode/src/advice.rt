@@ -26,7 +26,7 @@ pub(crate) fn advice_for(text: &[u8]) -> &'static str {
         "gdb's print does not show how wide a number is; use x/71xw ADDRESS"
     } else if first.starts_with(b"*") {
         "it is unclear how often the row before it repeats; print each row (od -v, hexdump -vC)"
-    } else if are_bits(parts.bytes, parts.column) {
+    } else if are_bits(parts.form, parts.bytes, parts.column) {
         "bits, as xxd -b prints them; print bytes (xxd -g 1)"
     } else if first.len() == 7 && is_hexadecimal(first) {
         "its base is unclear; print it as od -t x1 or hexdump -C do"

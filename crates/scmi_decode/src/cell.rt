@@ -1,7 +1,7 @@
 //! The bytes of a dump in either order of digits, and what its column of text shows.
 ghost use Rattle.std.specs.Prelude.{◌≡◌, IfOk};
 ghost use Rattle.std.specs.Option.{option_map};
-ghost use Rattle.scmi_decode.specs.Cell.{are_alike, byte_in, bytes_in, cells_of, character_of, first_byte, later_bytes, order_shown, settled, shows};
+ghost use Rattle.scmi_decode.specs.Cell.{are_alike, byte_in, bytes_in, cells_of, character_of, first_byte, is_zero_in, later_bytes, order_shown, settled, shows};
 
 use crate::order::Order;
 use std::alloc::{AllocError, Global};
@@ -56,7 +56,7 @@ fn first_byte(bytes: &[u8]) -> u8
 }
 
 /// The bytes after the first.
-fn later_bytes(bytes: &[u8]) -> &[u8]
+pub(crate) fn later_bytes(bytes: &[u8]) -> &[u8]
     ensures { result.now ≡ later_bytes bytes.now }
 {
     match bytes {
@@ -121,6 +121,17 @@ fn bytes_in(alloc: Global, turned: bool, cells: &[Cell]) -> Result<Vec<u8>, Allo
         .iter()
         .map(|cell| byte_in(turned, cell))
         .collect(alloc)
+}
+
+/// Whether a byte is 0 in an order, in either if that is unclear.
+pub(crate) fn is_zero_in(order: Order, cell: &Cell) -> bool
+    ensures { result ≡ is_zero_in order cell.now }
+{
+    match order {
+        Order::Straight => cell.straight == 0,
+        Order::Turned => cell.turned == 0,
+        Order::Unclear => cell.straight == 0 && cell.turned == 0,
+    }
 }
 
 /// The byte of a cell in one order.

@@ -8,8 +8,8 @@ use scmi_describe::Description;
 /// What bytes are.
 #[derive(Drop)]
 pub enum Found {
-    /// An area, and what it holds. If its length is that of no frame, but would be one with its bytes
-    /// the other way round, the second is that length.
+    /// An area, and what it holds. If its length is that of no frame, but would be one if its numbers of
+    /// 16, 32 or 64 bits were printed in the other byte order, the second is that length.
     Area {
         description: Description,
         swapped: Option<u32>,

@@ -1,10 +1,10 @@
 //! A dump over several lines.
-ghost use Rattle.std.specs.Prelude.{◌≡◌, ◌+◌, ◌%◌, ◌^◌, length, OnOk, IfOk};
+ghost use Rattle.std.specs.Prelude.{◌≡◌, ◌≤◌, ◌+◌, ◌-◌, ◌%◌, ◌^◌, length, OnOk, IfOk};
 ghost use Rattle.std.specs.Option.{is_some, option_map};
 ghost use Rattle.scmi_decode.specs.Finding.{any_area};
-ghost use Rattle.scmi_decode.specs.OpenDump.{no_dump, is_open, dump_bytes, dump_found, has_its_groups, same_form, reaches, is_even, may_repeat, goes_on, copies, rows_before, last_row, filled, extended, added, begun, closed, beside, repeated, has_one_item, is_star, end_at};
+ghost use Rattle.scmi_decode.specs.OpenDump.{no_dump, is_open, dump_bytes, dump_found, has_its_groups, same_form, reaches, is_even, may_repeat, goes_on, copies, rows_before, last_row, filled, bytes_before, bytes_behind, cut, ended, extended, added, begun, closed, beside, repeated, has_one_item, is_star, are_zeros, is_filled_from, is_in_last_group, end_at};
 
-use crate::cell::{Cell, order_shown, settled};
+use crate::cell::{Cell, is_zero_in, order_shown, settled};
 use crate::form::Form;
 use crate::layout::Layout;
 use crate::order::Order;
@@ -173,7 +173,7 @@ impl OpenDump {
 
     /// Repeats the last row up to an address.
     #[tactic(auto, unfolding(crate::specs::OpenDump::filled))]
-    pub(crate) fn fill(&mut self, alloc: Global, address: u64) -> Result<(), AllocError>
+    fn fill(&mut self, alloc: Global, address: u64) -> Result<(), AllocError>
         ensures { OnOk result (self.new ≡ filled self.old address) }
     {
         if !self.repeats {
@@ -186,6 +186,48 @@ impl OpenDump {
         Ok(())
     }
 
+    /// Its bytes before an address that is not after its last row.
+    fn bytes_before(&self, address: u64) -> &[Cell]
+        ensures { result.now ≡ bytes_before self.now address }
+    {
+        &self.cells[..self.count_before(address)]
+    }
+
+    /// Its bytes from such an address on.
+    fn bytes_behind(&self, address: u64) -> &[Cell]
+        ensures { result.now ≡ bytes_behind self.now address }
+    {
+        &self.cells[self.count_before(address)..]
+    }
+
+    /// How many bytes it has before such an address.
+    fn count_before(&self, address: u64) -> usize
+        ensures value { result ≡ length self.now.cells - (self.now.next - address) }
+        ensures bound { result ≤ length self.now.cells }
+    {
+        let count = self.cells.len() as u64;
+        count.saturating_sub(self.next.saturating_sub(address)) as usize
+    }
+
+    /// Leaves out its bytes from such an address on.
+    #[tactic(auto, unfolding(crate::specs::OpenDump::cut))]
+    fn cut(&mut self, address: u64)
+        ensures { self.new ≡ cut self.old address }
+    {
+        let count = self.count_before(address);
+        self.cells.truncate(count);
+    }
+
+    /// Ends at an address: the last row is repeated up to there, or what fills the last group is left
+    /// out.
+    pub(crate) fn end(&mut self, alloc: Global, address: u64) -> Result<(), AllocError>
+        ensures { OnOk result (self.new ≡ ended self.old address) }
+    {
+        self.fill(alloc, address)?;
+        self.cut(address);
+        Ok(())
+    }
+
     /// Goes on with a row.
     #[tactic(auto, unfolding(crate::specs::OpenDump::extended))]
     fn extend(&mut self, row: &Row) -> Result<(), AllocError>
@@ -193,6 +235,7 @@ impl OpenDump {
     {
         self.cells.extend_from_slice(row.cells())?;
         self.next = end_of(row);
+        self.group = row.group();
         Ok(())
     }
 
@@ -307,12 +350,40 @@ impl OpenDump {
             return None;
         }
         let address = address_of(Form::Offset, first_item(line))?;
-        if self.reaches(address) {
+        if self.reaches(address) || self.is_filled_from(address) {
             Some(address)
         } else {
             None
         }
     }
+
+    /// Whether the last group is filled up from an address on, as od does by zeros.
+    #[tactic(auto, unfolding(crate::specs::OpenDump::is_filled_from))]
+    fn is_filled_from(&self, address: u64) -> bool
+        ensures { result ≡ is_filled_from self.now address }
+    {
+        self.is_in_last_group(address)
+            && are_zeros(
+                self.order,
+                self.bytes_before(address),
+                self.bytes_behind(address),
+            )
+    }
+
+    /// Whether an address is in the last group, and not at its begin.
+    fn is_in_last_group(&self, address: u64) -> bool
+        ensures { result ≡ is_in_last_group self.now address }
+    {
+        !self.repeats && address < self.next && self.next - address < self.group as u64 / 2
+    }
+}
+
+/// Whether bytes are zeros in the order that the bytes before them have.
+fn are_zeros(order: Order, before: &[Cell], behind: &[Cell]) -> bool
+    ensures { result ≡ are_zeros order before.now behind.now }
+{
+    let order = order_shown(order, before);
+    behind.iter().all(|cell| is_zero_in(order, cell))
 }
 
 /// The address after a row.

@@ -3,6 +3,7 @@ ghost use Rattle.std.specs.Prelude.{◌≡◌, ◌≤◌, length};
 ghost use Rattle.std.specs.Option.{option_copied};
 ghost use Rattle.scmi_decode.specs.Row.{behind_value, cut_parts, data_length, ends_in_colon, ends_in_return, has_pipe, is_equals, is_group, is_offset, is_pair, is_symbol, marked_parts, offset_parts, parts_at, parts_of, piped_data, piped_digits, piped_parts, sixteen_length, value_parts, without_last, without_return};
 
+use crate::cell::later_bytes;
 use crate::dump::has_mark;
 use crate::form::Form;
 use crate::prefix::without_prefix;
@@ -139,7 +140,7 @@ fn offset_parts<'a>(digits: &'a [u8], behind: &'a [u8]) -> Parts<'a>
         form: Form::Offset,
         digits,
         bytes,
-        column: without_last(without_return(column)),
+        column: without_last(without_return(later_bytes(column))),
     }
 }
 

@@ -1,7 +1,7 @@
 //! A row of a dump.
 ghost use Rattle.std.specs.Prelude.{◌≡◌, IfOk};
 ghost use Rattle.std.specs.Option.{option_map};
-ghost use Rattle.scmi_decode.specs.Row.{address_of, are_bits, base_of, column_text, data_cells, data_order, form_cells, gap_before, group_of, half_order, has_bits_alone, is_bit, long_order, order_of, parts_row, row_of, row_with, word_bytes_of, word_cells};
+ghost use Rattle.scmi_decode.specs.Row.{address_of, are_bits, base_of, beside_text, column_text, data_cells, data_order, form_cells, gap_before, group_of, groups_order, half_order, has_bits_alone, is_bit, long_order, order_of, parts_row, row_of, row_with, shown_of, word_bytes_of, word_cells};
 
 use crate::cell::{Cell, cells_of};
 use crate::dump::{has_mark, line_bytes};
@@ -102,7 +102,7 @@ fn parts_row(
 ) -> Result<Option<Row>, AllocError>
     ensures { IfOk result (λ found. found ≡ parts_row form digits.now groups.now column.now) }
 {
-    if are_bits(groups, column) {
+    if are_bits(form, groups, column) {
         return Ok(None);
     }
     let Some(address) = address_of(form, digits) else {
@@ -129,7 +129,7 @@ fn form_cells(
     match form {
         Form::Value => word_cells(alloc, first_item(groups)),
         Form::Plain | Form::Marked | Form::Offset | Form::Equals => {
-            data_cells(alloc, groups, column)
+            data_cells(alloc, form, groups, column)
         }
     }
 }
@@ -160,9 +160,14 @@ fn word_bytes_of(number: Option<u64>) -> Option<[u8; 4]>
 }
 
 /// The cells of data in either order, and of the column after them; `None` if they are no digits.
-fn data_cells(alloc: Global, groups: &[u8], column: &[u8]) -> Result<Option<Vec<Cell>>, AllocError>
+fn data_cells(
+    alloc: Global,
+    form: Form,
+    groups: &[u8],
+    column: &[u8],
+) -> Result<Option<Vec<Cell>>, AllocError>
     ensures { IfOk result (λ found.
-        option_map (λ cells. cells.items) found ≡ data_cells groups.now column.now) }
+        option_map (λ cells. cells.items) found ≡ data_cells form groups.now column.now) }
 {
     let Some(straight) = line_bytes(alloc, false, groups)? else {
         return Ok(None);
@@ -170,7 +175,7 @@ fn data_cells(alloc: Global, groups: &[u8], column: &[u8]) -> Result<Option<Vec<
     let Some(turned) = line_bytes(alloc, true, groups)? else {
         return Ok(None);
     };
-    let shown = column_text(straight.len(), without_return(column));
+    let shown = shown_of(form, straight.len(), column);
     let cells = cells_of(alloc, straight.as_slice(), turned.as_slice(), shown)?;
     Ok(Some(cells))
 }
@@ -195,9 +200,28 @@ fn row_with(form: Form, address: u64, group: usize, order: Order, cells: Vec<Cel
 fn data_order(form: Form, groups: &[u8], column: &[u8]) -> Order
     ensures { result ≡ data_order form groups.now column.now }
 {
+    let order = groups_order(form, groups, gap_before(column));
+    beside_text(form, !column.is_empty(), order)
+}
+
+/// The order of groups of data, by the spaces before their column of text.
+fn groups_order(form: Form, groups: &[u8], gap: usize) -> Order
+    ensures { result ≡ groups_order form groups.now gap }
+{
     let group = group_of(first_item(groups));
     let is_alone = after_gap(after_item(groups)).is_empty();
-    order_of(form, group, gap_before(column), is_alone)
+    order_of(form, group, gap, is_alone)
+}
+
+/// An order, beside a column of text or not: od prints numbers in either byte order, so only the
+/// column shows in which.
+fn beside_text(form: Form, has_text: bool, order: Order) -> Order
+    ensures { result ≡ beside_text form has_text order }
+{
+    match (form, has_text, order) {
+        (Form::Offset, true, Order::Turned) => Order::Unclear,
+        _ => order,
+    }
 }
 
 /// How many digits an item has, 0 of one with its mark.
@@ -260,13 +284,14 @@ fn long_order(form: Form, gap: usize, is_alone: bool) -> Order
     }
 }
 
-/// Whether data are bits, as `xxd -b` prints them: groups of eight digits 0 and 1, and a column of text
-/// with at most one character for each.
-pub(crate) fn are_bits(groups: &[u8], column: &[u8]) -> bool
-    ensures { result ≡ are_bits groups.now column.now }
+/// Whether data are bits, as `xxd -b` prints them after an address and a colon: groups of eight digits 0
+/// and 1, and a column of text with at most one character for each.
+pub(crate) fn are_bits(form: Form, groups: &[u8], column: &[u8]) -> bool
+    ensures { result ≡ are_bits form groups.now column.now }
 {
     let shown = without_return(after_gap(column)).len();
-    first_item(groups).len() == 8
+    form == Form::Marked
+        && first_item(groups).len() == 8
         && shown > 0
         && shown <= groups.len() / 9 + 1
         && has_bits_alone(groups)
@@ -284,6 +309,17 @@ fn is_bit(byte: u8) -> bool
     ensures { result ≡ is_bit byte }
 {
     byte == b'0' || byte == b'1' || is_gap(byte)
+}
+
+/// What a column shows of so many bytes: one between bars begins with the first byte, and has fewer
+/// characters where od filled the last group; any other ends with the last byte.
+fn shown_of(form: Form, count: usize, column: &[u8]) -> &[u8]
+    ensures { result.now ≡ shown_of form count column.now }
+{
+    match form {
+        Form::Offset => column,
+        _ => column_text(count, without_return(column)),
+    }
 }
 
 /// What a column shows of so many bytes: its last characters.

@@ -83,7 +83,7 @@ fn take_line<S: Findings>(
         return Ok(());
     }
     if let Some(address) = dump.end_at(line) {
-        dump.fill(alloc, address)?;
+        dump.end(alloc, address)?;
         return close(alloc, sink, dump);
     }
     take_row(alloc, sink, dump, number, line)
