@@ -2,7 +2,7 @@
 ghost use Rattle.std.specs.Prelude.{◌≡◌, ◌≢◌, true, false, List, ℕ, Some, IfSome};
 ghost use Rattle.scmi_io.specs.Lines.{after_line, first_line, has_line_feed};
 ghost use Rattle.scmi_live.specs.Hertz.{in_hertz};
-ghost use Rattle.scmi_table.specs.Run.{WritesTable};
+ghost use Rattle.scmi_table.specs.Run.{HoldsBoard};
 ghost use Rattle.scmi.specs.Given.{OfGiven, is_hardware};
 ghost use Rattle.scmi.specs.Program.{Answers, AnswersOf};
 
@@ -174,8 +174,8 @@ fn run_given<T: Threads + Wait + Sync, R: Read, W: Write>(
 
 /// Writes the tables of the board of an input, whose rates may have units, and gives the exit status.
 fn write_tables<R: Read, W: Write>(alloc: Global, reader: &mut R, writer: &mut W) -> u8
-    ensures { result ≡ 0 → IfSome (R.remaining reader.old) (λ text. WritesTable
-        (Some (in_hertz text)) (W.contents writer.old) (W.contents writer.new)) }
+    ensures { result ≡ 0 → IfSome (R.remaining reader.old)
+        (λ text. HoldsBoard (Some (in_hertz text))) }
 {
     let text = match read_rest(alloc, &mut CountedReader::new(reader)) {
         Ok(text) => text,

@@ -1,5 +1,2 @@
 pub mod Run
-pub mod Rows
-pub mod Table
 pub mod TableError
-pub mod Value

@@ -1,4 +1,4 @@
--- A board's tables, from the bytes that are read to the status.
+-- A board's tables, from the input to the status.
 use Rattle.std.specs.Prelude.{◌≡◌, ℕ, ◌<◌, ⊤, List, length, Option, IfSome, Err}
 use Rattle.std.specs.Io.KnownBytes.{Appends}
 use Rattle.scmi_board.specs.Channels.{Described}
@@ -8,16 +8,14 @@ use Rattle.scmi_io.specs.FaultLine.{fault_line}
 use Rattle.scmi_io.specs.declared.input.TheConstants.{INPUT_BYTES}
 use Rattle.scmi_plan.specs.PlanError.{number}
 use Rattle.scmi_plan.specs.declared.plan_error.PlanError.{PlanError}
-use Rattle.scmi_table.specs.Table.{table_text}
 use Rattle.scmi_table.specs.TableError.{fault_text, status_of}
 use Rattle.scmi_table.specs.declared.table_error.TableError.{TableError}
 use Rattle.scmi_table.specs.declared.table_error.TableError.TheVariants.{Size, Read, Board as BoardLine, Plan as PlanRule, Memory}
 
--- what is written is the tables of a board; if the text is known, it encodes that board
-pub record WritesTable (known : Option (List ℕ)) (old new : Option (List ℕ)) : Type 0 where
+-- an input holds a board that keeps every rule, if it is known
+pub record HoldsBoard (known : Option (List ℕ)) : Type 0 where
   pub said : Described
   pub of_text : IfSome known (λ text. IsBoardText text said)
-  pub text : Appends old new (table_text said)
 
 -- a fault of a board's text: its length, its first line that is not one of a board or follows it, or the first rule that the board breaks. A failed read, or out of memory, shows nothing of it
 abbrev pub IsFaultOf : List ℕ → TableError → Type 0

@@ -1,19 +1,14 @@
 //! A board's text as tables in C.
 //!
-//! The main theorem is the contract of `run_table`: if the status is 0, what was written is the
-//! text of the tables of the board that the input encodes, which keeps every rule, to its last
-//! byte.
+//! The main theorem is the contract of `run_table`: the status is 0 only if the input holds a board
+//! that keeps every rule. How its tables are written is compared in files.
 #![tactic(auto)]
 
-mod agents;
-mod board;
-mod clocks;
+mod in_string;
 mod read;
 mod rows;
 mod run;
 mod table;
 mod table_error;
-mod texts;
-mod value;
 
 pub use run::run_table;

@@ -1,12 +1,14 @@
 //! The tables of a board, from its text to the exit status.
-ghost use Rattle.std.specs.Prelude.{◌≡◌, ◌≢◌};
-ghost use Rattle.scmi_table.specs.Run.{EndsWithFault, WritesTable};
+ghost use Rattle.std.specs.Prelude.{◌≡◌, ◌≢◌, OnErr, OnOk};
+ghost use Rattle.scmi_table.specs.Run.{EndsWithFault, HoldsBoard};
+ghost use Rattle.scmi_table.specs.TableError.{status_of};
 
 use crate::read::read_board;
 use crate::table::write_table;
 use crate::table_error::TableError;
 use scmi_io::write_fault;
 use std::alloc::Global;
+use std::io;
 use std::io::{Read, Write};
 
 /// Writes the tables of a board in C, and gives the exit status: 0, or that of the error, whose
@@ -16,17 +18,23 @@ use std::io::{Read, Write};
 /// The board's text is that from its line `board` to its line `end`, with lines `channel`; only
 /// empty lines and comments may follow.
 pub fn run_table<R: Read, W: Write>(alloc: Global, reader: &mut R, writer: &mut W) -> u8
-    ensures table { result ≡ 0 → WritesTable (R.remaining reader.old)
-        (W.contents writer.old) (W.contents writer.new) }
+    ensures board { result ≡ 0 → HoldsBoard (R.remaining reader.old) }
     ensures fault { result ≢ 0 → result ≢ 1 → EndsWithFault (R.remaining reader.old) result
         (W.contents writer.old) (W.contents writer.new) }
 {
-    let said = match read_board(alloc, reader) {
-        Ok(said) => said,
-        Err(fault) => return write_fault(writer, &fault, fault.status()),
-    };
-    if write_table(writer, &said).is_err() {
-        return TableError::Write.status();
+    match read_board(alloc, reader) {
+        Ok(said) => status_of_output(write_table(writer, &said)),
+        Err(fault) => write_fault(writer, &fault, fault.status()),
     }
-    0
+}
+
+/// The exit status once tables were written, or could not be.
+fn status_of_output(output: io::Result<()>) -> u8
+    ensures whole { OnOk output (result ≡ 0) }
+    ensures failed { OnErr output (result ≡ status_of TableError.Write) }
+{
+    match output {
+        Ok(()) => 0,
+        Err(_) => TableError::Write.status(),
+    }
 }
