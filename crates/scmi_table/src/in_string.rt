@@ -3,7 +3,8 @@
 use std::fmt;
 use std::fmt::Write;
 
-/// A name, as it is between the quotation marks of a string.
+/// A name, as it is between the quotation marks of a string. A board that keeps the rules has
+/// printable ASCII in its names, so no other byte needs a mark.
 #[derive(Clone, Copy)]
 pub(crate) struct InString<'a>(pub(crate) &'a str);
 
