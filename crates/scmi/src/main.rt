@@ -3,9 +3,10 @@
 //! as tables.
 //!
 //! The main type is `Asked`, what the arguments ask for. The main theorem is the contract of
-//! `run_request`: if the status is 0, what was written is what the asked task writes of the input, to
-//! the last byte; that of `run_session`: if the status is 0, its listener was given exactly the steps
-//! of the lines; and that of `run_record`: what is checked is the record with numbers in place of names.
+//! `run_request`: if the status is 0, a run or a diagram is written to the last byte, dumps have an
+//! area, and tables are of a board that keeps every rule; that of `run_session`: if the status is 0,
+//! its listener was given exactly the steps of the lines; and that of `run_record`: what is checked is
+//! the record with numbers in place of names.
 #![tactic(auto)]
 
 mod arguments;
