@@ -32,14 +32,27 @@ def numbers_in(item):
     return () if item == "-" else tuple(int(one, 0) for one in item.split(","))
 
 
+# The zeros of a unit of a rate.
+ZEROS = {"hz": 0, "khz": 3, "mhz": 6, "ghz": 9}
+
+
+def hertz(item):
+    """A rate in Hz: its number, or a number with a unit."""
+    unit = item.lstrip("0123456789.").lower()
+    if unit not in ZEROS:
+        return int(item, 0)
+    whole, _, behind = item[: len(item) - len(unit)].partition(".")
+    return int(whole + behind.ljust(ZEROS[unit], "0"))
+
+
 def domain_of(name, state, kinds):
     return Domain(name, ON if switched(state) else OFF, frozenset(kinds) - {"-"})
 
 
 def clock_of(name, state, rate, form, *rates):
-    listed = numbers_in(rates[0]) if form == "list" else ()
-    steps = () if listed else tuple(int(one, 0) for one in rates)
-    return Clock(name, switched(state), int(rate, 0), listed, steps)
+    listed = tuple(hertz(one) for one in rates[0].split(",")) if form == "list" else ()
+    steps = () if listed else tuple(hertz(one) for one in rates)
+    return Clock(name, switched(state), hertz(rate), listed, steps)
 
 
 def device_of(domains, clocks):
