@@ -4,6 +4,7 @@ import subprocess
 from pathlib import Path
 from typing import NamedTuple
 
+from exact import REFUSALS
 from report import Wanted, first_blamed, read_report, wanted_of, wrong_doubt, wrong_form, wrong_verdict
 from texts import board_text, read_record
 
@@ -11,11 +12,12 @@ SECONDS = 20
 
 
 class Case(NamedTuple):
-    """A record of a board, and what is wanted of its report."""
+    """A record of a board, whether the hardware may have refused its pending sets, and what is wanted of its report."""
     name: str
     board: object
     text: str
     entries: list
+    refuses: bool
     wanted: Wanted
 
 
@@ -46,8 +48,8 @@ class Check:
     def of(self, case):
         self.board.write_text(board_text(case.board))
         self.record.write_text(case.text)
-        began = seconds_of_children()
-        done = subprocess.run([*self.words, self.board, self.record], stdout=subprocess.PIPE, text=True, check=False,
+        began, words = seconds_of_children(), [*self.words, self.board, self.record]
+        done = subprocess.run(words + [REFUSALS] * case.refuses, stdout=subprocess.PIPE, text=True, check=False,
                               preexec_fn=lambda: resource.setrlimit(resource.RLIMIT_CPU, (SECONDS, SECONDS)))
         return Checked(done.returncode, done.stdout, seconds_of_children() - began)
 
@@ -56,12 +58,11 @@ def judged(case, checked):
     if checked.status < 0:
         return Wrong(f"ended by signal {-checked.status} after {checked.seconds:.1f} s of processor", None)
     report = read_report(checked.said)
-    why = wrong_form(report, case.entries, checked.status) or wrong_verdict(report, case.wanted) \
-        or wrong_doubt(report, case.board, case.entries)
+    why = wrong_form(report, case, checked.status) or wrong_verdict(report, case.wanted) or wrong_doubt(report, case)
     return Wrong(why, None if first_blamed(report)[0] else report.unsure)
 
 
-def case_of(name, board, text):
+def case_of(name, board, text, refuses):
     """A case of a record, of which the model says what is wanted; raises TooMany if it does not."""
     entries = read_record(text)
-    return Case(name, board, text, entries, wanted_of(board, entries))
+    return Case(name, board, text, entries, refuses, wanted_of(board, entries, refuses))

@@ -1,14 +1,14 @@
 #!/usr/bin/env python3
 """Judges a record by force: keeps each state of the model that may be behind its lines so far.
 
-    tests/records/exact.py BOARD RECORD
+    tests/records/exact.py BOARD RECORD [--refusals]
 
 A record is right if a legal history is behind it: each command is executed at the place of its answer, and what no
 line shows may stand anywhere. A pending set completes, the first of them first; a message is posted into its agent's
-channel, if that is empty; and if the record shows that the hardware refused a pending set, it may have refused any
-that wants a response. Prints a report as `scmi check` does, as far as it goes: `N same` for each answer and message,
-`N differs` where the last history ends, and `N unsure` behind that, or where there are too many states to go on. The
-status is 5 if one differs.
+channel, if that is empty; and with --refusals the hardware may have refused a pending set that wants a response.
+Prints a report as `scmi check` does, as far as it goes: `N same` for each answer and message, `N differs` where the
+last history ends, and `N unsure` behind that, or where there are too many states to go on. The status is 5 if one
+differs.
 """
 import sys
 
@@ -18,6 +18,8 @@ from model import (HARDWARE_ERROR, MOST_WAITING, agents_of, completed, executed,
 from texts import Answered, read_board, read_record  # noqa: E402
 
 MOST_STATES = 2000
+# The option of a check by which the hardware may have refused a pending set that wants a response.
+REFUSALS = "--refusals"
 
 
 class TooMany(Exception):
@@ -31,6 +33,7 @@ def is_refusal(entry):
 
 
 def shows_refusal(entries):
+    """Whether a record shows that the hardware refused a pending set: it needs --refusals then."""
     return any(map(is_refusal, entries))
 
 
@@ -96,21 +99,22 @@ class Judge:
         return bool(self.states)
 
 
-def last_line(board, entries, post=post_at_once, most=MOST_STATES):
+def last_line(board, entries, refuses, post=post_at_once, most=MOST_STATES):
     """The line at which the last history ends; None if one is behind the whole record."""
-    judge = Judge(board, shows_refusal(entries), post, most)
+    judge = Judge(board, refuses, post, most)
     return next((entry.line for entry in entries if not judge.see(entry)), None)
 
 
-def report_of(board, entries):
+def report_of(board, entries, refuses):
     """The lines of a report."""
-    judge, same = Judge(board, shows_refusal(entries)), 0
+    judge, same = Judge(board, refuses), 0
     for entry in entries:
         try:
             right = judge.see(entry)
         except TooMany:
             break
-        yield f"{entry.line} {'same' if right else 'differs'}"
+        hardware = " by hardware" * (is_refusal(entry) and not refuses)
+        yield f"{entry.line} {'same' if right else 'differs' + hardware}"
         if not right:
             break
         same += 1
@@ -122,7 +126,7 @@ def report_of(board, entries):
 
 def main():
     board, record = (open(name).read() for name in sys.argv[1:3])
-    lines = list(report_of(read_board(board), read_record(record)))
+    lines = list(report_of(read_board(board), read_record(record), REFUSALS in sys.argv[3:]))
     print("\n".join(lines))
     return 0 if lines[-1].endswith(" 0 differ") else 5
 

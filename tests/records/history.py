@@ -240,12 +240,20 @@ def posted_by(rng, agent, command):
     return "bad", [rng.choice((0, 1, 3, 5, 7, 264, 0xFFFFFFFF)), header_of(0, protocol, message)]
 
 
+class Made(NamedTuple):
+    """A record that was made: what it shows, and whether the hardware refused a pending set behind it."""
+    mix: str
+    board: Board
+    items: list
+    refuses: bool
+
+
 class History:
     """A history as it grows, and what a record shows of it."""
 
     def __init__(self, rng, board, mix):
         self.rng, self.board, self.mix = rng, board, mix
-        self.state, self.items = first_state(board), []
+        self.state, self.items, self.refuses = first_state(board), [], False
         self.commands, self.tokens, self.waiting = Commands(rng, board), Tokens(), {}
         self.deaf = {agent for agent in agents_of(board) if rng.random() < mix.deaf}
         self.past = {}
@@ -291,7 +299,9 @@ class History:
 
     def complete(self):
         if self.state.pending:
-            self.move(refused(self.state) if self.fails() else completed(self.board, self.state))
+            fails = self.fails()
+            self.refuses |= fails
+            self.move(refused(self.state) if fails else completed(self.board, self.state))
 
     def one_of(self, agents):
         agents = list(agents)
@@ -317,7 +327,6 @@ class History:
             self.rng.choices(steps, weights)[0]()
             if sum(not isinstance(item, Asked) for item in self.items) >= entries:
                 break
-        return self.items
 
 
 def record_text(items):
@@ -325,9 +334,11 @@ def record_text(items):
 
 
 def some_history(seed, mix=None, entries=None):
-    """The mix, the board and the items of the record of a seed."""
+    """The record of a seed."""
     rng = random.Random(f"history {seed}")
     name = mix or sorted(MIXES)[seed % len(MIXES)]
     board = some_board(rng, rng.choice(MIXES[name].sizes))
     count = entries or rng.randint(20, 60) * (2 if name == "flood" else 1)
-    return name, board, History(rng, board, MIXES[name]).go_on(count)
+    history = History(rng, board, MIXES[name])
+    history.go_on(count)
+    return Made(name, board, history.items, history.refuses)

@@ -2,7 +2,7 @@
 import re
 from typing import NamedTuple
 
-from exact import Judge, TooMany, shows_refusal
+from exact import Judge, TooMany, is_refusal
 from model import (BASE, CLOCK, INVALID_PARAMETERS, NOT_FOUND, OUT_OF_RANGE, POWER, SUCCESS, executed,
                    protocol_of)
 from texts import Answered
@@ -11,6 +11,8 @@ from texts import Answered
 FLAGS = {(BASE, 0x9): (2, 1), (BASE, 0xA): (3, 1), (BASE, 0xB): (1, 1), (POWER, 0x4): (0, 1), (CLOCK, 0x5): (0, 4),
          (CLOCK, 0x7): (1, 1)}
 ENTRY = re.compile(r"(\d+) (same|differs|own [a-z-]+)( .*)?")
+# A difference of a response that says that the hardware refused, of a check without --refusals.
+HARDWARE = re.compile(r" by hardware\b")
 UNSURE = re.compile(r"(\d+) unsure, and judged no further")
 COUNTS = re.compile(r"(\d+) same, (\d+) own, (\d+) differ(, .*)?")
 # A check keeps so many states, and may be unsure only if there are more.
@@ -58,20 +60,20 @@ def findings_of(board, states, entry):
     return {f"own {rule}" if rule else "differs" for rule in rules}
 
 
-def wanted_of(board, entries):
+def wanted_of(board, entries, refuses):
     """What is wanted of the report of a record; raises TooMany if the model does not say."""
-    judge = Judge(board, shows_refusal(entries))
+    judge = Judge(board, refuses)
     for entry in entries:
         if not judge.see(entry):
             return Wanted(entry.line, findings_of(board, judge.before, entry))
     return ALL_SAME
 
 
-def states_before(board, entries, line):
+def states_before(case, line):
     """How many states are reached before the entry at a line; None if there are too many."""
-    judge = Judge(board, shows_refusal(entries))
+    judge = Judge(case.board, case.refuses)
     try:
-        for entry in entries:
+        for entry in case.entries:
             judge.see(entry)
             if entry.line == line:
                 return len(judge.before)
@@ -80,31 +82,43 @@ def states_before(board, entries, line):
 
 
 class Report(NamedTuple):
-    """The report of a check: what is found at each line, where it is unsure, and what it counts."""
+    """The report of a check: what is found at each line, which of these differ by the hardware, where it is unsure, and
+    what it counts."""
     findings: list
+    hardware: list
     unsure: int
     counts: tuple
 
 
 def read_report(text):
-    findings, unsure, counts = [], None, None
+    findings, hardware, unsure, counts = [], [], None, None
     for line in text.splitlines():
         if match := ENTRY.fullmatch(line):
             findings.append((int(match[1]), match[2]))
+            if HARDWARE.search(match[3] or ""):
+                hardware.append(int(match[1]))
         elif match := UNSURE.fullmatch(line):
             unsure = int(match[1])
         elif match := COUNTS.fullmatch(line):
             counts = tuple(int(match[place]) for place in (1, 2, 3))
-    return Report(findings, unsure, counts)
+    return Report(findings, hardware, unsure, counts)
 
 
-def wrong_form(report, entries, status):
+def hardware_of(report, case):
+    """The lines that have to differ by the hardware."""
+    refusals = set() if case.refuses else {entry.line for entry in case.entries if is_refusal(entry)}
+    return [line for line, finding in report.findings if finding == "differs" and line in refusals]
+
+
+def wrong_form(report, case, status):
     """What is wrong with the form of a report; None if nothing is."""
-    judged = [entry.line for entry in entries if report.unsure is None or entry.line < report.unsure]
+    judged = [entry.line for entry in case.entries if report.unsure is None or entry.line < report.unsure]
     words = [finding.split()[0] for _, finding in report.findings]
     counts = tuple(words.count(word) for word in ("same", "own", "differs"))
     if [line for line, _ in report.findings] != judged:
         return "not one line for each entry"
+    if report.hardware != hardware_of(report, case):
+        return f"lines {report.hardware} differ by the hardware in place of {hardware_of(report, case)}"
     if report.counts != counts:
         return f"counts {report.counts} in place of {counts}"
     if status != (5 if "differs" in words else 6 if report.unsure else 0):
@@ -132,7 +146,7 @@ def wrong_verdict(report, wanted):
     return None
 
 
-def wrong_doubt(report, board, entries):
+def wrong_doubt(report, case):
     """What is wrong with the line at which a check is unsure; None if nothing is."""
-    states = None if report.unsure is None else states_before(board, entries, report.unsure)
+    states = None if report.unsure is None else states_before(case, report.unsure)
     return f"unsure at line {report.unsure} with {states} states" if states and states <= PLACES else None
