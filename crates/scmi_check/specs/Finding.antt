@@ -1,5 +1,5 @@
 -- What is found of an entry, by the verdict on it.
-use Rattle.std.specs.Prelude.{⊤, if◌then◌else◌, Some, None}
+use Rattle.std.specs.Prelude.{⊤, Bool, true, false, if◌then◌else◌, Some, None}
 use Rattle.scmi_codec.specs.Command.{command_of}
 use Rattle.scmi_codec.specs.declared.frame.Answer.TheVariants.{Reply}
 use Rattle.scmi_codec.specs.declared.frame.Frame.TheVariants.{Good}
@@ -37,6 +37,11 @@ abbrev pub Fits : Finding → Type 0
 Fits Same = ⊤
 Fits (Own rule) = ⊤
 Fits Differs = ⊥
+
+-- the same as a test
+abbrev pub is_difference : Finding → Bool
+is_difference Differs = true
+is_difference _ = false
 
 -- what an entry is judged as: a reply that differs by a rule of the profile's own is judged as the one that was due
 abbrev pub judged_as : Entry → Verdict → Entry

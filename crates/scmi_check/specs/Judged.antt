@@ -1,16 +1,12 @@
 -- The entries of a record with the verdicts on them.
-use Rattle.std.specs.Prelude.{◌≡◌, ◌↔◌, ℕ, ◌≤◌, Bool, false, if◌then◌else◌, List, length, map, reverse, take, Option, slice_get}
-use Rattle.std.specs.List.{All, list_any}
+use Rattle.std.specs.Prelude.{◌≡◌, ◌↔◌, ℕ, ◌≤◌, Bool, List, length, map, reverse, take, Option, slice_get}
+use Rattle.std.specs.List.{All}
 use Rattle.std.specs.Option.{option_map}
 use Rattle.scmi_plan.specs.Board.{Board}
-use Rattle.scmi_core.specs.Outbox.{failed_response_to}
 use Rattle.scmi_judge.specs.Behind.{IsRight}
-use Rattle.scmi_judge.specs.Same.{is_same_message}
 use Rattle.scmi_judge.specs.declared.entry.Entry.{Entry}
-use Rattle.scmi_judge.specs.declared.entry.Entry.TheVariants.{Answered, Delivered}
 use Rattle.scmi_judge.specs.declared.unseen.Refusals.{Refusals}
-use Rattle.scmi_judge.specs.declared.unseen.Refusals.TheVariants as refusals
-use Rattle.scmi_check.specs.Finding.{Fits, finding_of, judged_as}
+use Rattle.scmi_check.specs.Finding.{Fits, finding_of, is_difference, judged_as}
 use Rattle.scmi_check.specs.declared.judged.Judged.{Judged}
 use Rattle.scmi_check.specs.declared.placed.Placed.{Placed}
 
@@ -21,6 +17,10 @@ placed_of one = record { line = one.line; entry = one.entry }
 -- an entry does not differ, but by a rule of the profile's own
 abbrev pub DoesFit : Judged → Type 0
 DoesFit one = Fits (finding_of one.entry one.verdict)
+
+-- an entry differs, but not by a rule of the profile's own
+abbrev pub does_differ : Judged → Bool
+does_differ one = is_difference (finding_of one.entry one.verdict)
 
 -- what an entry is judged as
 abbrev pub meant : Judged → Entry
@@ -37,15 +37,6 @@ pub record AreJudged (refuses : Refusals) (board : Board) (placed : List Placed)
   pub few : length judged ≤ length placed
   pub first : map placed_of judged ≡ take (length judged) placed
   pub right : (count : ℕ) → count ≤ length judged → All DoesFit (take count judged) ↔ IsRight refuses board (map meant (take count judged))
-
--- an entry is a delayed response that the hardware refused the change
-abbrev pub is_failure : Entry → Bool
-is_failure (Answered a frame answer) = false
-is_failure (Delivered a message) = is_same_message (failed_response_to message.header) message
-
--- which changes of pending sets the hardware may refuse: if a record shows that it refused one, those with a response
-abbrev pub refusals_of : List Placed → Refusals
-refusals_of placed = if list_any (λ (one : Placed). is_failure one.entry) placed then refusals.Answered else refusals.None
 
 -- the line of an entry of a record, by its place
 abbrev pub line_at : List Placed → ℕ → Option ℕ

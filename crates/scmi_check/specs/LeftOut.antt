@@ -35,6 +35,10 @@ with_protocol protocols protocol = if is_judged protocols protocol then protocol
 abbrev pub with_skipped : LeftView → ℕ → LeftView
 with_skipped left protocol = record left { skipped = number_behind left.skipped; protocols = with_protocol left.protocols protocol }
 
+-- the same with other notes
+abbrev pub with_notes : LeftView → List Note → LeftView
+with_notes left notes = record { notes = notes; skipped = left.skipped; protocols = left.protocols }
+
 -- one note more
 abbrev pub with_note : LeftView → Note → LeftView
 with_note left note = record left { notes = left.notes ++ note ∷ [] }

@@ -2,11 +2,13 @@ pub mod AreaShown
 pub mod Check
 pub mod CheckError
 pub mod Checked
-pub mod Counts
 pub mod Finding
 pub mod Judged
 pub mod LeftOut
+pub mod Listener
 pub mod Own
+pub mod Progress
 pub mod RecordText
 pub mod Shown
 pub mod TraceLine
+pub mod UnderWay

@@ -1,5 +1,5 @@
 -- The record that a text encodes.
-use Rattle.std.specs.Prelude.{ℕ, ◌+◌, ◌-◌, ◌%◌, ◌==◌, ◌&&◌, ◌++◌, nat_le, Bool, false, if◌then◌else◌, List, [], ◌∷◌, get_or, position, remove, replicate, slice_get, slice_set, Option, Some, None, Result, Ok, Err}
+use Rattle.std.specs.Prelude.{◌≡◌, ⊤, ℕ, ◌+◌, ◌-◌, ◌%◌, ◌==◌, ◌&&◌, ◌++◌, nat_le, Bool, false, if◌then◌else◌, List, [], ◌∷◌, get_or, position, remove, replicate, slice_get, slice_set, Option, Some, None, Result, Ok, Err}
 use Rattle.scmi_board.specs.Items.{◌>>=◌}
 use Rattle.scmi_board.specs.Lines.{Line, LinesView, lines_left}
 use Rattle.scmi_codec.specs.Command.{protocol_header}
@@ -14,9 +14,10 @@ use Rattle.scmi_judge.specs.declared.entry.Entry.{Entry}
 use Rattle.scmi_judge.specs.declared.entry.Entry.TheVariants.{Answered, Delivered}
 use Rattle.scmi_text.specs.TextLines.{after_each_line}
 use Rattle.scmi_text.specs.declared.step.Call.{Call}
-use Rattle.scmi_check.specs.LeftOut.{LeftView, frame_protocol, is_judged, left_view, nothing_left, with_left, with_no_answer, with_no_answers, with_note, with_skipped}
+use Rattle.scmi_check.specs.LeftOut.{LeftView, frame_protocol, is_judged, left_view, nothing_left, with_left, with_no_answer, with_no_answers, with_note, with_notes, with_skipped}
 use Rattle.scmi_check.specs.Shown.{shown_at}
 use Rattle.scmi_check.specs.declared.lost.Lost.{Lost as LostEvents}
+use Rattle.scmi_check.specs.declared.note.Note.{Note}
 use Rattle.scmi_check.specs.declared.note.NoteKind.TheVariants.{Unmatched, Lost}
 use Rattle.scmi_check.specs.declared.placed.Placed.{Placed}
 use Rattle.scmi_check.specs.declared.record.Record.{Record}
@@ -57,6 +58,14 @@ shows_of so_far =
       early = so_far.early;
       tokens = so_far.tokens;
     }
+
+-- entries and notes before those of what lines show
+abbrev pub onto : List Placed → List Note → Shows → Shows
+onto placed notes shows = record shows { entries = placed ++ shows.entries; left = with_notes shows.left (notes ++ shows.left.notes) }
+
+-- what lines show without the entries and the notes
+abbrev pub told : Shows → Shows
+told shows = record shows { entries = []; left = with_notes shows.left [] }
 
 -- no line shows anything, and these protocols are judged
 abbrev pub nothing_shown : List ℕ → Shows
@@ -209,6 +218,12 @@ all_finished (Ok shows) = Ok (finished shows)
 -- the record that these lines encode, if these protocols are judged, on a board with this number of agents; else the number of the first line that is not of it
 abbrev pub record_of : List ℕ → ℕ → List Line → Result RecordView ℕ
 record_of judged agents lines = all_finished (after_each_line (with_line agents) (nothing_shown judged) lines)
+
+-- lines, and what is read in their places: each has its number
+abbrev pub AreMeant : (List ℕ → List ℕ → Type 0) → List Line → List Line → Type 0
+AreMeant Means [] [] = ⊤
+AreMeant Means (line ∷ lines) (given ∷ givens) = (given.number ≡ line.number) × Means line.text given.text × AreMeant Means lines givens
+AreMeant Means lines givens = ⊥
 
 -- the same of the lines that are left
 abbrev pub record_left : List ℕ → ℕ → LinesView → Result RecordView ℕ

@@ -1,22 +1,22 @@
 //! The texts of a board and of a record, and what is found of them.
-ghost use Rattle.std.specs.Prelude.{◌≡◌, ◌+◌, ◌<◌, [], length, IfOk, IfErr, IfSome};
-ghost use Rattle.std.specs.List.{All};
-ghost use Rattle.scmi_judge.specs.Guesses.{AreMany};
+ghost use Rattle.std.specs.Prelude.{◌≡◌, ℕ, ◌+◌, [], List, length, IfOk, IfErr, IfSome};
+ghost use Rattle.scmi_plan.specs.Board.{Board};
 ghost use Rattle.scmi_judge.specs.Judging.{Knows};
-ghost use Rattle.scmi_check.specs.declared.check.TheConstants.{PLACES as MOST};
-ghost use Rattle.scmi_check.specs.Check.{IsCheckedRecord, IsFaultOf, IsFaultOfBoard, IsFaultOfRecord, IsPlanText, IsRecordText};
-ghost use Rattle.scmi_check.specs.Checked.{checked_view};
-ghost use Rattle.scmi_check.specs.Judged.{AreJudged, DoesFit, behind, refusals_of};
-ghost use Rattle.scmi_check.specs.RecordText.{record_view};
+ghost use Rattle.scmi_judge.specs.declared.unseen.Refusals.{Refusals as Refused};
+ghost use Rattle.scmi_check.specs.Check.{GivesCheckedRecord, GivesFound, IsFaultOf, IsFaultOfBoard, IsFaultOfRecord, IsPlanText};
+ghost use Rattle.scmi_check.specs.CheckError.{line_error};
+ghost use Rattle.scmi_check.specs.RecordText.{nothing_shown};
+ghost use Rattle.scmi_check.specs.UnderWay.{IsUnderWay};
 
 use crate::check_error::CheckError;
 use crate::checked::Checked;
-use crate::judged::{Judged, judge_all, line_at, refusals_of};
-use crate::placed::Placed;
-use crate::record::{Record, read_record};
-use scmi_board::{Lines, read_valid_board};
+use crate::listener::Listener;
+use crate::names::Names;
+use crate::options::CheckOptions;
+use crate::under_way::Check;
+use scmi_board::{TextLine, read_valid_board};
 use scmi_core::CoreError;
-use scmi_io::{CountedReader, read_rest};
+use scmi_io::{CountedReader, Input, InputError, read_rest};
 use scmi_judge::{Judge, Refusals};
 use scmi_plan::Plan;
 use std::alloc::Global;
@@ -25,99 +25,99 @@ use std::io::Read;
 /// The most platforms that are kept, beside one, of those that may be behind a record.
 pub const PLACES: usize = 255;
 
-/// As many are enough for most records, and made at once.
-const FEW_PLACES: usize = 7;
-
-/// Checks a record of a platform of a board by the messages of these protocols. The hardware may
-/// have refused a change that no entry shows if an entry shows that it refused one.
+/// Checks a record of a platform of a board, line by line, however long it is. The listener is given
+/// the verdict on each entry, and each note, as soon as the line is read.
 ///
-/// `Size`, `Read`, `Board` and `Plan` are of the board's text, or else `Size`, `Read`, `Record` and
-/// `Empty` of the record's. `Memory` if out of memory.
-pub fn check_record<B: Read, R: Read>(
+/// `Size`, `Read`, `Board` and `Plan` are of the board's text: the listener was given nothing. Or
+/// else `Long`, `Read`, `Record` and `Empty` of the record's: it was given what is found of the
+/// lines before, as it was at `Memory` and `Write`.
+pub fn check_record<B: Read, R: Read, N: Names, L: Listener>(
     alloc: Global,
     board: &mut B,
     record: &mut R,
-    judged: &[u8],
+    options: CheckOptions<'_>,
+    names: &N,
+    listener: &mut L,
 ) -> Result<Checked, CheckError>
-    ensures checked { IfOk result (λ c. IsCheckedRecord judged.now (B.remaining board.old)
-        (R.remaining record.old) (checked_view c)) }
-    ensures faults { IfErr result (IsFaultOf judged.now (B.remaining board.old)
-        (R.remaining record.old)) }
+    ensures checked { IfOk result (GivesCheckedRecord (N.means names.now) options.entry
+        (B.remaining board.old) (R.remaining record.old) (L.judged listener.old)
+        (L.judged listener.new) (L.noted listener.old) (L.noted listener.new)) }
+    ensures faults { IfErr result (IsFaultOf (N.means names.now) options.entry
+        (B.remaining board.old) (R.remaining record.old)) }
 {
     let Said { text, plan } = read_board(alloc, board)?;
-    let Record { entries, left } = read_text(alloc, record, &plan, judged)?;
-    let found = judge_record(alloc, &text, &plan, &entries)?;
-    let unsure = line_at(&entries, found.len());
-    Ok(Checked {
-        judged: found,
-        left,
-        unsure,
-    })
+    let judge = judge_of(alloc, &text, &plan, options.refusals)?;
+    let check = Check::new(alloc, options.protocols, plan.agents(), judge);
+    check_lines(alloc, record, names, check, listener)
 }
 
-/// The entries of a record of a platform of a board with this text, with the verdicts on them. A
-/// record that needs more places than few is judged again.
-fn judge_record(
+/// Reads the lines of a record up to its end, and checks each.
+fn check_lines<R: Read, N: Names, L: Listener>(
     alloc: Global,
-    text: &[u8],
-    plan: &Plan,
-    entries: &[Placed],
-) -> Result<Vec<Judged>, CoreError>
-    requires { IsPlanText text.now plan.now }
-    ensures judged { IfOk result (λ judged. AreJudged (refusals_of entries.now) plan.now entries.now
-        judged.items) }
-    ensures many { IfOk result (λ judged. length judged.items < length entries.now
-        → All DoesFit judged.items
-        → AreMany (refusals_of entries.now) plan.now (behind judged.items) (2 + MOST)) }
-    ensures errors { IfErr result (λ e. e ≡ CoreError.Memory) }
+    record: &mut R,
+    names: &N,
+    mut check: Check<'_>,
+    listener: &mut L,
+) -> Result<Checked, CheckError>
+    ensures found { (protocols : List ℕ) (refuses : Refused) (board : Board)
+        → IsUnderWay refuses board (nothing_shown protocols) [] [] check.entry
+        → IfOk result (GivesFound (N.means names.now) protocols refuses board
+        (R.remaining record.old) (L.judged listener.old) (L.judged listener.new)
+        (L.noted listener.old) (L.noted listener.new)) }
+    ensures faults { (protocols : List ℕ) (refuses : Refused) (board : Board)
+        → IsUnderWay refuses board (nothing_shown protocols) [] [] check.entry
+        → IfErr result (λ e. IfSome (R.remaining record.old)
+        (λ text. IsFaultOfRecord (N.means names.now) protocols board text e)) }
 {
-    let found = judge_in(alloc, text, plan, entries, FEW_PLACES)?;
-    if found.len() == entries.len() {
-        return Ok(found);
+    let reader = CountedReader::new(record);
+    let mut input = Input::new(reader);
+    let mut text = Vec::new(alloc);
+    let mut number = 0u32;
+    'lines: for _ in 0..u64::MAX {
+        number = number.saturating_add(1);
+        let ended = match input.read_line(&mut text) {
+            Ok(ended) => ended,
+            Err(error) => return Err(line_error(error, number)),
+        };
+        let line = TextLine {
+            number,
+            text: text.as_slice(),
+        };
+        if let Err(error) = check.add(alloc, names, line, listener) {
+            return Err(error);
+        }
+        if !ended {
+            return check.finish(listener);
+        }
     }
-    judge_in(alloc, text, plan, entries, PLACES)
+    Err(CheckError::Read)
 }
 
-/// The same in as many places, beside the first.
-fn judge_in(
-    alloc: Global,
-    text: &[u8],
-    plan: &Plan,
-    entries: &[Placed],
-    places: usize,
-) -> Result<Vec<Judged>, CoreError>
-    requires { IsPlanText text.now plan.now }
-    ensures judged { IfOk result (λ judged. AreJudged (refusals_of entries.now) plan.now entries.now
-        judged.items) }
-    ensures many { IfOk result (λ judged. length judged.items < length entries.now
-        → All DoesFit judged.items
-        → AreMany (refusals_of entries.now) plan.now (behind judged.items) (2 + places)) }
-    ensures errors { IfErr result (λ e. e ≡ CoreError.Memory) }
+/// Why the line of this number is not read.
+fn line_error(error: InputError, number: u32) -> CheckError
+    ensures { result ≡ line_error error number }
 {
-    let mut judge = judge_of(alloc, text, plan, refusals_of(entries), places)?;
-    judge_all(alloc, &mut judge, entries)
+    match error {
+        InputError::Size => CheckError::Long(number),
+        InputError::Read => CheckError::Read,
+        InputError::Memory => CheckError::Memory,
+    }
 }
 
 /// A judge of a platform of this board, before the first entry. `Memory` is the only error.
-fn judge_of(
-    alloc: Global,
-    text: &[u8],
-    plan: &Plan,
-    refuses: Refusals,
-    places: usize,
-) -> Result<Judge, CoreError>
+fn judge_of(alloc: Global, text: &[u8], plan: &Plan, refuses: Refusals) -> Result<Judge, CoreError>
     requires { IsPlanText text.now plan.now }
     ensures knows { IfOk result (λ judge. Knows judge []) }
     ensures board { IfOk result (λ judge. judge.board ≡ plan.now) }
     ensures refuses { IfOk result (λ judge. judge.refuses ≡ refuses) }
     ensures places { IfOk result (λ judge.
-        length judge.guesses + length judge.spare ≡ 1 + places) }
+        length judge.guesses + length judge.spare ≡ 1 + PLACES) }
     ensures errors { IfErr result (λ e. e ≡ CoreError.Memory) }
 {
     let first = again(alloc, text, plan)?;
     let place = again(alloc, text, plan)?;
     let mut judge = Judge::new(alloc, first, place, refuses)?;
-    'places: for _place in 0..places {
+    'places: for _place in 0..PLACES {
         judge.add_place(again(alloc, text, plan)?)?;
     }
     Ok(judge)
@@ -162,34 +162,4 @@ fn plan_of(alloc: Global, text: &[u8]) -> Result<Plan, CheckError>
 {
     let valid = read_valid_board(alloc, text)?;
     Ok(valid.plan)
-}
-
-/// The record of a text, of a platform of this board, if these protocols are judged.
-fn read_text<R: Read>(
-    alloc: Global,
-    record: &mut R,
-    plan: &Plan,
-    judged: &[u8],
-) -> Result<Record, CheckError>
-    ensures record { IfOk result (λ read. IfSome (R.remaining record.old)
-        (λ text. IsRecordText judged.now plan.now text (record_view read))) }
-    ensures some { IfOk result (λ read. 0 < length read.entries.items) }
-    ensures faults { IfErr result (λ e. IfSome (R.remaining record.old)
-        (λ text. IsFaultOfRecord judged.now plan.now text e)) }
-{
-    let text = read_rest(alloc, &mut CountedReader::new(record))?;
-    record_of(alloc, &text, plan, judged)
-}
-
-fn record_of(alloc: Global, text: &[u8], plan: &Plan, judged: &[u8]) -> Result<Record, CheckError>
-    ensures record { IfOk result (λ read. IsRecordText judged.now plan.now text.now
-        (record_view read)) }
-    ensures some { IfOk result (λ read. 0 < length read.entries.items) }
-    ensures faults { IfErr result (IsFaultOfRecord judged.now plan.now text.now) }
-{
-    let read = read_record(alloc, &mut Lines::of_text(text), plan.agents(), judged)?;
-    if read.entries.is_empty() {
-        return Err(CheckError::Empty);
-    }
-    Ok(read)
 }

@@ -7,16 +7,20 @@ ghost use Rattle.scmi_check.specs.declared.checked.TheConstants.{DIFFERS, UNSURE
 use scmi_board::{BoardError, TextError};
 use scmi_core::CoreError;
 use scmi_io::{BOARD, InputError, MEMORY, PLAN, READ, RECORD, SIZE, WRITE};
+use std::alloc::AllocError;
 use std::error::Error;
 use std::fmt;
 
 /// The fault of a record of which nothing is judged.
 const EMPTY: &str = "empty";
 
+/// The fault of a line that is too long; its number follows.
+const LONG: &str = "long ";
+
 /// Why a record is not checked. Its text is what follows the word `fault`.
 #[derive(Clone, Copy, Debug, PartialEq, Eq)]
 pub enum CheckError {
-    /// The board's text or the record is longer than `INPUT_BYTES`.
+    /// The board's text is longer than `INPUT_BYTES`.
     Size,
     /// A read failed, or reads were interrupted too often.
     Read,
@@ -26,6 +30,8 @@ pub enum CheckError {
     Plan(u8),
     /// This line is not a valid line of a record.
     Record(u32),
+    /// This line of the record is longer than `INPUT_BYTES`.
+    Long(u32),
     /// Nothing of the record is judged.
     Empty,
     /// Out of memory.
@@ -63,6 +69,7 @@ impl fmt::Display for CheckError {
             CheckError::Board(line) => write!(f, "{BOARD}{line}"),
             CheckError::Plan(rule) => write!(f, "{PLAN}{rule}"),
             CheckError::Record(line) => write!(f, "{RECORD}{line}"),
+            CheckError::Long(line) => write!(f, "{LONG}{line}"),
             CheckError::Empty => f.write_str(EMPTY),
             CheckError::Memory => f.write_str(MEMORY),
             CheckError::Write => f.write_str(WRITE),
@@ -103,6 +110,14 @@ impl From<BoardError> for CheckError {
             BoardError::Rule(rule) => CheckError::Plan(rule.number()),
             BoardError::Memory => CheckError::Memory,
         }
+    }
+}
+
+impl From<AllocError> for CheckError {
+    ghost from_gives = { λ _ fault. fault ≡ Memory };
+
+    fn from(_error: AllocError) -> CheckError {
+        CheckError::Memory
     }
 }
 

@@ -1,35 +1,54 @@
-//! How many entries of a record are the same, and how many are not.
-ghost use Rattle.std.specs.Prelude.{◌≡◌};
-ghost use Rattle.scmi_check.specs.Counts.{counts_of};
-
+//! How much was found of a record.
 use crate::finding::Finding;
-use crate::judged::Judged;
+use crate::note::NoteKind;
 
-/// How many entries are the same, differ by a rule of the profile's own, and differ.
+/// How many entries are the same, differ by a rule of the profile's own, and differ; and how many
+/// commands are unanswered, and responses unmatched. Each stays at 2^64 - 1.
 #[derive(Clone, Copy, PartialEq, Eq, Debug)]
-pub struct Counts {
-    pub same: usize,
-    pub own: usize,
-    pub differ: usize,
+pub(crate) struct Counts {
+    pub same: u64,
+    pub own: u64,
+    pub differ: u64,
+    pub unanswered: u64,
+    pub unmatched: u64,
 }
 
 impl Counts {
-    /// The counts of these entries.
-    pub fn of(judged: &[Judged]) -> Counts
-        ensures { result ≡ counts_of judged.now }
-    {
-        let mut counts = Counts {
+    /// Nothing was found.
+    pub fn new() -> Counts {
+        Counts {
             same: 0,
             own: 0,
             differ: 0,
-        };
-        'each: for one in judged {
-            match one.finding() {
-                Finding::Same => counts.same += 1,
-                Finding::Own(_) => counts.own += 1,
-                Finding::Differs => counts.differ += 1,
-            }
+            unanswered: 0,
+            unmatched: 0,
         }
-        counts
+    }
+
+    /// How many entries there are.
+    pub fn entries(&self) -> u64 {
+        self.same
+            .saturating_add(self.own)
+            .saturating_add(self.differ)
+    }
+
+    /// One entry more.
+    pub fn add(&mut self, finding: Finding) {
+        let count = match finding {
+            Finding::Same => &mut self.same,
+            Finding::Own(_) => &mut self.own,
+            Finding::Differs => &mut self.differ,
+        };
+        *count = count.saturating_add(1);
+    }
+
+    /// One note more.
+    pub fn note(&mut self, kind: NoteKind) {
+        let count = match kind {
+            NoteKind::Unanswered => &mut self.unanswered,
+            NoteKind::Unmatched => &mut self.unmatched,
+            NoteKind::Lost(_) => return,
+        };
+        *count = count.saturating_add(1);
     }
 }

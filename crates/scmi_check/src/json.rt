@@ -7,32 +7,15 @@ use crate::finding::Finding;
 use crate::judged::Judged;
 use crate::lost::Lost;
 use crate::note::{Note, NoteKind};
-use crate::note_text::count_of;
-use crate::origins::{Origin, Origins};
+use crate::origins::Origin;
 use crate::reasons::status_of_reply;
 use scmi_codec::{Answer, Message};
 use scmi_judge::{Entry, Verdict};
 use std::io;
 use std::io::Write;
 
-/// Writes an object for each entry and each note, and one that counts.
-pub(crate) fn write_json<W: Write>(writer: &mut W, checked: &Checked) -> io::Result<()> {
-    let mut origins = Origins::new();
-    'each: for one in &checked.judged {
-        let finding = one.finding();
-        write_entry(writer, one, finding, origins.origin_of(one))?;
-        origins.add(one, finding);
-    }
-    'notes: for note in &checked.left.notes {
-        write_note(writer, note)?;
-    }
-    if let Some(line) = checked.unsure {
-        writeln!(writer, "{{\"line\":{line},\"found\":\"unsure\"}}")?;
-    }
-    write_counts(writer, checked)
-}
-
-fn write_entry<W: Write>(
+/// Writes the object of an entry.
+pub(crate) fn write_json_entry<W: Write>(
     writer: &mut W,
     one: &Judged,
     finding: Finding,
@@ -121,7 +104,8 @@ fn write_words<W: Write>(writer: &mut W, message: &Message) -> io::Result<()> {
     write!(writer, "]")
 }
 
-fn write_note<W: Write>(writer: &mut W, note: &Note) -> io::Result<()> {
+/// Writes the object of a note.
+pub(crate) fn write_json_note<W: Write>(writer: &mut W, note: &Note) -> io::Result<()> {
     write!(writer, "{{\"line\":{},\"found\":", note.line)?;
     match note.kind {
         NoteKind::Unanswered => write!(writer, "\"unanswered\"")?,
@@ -132,25 +116,33 @@ fn write_note<W: Write>(writer: &mut W, note: &Note) -> io::Result<()> {
     writeln!(writer, "}}")
 }
 
-fn write_counts<W: Write>(writer: &mut W, checked: &Checked) -> io::Result<()> {
-    let Counts { same, own, differ } = Counts::of(&checked.judged);
-    let unanswered = count_of(&checked.left.notes, NoteKind::Unanswered);
-    let unmatched = count_of(&checked.left.notes, NoteKind::Unmatched);
+/// Writes an object if the check ended before the record.
+pub(crate) fn write_json_unsure<W: Write>(writer: &mut W, checked: &Checked) -> io::Result<()> {
+    match checked.unsure {
+        Some(line) => writeln!(writer, "{{\"line\":{line},\"found\":\"unsure\"}}"),
+        None => Ok(()),
+    }
+}
+
+/// Writes the object that counts.
+pub(crate) fn write_json_counts<W: Write>(
+    writer: &mut W,
+    counts: &Counts,
+    checked: &Checked,
+) -> io::Result<()> {
     write!(
         writer,
-        "{{\"same\":{same},\"own\":{own},\"differ\":{differ}"
+        "{{\"same\":{},\"own\":{},\"differ\":{}",
+        counts.same, counts.own, counts.differ
     )?;
     write!(
         writer,
-        ",\"unanswered\":{unanswered},\"unmatched\":{unmatched}"
+        ",\"unanswered\":{},\"unmatched\":{}",
+        counts.unanswered, counts.unmatched
     )?;
-    write!(
-        writer,
-        ",\"skipped\":{},\"protocols\":[",
-        checked.left.skipped
-    )?;
+    write!(writer, ",\"skipped\":{},\"protocols\":[", checked.skipped)?;
     let mut before = "";
-    'protocols: for protocol in &checked.left.protocols {
+    'protocols: for protocol in &checked.protocols {
         write!(writer, "{before}{protocol}")?;
         before = ",";
     }

@@ -1,18 +1,15 @@
 //! The entries of a record with the verdicts on them.
-ghost use Rattle.std.specs.Prelude.{◌≡◌, ◌+◌, ◌<◌, [], ◌∷◌, List, length, None, Ok, IfOk, IfErr, IfSome};
-ghost use Rattle.std.specs.List.{All, list_any};
+ghost use Rattle.std.specs.Prelude.{◌≡◌, ◌+◌, ◌∷◌, List, length, None, Ok, IfOk, IfErr, IfSome};
 ghost use Rattle.scmi_core.specs.declared.core_error.CoreError.TheVariants.{Memory};
 ghost use Rattle.scmi_judge.specs.Behind.{HasLegalHistory};
 ghost use Rattle.scmi_judge.specs.Judging.{AreTooMany, Knows};
 ghost use Rattle.scmi_judge.specs.declared.entry.Entry.{Entry as Shown};
 ghost use Rattle.scmi_check.specs.Finding.{Fits, finding_of, judged_as};
-ghost use Rattle.scmi_check.specs.Judged.{AreJudged, DoesFit, behind, is_failure, line_at, refusals_of};
+ghost use Rattle.scmi_check.specs.Judged.{does_differ};
 
 use crate::finding::Finding;
-use crate::placed::Placed;
-use scmi_core::{CoreError, failed_response};
-use scmi_judge::{Entry, Judge, Refusals, Verdict, in_place};
-use std::alloc::Global;
+use scmi_core::CoreError;
+use scmi_judge::{Entry, Judge, Verdict, in_place};
 
 /// An entry of a record at its line, with the verdict on it.
 #[derive(PartialEq, Eq, Debug, Drop)]
@@ -29,45 +26,21 @@ impl Judged {
     {
         Finding::of(&self.entry, &self.verdict)
     }
-}
 
-/// Judges the entries of a record, in order. For each number of entries from the first on, none of
-/// them differs, but by a rule of the profile's own, if and only if a legal history is behind them,
-/// with the reply that was due in place of each that differs by such a rule. It ends before an entry
-/// behind which may be more platforms than there are places. `Memory` is the only error.
-pub(crate) fn judge_all(
-    alloc: Global,
-    judge: &mut Judge,
-    placed: &[Placed],
-) -> Result<Vec<Judged>, CoreError>
-    requires knows { Knows judge.old [] }
-    ensures judged { IfOk result (λ judged.
-        AreJudged judge.old.refuses judge.old.board placed.now judged.items) }
-    ensures many { IfOk result (λ judged. length judged.items < length placed.now
-        → All DoesFit judged.items → AreTooMany judge.old (behind judged.items)) }
-    ensures errors { IfErr result (λ e. e ≡ Memory) }
-{
-    let mut judged = Vec::new(alloc);
-    'each: for one in placed {
-        let Some(verdict) = judge_one(judge, &one.entry)? else {
-            return Ok(judged);
-        };
-        let line = one.line;
-        let entry = one.entry.copy();
-        let Ok(()) = judged.push(Judged {
-            line,
-            entry,
-            verdict,
-        }) else {
-            return Err(CoreError::Memory);
-        };
+    /// Whether the entry differs, but not by a rule of the profile's own.
+    pub(crate) fn differs(&self) -> bool
+        ensures { result ≡ does_differ self.now }
+    {
+        match self.finding() {
+            Finding::Differs => true,
+            Finding::Same | Finding::Own(_) => false,
+        }
     }
-    Ok(judged)
 }
 
 /// Judges the next entry of a record. `None` if more platforms may be behind it than there are
 /// places. `Memory` is the only error.
-fn judge_one(judge: &mut Judge, entry: &Entry) -> Result<Option<Verdict>, CoreError>
+pub(crate) fn judge_one(judge: &mut Judge, entry: &Entry) -> Result<Option<Verdict>, CoreError>
     ensures fits { (entries : List Shown) → Knows judge.old entries
         → IfOk result (λ o. IfSome o (λ verdict. Fits (finding_of entry.now verdict)
         → Knows judge.new (judged_as entry.now verdict ∷ entries))) }
@@ -101,45 +74,4 @@ fn judge_one(judge: &mut Judge, entry: &Entry) -> Result<Option<Verdict>, CoreEr
             Ok(Some(verdict))
         }
     }
-}
-
-/// Which changes of pending sets the hardware may refuse: if the record shows that it refused one,
-/// those to which a delayed response is wanted.
-pub(crate) fn refusals_of(placed: &[Placed]) -> Refusals
-    ensures { result ≡ refusals_of placed.now }
-{
-    if has_failure(placed) {
-        Refusals::Answered
-    } else {
-        Refusals::None
-    }
-}
-
-fn has_failure(mut placed: &[Placed]) -> bool
-    ensures { result ≡ list_any (λ one. is_failure one.entry) placed.entry.now }
-{
-    'each: while let [one, others @ ..] = placed {
-        if is_failure(&one.entry) {
-            return true;
-        }
-        placed = others;
-    }
-    false
-}
-
-/// Whether an entry is a delayed response that the hardware refused the change.
-fn is_failure(entry: &Entry) -> bool
-    ensures { result ≡ is_failure entry.now }
-{
-    match entry {
-        Entry::Delivered { message, .. } => failed_response(message.header) == *message,
-        Entry::Answered { .. } => false,
-    }
-}
-
-/// The line of an entry of a record, by its place.
-pub(crate) fn line_at(placed: &[Placed], place: usize) -> Option<u32>
-    ensures { result ≡ line_at placed.now place }
-{
-    placed.get(place).map(|one| one.line)
 }

@@ -1,6 +1,6 @@
 //! What a record has that is not judged, as lines of a report have it.
 use crate::checked::Checked;
-use crate::left_out::LeftOut;
+use crate::counts::Counts;
 use crate::lost::Lost;
 use crate::note::{Note, NoteKind};
 use crate::style::Style;
@@ -11,25 +11,34 @@ const UNANSWERED: &str = "unanswered";
 
 const UNMATCHED: &str = "unmatched";
 
-/// Writes a line for each note, and one if the check ended before the record. For a test system they
-/// are comments.
-pub(crate) fn write_notes<W: Write>(
+/// Writes the line of a note. For a test system it is a comment.
+pub(crate) fn write_note<W: Write>(writer: &mut W, style: Style, note: &Note) -> io::Result<()> {
+    write!(writer, "{}{} ", mark(style), note.line)?;
+    write_kind(writer, note.kind)?;
+    writeln!(writer)
+}
+
+/// Writes a line if the check ended before the record.
+pub(crate) fn write_unsure<W: Write>(
     writer: &mut W,
     style: Style,
     checked: &Checked,
 ) -> io::Result<()> {
-    let mark = match style {
+    match checked.unsure {
+        Some(line) => writeln!(
+            writer,
+            "{}{line} unsure, and judged no further",
+            mark(style)
+        ),
+        None => Ok(()),
+    }
+}
+
+/// What is written before the number of the line.
+fn mark(style: Style) -> &'static str {
+    match style {
         Style::Tap => "# line ",
         Style::Plain | Style::Json => "",
-    };
-    'notes: for note in &checked.left.notes {
-        write!(writer, "{mark}{} ", note.line)?;
-        write_kind(writer, note.kind)?;
-        writeln!(writer)?;
-    }
-    match checked.unsure {
-        Some(line) => writeln!(writer, "{mark}{line} unsure, and judged no further"),
-        None => Ok(()),
     }
 }
 
@@ -43,26 +52,17 @@ fn write_kind<W: Write>(writer: &mut W, kind: NoteKind) -> io::Result<()> {
 }
 
 /// Writes how much is left out, each number only if it is not 0.
-pub(crate) fn write_left<W: Write>(writer: &mut W, left: &LeftOut) -> io::Result<()> {
-    write_count(
-        writer,
-        count_of(&left.notes, NoteKind::Unanswered),
-        UNANSWERED,
-    )?;
-    write_count(
-        writer,
-        count_of(&left.notes, NoteKind::Unmatched),
-        UNMATCHED,
-    )?;
-    write_skipped(writer, left.skipped, &left.protocols)
+pub(crate) fn write_left<W: Write>(
+    writer: &mut W,
+    counts: &Counts,
+    checked: &Checked,
+) -> io::Result<()> {
+    write_count(writer, counts.unanswered, UNANSWERED)?;
+    write_count(writer, counts.unmatched, UNMATCHED)?;
+    write_skipped(writer, checked.skipped, &checked.protocols)
 }
 
-/// How many notes are of a kind.
-pub(crate) fn count_of(notes: &[Note], kind: NoteKind) -> usize {
-    notes.iter().filter(|note| note.kind == kind).count()
-}
-
-fn write_count<W: Write>(writer: &mut W, count: usize, word: &str) -> io::Result<()> {
+fn write_count<W: Write>(writer: &mut W, count: u64, word: &str) -> io::Result<()> {
     if count == 0 {
         return Ok(());
     }

@@ -54,7 +54,7 @@ pub fn read_record(
 
 /// One line more.
 #[tactic(auto, unfolding(crate::specs::RecordText::with_line))]
-fn add_line(
+pub(crate) fn add_line(
     alloc: Global,
     so_far: &mut SoFar<'_>,
     line: TextLine<'_>,

@@ -1,12 +1,15 @@
 //! A report, as it is written. Its words are compared in files.
+use crate::check_error::CheckError;
 use crate::checked::Checked;
 use crate::counts::Counts;
 use crate::deciding::deciding_word;
 use crate::entry_name::entry_name;
 use crate::finding::Finding;
-use crate::json::write_json;
+use crate::json::{write_json_counts, write_json_entry, write_json_note, write_json_unsure};
 use crate::judged::Judged;
-use crate::note_text::{write_left, write_notes};
+use crate::listener::Listener;
+use crate::note::Note;
+use crate::note_text::{write_left, write_note, write_unsure};
 use crate::origins::{Origin, Origins};
 use crate::reasons::write_reasons;
 use crate::style::Style;
@@ -14,42 +17,115 @@ use scmi_judge::Entry;
 use std::io;
 use std::io::Write;
 
-/// Writes a line for each entry, one for each note of what is not judged, and how many entries are
-/// the same, differ by a rule of the profile's own, and differ, with how much is left out, if
-/// anything is (own). The line of an entry that differs ends with the check that decides, if an
-/// error was due, and with the lines of earlier entries that it may follow from. The error is the
-/// writer's; some parts may then be written.
-pub fn write_report<W: Write>(writer: &mut W, style: Style, checked: &Checked) -> io::Result<()> {
-    match style {
-        Style::Json => return write_json(writer, checked),
-        Style::Tap => writeln!(writer, "1..{}", checked.judged.len())?,
-        Style::Plain => {}
-    }
-    write_lines(writer, style, &checked.judged)?;
-    write_notes(writer, style, checked)?;
-    write_counts(writer, style, Counts::of(&checked.judged))?;
-    write_left(writer, &checked.left)?;
-    writeln!(writer)
+/// Writes what is found of a record as it comes: a line for each entry, and one for each note of
+/// what is not judged (own). The line of an entry that differs ends with the check that decides, if
+/// an error was due, and with the lines of earlier entries that it may follow from.
+#[derive(Drop)]
+pub struct Report<'a, W: Write> {
+    writer: &'a mut W,
+    style: Style,
+    counts: Counts,
+    origins: Origins,
 }
 
-fn write_lines<W: Write>(writer: &mut W, style: Style, judged: &[Judged]) -> io::Result<()> {
-    let mut origins = Origins::new();
-    'each: for one in judged {
-        let finding = one.finding();
-        write!(writer, "{}{}", mark(style, finding), one.line)?;
-        match finding {
-            Finding::Same => writeln!(writer, " same")?,
-            Finding::Own(rule) => {
-                write!(writer, " own {}", rule.name())?;
-                write_name(writer, &one.entry)?;
-                write_reasons(writer, &one.entry, &one.verdict)?;
-                writeln!(writer)?;
-            }
-            Finding::Differs => write_difference(writer, one, origins.origin_of(one))?,
+impl<'a, W: Write> Report<'a, W> {
+    /// A report of which nothing is written.
+    pub fn new(writer: &'a mut W, style: Style) -> Report<'a, W> {
+        Report {
+            writer,
+            style,
+            counts: Counts::new(),
+            origins: Origins::new(),
         }
-        origins.add(one, finding);
     }
-    Ok(())
+
+    /// Writes what is known at the end: the line from which on nothing is judged, if there is one,
+    /// and how many entries are the same, differ by a rule of the profile's own, and differ, with how
+    /// much is left out, if anything is. The error is the writer's; some parts may then be written.
+    pub fn finish(self, checked: &Checked) -> io::Result<()> {
+        let Report {
+            writer,
+            style,
+            counts,
+            origins: _,
+        } = self;
+        if style == Style::Json {
+            write_json_unsure(writer, checked)?;
+            return write_json_counts(writer, &counts, checked);
+        }
+        write_unsure(writer, style, checked)?;
+        write_counts(writer, style, &counts)?;
+        write_left(writer, &counts, checked)?;
+        writeln!(writer)?;
+        match style {
+            Style::Tap => writeln!(writer, "1..{}", counts.entries()),
+            Style::Plain | Style::Json => Ok(()),
+        }
+    }
+
+    /// Writes an entry, and notes it for those that come.
+    fn write_entry(&mut self, one: &Judged) -> io::Result<()> {
+        let finding = one.finding();
+        let origin = self.origins.origin_of(one);
+        self.origins.add(one, finding);
+        self.counts.add(finding);
+        match self.style {
+            Style::Json => write_json_entry(self.writer, one, finding, origin),
+            style => write_line(self.writer, style, one, finding, origin),
+        }
+    }
+
+    /// Writes a note, and counts it.
+    fn write_note(&mut self, note: &Note) -> io::Result<()> {
+        self.counts.note(note.kind);
+        match self.style {
+            Style::Json => write_json_note(self.writer, note),
+            style => write_note(self.writer, style, note),
+        }
+    }
+}
+
+impl<W: Write> Listener for Report<'_, W> {
+    ghost use Rattle.std.specs.Prelude.{None};
+
+    // What is written is compared in files.
+    ghost judged = { λ _. None };
+
+    ghost noted = { λ _. None };
+
+    fn found(&mut self, one: &Judged) -> Result<(), CheckError> {
+        match self.write_entry(one) {
+            Ok(()) => Ok(()),
+            Err(_) => Err(CheckError::Write),
+        }
+    }
+
+    fn left_out(&mut self, note: &Note) -> Result<(), CheckError> {
+        match self.write_note(note) {
+            Ok(()) => Ok(()),
+            Err(_) => Err(CheckError::Write),
+        }
+    }
+}
+
+fn write_line<W: Write>(
+    writer: &mut W,
+    style: Style,
+    one: &Judged,
+    finding: Finding,
+    origin: Origin,
+) -> io::Result<()> {
+    write!(writer, "{}{}", mark(style, finding), one.line)?;
+    match finding {
+        Finding::Same => writeln!(writer, " same"),
+        Finding::Own(rule) => {
+            write!(writer, " own {}", rule.name())?;
+            write_name(writer, &one.entry)?;
+            write_reasons(writer, &one.entry, &one.verdict)?;
+            writeln!(writer)
+        }
+        Finding::Differs => write_difference(writer, one, origin),
+    }
 }
 
 /// Writes what is behind the number of an entry that differs.
@@ -86,11 +162,14 @@ fn mark(style: Style, finding: Finding) -> &'static str {
 }
 
 /// Writes how many entries were found to be of each kind. For a test system it is a comment.
-fn write_counts<W: Write>(writer: &mut W, style: Style, counts: Counts) -> io::Result<()> {
+fn write_counts<W: Write>(writer: &mut W, style: Style, counts: &Counts) -> io::Result<()> {
     let remark = match style {
         Style::Tap => "# ",
         Style::Plain | Style::Json => "",
     };
-    let Counts { same, own, differ } = counts;
-    write!(writer, "{remark}{same} same, {own} own, {differ} differ")
+    write!(
+        writer,
+        "{remark}{} same, {} own, {} differ",
+        counts.same, counts.own, counts.differ
+    )
 }

@@ -4,7 +4,7 @@ ghost use Rattle.scmi_codec.specs.declared.header.TheConstants.{TOKENS};
 ghost use Rattle.scmi_board.specs.LineError.{Gives, GivesUnless};
 ghost use Rattle.scmi_board.specs.TextError.{IsOfScript};
 ghost use Rattle.scmi_text.specs.TextLines.{GivesScript};
-ghost use Rattle.scmi_check.specs.RecordText.{entry_protocol, finished, nothing_shown, record_view, shows_of, token_free, token_taken, with_answer, with_called, with_entry, with_lost, with_posted, with_response, with_shown, with_trace, with_traced, with_unmatched, with_waiting};
+ghost use Rattle.scmi_check.specs.RecordText.{entry_protocol, finished, nothing_shown, record_view, shows_of, told, token_free, token_taken, with_answer, with_called, with_entry, with_lost, with_posted, with_response, with_shown, with_trace, with_traced, with_unmatched, with_waiting};
 
 use crate::left_out::{LeftOut, frame_protocol, is_judged};
 use crate::lost::Lost;
@@ -68,6 +68,28 @@ impl<'a> SoFar<'a> {
             Shown::Missed { lost } => self.miss(line, lost),
             Shown::Skipped => Ok(()),
         }
+    }
+
+    /// The entries that are shown.
+    pub fn entries(&self) -> &[Placed]
+        ensures { result.now ≡ (shows_of self.now).entries }
+    {
+        &self.entries
+    }
+
+    /// What is noted.
+    pub fn notes(&self) -> &[Note]
+        ensures { result.now ≡ (shows_of self.now).left.notes }
+    {
+        &self.left.notes
+    }
+
+    /// Forgets the entries that are shown, and what is noted.
+    pub fn forget(&mut self)
+        ensures { shows_of self.new ≡ told (shows_of self.old) }
+    {
+        self.entries.clear();
+        self.left.notes.clear();
     }
 
     /// The record, once no line is left. `Memory` if out of memory.

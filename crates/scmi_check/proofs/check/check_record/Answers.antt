@@ -1,26 +1,26 @@
-use Rattle.std.proofs.Common.{◌≡◌, ◌+◌, ◌<◌, ◌∙◌, length, ap, refl, subst, rules}
-use Rattle.std.specs.List.{All}
-use Rattle.scmi_judge.specs.Guesses.{AreMany}
-use Rattle.scmi_check.specs.declared.check.TheConstants.{PLACES}
-use Rattle.scmi_check.specs.Judged.{AreJudged, DoesFit, behind, line_at, refusals_of}
-use Rattle.scmi_check.specs.RecordText.{record_view}
+use Rattle.std.proofs.Common.{IfSome, inr, rules}
+use Rattle.scmi_check.specs.Check.{IsPlanText}
+use Rattle.scmi_check.proofs.Growing.{if-err, if-ok}
 use Rattle.scmi_check.proofs.check.check_record.Goals as goal
 
 pub returns-clause-checked : goal.returns-clause-checked
 returns-clause-checked g c =
-    let read = record_view c.in_ok-entries.field-0 in
-    let judged : c.deref-2.result.now ≡ read.entries = search rules in
-    let placed : c.deref-3.result.now ≡ read.entries = search rules in
-    let many : c.len.result ≡ length c.in_ok-found.found.items = search rules in
-    record {
-      board = c.in_ok-text.field-0.plan;
-      read = read;
-      of_board = search rules;
-      of_record = search rules;
-      some = search rules;
-      are = subst (λ es. AreJudged (refusals_of es) c.in_ok-text.field-0.plan es c.in_ok-found.found.items) judged c.in_ok-found.ensures.judged;
-      many = subst (λ es. length c.in_ok-found.found.items < length es → All DoesFit c.in_ok-found.found.items
-          → AreMany (refusals_of es) c.in_ok-text.field-0.plan (behind c.in_ok-found.found.items) (2 + PLACES)) judged c.in_ok-found.ensures.many;
-      left_is = refl;
-      unsure_is = c.line_at-unsure.ensures ∙ ap (λ es. line_at es c.len.result) placed ∙ ap (line_at read.entries) many;
-    }
+    let plan = c.in_ok-text.field-0.plan in
+    let options = c.args.options in
+    let way = c.new-check.ensures options.refusals plan c.in_ok-judge.ensures.knows c.in_ok-judge.ensures.board c.in_ok-judge.ensures.refuses c.in_ok-judge.ensures.places c.agents.ensures.count in
+    let of_board : IfSome (g.B.Read.remaining c.args.board.now) (λ text. IsPlanText text plan) = search rules in
+    if-ok c.check_lines.result (c.check_lines.ensures.found options.protocols.now options.refusals plan way) (λ checked found. record {
+      judged = found.judged;
+      notes = found.notes;
+      is_checked = record { board = plan; read = found.read; of_board = of_board; of_record = found.of_record; found = found.found };
+      given = found.given;
+      told = found.told;
+    })
+
+pub returns-clause-faults : goal.returns-clause-faults
+returns-clause-faults g c =
+    let plan = c.in_ok-text.field-0.plan in
+    let options = c.args.options in
+    let way = c.new-check.ensures options.refusals plan c.in_ok-judge.ensures.knows c.in_ok-judge.ensures.board c.in_ok-judge.ensures.refuses c.in_ok-judge.ensures.places c.agents.ensures.count in
+    let of_board : IfSome (g.B.Read.remaining c.args.board.now) (λ text. IsPlanText text plan) = search rules in
+    if-err c.check_lines.result (c.check_lines.ensures.faults options.protocols.now options.refusals plan way) (λ e fault. inr (plan, of_board, fault))

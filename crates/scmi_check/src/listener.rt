@@ -1,0 +1,31 @@
+//! Who is given what is found of a record.
+ghost use Rattle.std.specs.Prelude.{◌≡◌, [], ◌∷◌, List, Option, OnOk, IfErr};
+ghost use Rattle.scmi_check.specs.Listener.{Grows};
+
+use crate::check_error::CheckError;
+use crate::judged::Judged;
+use crate::note::Note;
+
+/// Who is given what is found of a record, as it is read. A contract sees the entries with the
+/// verdicts on them that it was given, and the notes.
+pub trait Listener {
+    ghost use Rattle.scmi_check.specs.declared.judged.Judged.{Judged};
+    ghost use Rattle.scmi_check.specs.declared.note.Note.{Note};
+
+    // Each in order, if they are known: of a listener that keeps them.
+    ghost judged: { Self → Option (List Judged) };
+
+    ghost noted: { Self → Option (List Note) };
+
+    /// The next entry, with the verdict on it. `Write` if the output fails.
+    fn found(&mut self, one: &Judged) -> Result<(), CheckError>
+        ensures judged { OnOk result (Grows (judged self.old) (judged self.new) (one.now ∷ [])) }
+        ensures noted { OnOk result (noted self.new ≡ noted self.old) }
+        ensures errors { IfErr result (λ e. e ≡ CheckError.Write) };
+
+    /// What is not judged. `Write` if the output fails.
+    fn left_out(&mut self, note: &Note) -> Result<(), CheckError>
+        ensures judged { OnOk result (judged self.new ≡ judged self.old) }
+        ensures noted { OnOk result (Grows (noted self.old) (noted self.new) (note.now ∷ [])) }
+        ensures errors { IfErr result (λ e. e ≡ CheckError.Write) };
+}
