@@ -28,26 +28,52 @@ some-entries xs none = grind (arith, nat_tests)
 no-entries : (xs : List Placed) → (length xs == 0) ≡ true → length xs ≡ 0
 no-entries xs none = grind (arith, nat_tests)
 
-module _ (refuses : Refusals) (board : Board) (all : Shows) (judged : List Judged) (notes : List Note) (c : Check) (way : IsUnderWay refuses board all judged notes c) where
-  entries-are : all.entries ≡ way.placed
-  entries-are = ap (λ (s : Shows). s.entries) way.all_is ∙ ap (λ (es : List Placed). way.placed ++ es) way.none_left ∙ append-none way.placed
+module _ (refuses : Refusals) (board : Board) (all : Shows) (judged : List Judged)
+    (notes : List Note) (c : Check) (way : IsUnderWay refuses board all judged notes c) where
+  pub entries-are : all.entries ≡ way.placed
+  entries-are = ap (λ (s : Shows). s.entries) way.all_is
+      ∙ ap (λ (es : List Placed). way.placed ++ es) way.none_left ∙ append-none way.placed
 
-  left-is : (finished all).left ≡ with_notes (finished (shows_of c.so_far)).left (notes ++ (finished (shows_of c.so_far)).left.notes)
-  left-is = ap (λ (r : RecordView). r.left) (ap finished way.all_is ∙ finished-onto way.placed notes (shows_of c.so_far))
+  pub notes-are : all.left.notes ≡ notes
+  notes-are =
+      ap (λ (s : Shows). s.left.notes) way.all_is
+      ∙ ap (λ (ns : List Note). notes ++ ns) way.none_noted ∙ append-none notes
 
-  pub all-found : (left : LeftView) (checked : Checked) → (finished (shows_of c.so_far)).left ≡ left → left.skipped ≡ checked.skipped → left.protocols ≡ checked.protocols.items → checked.differs ≡ c.progress.differs
-      → checked.unsure ≡ c.progress.unsure → c.progress.is_empty ≡ false → IsFoundOf refuses board (finished all) judged (notes ++ left.notes) checked
+  left-is : (finished all).left ≡ with_notes (finished (shows_of c.so_far)).left
+      (notes ++ (finished (shows_of c.so_far)).left.notes)
+  left-is = ap (λ (r : RecordView). r.left) (ap finished way.all_is
+      ∙ finished-onto way.placed notes (shows_of c.so_far))
+
+  pub all-found : (left : LeftView) (checked : Checked) → (finished (shows_of c.so_far)).left ≡ left
+      → left.skipped ≡ checked.skipped → left.protocols ≡ checked.protocols.items
+      → checked.differs ≡ c.progress.differs
+      → checked.unsure ≡ c.progress.unsure → c.progress.is_empty ≡ false
+      → IsFoundOf refuses board (finished all) judged (notes ++ left.notes) checked
   all-found left checked is skipped protocols differs unsure empty =
       let being = way.judging in
       record {
-        some = subst (λ (es : List Placed). 0 < length es) (sym entries-are) (some-entries way.placed (sym being.empty_is ∙ empty));
-        are = subst (λ (es : List Placed). AreJudged refuses board es judged) (sym entries-are) being.are;
-        many = subst (λ (es : List Placed). length judged < length es → All DoesFit judged → AreMany refuses board (behind judged) (2 + PLACES)) (sym entries-are) being.many;
-        left_is = left-is ∙ ap (λ (l : LeftView). with_notes l (notes ++ l.notes)) is ∙ ap (λ n. record { notes = notes ++ left.notes; skipped = n; protocols = left.protocols }) skipped
-            ∙ ap (λ ps. record { notes = notes ++ left.notes; skipped = checked.skipped; protocols = ps }) protocols;
-        unsure_is = unsure ∙ being.unsure_is ∙ ap (λ (es : List Placed). line_at es (length judged)) (sym entries-are);
+        some = subst (λ (es : List Placed). 0 < length es) (sym entries-are)
+            (some-entries way.placed (sym being.empty_is ∙ empty));
+        are = subst (λ (es : List Placed). AreJudged refuses board es judged)
+            (sym entries-are) being.are;
+        many = subst (λ (es : List Placed). length judged < length es → All DoesFit judged
+            → AreMany refuses board (behind judged) (2 + PLACES)) (sym entries-are) being.many;
+        left_is = left-is ∙ ap (λ (l : LeftView). with_notes l (notes ++ l.notes)) is
+            ∙ ap (λ n. record {
+              notes = notes ++ left.notes;
+              skipped = n;
+              protocols = left.protocols;
+            }) skipped
+            ∙ ap (λ ps. record {
+              notes = notes ++ left.notes;
+              skipped = checked.skipped;
+              protocols = ps;
+            }) protocols;
+        unsure_is = unsure ∙ being.unsure_is ∙ ap (λ (es : List Placed). line_at es (length judged))
+            (sym entries-are);
         differs_is = differs ∙ being.differs_is;
       }
 
   pub none-found : c.progress.is_empty ≡ true → length (finished all).entries ≡ 0
-  none-found empty = ap (λ (es : List Placed). length es) entries-are ∙ no-entries way.placed (sym way.judging.empty_is ∙ empty)
+  none-found empty = ap (λ (es : List Placed). length es) entries-are
+      ∙ no-entries way.placed (sym way.judging.empty_is ∙ empty)

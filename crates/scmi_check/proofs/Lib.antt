@@ -1,5 +1,6 @@
 mod AreaExamples
 pub mod AreaWords
+pub mod Before
 pub mod Ending
 pub mod Faults
 pub mod Findings

@@ -32,48 +32,79 @@ module _ (placed : List Placed) (notes : List Note) where
   abbrev at : Shows → Shows
   at shows = onto placed notes shows
 
-  note-onto : (left : LeftView) (note : Note) → with_note (later left) note ≡ later (with_note left note)
-  note-onto left note = ap (λ (ns : List Note). with_notes left ns) (append_assoc notes left.notes (note ∷ []))
+  note-onto : (left : LeftView) (note : Note)
+      → with_note (later left) note ≡ later (with_note left note)
+  note-onto left note = ap (λ (ns : List Note). with_notes left ns)
+      (append_assoc notes left.notes (note ∷ []))
 
-  left-onto : (judged : List ℕ) (left : LeftView) (protocol : Option ℕ) (note : Note) → with_left judged (later left) protocol note ≡ later (with_left judged left protocol note)
+  left-onto : (judged : List ℕ) (left : LeftView) (protocol : Option ℕ) (note : Note)
+      → with_left judged (later left) protocol note ≡ later (with_left judged left protocol note)
   left-onto judged left None note = note-onto left note
   left-onto judged left (Some protocol) note = by (is_judged judged protocol) where
-    by : (b : Bool) → (if b then with_note (later left) note else with_skipped (later left) protocol) ≡ later (if b then with_note left note else with_skipped left protocol)
+    by : (b : Bool) → (if b then with_note (later left) note else with_skipped
+        (later left) protocol) ≡ later (if b then with_note left note else with_skipped left
+        protocol)
     by true = note-onto left note
     by false = refl
 
-  no-answers-onto : (judged : List ℕ) (left : LeftView) (commands : List Waiting) → with_no_answers judged (later left) commands ≡ later (with_no_answers judged left commands)
+  no-answers-onto : (judged : List ℕ) (left : LeftView) (commands : List Waiting)
+      → with_no_answers judged (later left) commands ≡ later (with_no_answers judged left commands)
   no-answers-onto judged left [] = refl
   no-answers-onto judged left (command ∷ commands) =
-      ap (λ (l : LeftView). with_no_answers judged l commands) (left-onto judged left (frame_protocol command.frame) _)
+      ap (λ (l : LeftView). with_no_answers judged l commands)
+      (left-onto judged left (frame_protocol command.frame) _)
       ∙ no-answers-onto judged (with_no_answer judged left command) commands
 
   -- the same of all that lines show
   abbrev with-left-out : Shows → LeftView → Shows
   with-left-out shows left = record shows { entries = placed ++ shows.entries; left = left }
 
-  judged-onto : (shows : Shows) (line : ℕ) (entry : Entry) → with_judged (at shows) line entry ≡ at (with_judged shows line entry)
-  judged-onto shows line entry = ap (λ (es : List Placed). record shows { entries = es; left = later shows.left }) (append_assoc placed shows.entries (record { line = line; entry = entry } ∷ []))
+  judged-onto : (shows : Shows) (line : ℕ) (entry : Entry)
+      → with_judged (at shows) line entry ≡ at (with_judged shows line entry)
+  judged-onto shows line entry = ap (λ (es : List Placed). record shows
+      { entries = es; left = later shows.left })
+      (append_assoc placed shows.entries (record { line = line; entry = entry } ∷ []))
 
-  entry-of-onto : (protocol : Option ℕ) (shows : Shows) (line : ℕ) (entry : Entry) → with_entry_of protocol (at shows) line entry ≡ at (with_entry_of protocol shows line entry)
+  entry-of-onto : (protocol : Option ℕ) (shows : Shows) (line : ℕ) (entry : Entry)
+      → with_entry_of protocol (at shows) line entry ≡ at (with_entry_of protocol shows line entry)
   entry-of-onto None shows line entry = judged-onto shows line entry
   entry-of-onto (Some protocol) shows line entry = by (is_judged shows.judged protocol) where
-    by : (b : Bool) → (if b then with_judged (at shows) line entry else record (at shows) { left = with_skipped (at shows).left protocol })
-        ≡ at (if b then with_judged shows line entry else record shows { left = with_skipped shows.left protocol })
+    by : (b : Bool) → (if b then with_judged (at shows) line entry else record
+        (at shows) { left = with_skipped (at shows).left protocol })
+        ≡ at (if b then with_judged shows line entry else record shows
+        { left = with_skipped shows.left protocol })
     by true = judged-onto shows line entry
     by false = refl
 
-  entry-onto : (shows : Shows) (line : ℕ) (entry : Entry) → with_entry (at shows) line entry ≡ at (with_entry shows line entry)
+  entry-onto : (shows : Shows) (line : ℕ) (entry : Entry)
+      → with_entry (at shows) line entry ≡ at (with_entry shows line entry)
   entry-onto shows line entry = entry-of-onto (entry_protocol entry) shows line entry
 
-  unmatched-onto : (shows : Shows) (line protocol : ℕ) → with_unmatched (at shows) line protocol ≡ at (with_unmatched shows line protocol)
-  unmatched-onto shows line protocol = ap (with-left-out shows) (left-onto shows.judged shows.left (Some protocol) (record { line = line; kind = Unmatched }))
+  unmatched-onto : (shows : Shows) (line protocol : ℕ)
+      → with_unmatched (at shows) line protocol ≡ at (with_unmatched shows line protocol)
+  unmatched-onto shows line protocol = ap (with-left-out shows)
+      (left-onto shows.judged shows.left (Some protocol) (record { line = line; kind = Unmatched }))
 
-  posted-onto : (shows : Shows) (line a : ℕ) (frame : Frame) → with_posted (at shows) line a frame ≡ option_map at (with_posted shows line a frame)
+  posted-onto : (shows : Shows) (line a : ℕ) (frame : Frame)
+      → with_posted (at shows) line a frame ≡ option_map at (with_posted shows line a frame)
   unfolding with_posted
   posted-onto shows line a frame = by (position (is_by a) shows.waiting) where
-    by : (place : Option ℕ) → elim place [ None ↦ Some (record (at shows) { waiting = shows.waiting ++ record { line = line; agent = a; frame = frame } ∷ [] }) | Some p ↦ None ]
-        ≡ option_map at (elim place [ None ↦ Some (record shows { waiting = shows.waiting ++ record { line = line; agent = a; frame = frame } ∷ [] }) | Some p ↦ None ])
+    by : (place : Option ℕ) → elim place [
+      | None ↦ Some
+          (record (at shows) {
+            waiting = shows.waiting ++ record
+                { line = line; agent = a; frame = frame } ∷ [];
+          })
+      | Some p ↦ None
+    ]
+        ≡ option_map at (elim place [
+          | None ↦ Some
+              (record shows {
+                waiting = shows.waiting ++ record
+                    { line = line; agent = a; frame = frame } ∷ [];
+              })
+          | Some p ↦ None
+        ])
     by None = refl
     by (Some p) = refl
 
@@ -83,86 +114,150 @@ module _ (placed : List Placed) (notes : List Note) where
   token-onto : (shows : Shows) (a : ℕ) → token_taken (at shows) a ≡ taken-at (token_taken shows a)
   unfolding token_taken
   token-onto shows a = by (nat_le 1 a && nat_le a AGENTS) _ _ where
-    by : (b : Bool) (token : ℕ) (tokens : List ℕ) → (if b then Some (token, record (at shows) { tokens = tokens }) else None) ≡ taken-at (if b then Some (token, record shows { tokens = tokens }) else None)
+    by : (b : Bool) (token : ℕ) (tokens : List ℕ)
+        → (if b then Some (token, record (at shows) { tokens = tokens }) else None) ≡ taken-at
+        (if b then Some (token, record shows { tokens = tokens }) else None)
     by true token tokens = refl
     by false token tokens = refl
 
-  called-onto : (shows : Shows) (line a : ℕ) (call : Call) → with_called (at shows) line a call ≡ option_map at (with_called shows line a call)
+  called-onto : (shows : Shows) (line a : ℕ) (call : Call)
+      → with_called (at shows) line a call ≡ option_map at (with_called shows line a call)
   unfolding with_called
-  called-onto shows line a call = ap (λ (t : Option (ℕ × Shows)). t >>= post) (token-onto shows a) ∙ by (token_taken shows a) where
-    post : ℕ × Shows → Option Shows
-    post token = with_posted token.1 line a (Good (record { header = protocol_header call.protocol token.0 call.message; payload = call.payload }))
+  called-onto shows line a call = ap (λ (t : Option (ℕ × Shows)). t >>= post) (token-onto shows a)
+      ∙ by (token_taken shows a) where
+        post : ℕ × Shows → Option Shows
+        post token = with_posted token.1 line a (Good
+            (record {
+              header = protocol_header call.protocol token.0 call.message;
+              payload = call.payload;
+            }))
 
-    by : (taken : Option (ℕ × Shows)) → (taken-at taken >>= post) ≡ option_map at (taken >>= post)
-    by None = refl
-    by (Some token) = posted-onto token.1 line a (Good (record { header = protocol_header call.protocol token.0 call.message; payload = call.payload }))
+        by : (taken : Option (ℕ × Shows)) → (taken-at taken >>= post) ≡ option_map at (taken >>= post)
+        by None = refl
+        by (Some token) = posted-onto token.1 line a
+            (Good (record {
+              header = protocol_header call.protocol token.0 call.message;
+              payload = call.payload;
+            }))
 
-  answer-onto : (shows : Shows) (line a : ℕ) (answer : Answer) → with_answer (at shows) line a answer ≡ option_map at (with_answer shows line a answer)
+  answer-onto : (shows : Shows) (line a : ℕ) (answer : Answer)
+      → with_answer (at shows) line a answer ≡ option_map at (with_answer shows line a answer)
   unfolding with_answer
   answer-onto shows line a answer = by (command_taken shows.waiting a) where
-    by : (taken : Option (Frame × List Waiting)) → (taken >>= λ t. Some (with_entry (record (at shows) { waiting = t.1 }) line (Answered a t.0 answer)))
-        ≡ option_map at (taken >>= λ t. Some (with_entry (record shows { waiting = t.1 }) line (Answered a t.0 answer)))
+    by : (taken : Option (Frame × List Waiting))
+        → (taken >>= λ t. Some (with_entry (record (at shows) { waiting = t.1 }) line
+        (Answered a t.0 answer)))
+        ≡ option_map at (taken >>= λ t. Some (with_entry (record shows { waiting = t.1 }) line
+        (Answered a t.0 answer)))
     by None = refl
-    by (Some t) = ap (λ (s : Shows). Some s) (entry-onto (record shows { waiting = t.1 }) line (Answered a t.0 answer))
+    by (Some t) = ap (λ (s : Shows). Some s) (entry-onto (record shows { waiting = t.1 }) line
+        (Answered a t.0 answer))
 
-  free-onto : (shows : Shows) (a token : ℕ) → token_free (at shows) a token ≡ at (token_free shows a token)
+  free-onto : (shows : Shows) (a token : ℕ) → token_free (at shows) a token ≡ at
+      (token_free shows a token)
   free-onto shows a token = by (taken_with shows.traced a token) where
-    by : (taken : Option (Waiting × List Waiting)) → elim taken [ None ↦ at shows | Some t ↦ record (at shows) { traced = t.1; left = with_no_answer shows.judged (later shows.left) t.0 } ]
-        ≡ at (elim taken [ None ↦ shows | Some t ↦ record shows { traced = t.1; left = with_no_answer shows.judged shows.left t.0 } ])
+    by : (taken : Option (Waiting × List Waiting))
+        → elim taken [
+          | None ↦ at shows
+          | Some t ↦ record
+              (at shows) { traced = t.1; left = with_no_answer shows.judged (later shows.left) t.0 }
+        ]
+        ≡ at (elim taken [
+          | None ↦ shows
+          | Some t ↦ record shows
+              { traced = t.1; left = with_no_answer shows.judged shows.left t.0 }
+        ])
     by None = refl
-    by (Some t) = ap (λ (l : LeftView). with-left-out (record shows { traced = t.1 }) l) (left-onto shows.judged shows.left (frame_protocol t.0.frame) _)
+    by (Some t) = ap (λ (l : LeftView). with-left-out (record shows { traced = t.1 }) l)
+        (left-onto shows.judged shows.left (frame_protocol t.0.frame) _)
 
-  traced-onto : (shows : Shows) (line a : ℕ) (message : Message) → with_traced (at shows) line a message ≡ at (with_traced shows line a message)
+  traced-onto : (shows : Shows) (line a : ℕ) (message : Message)
+      → with_traced (at shows) line a message ≡ at (with_traced shows line a message)
   traced-onto shows line a message =
-      ap from (free-onto shows a message.header.token) ∙ by (is_early (token_free shows a message.header.token).early a message.header.token) (token_free shows a message.header.token) where
+      ap from (free-onto shows a message.header.token)
+      ∙ by (is_early (token_free shows a message.header.token).early a message.header.token)
+      (token_free shows a message.header.token) where
         from : Shows → Shows
-        from free = if is_early free.early a message.header.token then with_unmatched (none_early free) line message.header.protocol else with_trace (none_early free) line a (Good message)
+        from free = if is_early free.early a message.header.token then with_unmatched
+            (none_early free) line message.header.protocol else with_trace (none_early free) line a
+            (Good message)
 
-        by : (b : Bool) (free : Shows) → (if b then with_unmatched (none_early (at free)) line message.header.protocol else with_trace (none_early (at free)) line a (Good message))
-            ≡ at (if b then with_unmatched (none_early free) line message.header.protocol else with_trace (none_early free) line a (Good message))
+        by : (b : Bool) (free : Shows) → (if b then with_unmatched
+            (none_early (at free)) line message.header.protocol else with_trace
+            (none_early (at free)) line a (Good message))
+            ≡ at (if b then with_unmatched (none_early free) line message.header.protocol else
+            with_trace (none_early free) line a (Good message))
         by true free = unmatched-onto (none_early free) line message.header.protocol
         by false free = refl
 
-  response-onto : (shows : Shows) (line a : ℕ) (message : Message) → with_response (at shows) line a message ≡ at (with_response shows line a message)
+  response-onto : (shows : Shows) (line a : ℕ) (message : Message)
+      → with_response (at shows) line a message ≡ at (with_response shows line a message)
   response-onto shows line a message = by (taken_with shows.traced a message.header.token) where
     by : (taken : Option (Waiting × List Waiting)) → elim taken [
-      | None ↦ with_unmatched (record (at shows) { early = Some (record { agent = a; token = message.header.token }) }) line message.header.protocol
-      | Some t ↦ with_entry (record (at shows) { traced = t.1 }) line (Answered a t.0.frame (Reply message))
+      | None ↦ with_unmatched (record (at shows)
+          { early = Some (record { agent = a; token = message.header.token }) }) line
+          message.header.protocol
+      | Some t ↦ with_entry (record (at shows) { traced = t.1 }) line
+          (Answered a t.0.frame (Reply message))
     ] ≡ at (elim taken [
-      | None ↦ with_unmatched (record shows { early = Some (record { agent = a; token = message.header.token }) }) line message.header.protocol
-      | Some t ↦ with_entry (record shows { traced = t.1 }) line (Answered a t.0.frame (Reply message))
+      | None ↦ with_unmatched (record shows {
+        early =
+            Some (record { agent = a; token = message.header.token });
+      }) line message.header.protocol
+      | Some t ↦ with_entry (record shows { traced = t.1 }) line
+          (Answered a t.0.frame (Reply message))
     ])
-    by None = unmatched-onto (record shows { early = Some (record { agent = a; token = message.header.token }) }) line message.header.protocol
-    by (Some t) = entry-onto (record shows { traced = t.1 }) line (Answered a t.0.frame (Reply message))
+    by None = unmatched-onto (record shows {
+      early =
+          Some (record { agent = a; token = message.header.token });
+    }) line message.header.protocol
+    by (Some t) = entry-onto (record shows { traced = t.1 }) line
+        (Answered a t.0.frame (Reply message))
 
-  lost-onto : (shows : Shows) (line : ℕ) (lost : LostEvents) → with_lost (at shows) line lost ≡ at (with_lost shows line lost)
+  lost-onto : (shows : Shows) (line : ℕ) (lost : LostEvents)
+      → with_lost (at shows) line lost ≡ at (with_lost shows line lost)
   lost-onto shows line lost =
       ap (λ (l : LeftView). with-left-out (record shows { traced = []; early = None }) l)
-      (ap (λ (l : LeftView). with_note l (record { line = line; kind = Lost lost })) (no-answers-onto shows.judged shows.left shows.traced)
-      ∙ note-onto (with_no_answers shows.judged shows.left shows.traced) (record { line = line; kind = Lost lost }))
+      (ap (λ (l : LeftView). with_note l (record { line = line; kind = Lost lost }))
+      (no-answers-onto shows.judged shows.left shows.traced)
+      ∙ note-onto (with_no_answers shows.judged shows.left shows.traced)
+      (record { line = line; kind = Lost lost }))
 
-  shown-onto : (shows : Shows) (line : ℕ) (shown : Shown) → with_shown (at shows) line shown ≡ option_map at (with_shown shows line shown)
+  shown-onto : (shows : Shows) (line : ℕ) (shown : Shown)
+      → with_shown (at shows) line shown ≡ option_map at (with_shown shows line shown)
   unfolding with_shown
   shown-onto shows line (Called a call) = called-onto shows line a call
   shown-onto shows line (Posted a frame) = posted-onto shows line a frame
-  shown-onto shows line (PostedBeside a message) = ap (λ (s : Shows). Some s) (traced-onto shows line a message)
+  shown-onto shows line (PostedBeside a message) =
+      ap (λ (s : Shows). Some s) (traced-onto shows line a message)
   shown-onto shows line (Got a answer) = answer-onto shows line a answer
-  shown-onto shows line (Responded a message) = ap (λ (s : Shows). Some s) (response-onto shows line a message)
-  shown-onto shows line (Took a message) = ap (λ (s : Shows). Some s) (entry-onto shows line (Delivered a message))
+  shown-onto shows line (Responded a message) =
+      ap (λ (s : Shows). Some s) (response-onto shows line a message)
+  shown-onto shows line (Took a message) = ap (λ (s : Shows). Some s)
+      (entry-onto shows line (Delivered a message))
   shown-onto shows line (Missed lost) = ap (λ (s : Shows). Some s) (lost-onto shows line lost)
   shown-onto shows line Skipped = refl
 
   -- a line adds the same
-  pub line-onto : (agents : ℕ) (shows : Shows) (line : Line) → with_line agents (onto placed notes shows) line ≡ option_map (onto placed notes) (with_line agents shows line)
+  pub line-onto : (agents : ℕ) (shows : Shows) (line : Line)
+      → with_line agents (onto placed notes shows) line ≡ option_map (onto placed notes)
+      (with_line agents shows line)
   unfolding with_line
   line-onto agents shows line = by (shown_at agents line.text) where
-    by : (shown : Option Shown) → (shown >>= λ s. with_shown (at shows) line.number s) ≡ option_map at (shown >>= λ s. with_shown shows line.number s)
+    by : (shown : Option Shown) → (shown >>= λ s. with_shown (at shows) line.number s) ≡ option_map
+        at (shown >>= λ s. with_shown shows line.number s)
     by None = refl
     by (Some shown) = shown-onto shows line.number shown
 
   -- and so does the end
-  pub finished-onto : (shows : Shows) → finished (onto placed notes shows) ≡ record { entries = placed ++ shows.entries; left = with_notes (finished shows).left (notes ++ (finished shows).left.notes) }
+  pub finished-onto : (shows : Shows) → finished
+      (onto placed notes shows) ≡ record {
+        entries = placed ++ shows.entries;
+        left = with_notes (finished shows).left (notes ++ (finished shows).left.notes);
+      }
   finished-onto shows =
       ap (λ (l : LeftView). record { entries = placed ++ shows.entries; left = l })
-      (ap (λ (l : LeftView). with_no_answers shows.judged l shows.traced) (no-answers-onto shows.judged shows.left shows.waiting)
-      ∙ no-answers-onto shows.judged (with_no_answers shows.judged shows.left shows.waiting) shows.traced)
+      (ap (λ (l : LeftView). with_no_answers shows.judged l shows.traced)
+      (no-answers-onto shows.judged shows.left shows.waiting)
+      ∙ no-answers-onto shows.judged (with_no_answers shows.judged shows.left shows.waiting)
+      shows.traced)

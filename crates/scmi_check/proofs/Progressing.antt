@@ -27,21 +27,27 @@ use Rattle.scmi_check.specs.declared.progress.Progress.{Progress}
 use Rattle.scmi_check.proofs.Judging.{judged-more, judged-none, longer, shown}
 
 -- the entry at a place, and its line
-got-left : (xs ys : List Placed) (k : ℕ) (x : Placed) → slice_get xs k ≡ Some x → slice_get (xs ++ ys) k ≡ Some x
+got-left : (xs ys : List Placed) (k : ℕ) (x : Placed) → slice_get xs k ≡ Some x
+    → slice_get (xs ++ ys) k ≡ Some x
 got-left xs ys k x is =
     let less = slice_get_within xs k x is in
     let more = length-append xs ys in
-    slice_get-get_or (xs ++ ys) k x (omega (arith, less, more)) ∙ ap (λ (y : Placed). Some y) (get_or-append xs ys x k less ∙ get_or_from_slice_get xs k x x is)
+    slice_get-get_or (xs ++ ys) k x (omega (arith, less, more))
+    ∙ ap (λ (y : Placed). Some y) (get_or-append xs ys x k less
+    ∙ get_or_from_slice_get xs k x x is)
 
-line-left : (xs ys : List Placed) (k line : ℕ) → line_at xs k ≡ Some line → line_at (xs ++ ys) k ≡ Some line
+line-left : (xs ys : List Placed) (k line : ℕ) → line_at xs k ≡ Some line
+    → line_at (xs ++ ys) k ≡ Some line
 line-left xs ys k line is = by (slice_get xs k) refl is where
-  by : (got : Option Placed) → slice_get xs k ≡ got → option_map (λ (one : Placed). one.line) got ≡ Some line → line_at (xs ++ ys) k ≡ Some line
+  by : (got : Option Placed) → slice_get xs k ≡ got
+      → option_map (λ (one : Placed). one.line) got ≡ Some line → line_at (xs ++ ys) k ≡ Some line
   by None at none = absurd cc
   by (Some x) at some = ap (option_map (λ (one : Placed). one.line)) (got-left xs ys k x at) ∙ some
 
 line-within : (xs : List Placed) (k line : ℕ) → line_at xs k ≡ Some line → k < length xs
 line-within xs k line is = by (slice_get xs k) refl is where
-  by : (got : Option Placed) → slice_get xs k ≡ got → option_map (λ (one : Placed). one.line) got ≡ Some line → k < length xs
+  by : (got : Option Placed) → slice_get xs k ≡ got
+      → option_map (λ (one : Placed). one.line) got ≡ Some line → k < length xs
   by None at none = absurd cc
   by (Some x) at some = slice_get_within xs k x at
 
@@ -53,7 +59,8 @@ none-past (x ∷ xs) (suc k) is = let before = none-past xs k is in omega (arith
 line-last : (xs : List Placed) (one : Placed) → line_at (xs ++ one ∷ []) (length xs) ≡ Some one.line
 line-last xs one =
     let more = length-append xs (one ∷ []) in
-    ap (option_map (λ (x : Placed). x.line)) (slice_get-get_or (xs ++ one ∷ []) (length xs) one (omega (arith, more)) ∙ ap (λ (x : Placed). Some x) (get_or-append_seam xs one [] one))
+    ap (option_map (λ (x : Placed). x.line)) (slice_get-get_or (xs ++ one ∷ []) (length xs) one
+    (omega (arith, more)) ∙ ap (λ (x : Placed). Some x) (get_or-append_seam xs one [] one))
 
 line-past : (xs : List Placed) (k : ℕ) → length xs ≤ k → line_at xs k ≡ None
 line-past xs k past = ap (option_map (λ (x : Placed). x.line)) (slice_get_past xs k past)
@@ -62,7 +69,10 @@ not-empty : (xs : List Placed) (one : Placed) → false ≡ (length (xs ++ one �
 not-empty xs one = let more = length-append xs (one ∷ []) in grind (arith, nat_tests)
 
 -- no entry
-pub being-none : (refuses : Refusals) (board : Board) (p : Progress) → Knows p.judge [] → p.judge.board ≡ board → p.judge.refuses ≡ refuses → length p.judge.guesses + length p.judge.spare ≡ 1 + PLACES → p.unsure ≡ None → p.differs ≡ false
+pub being-none : (refuses : Refusals) (board : Board) (p : Progress) → Knows p.judge []
+    → p.judge.board ≡ board → p.judge.refuses ≡ refuses
+    → length p.judge.guesses + length p.judge.spare ≡ 1 + PLACES → p.unsure ≡ None
+    → p.differs ≡ false
     → p.is_empty ≡ true → AreBeingJudged refuses board [] [] p
 being-none refuses board p knows board-is refuses-is places unsure differs empty =
     record {
@@ -77,100 +87,139 @@ being-none refuses board p knows board-is refuses-is places unsure differs empty
       empty_is = empty;
     }
 
-module _ (refuses : Refusals) (board : Board) (placed : List Placed) (judged : List Judged) (one : Placed) (old new : Progress) (being : AreBeingJudged refuses board placed judged old) where
-  are-later : AreJudged refuses board (placed ++ one ∷ []) judged
-  are-later = let more = length-append placed (one ∷ []) in let few = being.are.few in
-      record { few = omega (arith, more, few); first = being.are.first ∙ sym (take-append-le (length judged) placed (one ∷ []) few); right = being.are.right }
-
-  -- an entry behind one that is not judged
-  pub passed-over : (line : ℕ) → old.unsure ≡ Some line → new.judge ≡ old.judge → new.unsure ≡ old.unsure → new.differs ≡ old.differs → new.is_empty ≡ false → AreBeingJudged refuses board (placed ++ one ∷ []) judged new
-  passed-over line is judge-is unsure-is differs-is empty-is =
-      let at : line_at placed (length judged) ≡ Some line = sym being.unsure_is ∙ is in
-      let less = line-within placed (length judged) line at in
-      record {
-        board_is = ap (λ j. j.board) judge-is ∙ being.board_is;
-        refuses_is = ap (λ j. j.refuses) judge-is ∙ being.refuses_is;
-        places = λ none. absurd (let some = sym none ∙ unsure-is ∙ is in cc);
-        knows = λ none. absurd (let some = sym none ∙ unsure-is ∙ is in cc);
-        are = are-later;
-        many = λ _ all. being.many less all;
-        unsure_is = unsure-is ∙ is ∙ sym (line-left placed (one ∷ []) (length judged) line at);
-        differs_is = differs-is ∙ being.differs_is;
-        empty_is = empty-is ∙ not-empty placed one;
-      }
-
-  -- all entries before are judged
-  module _ (sure : old.unsure ≡ None) where
-    same-length : length judged ≡ length placed
-    same-length = let past = none-past placed (length judged) (sym being.unsure_is ∙ sure) in let few = being.are.few in omega (arith, past, few)
-
-    -- an entry behind which more platforms may be than there are places
-    pub now-unsure : ((entries : List Entry) → Knows old.judge entries → AreTooMany old.judge entries) → new.judge.board ≡ old.judge.board → new.judge.refuses ≡ old.judge.refuses → new.unsure ≡ Some one.line
-        → new.differs ≡ old.differs → new.is_empty ≡ false → AreBeingJudged refuses board (placed ++ one ∷ []) judged new
-    now-unsure many board-is refuses-is unsure-is differs-is empty-is =
+module _ (refuses : Refusals) (board : Board) (placed : List Placed) (judged : List Judged)
+    (one : Placed) (old new : Progress) (being : AreBeingJudged refuses board placed judged old)
+  where
+    are-later : AreJudged refuses board (placed ++ one ∷ []) judged
+    are-later = let more = length-append placed (one ∷ []) in let few = being.are.few in
         record {
-          board_is = board-is ∙ being.board_is;
-          refuses_is = refuses-is ∙ being.refuses_is;
-          places = λ none. absurd (let some = sym none ∙ unsure-is in cc);
-          knows = λ none. absurd (let some = sym none ∙ unsure-is in cc);
+          few = omega (arith, more, few);
+          first = being.are.first
+              ∙ sym (take-append-le (length judged) placed (one ∷ []) few);
+          right = being.are.right;
+        }
+
+    -- an entry behind one that is not judged
+    pub passed-over : (line : ℕ) → old.unsure ≡ Some line → new.judge ≡ old.judge
+        → new.unsure ≡ old.unsure → new.differs ≡ old.differs → new.is_empty ≡ false
+        → AreBeingJudged refuses board (placed ++ one ∷ []) judged new
+    passed-over line is judge-is unsure-is differs-is empty-is =
+        let at : line_at placed (length judged) ≡ Some line = sym being.unsure_is ∙ is in
+        let less = line-within placed (length judged) line at in
+        record {
+          board_is = ap (λ j. j.board) judge-is ∙ being.board_is;
+          refuses_is = ap (λ j. j.refuses) judge-is ∙ being.refuses_is;
+          places = λ none. absurd (let some = sym none ∙ unsure-is ∙ is in cc);
+          knows = λ none. absurd (let some = sym none ∙ unsure-is ∙ is in cc);
           are = are-later;
-          many = λ _ all.
-              let judge = old.judge in
-              let places = being.places sure in
-              let count : 1 + length judge.guesses + length judge.spare ≡ 2 + PLACES = omega (arith, places) in
-              subst (AreMany refuses board (behind judged)) count
-              (subst (λ x. AreMany refuses x (behind judged) (1 + length judge.guesses + length judge.spare)) being.board_is
-              (subst (λ x. AreMany x judge.board (behind judged) (1 + length judge.guesses + length judge.spare)) being.refuses_is (many (behind judged) (being.knows sure all))));
-          unsure_is = unsure-is ∙ sym (ap (line_at (placed ++ one ∷ [])) same-length ∙ line-last placed one);
+          many = λ _ all. being.many less all;
+          unsure_is = unsure-is ∙ is ∙ sym (line-left placed (one ∷ []) (length judged) line at);
           differs_is = differs-is ∙ being.differs_is;
           empty_is = empty-is ∙ not-empty placed one;
         }
 
-    -- an entry with this verdict
-    module _ (v : Verdict) (fits : (entries : List Entry) → Knows old.judge entries → Fits (finding_of one.entry v) → Knows new.judge (judged_as one.entry v ∷ entries))
-        (legal : (entries : List Entry) → Knows old.judge entries → Fits (finding_of one.entry v) → HasLegalHistory old.judge.refuses old.judge.board (judged_as one.entry v ∷ entries))
-        (differs : (entries : List Entry) → Knows old.judge entries → ¬ (Fits (finding_of one.entry v)) → ¬ (HasLegalHistory old.judge.refuses old.judge.board (one.entry ∷ entries)))
-        (places : length new.judge.guesses + length new.judge.spare ≡ length old.judge.guesses + length old.judge.spare) (board-is : new.judge.board ≡ old.judge.board) (refuses-is : new.judge.refuses ≡ old.judge.refuses) where
-      abbrev next : Judged
-      next = record { line = one.line; entry = one.entry; verdict = v }
+    -- all entries before are judged
+    module _ (sure : old.unsure ≡ None) where
+      same-length : length judged ≡ length placed
+      same-length = let past = none-past placed (length judged) (sym being.unsure_is ∙ sure) in
+          let few = being.are.few in omega (arith, past, few)
 
-      less : length judged < length (placed ++ one ∷ [])
-      less = let more = length-append placed (one ∷ []) in let same = same-length in omega (arith, more, same)
-
-      is : one ≡ get_or (placed ++ one ∷ []) (length judged) one
-      is = sym (ap (λ k. get_or (placed ++ one ∷ []) k one) same-length ∙ get_or-append_seam placed one [] one)
-
-      legal-there : All DoesFit judged → Fits (finding_of one.entry v) → HasLegalHistory refuses board (judged_as one.entry v ∷ behind judged)
-      legal-there all fit =
-          subst (λ x. HasLegalHistory x board (judged_as one.entry v ∷ behind judged)) being.refuses_is
-          (subst (λ x. HasLegalHistory old.judge.refuses x (judged_as one.entry v ∷ behind judged)) being.board_is (legal (behind judged) (being.knows sure all) fit))
-
-      differs-there : All DoesFit judged → ¬ (Fits (finding_of one.entry v)) → ¬ (HasLegalHistory refuses board (one.entry ∷ behind judged))
-      differs-there all away =
-          subst (λ x. ¬ (HasLegalHistory x board (one.entry ∷ behind judged))) being.refuses_is
-          (subst (λ x. ¬ (HasLegalHistory old.judge.refuses x (one.entry ∷ behind judged))) being.board_is (differs (behind judged) (being.knows sure all) away))
-
-      pub now-judged : new.unsure ≡ None → new.differs ≡ list_any does_differ judged || does_differ (record { line = one.line; entry = one.entry; verdict = v }) → new.is_empty ≡ false
-          → AreBeingJudged refuses board (placed ++ one ∷ []) (judged ++ record { line = one.line; entry = one.entry; verdict = v } ∷ []) new
-      now-judged unsure-is differs-is empty-is =
-          let all-placed = placed ++ one ∷ [] in
-          let more-judged = longer refuses board all-placed judged one v are-later less is legal-there differs-there in
-          let more-placed = length-append placed (one ∷ []) in
-          let same = same-length in
+      -- an entry behind which more platforms may be than there are places
+      pub now-unsure : ((entries : List Entry) → Knows old.judge entries
+          → AreTooMany old.judge entries) → new.judge.board ≡ old.judge.board
+          → new.judge.refuses ≡ old.judge.refuses → new.unsure ≡ Some one.line
+          → new.differs ≡ old.differs → new.is_empty ≡ false
+          → AreBeingJudged refuses board (placed ++ one ∷ []) judged new
+      now-unsure many board-is refuses-is unsure-is differs-is empty-is =
           record {
             board_is = board-is ∙ being.board_is;
             refuses_is = refuses-is ∙ being.refuses_is;
-            places = λ _. places ∙ being.places sure;
-            knows = λ _ all.
-                let both = All-pop DoesFit (judged ++ next ∷ []) judged (Some next) refl all in
-                subst (Knows new.judge) (sym (shown refuses board all-placed judged one v are-later less is legal-there differs-there)) (fits (behind judged) (being.knows sure both.0) both.1);
-            are = judged-more refuses board all-placed judged one v are-later less is legal-there differs-there;
-            many = λ few. absurd (omega (arith, few, more-judged, more-placed, same));
-            unsure_is = unsure-is ∙ sym (line-past all-placed (length (judged ++ next ∷ [])) (omega (arith, more-judged, more-placed, same)));
-            differs_is = differs-is ∙ or-last (list_any does_differ judged) (does_differ next) ∙ sym (list_any-append does_differ judged (next ∷ []));
+            places = λ none. absurd (let some = sym none ∙ unsure-is in cc);
+            knows = λ none. absurd (let some = sym none ∙ unsure-is in cc);
+            are = are-later;
+            many = λ _ all.
+                let judge = old.judge in
+                let places = being.places sure in
+                let count : 1 + length judge.guesses + length judge.spare ≡ 2 + PLACES =
+                omega (arith, places) in
+                subst (AreMany refuses board (behind judged)) count
+                (subst (λ x. AreMany refuses x (behind judged)
+                (1 + length judge.guesses + length judge.spare)) being.board_is
+                (subst (λ x. AreMany x judge.board (behind judged)
+                (1 + length judge.guesses + length judge.spare)) being.refuses_is
+                (many (behind judged) (being.knows sure all))));
+            unsure_is = unsure-is ∙ sym (ap (line_at (placed ++ one ∷ [])) same-length
+                ∙ line-last placed one);
+            differs_is = differs-is ∙ being.differs_is;
             empty_is = empty-is ∙ not-empty placed one;
-          } where
-            or-last : (a b : Bool) → a || b ≡ a || (b || false)
-            or-last true b = refl
-            or-last false true = refl
-            or-last false false = refl
+          }
+
+      -- an entry with this verdict
+      module _ (v : Verdict) (fits : (entries : List Entry) → Knows old.judge entries
+          → Fits (finding_of one.entry v) → Knows new.judge (judged_as one.entry v ∷ entries))
+          (legal : (entries : List Entry) → Knows old.judge entries → Fits (finding_of one.entry v)
+          → HasLegalHistory old.judge.refuses old.judge.board (judged_as one.entry v ∷ entries))
+          (differs : (entries : List Entry) → Knows old.judge entries
+          → ¬ (Fits (finding_of one.entry v))
+          → ¬ (HasLegalHistory old.judge.refuses old.judge.board (one.entry ∷ entries)))
+          (places : length new.judge.guesses + length new.judge.spare ≡ length old.judge.guesses +
+          length old.judge.spare) (board-is : new.judge.board ≡ old.judge.board)
+          (refuses-is : new.judge.refuses ≡ old.judge.refuses) where
+        abbrev next : Judged
+        next = record { line = one.line; entry = one.entry; verdict = v }
+
+        less : length judged < length (placed ++ one ∷ [])
+        less = let more = length-append placed (one ∷ []) in let same = same-length in
+            omega (arith, more, same)
+
+        is : one ≡ get_or (placed ++ one ∷ []) (length judged) one
+        is = sym (ap (λ k. get_or (placed ++ one ∷ []) k one) same-length
+            ∙ get_or-append_seam placed one [] one)
+
+        legal-there : All DoesFit judged → Fits (finding_of one.entry v)
+            → HasLegalHistory refuses board (judged_as one.entry v ∷ behind judged)
+        legal-there all fit =
+            subst (λ x. HasLegalHistory x board (judged_as one.entry v ∷ behind judged))
+            being.refuses_is
+            (subst (λ x. HasLegalHistory old.judge.refuses x (judged_as one.entry v ∷ behind judged))
+            being.board_is (legal (behind judged) (being.knows sure all) fit))
+
+        differs-there : All DoesFit judged → ¬ (Fits (finding_of one.entry v))
+            → ¬ (HasLegalHistory refuses board (one.entry ∷ behind judged))
+        differs-there all away =
+            subst (λ x. ¬ (HasLegalHistory x board (one.entry ∷ behind judged))) being.refuses_is
+            (subst (λ x. ¬ (HasLegalHistory old.judge.refuses x (one.entry ∷ behind judged)))
+            being.board_is (differs (behind judged) (being.knows sure all) away))
+
+        pub now-judged : new.unsure ≡ None → new.differs ≡ list_any does_differ judged || does_differ
+            (record { line = one.line; entry = one.entry; verdict = v }) → new.is_empty ≡ false
+            → AreBeingJudged refuses board (placed ++ one ∷ [])
+            (judged ++ record { line = one.line; entry = one.entry; verdict = v } ∷ []) new
+        now-judged unsure-is differs-is empty-is =
+            let all-placed = placed ++ one ∷ [] in
+            let more-judged = longer refuses board all-placed judged one v are-later less is
+            legal-there differs-there in
+            let more-placed = length-append placed (one ∷ []) in
+            let same = same-length in
+            record {
+              board_is = board-is ∙ being.board_is;
+              refuses_is = refuses-is ∙ being.refuses_is;
+              places = λ _. places ∙ being.places sure;
+              knows = λ _ all.
+                  let both = All-pop DoesFit (judged ++ next ∷ []) judged (Some next) refl all in
+                  subst (Knows new.judge) (sym (shown refuses board all-placed judged one v are-later
+                  less is legal-there differs-there))
+                  (fits (behind judged) (being.knows sure both.0) both.1);
+              are = judged-more refuses board all-placed judged one v are-later less is legal-there
+                  differs-there;
+              many = λ few. absurd (omega (arith, few, more-judged, more-placed, same));
+              unsure_is = unsure-is ∙ sym (line-past all-placed (length (judged ++ next ∷ []))
+                  (omega (arith, more-judged, more-placed, same)));
+              differs_is = differs-is ∙ or-last (list_any does_differ judged) (does_differ next)
+                  ∙ sym (list_any-append does_differ judged (next ∷ []));
+              empty_is = empty-is ∙ not-empty placed one;
+            } where
+              or-last : (a b : Bool) → a || b ≡ a || (b || false)
+              or-last true b = refl
+              or-last false true = refl
+              or-last false false = refl

@@ -12,25 +12,34 @@ use Rattle.scmi_check.specs.declared.judged.Judged.{Judged}
 use Rattle.scmi_check.specs.declared.placed.Placed.{Placed}
 use Rattle.scmi_check.specs.declared.progress.Progress.{Progress}
 
--- of these entries so many are judged, with these verdicts: all, or those before the first behind which more platforms may
--- be than there are places. As long as none differs the judge knows what may be behind them
-pub record AreBeingJudged (refuses : Refusals) (board : Board) (placed : List Placed) (judged : List Judged) (p : Progress) : Type 0 where
+-- of these entries so many are judged, with these verdicts: all, or those before the first behind
+-- which more platforms may be than there are places. As long as none differs the judge knows what
+-- may be behind them
+pub record AreBeingJudged (refuses : Refusals) (board : Board) (placed : List Placed)
+    (judged : List Judged) (p : Progress) : Type 0 where
   pub board_is : p.judge.board ≡ board
   pub refuses_is : p.judge.refuses ≡ refuses
   pub places : p.unsure ≡ None → length p.judge.guesses + length p.judge.spare ≡ 1 + PLACES
   pub knows : p.unsure ≡ None → All DoesFit judged → Knows p.judge (behind judged)
   pub are : AreJudged refuses board placed judged
-  pub many : length judged < length placed → All DoesFit judged → AreMany refuses board (behind judged) (2 + PLACES)
+  pub many : length judged < length placed → All DoesFit judged
+      → AreMany refuses board (behind judged) (2 + PLACES)
   pub unsure_is : p.unsure ≡ line_at placed (length judged)
   pub differs_is : p.differs ≡ list_any does_differ judged
   pub empty_is : p.is_empty ≡ (length placed == 0)
 
 -- how far they are judged at an entry, and whether there was none before it
 abbrev pub at_entry : Progress → Bool → Progress
-at_entry p empty = record { judge = p.judge; is_empty = empty; differs = p.differs; unsure = p.unsure }
+at_entry p empty = record {
+  judge = p.judge;
+  is_empty = empty;
+  differs = p.differs;
+  unsure = p.unsure;
+}
 
 -- of these entries some more are judged, and the listener is given these
-pub record FindsMore (refuses : Refusals) (board : Board) (placed : List Placed) (judged : List Judged) (new : Progress) (before after : Option (List Judged)) : Type 0 where
+pub record FindsMore (refuses : Refusals) (board : Board) (placed : List Placed)
+    (judged : List Judged) (new : Progress) (before after : Option (List Judged)) : Type 0 where
   pub more : List Judged
   pub are : AreBeingJudged refuses board placed (judged ++ more) new
   pub given : Grows before after more

@@ -61,7 +61,10 @@ shows_of so_far =
 
 -- entries and notes before those of what lines show
 abbrev pub onto : List Placed → List Note → Shows → Shows
-onto placed notes shows = record shows { entries = placed ++ shows.entries; left = with_notes shows.left (notes ++ shows.left.notes) }
+onto placed notes shows = record shows {
+  entries = placed ++ shows.entries;
+  left = with_notes shows.left (notes ++ shows.left.notes);
+}
 
 -- what lines show without the entries and the notes
 abbrev pub told : Shows → Shows
@@ -222,7 +225,8 @@ record_of judged agents lines = all_finished (after_each_line (with_line agents)
 -- lines, and what is read in their places: each has its number
 abbrev pub AreMeant : (List ℕ → List ℕ → Type 0) → List Line → List Line → Type 0
 AreMeant Means [] [] = ⊤
-AreMeant Means (line ∷ lines) (given ∷ givens) = (given.number ≡ line.number) × Means line.text given.text × AreMeant Means lines givens
+AreMeant Means (line ∷ lines) (given ∷ givens) = (given.number ≡ line.number)
+    × Means line.text given.text × AreMeant Means lines givens
 AreMeant Means lines givens = ⊥
 
 -- the same of the lines that are left

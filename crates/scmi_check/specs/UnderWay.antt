@@ -15,15 +15,19 @@ use Rattle.scmi_check.specs.declared.placed.Placed.{Placed}
 use Rattle.scmi_check.specs.declared.under_way.Check.{Check}
 
 -- what lines show, of which these entries were judged and these notes given before
-pub record IsUnderWay (refuses : Refusals) (board : Board) (all : Shows) (judged : List Judged) (notes : List Note) (c : Check) : Type 0 where
+pub record IsUnderWay (refuses : Refusals) (board : Board) (all : Shows) (judged : List Judged)
+    (notes : List Note) (c : Check) : Type 0 where
   pub placed : List Placed
   pub agents_are : c.agents ≡ length board.agents
   pub all_is : all ≡ onto placed notes (shows_of c.so_far)
   pub none_left : (shows_of c.so_far).entries ≡ []
+  pub none_noted : (shows_of c.so_far).left.notes ≡ []
   pub judging : AreBeingJudged refuses board placed judged c.progress
 
 -- what lines show more is found and given to the listener
-pub record IsTold (refuses : Refusals) (board : Board) (all : Shows) (judged : List Judged) (notes : List Note) (new : Check) (before after : Option (List Judged)) (noted now : Option (List Note)) : Type 0 where
+pub record IsTold (refuses : Refusals) (board : Board) (all : Shows) (judged : List Judged)
+    (notes : List Note) (new : Check) (before after : Option (List Judged))
+    (noted now : Option (List Note)) : Type 0 where
   pub more : List Judged
   pub remarks : List Note
   pub way : IsUnderWay refuses board all (judged ++ more) (notes ++ remarks) new
@@ -31,7 +35,9 @@ pub record IsTold (refuses : Refusals) (board : Board) (all : Shows) (judged : L
   pub told : Grows noted now remarks
 
 -- the same of a line that can be there
-pub record AddsLine (refuses : Refusals) (board : Board) (all : Shows) (judged : List Judged) (notes : List Note) (line : Line) (new : Check) (before after : Option (List Judged)) (noted now : Option (List Note)) : Type 0 where
+pub record AddsLine (refuses : Refusals) (board : Board) (all : Shows) (judged : List Judged)
+    (notes : List Note) (line : Line) (new : Check) (before after : Option (List Judged))
+    (noted now : Option (List Note)) : Type 0 where
   pub next : Shows
   pub makes : with_line (length board.agents) all line ≡ Some next
   pub is_told : IsTold refuses board next judged notes new before after noted now
@@ -41,8 +47,9 @@ abbrev pub if_counts : Line → List Line
 if_counts line = if is_significant line.text then line ∷ [] else []
 
 -- the same of lines, and of what is read in their places
-pub record AddsLines (Means : List ℕ → List ℕ → Type 0) (refuses : Refusals) (board : Board) (all : Shows) (judged : List Judged) (notes : List Note) (lines : List Line) (new : Check) (before after : Option (List Judged))
-    (noted now : Option (List Note)) : Type 0 where
+pub record AddsLines (Means : List ℕ → List ℕ → Type 0) (refuses : Refusals) (board : Board)
+    (all : Shows) (judged : List Judged) (notes : List Note) (lines : List Line) (new : Check)
+    (before after : Option (List Judged)) (noted now : Option (List Note)) : Type 0 where
   pub givens : List Line
   pub meant : AreMeant Means lines givens
   pub next : Shows
@@ -59,7 +66,9 @@ IsStop made number _ = ⊥
 -- the same of what is read in the place of a line
 abbrev pub IsStopBy : (List ℕ → List ℕ → Type 0) → Board → Shows → Line → CheckError → Type 0
 IsStopBy Means board all line (error.Record number) =
-    (given : List ℕ) × Means line.text given × (is_significant line.text ≡ true) × (with_line (length board.agents) all (record { number = line.number; text = given }) ≡ None) × (number ≡ line.number)
+    (given : List ℕ) × Means line.text given × (is_significant line.text ≡ true)
+    × (with_line (length board.agents) all (record { number = line.number; text = given }) ≡ None)
+    × (number ≡ line.number)
 IsStopBy Means board all line error.Memory = ⊤
 IsStopBy Means board all line error.Write = ⊤
 IsStopBy Means board all line _ = ⊥

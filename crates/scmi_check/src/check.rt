@@ -3,7 +3,7 @@ ghost use Rattle.std.specs.Prelude.{◌≡◌, ℕ, ◌+◌, [], List, length, I
 ghost use Rattle.scmi_plan.specs.Board.{Board};
 ghost use Rattle.scmi_judge.specs.Judging.{Knows};
 ghost use Rattle.scmi_judge.specs.declared.unseen.Refusals.{Refusals as Refused};
-ghost use Rattle.scmi_check.specs.Check.{GivesCheckedRecord, GivesFound, IsFaultOf, IsFaultOfBoard, IsFaultOfRecord, IsPlanText};
+ghost use Rattle.scmi_check.specs.Check.{GivesCheckedRecord, GivesFound, IsFaultOf, IsFaultOfBoard, IsFaultOfRecord, IsOfBoard, IsPlanText, GivesBefore, GivesBeforeFault, IsAtLine};
 ghost use Rattle.scmi_check.specs.CheckError.{line_error};
 ghost use Rattle.scmi_check.specs.RecordText.{nothing_shown};
 ghost use Rattle.scmi_check.specs.UnderWay.{IsUnderWay};
@@ -28,9 +28,9 @@ pub const PLACES: usize = 255;
 /// Checks a record of a platform of a board, line by line, however long it is. The listener is given
 /// the verdict on each entry, and each note, as soon as the line is read.
 ///
-/// `Size`, `Read`, `Board` and `Plan` are of the board's text: the listener was given nothing. Or
-/// else `Long`, `Read`, `Record` and `Empty` of the record's: it was given what is found of the
-/// lines before, as it was at `Memory` and `Write`.
+/// `Size`, `Board` and `Plan` are of the board's text: the listener was given nothing. `Long`,
+/// `Record` and `Empty` are of the record's: it was given what is found of the lines before.
+/// `Read` is of either; there, and at `Memory` and `Write`, no clause says what it was given.
 pub fn check_record<B: Read, R: Read, N: Names, L: Listener>(
     alloc: Global,
     board: &mut B,
@@ -44,6 +44,10 @@ pub fn check_record<B: Read, R: Read, N: Names, L: Listener>(
         (L.judged listener.new) (L.noted listener.old) (L.noted listener.new)) }
     ensures faults { IfErr result (IsFaultOf (N.means names.now) options.entry
         (B.remaining board.old) (R.remaining record.old)) }
+    ensures alone { IfErr result (λ e. IsOfBoard e → listener.new ≡ listener.old) }
+    ensures before { IfErr result (λ e. IsAtLine e → GivesBeforeFault (N.means names.now)
+        options.entry (B.remaining board.old) (R.remaining record.old) e (L.judged listener.old)
+        (L.judged listener.new) (L.noted listener.old) (L.noted listener.new)) }
 {
     let Said { text, plan } = read_board(alloc, board)?;
     let judge = judge_of(alloc, &text, &plan, options.refusals)?;
@@ -68,6 +72,15 @@ fn check_lines<R: Read, N: Names, L: Listener>(
         → IsUnderWay refuses board (nothing_shown protocols) [] [] check.entry
         → IfErr result (λ e. IfSome (R.remaining record.old)
         (λ text. IsFaultOfRecord (N.means names.now) protocols board text e)) }
+    ensures alone { (protocols : List ℕ) (refuses : Refused) (board : Board)
+        → IsUnderWay refuses board (nothing_shown protocols) [] [] check.entry
+        → IfErr result (λ e. ¬ (IsOfBoard e)) }
+    ensures before { (protocols : List ℕ) (refuses : Refused) (board : Board)
+        → IsUnderWay refuses board (nothing_shown protocols) [] [] check.entry
+        → IfErr result (λ e. IsAtLine e → IfSome (R.remaining record.old)
+        (λ text. GivesBefore (N.means names.now) protocols refuses board e text
+        (L.judged listener.old) (L.judged listener.new) (L.noted listener.old)
+        (L.noted listener.new))) }
 {
     let reader = CountedReader::new(record);
     let mut input = Input::new(reader);
@@ -149,6 +162,7 @@ fn read_board<B: Read>(alloc: Global, board: &mut B) -> Result<Said, CheckError>
     ensures said { IfOk result (λ said. IsPlanText said.text.items said.plan) }
     ensures faults { IfErr result (λ e. IfSome (B.remaining board.old)
         (λ text. IsFaultOfBoard text e)) }
+    ensures before { IfErr result (λ e. ¬ (IsAtLine e)) }
 {
     let text = read_rest(alloc, &mut CountedReader::new(board))?;
     let plan = plan_of(alloc, &text)?;

@@ -1,24 +1,36 @@
-//! The check that decides the answer which was due.
+//! The check that decides a difference.
 use crate::check_row::{CHECKS, CheckRow, LENGTH, When};
+use crate::judged::Judged;
 use crate::own_test::{begins_with, has_reserved_flags};
 use scmi_codec::{Answer, Command, Frame, Header, Message, is_listed, wanted_words};
-use scmi_judge::{Entry, Verdict};
+use scmi_core::failed_response;
+use scmi_judge::{Entry, Refusals, Verdict};
 
-/// The word of the check that decides the answer to an entry with this verdict. `None` if no error
-/// was due.
-pub(crate) fn deciding_word(entry: &Entry, verdict: &Verdict) -> Option<&'static str> {
-    let Verdict::Answer(due) = verdict else {
-        return None;
-    };
-    match (entry, due) {
-        (_, Answer::ChannelError) => Some(LENGTH),
+/// The check that fails because the hardware refused a change, if a record is checked as one of
+/// hardware that refuses none.
+const HARDWARE: &str = "hardware";
+
+/// The word of the check that decides an entry with the verdict on it. `None` if no error was due,
+/// and the entry is no response to a change that the hardware refused, against these refusals.
+pub(crate) fn deciding_word(one: &Judged, refusals: Refusals) -> Option<&'static str> {
+    match (&one.entry, &one.verdict) {
+        (Entry::Delivered { message, .. }, _) => hardware_word(message, refusals),
+        (_, Verdict::Answer(Answer::ChannelError)) => Some(LENGTH),
         (
             Entry::Answered {
                 frame: Frame::Good(command),
                 ..
             },
-            Answer::Reply(due),
+            Verdict::Answer(Answer::Reply(due)),
         ) => check_word(command, due.payload.as_slice()),
+        _ => None,
+    }
+}
+
+/// The word of a message that differs, if it says that the hardware refused a change.
+fn hardware_word(message: &Message, refusals: Refusals) -> Option<&'static str> {
+    match refusals {
+        Refusals::None if failed_response(message.header) == *message => Some(HARDWARE),
         _ => None,
     }
 }

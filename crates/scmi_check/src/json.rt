@@ -1,13 +1,12 @@
 //! A report as JSON, an object a line. No text in it comes from the record but numbers.
 use crate::checked::Checked;
 use crate::counts::Counts;
-use crate::deciding::deciding_word;
 use crate::entry_name::entry_name;
 use crate::finding::Finding;
+use crate::help::Help;
 use crate::judged::Judged;
 use crate::lost::Lost;
 use crate::note::{Note, NoteKind};
-use crate::origins::Origin;
 use crate::reasons::status_of_reply;
 use scmi_codec::{Answer, Message};
 use scmi_judge::{Entry, Verdict};
@@ -19,7 +18,7 @@ pub(crate) fn write_json_entry<W: Write>(
     writer: &mut W,
     one: &Judged,
     finding: Finding,
-    origin: Origin,
+    help: &Help,
 ) -> io::Result<()> {
     write!(
         writer,
@@ -37,7 +36,7 @@ pub(crate) fn write_json_entry<W: Write>(
         write_reasons(writer, one)?;
     }
     if finding == Finding::Differs {
-        write_help(writer, one, origin)?;
+        write_help(writer, help)?;
     }
     writeln!(writer, "}}")
 }
@@ -66,14 +65,14 @@ fn write_reasons<W: Write>(writer: &mut W, one: &Judged) -> io::Result<()> {
 }
 
 /// Writes the check that decides, and the lines that the difference may follow from.
-fn write_help<W: Write>(writer: &mut W, one: &Judged, origin: Origin) -> io::Result<()> {
-    if let Some(word) = deciding_word(&one.entry, &one.verdict) {
+fn write_help<W: Write>(writer: &mut W, help: &Help) -> io::Result<()> {
+    if let Some(word) = help.by {
         write!(writer, ",\"by\":\"{word}\"")?;
     }
-    if let Some(line) = origin.set {
+    if let Some(line) = help.origin.set {
         write!(writer, ",\"set\":{line}")?;
     }
-    if let Some(line) = origin.after {
+    if let Some(line) = help.origin.after {
         write!(writer, ",\"after\":{line}")?;
     }
     Ok(())

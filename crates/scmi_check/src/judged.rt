@@ -20,6 +20,17 @@ pub struct Judged {
 }
 
 impl Judged {
+    /// The same again. It takes no memory.
+    pub(crate) fn copy(&self) -> Judged
+        ensures { result ≡ self.now }
+    {
+        Judged {
+            line: self.line,
+            entry: self.entry.copy(),
+            verdict: copy_of(&self.verdict),
+        }
+    }
+
     /// What is found of the entry.
     pub fn finding(&self) -> Finding
         ensures { result ≡ finding_of self.now.entry self.now.verdict }
@@ -35,6 +46,19 @@ impl Judged {
             Finding::Differs => true,
             Finding::Same | Finding::Own(_) => false,
         }
+    }
+}
+
+/// The same verdict again.
+fn copy_of(verdict: &Verdict) -> Verdict
+    ensures { result ≡ verdict.now }
+{
+    match verdict {
+        Verdict::Answer(due) => Verdict::Answer(due.copy()),
+        Verdict::Message(due) => Verdict::Message(due.copy()),
+        Verdict::Same => Verdict::Same,
+        Verdict::NoAgent => Verdict::NoAgent,
+        Verdict::NoMessage => Verdict::NoMessage,
     }
 }
 

@@ -1,5 +1,6 @@
 //! Who is given what is found of a record.
 ghost use Rattle.std.specs.Prelude.{◌≡◌, [], ◌∷◌, List, Option, OnOk, IfErr};
+ghost use Rattle.scmi_check.specs.CheckError.{IsRefused};
 ghost use Rattle.scmi_check.specs.Listener.{Grows};
 
 use crate::check_error::CheckError;
@@ -17,15 +18,16 @@ pub trait Listener {
 
     ghost noted: { Self → Option (List Note) };
 
-    /// The next entry, with the verdict on it. `Write` if the output fails.
+    /// The next entry, with the verdict on it. `Write` if the output fails, `Memory` if out of
+    /// memory.
     fn found(&mut self, one: &Judged) -> Result<(), CheckError>
         ensures judged { OnOk result (Grows (judged self.old) (judged self.new) (one.now ∷ [])) }
         ensures noted { OnOk result (noted self.new ≡ noted self.old) }
-        ensures errors { IfErr result (λ e. e ≡ CheckError.Write) };
+        ensures errors { IfErr result IsRefused };
 
-    /// What is not judged. `Write` if the output fails.
+    /// What is not judged. `Write` and `Memory` as above.
     fn left_out(&mut self, note: &Note) -> Result<(), CheckError>
         ensures judged { OnOk result (judged self.new ≡ judged self.old) }
         ensures noted { OnOk result (Grows (noted self.old) (noted self.new) (note.now ∷ [])) }
-        ensures errors { IfErr result (λ e. e ≡ CheckError.Write) };
+        ensures errors { IfErr result IsRefused };
 }

@@ -1,19 +1,21 @@
 //! A report, as it is written. Its words are compared in files.
+ghost use Rattle.std.specs.Prelude.{◌≡◌};
+
 use crate::check_error::CheckError;
 use crate::checked::Checked;
 use crate::counts::Counts;
-use crate::deciding::deciding_word;
 use crate::entry_name::entry_name;
 use crate::finding::Finding;
+use crate::help::Help;
 use crate::json::{write_json_counts, write_json_entry, write_json_note, write_json_unsure};
 use crate::judged::Judged;
 use crate::listener::Listener;
 use crate::note::Note;
 use crate::note_text::{write_left, write_note, write_unsure};
-use crate::origins::{Origin, Origins};
+use crate::origins::Origins;
 use crate::reasons::write_reasons;
 use crate::style::Style;
-use scmi_judge::Entry;
+use scmi_judge::{Entry, Refusals};
 use std::io;
 use std::io::Write;
 
@@ -24,18 +26,26 @@ use std::io::Write;
 pub struct Report<'a, W: Write> {
     writer: &'a mut W,
     style: Style,
+    // Which changes the hardware may have refused.
+    refusals: Refusals,
     counts: Counts,
     origins: Origins,
 }
 
 impl<'a, W: Write> Report<'a, W> {
-    /// A report of which nothing is written.
-    pub fn new(writer: &'a mut W, style: Style) -> Report<'a, W> {
+    /// A report of which nothing is written, on a record whose hardware may have refused so much.
+    pub fn new(writer: &'a mut W, style: Style, refusals: Refusals) -> Report<'a, W>
+        ensures same_writer { result.writer.ghost_name ≡ writer.entry.ghost_name }
+        ensures unwritten { result.writer.now ≡ writer.old }
+    {
+        let counts = Counts::new();
+        let origins = Origins::new();
         Report {
             writer,
             style,
-            counts: Counts::new(),
-            origins: Origins::new(),
+            refusals,
+            counts,
+            origins,
         }
     }
 
@@ -46,6 +56,7 @@ impl<'a, W: Write> Report<'a, W> {
         let Report {
             writer,
             style,
+            refusals: _,
             counts,
             origins: _,
         } = self;
@@ -66,12 +77,12 @@ impl<'a, W: Write> Report<'a, W> {
     /// Writes an entry, and notes it for those that come.
     fn write_entry(&mut self, one: &Judged) -> io::Result<()> {
         let finding = one.finding();
-        let origin = self.origins.origin_of(one);
+        let help = Help::with(one, self.refusals, &self.origins);
         self.origins.add(one, finding);
         self.counts.add(finding);
         match self.style {
-            Style::Json => write_json_entry(self.writer, one, finding, origin),
-            style => write_line(self.writer, style, one, finding, origin),
+            Style::Json => write_json_entry(self.writer, one, finding, &help),
+            style => write_line(self.writer, style, one, finding, &help),
         }
     }
 
@@ -113,7 +124,7 @@ fn write_line<W: Write>(
     style: Style,
     one: &Judged,
     finding: Finding,
-    origin: Origin,
+    help: &Help,
 ) -> io::Result<()> {
     write!(writer, "{}{}", mark(style, finding), one.line)?;
     match finding {
@@ -124,22 +135,22 @@ fn write_line<W: Write>(
             write_reasons(writer, &one.entry, &one.verdict)?;
             writeln!(writer)
         }
-        Finding::Differs => write_difference(writer, one, origin),
+        Finding::Differs => write_difference(writer, one, help),
     }
 }
 
 /// Writes what is behind the number of an entry that differs.
-fn write_difference<W: Write>(writer: &mut W, one: &Judged, origin: Origin) -> io::Result<()> {
+fn write_difference<W: Write>(writer: &mut W, one: &Judged, help: &Help) -> io::Result<()> {
     write!(writer, " differs")?;
     write_name(writer, &one.entry)?;
     write_reasons(writer, &one.entry, &one.verdict)?;
-    if let Some(word) = deciding_word(&one.entry, &one.verdict) {
+    if let Some(word) = help.by {
         write!(writer, " by {word}")?;
     }
-    if let Some(line) = origin.set {
+    if let Some(line) = help.origin.set {
         write!(writer, " set {line}")?;
     }
-    if let Some(line) = origin.after {
+    if let Some(line) = help.origin.after {
         write!(writer, " after {line}")?;
     }
     writeln!(writer)

@@ -33,11 +33,11 @@ pub fn run_check<B: Read, R: Read, N: Names, W: Write>(
 ) -> u8
     ensures checked { HasVerdict result → IsChecked (N.means names.now) options.entry
         (B.remaining board.old) (R.remaining record.old) result }
-    ensures fault { ¬ (HasVerdict result) → result ≢ 1 → EndsWithFault (N.means names.now) options.entry
-        (B.remaining board.old) (R.remaining record.old) result
-        (W.contents writer.new) }
+    ensures fault { ¬ (HasVerdict result) → result ≢ 1 → EndsWithFault (N.means names.now)
+        options.entry (B.remaining board.old) (R.remaining record.old) result
+        (W.contents writer.old) (W.contents writer.new) }
 {
-    let mut report = Report::new(writer, style);
+    let mut report = Report::new(writer, style, options.refusals);
     let checked = match check_record(alloc, board, record, options, names, &mut report) {
         Ok(checked) => checked,
         Err(fault) => return write_fault(writer, &fault, fault.status()),

@@ -4,7 +4,7 @@ ghost use Rattle.scmi_board.specs.Lines.{line_of};
 ghost use Rattle.scmi_plan.specs.Board.{Board};
 ghost use Rattle.scmi_judge.specs.Judging.{Knows};
 ghost use Rattle.scmi_judge.specs.declared.unseen.Refusals.{Refusals};
-ghost use Rattle.scmi_check.specs.Check.{IsEndWithout, IsFoundOf};
+ghost use Rattle.scmi_check.specs.Check.{IsAtLine, IsEndWithout, IsFoundOf};
 ghost use Rattle.scmi_check.specs.CheckError.{IsRefused};
 ghost use Rattle.scmi_check.specs.Listener.{Grows};
 ghost use Rattle.scmi_check.specs.Progress.{AreBeingJudged};
@@ -74,6 +74,7 @@ impl<'a> Check<'a> {
             (judged : List Verdicts) (notes : List Notes)
             → IsUnderWay refuses board all judged notes self.old
             → IfErr result (IsStopBy (N.means names.now) board all (line_of line.entry)) }
+        ensures before { IfErr result (λ e. IsAtLine e → listener.new ≡ listener.old) }
     {
         if !is_significant(line.text) {
             return Ok(());
@@ -106,6 +107,7 @@ impl<'a> Check<'a> {
             → IsUnderWay refuses board all judged notes self.old
             → IfErr result (IsStop (with_line (length board.agents) all (line_of line.entry))
             line.entry.number) }
+        ensures before { IfErr result (λ e. IsAtLine e → listener.new ≡ listener.old) }
     {
         if let Err(error) = add_line(alloc, &mut self.so_far, line, self.agents) {
             return Err(CheckError::from(error.in_script(line.number)));

@@ -8,6 +8,10 @@ use Rattle.scmi_check.proofs.check.check_lines.Given as goal
 
 abbrev pub invariant-lines : goal.invariant-lines
 invariant-lines g l =
-    (protocols : List ℕ) (refuses : Refusals) (board : Board) → IsUnderWay refuses board (nothing_shown protocols) [] [] l.fn.check
-    → IsReadTo (g.N.Names.means l.fn.names) protocols refuses board (g.R.Read.remaining l.fn.record) l.input.left l.number l.check (g.L.Listener.judged l.fn.listener) (g.L.Listener.judged l.listener) (g.L.Listener.noted l.fn.listener)
+    (protocols : List ℕ) (refuses : Refusals) (board : Board)
+    → IsUnderWay refuses board (nothing_shown protocols) [] [] l.fn.check
+    → IsReadTo (g.N.Names.means l.fn.names) protocols refuses board
+    (g.R.Read.remaining l.fn.record) l.input.left l.number l.check
+    (g.L.Listener.judged l.fn.listener) (g.L.Listener.judged l.listener)
+    (g.L.Listener.noted l.fn.listener)
     (g.L.Listener.noted l.listener)

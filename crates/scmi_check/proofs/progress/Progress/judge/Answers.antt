@@ -9,12 +9,20 @@ pub returns-in-Some-clause-judged : goal.returns-in-Some-clause-judged
 returns-in-Some-clause-judged g c = λ r b before judged being.
     let old = c.args.self.now in
     let one = c.args.one.now in
-    let new : Progress = record { judge = old.judge; is_empty = false; differs = old.differs; unsure = old.unsure } in
+    let new : Progress = record {
+      judge = old.judge;
+      is_empty = false;
+      differs = old.differs;
+      unsure = old.unsure;
+    } in
     record {
       more = [];
-      are = subst (λ js. AreBeingJudged r b (before ++ one ∷ []) js new) (sym (append-none judged)) (passed-over r b before judged one old new being c.in-Some._line c.in-Some.is refl refl refl refl);
+      are = subst (λ js. AreBeingJudged r b (before ++ one ∷ []) js new) (sym (append-none judged))
+          (passed-over r b before judged one old new being c.in-Some._line c.in-Some.is refl refl
+          refl refl);
       given = grows-none (g.L.Listener.judged c.args.listener.now);
     }
 
 pub returns-in-None-clause-judged : goal.returns-in-None-clause-judged
-returns-in-None-clause-judged g c = λ r b before judged being. c.judge_next.ensures.judged r b before judged c.args.self.now.is_empty being
+returns-in-None-clause-judged g c = λ r b before judged being. c.judge_next.ensures.judged r b
+    before judged c.args.self.now.is_empty being

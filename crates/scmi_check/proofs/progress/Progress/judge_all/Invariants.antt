@@ -9,7 +9,9 @@ use Rattle.scmi_check.proofs.progress.Progress.judge_all.Given as goal
 abbrev pub invariant-each : goal.invariant-each
 invariant-each g l =
     record {
-      judged : (refuses : Refusals) (board : Board) (before : List Placed) (judged : List Judged) → AreBeingJudged refuses board before judged l.initial.self
-          → FindsMore refuses board (before ++ take l.one-index l.entries) judged l.self (g.L.Listener.judged l.initial.listener) (g.L.Listener.judged l.listener);
+      judged : (refuses : Refusals) (board : Board) (before : List Placed) (judged : List Judged)
+          → AreBeingJudged refuses board before judged l.initial.self
+          → FindsMore refuses board (before ++ take l.one-index l.entries) judged l.self
+          (g.L.Listener.judged l.initial.listener) (g.L.Listener.judged l.listener);
       noted : g.L.Listener.noted l.listener ≡ g.L.Listener.noted l.initial.listener;
     }

@@ -17,12 +17,20 @@ pub returns-in_default-clause-judged : goal.returns-in_default-clause-judged
 returns-in_default-clause-judged g c = λ r b before judged empty being.
     let old = c.args.self.now in
     let one = c.args.one.now in
-    let new : Progress = record { judge = c.judge_one.new.judge; is_empty = old.is_empty; differs = old.differs; unsure = Some one.line } in
-    let none : c.in_ok-verdict.field-0 ≡ None = first_of (search rules, grind (arith, common_steps)) in
+    let new : Progress = record {
+      judge = c.judge_one.new.judge;
+      is_empty = old.is_empty;
+      differs = old.differs;
+      unsure = Some one.line;
+    } in
+    let none : c.in_ok-verdict.field-0 ≡ None =
+    first_of (search rules, grind (arith, common_steps)) in
     record {
       more = [];
       are = subst (λ js. AreBeingJudged r b (before ++ one ∷ []) js new) (sym (append-none judged))
-          (now-unsure r b before judged one (at_entry old empty) new being c.requires.sure (λ entries knows. c.in_ok-verdict.ensures.many entries knows (ap Ok none)) c.judge_one.ensures.board c.judge_one.ensures.refuses refl refl c.requires.some);
+          (now-unsure r b before judged one (at_entry old empty) new being c.requires.sure
+          (λ entries knows. c.in_ok-verdict.ensures.many entries knows (ap Ok none))
+          c.judge_one.ensures.board c.judge_one.ensures.refuses refl refl c.requires.some);
       given = grows-none (g.L.Listener.judged c.args.listener.now);
     }
 
@@ -31,19 +39,39 @@ returns-clause-judged g c = λ r b before judged empty being.
     let old = c.args.self.now in
     let one = c.args.one.now in
     let v = c.in-Some.verdict in
-    let new : Progress = record { judge = c.judge_one.new.judge; is_empty = old.is_empty; differs = c.either-any.result; unsure = old.unsure } in
+    let new : Progress = record {
+      judge = c.judge_one.new.judge;
+      is_empty = old.is_empty;
+      differs = c.either-any.result;
+      unsure = old.unsure;
+    } in
     let fits = λ (entries : _) (knows : Knows old.judge entries).
-    subst (λ o. IfSome o (λ w. Fits (finding_of one.entry w) → Knows c.judge_one.new.judge (judged_as one.entry w ∷ entries))) c.in-Some.is (c.in_ok-verdict.ensures.fits entries knows) in
+    subst (λ o. IfSome o (λ w. Fits (finding_of one.entry w)
+    → Knows c.judge_one.new.judge (judged_as one.entry w ∷ entries))) c.in-Some.is
+    (c.in_ok-verdict.ensures.fits entries knows) in
     let legal = λ (entries : _) (knows : Knows old.judge entries).
-    subst (λ o. IfSome o (λ w. Fits (finding_of one.entry w) → HasLegalHistory old.judge.refuses old.judge.board (judged_as one.entry w ∷ entries))) c.in-Some.is (c.in_ok-verdict.ensures.legal entries knows) in
+    subst (λ o. IfSome o (λ w. Fits (finding_of one.entry w)
+    → HasLegalHistory old.judge.refuses old.judge.board (judged_as one.entry w ∷ entries)))
+    c.in-Some.is (c.in_ok-verdict.ensures.legal entries knows) in
     let differs = λ (entries : _) (knows : Knows old.judge entries).
-    subst (λ o. IfSome o (λ w. ¬ (Fits (finding_of one.entry w)) → ¬ (HasLegalHistory old.judge.refuses old.judge.board (one.entry ∷ entries)))) c.in-Some.is (c.in_ok-verdict.ensures.differs entries knows) in
-    let places = subst (λ o. IfSome o (λ w. length c.judge_one.new.judge.guesses + length c.judge_one.new.judge.spare ≡ length old.judge.guesses + length old.judge.spare)) c.in-Some.is c.in_ok-verdict.ensures.places in
-    let any : c.either-any.result ≡ list_any does_differ judged || does_differ (record { line = one.line; entry = one.entry; verdict = v }) =
+    subst (λ o. IfSome o (λ w. ¬ (Fits (finding_of one.entry w))
+    → ¬ (HasLegalHistory old.judge.refuses old.judge.board (one.entry ∷ entries)))) c.in-Some.is
+    (c.in_ok-verdict.ensures.differs entries knows) in
+    let places = subst (λ o. IfSome o (λ w. length c.judge_one.new.judge.guesses + length
+    c.judge_one.new.judge.spare ≡ length old.judge.guesses + length old.judge.spare))
+    c.in-Some.is c.in_ok-verdict.ensures.places in
+    let any : c.either-any.result ≡ list_any does_differ judged || does_differ
+    (record { line = one.line; entry = one.entry; verdict = v }) =
     c.either-any.ensures ∙ ap (λ (x : Bool). x || c.differs-differs.result) being.differs_is
-    ∙ ap (λ (x : Bool). list_any does_differ judged || x) (c.differs-differs.ensures ∙ ap (λ (e : Entry). does_differ (record { line = one.line; entry = e; verdict = v })) c.copy.ensures) in
+    ∙ ap (λ (x : Bool). list_any does_differ judged || x)
+    (c.differs-differs.ensures ∙ ap (λ (e : Entry). does_differ
+    (record { line = one.line; entry = e; verdict = v })) c.copy.ensures) in
     on-ok c.found.result c.found.ensures.judged (λ given. record {
       more = record { line = one.line; entry = one.entry; verdict = v } ∷ [];
-      are = now-judged r b before judged one (at_entry old empty) new being c.requires.sure v fits legal differs places c.judge_one.ensures.board c.judge_one.ensures.refuses c.requires.sure any c.requires.some;
-      given = subst (λ (e : Entry). Grows (g.L.Listener.judged c.args.listener.now) (g.L.Listener.judged c.found.new.self) (record { line = one.line; entry = e; verdict = v } ∷ [])) c.copy.ensures given;
+      are = now-judged r b before judged one (at_entry old empty) new being c.requires.sure v fits
+          legal differs places c.judge_one.ensures.board c.judge_one.ensures.refuses c.requires.sure
+          any c.requires.some;
+      given = subst (λ (e : Entry). Grows (g.L.Listener.judged c.args.listener.now)
+          (g.L.Listener.judged c.found.new.self)
+          (record { line = one.line; entry = e; verdict = v } ∷ [])) c.copy.ensures given;
     })

@@ -11,9 +11,19 @@ pub returns-clause-found : goal.returns-clause-found
 returns-clause-found g c = λ r b all judged notes way.
     let read = c.in-Ok.record in
     let progress = c.args.self.progress in
-    let checked : Checked = record { differs = progress.differs; unsure = progress.unsure; skipped = read.left.skipped; protocols = read.left.protocols } in
-    let is : finished (shows_of c.args.self.so_far) ≡ record_view read = same-ok (finished (shows_of c.args.self.so_far)) (record_view read) c.in-Ok.ensures.record in (
+    let checked : Checked = record {
+      differs = progress.differs;
+      unsure = progress.unsure;
+      skipped = read.left.skipped;
+      protocols = read.left.protocols;
+    } in
+    let is : finished (shows_of c.args.self.so_far) ≡ record_view read =
+    same-ok (finished (shows_of c.args.self.so_far))
+    (record_view read) c.in-Ok.ensures.record in (
       read.left.notes.items,
-      all-found r b all judged notes c.args.self way (left_view read.left) checked (ap (λ (v : RecordView). v.left) is) refl refl refl refl c.if-progress.false,
-      subst (λ (ns : List Note). Grows (g.L.Listener.noted c.args.listener.now) (g.L.Listener.noted c.tell_notes.new.listener) ns) c.deref.ensures.value c.in_ok-tell_notes.ensures.noted,
+      all-found r b all judged notes c.args.self way (left_view read.left) checked
+          (ap (λ (v : RecordView). v.left) is) refl refl refl refl c.if-progress.false,
+      subst (λ (ns : List Note). Grows (g.L.Listener.noted c.args.listener.now)
+          (g.L.Listener.noted c.tell_notes.new.listener) ns) c.deref.ensures.value
+          c.in_ok-tell_notes.ensures.noted,
     )

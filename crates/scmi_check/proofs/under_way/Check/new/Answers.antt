@@ -8,5 +8,6 @@ returns c = λ r b knows board refuses places agents. record {
   agents_are = agents;
   all_is = sym c.new-so_far.ensures;
   none_left = ap (λ (s : Shows). s.entries) c.new-so_far.ensures;
+  none_noted = ap (λ (s : Shows). s.left.notes) c.new-so_far.ensures;
   judging = c.new-progress.ensures r b knows board refuses places;
 }
