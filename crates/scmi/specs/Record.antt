@@ -1,22 +1,22 @@
--- What the record of a check is checked as.
-use Rattle.std.specs.Prelude.{◌≡◌, ℕ, List, [], ◌∷◌, ◌++◌, Option, Some, ⊤, if◌then◌else◌}
-use Rattle.scmi_io.specs.Lines.{after_line, is_line_feed}
-use Rattle.scmi_live.specs.Hertz.{in_hertz}
-use Rattle.scmi_live.specs.Numbered.{IsInNumbers}
+-- What a record is checked as whose commands may have names.
+use Rattle.std.specs.Prelude.{◌≡◌, ℕ, List, length, Option, Some}
+use Rattle.scmi_board.specs.Channels.{Described}
+use Rattle.scmi_board.specs.ValidBoard.{IsBoardText}
+use Rattle.scmi_check.specs.Check.{IsChecked}
+use Rattle.scmi_check.specs.declared.options.CheckOptions.{CheckOptions}
+use Rattle.scmi_live.specs.Numbered.{IsLineInNumbers}
+use Rattle.scmi_plan.specs.RawPlan.{asked_board}
+use Rattle.scmi.specs.declared.board_names.BoardNames.{BoardNames}
 
--- what follows as many lines of a text as a board's text has, one after its last line feed included
-abbrev pub after_board : (board text : List ℕ) → List ℕ
-after_board [] text = after_line text
-after_board (byte ∷ board) text = if is_line_feed byte then after_board board (after_line text) else after_board board text
+-- names are those of the board that a text is
+pub record AreNamesOf (text : List ℕ) (names : BoardNames) : Type 0 where
+  pub said : Described
+  pub of_text : IsBoardText text said
+  pub board_is : asked_board names.board ≡ said.0
+  pub agents_are : names.agents ≡ length said.0.agents
 
--- a board and a record, and what the record becomes: what follows the board when both, in one text, have numbers in place of names
-pub record IsGivenRecord (board text given : List ℕ) : Type 0 where
-  pub made : List ℕ
-  pub numbers : IsInNumbers (board ++ 10 ∷ text) made
-  pub given_is : given ≡ after_board board made
-
--- a check is made of a board in Hz and of what its record becomes, if both are known
-abbrev pub OfGivenRecord : (Option (List ℕ) → Option (List ℕ) → Type 0) → Option (List ℕ) → Option (List ℕ) → Type 0
-OfGivenRecord Does (Some board) (Some text) =
-    (given : List ℕ) × IsGivenRecord (in_hertz board) text given × Does (Some (in_hertz board)) (Some given)
-OfGivenRecord Does board text = ⊤
+-- a record was checked with this status, each of its lines by the names of the board that a text is
+pub record IsNamedRecord (options : CheckOptions) (text : List ℕ) (known : Option (List ℕ)) (status : ℕ) : Type 0 where
+  pub said : Described
+  pub of_text : IsBoardText text said
+  pub is_checked : IsChecked (IsLineInNumbers said.0 (length said.0.agents)) options (Some text) known status

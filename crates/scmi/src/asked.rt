@@ -1,7 +1,8 @@
 //! What the matches of a command line ask for.
 
 use crate::command::{
-    BINARY, FIRST, HELP, JSON, MERMAID, OFFSET, PROTOCOLS, SAVE, SECOND, SIZE, STRIDE, TAP, VERSION,
+    BINARY, FIRST, HELP, JSON, MERMAID, OFFSET, PROTOCOLS, REFUSALS, SAVE, SECOND, SIZE, STRIDE,
+    TAP, VERSION,
 };
 use crate::form::task_of;
 use crate::request::Request;
@@ -9,7 +10,7 @@ use crate::task::Task;
 use clap::ArgMatches;
 use clap::parser::ValueSource;
 use scmi_board::number;
-use scmi_check::Style;
+use scmi_check::{Refusals, Style};
 use scmi_decode::{Layout, LayoutError};
 
 /// The name that standard input has among arguments.
@@ -23,6 +24,8 @@ pub struct Asked<'a> {
     pub style: Style,
     /// The protocols that are judged in a record.
     pub protocols: Option<&'a str>,
+    /// Which changes the hardware behind a record may have refused.
+    pub refusals: Refusals,
     /// The file of the input, or of a board.
     pub first: Option<&'a str>,
     /// The file of a record.
@@ -103,6 +106,7 @@ fn task_by<'a>(task: Task, matches: &ArgMatches<'a>) -> Result<Asked<'a>, Unread
         request,
         style,
         protocols: value_of(matches, PROTOCOLS),
+        refusals: refusals_by(matches),
         first,
         second,
         save,
@@ -117,6 +121,15 @@ fn style_by(matches: &ArgMatches<'_>) -> Style {
         Style::Tap
     } else {
         Style::Plain
+    }
+}
+
+/// Which changes the hardware behind a record may have refused.
+fn refusals_by(matches: &ArgMatches<'_>) -> Refusals {
+    if is_used(matches, REFUSALS) {
+        Refusals::Answered
+    } else {
+        Refusals::None
     }
 }
 
@@ -157,6 +170,7 @@ fn with_no_file<'a>(request: Request) -> Asked<'a> {
         request,
         style: Style::Plain,
         protocols: None,
+        refusals: Refusals::None,
         first: None,
         second: None,
         save: None,

@@ -14,13 +14,16 @@ pub const HELP: &str = "help";
 /// The flag that asks which program this is.
 pub const VERSION: &str = "version";
 
-/// The flag that asks for a report of the Test Anything Protocol.
+/// The flags that ask for a report as JSON, or of the Test Anything Protocol.
 pub const JSON: &str = "json";
 
 pub const TAP: &str = "tap";
 
 /// The option that names the protocols that are judged in a record.
 pub const PROTOCOLS: &str = "protocols";
+
+/// The flag that says that the hardware behind a record may have refused changes.
+pub const REFUSALS: &str = "refusals";
 
 /// The flag that asks for a diagram in the text of Mermaid.
 pub const MERMAID: &str = "mermaid";
@@ -87,6 +90,7 @@ fn task_command<'a>(alloc: Global, form: &Form) -> Result<Command<'a>, AllocErro
             .arg(flag(alloc, TAP))?
             .arg(flag(alloc, JSON))?
             .arg(option(alloc, PROTOCOLS, "LIST"))?
+            .arg(flag(alloc, REFUSALS))?
             .arg(Arg::new(alloc, FIRST))?
             .arg(Arg::new(alloc, SECOND)),
         Operands::None => Ok(command),

@@ -14,8 +14,8 @@ pub enum Operands {
     Drawn,
     /// The file of a board; `--save FILE` may come before it.
     Board,
-    /// That of a board, and that of a record or none for standard input; `--tap` and
-    /// `--protocols` may come before them.
+    /// That of a board, and that of a record or none for standard input; its options
+    /// may come before them.
     BoardAndRecord,
     /// The word of a task, or none.
     Topic,

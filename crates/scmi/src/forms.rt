@@ -76,7 +76,7 @@ adds line editing and history. docs/SCRIPTS.md has more.",
         task: Task::Check,
         word: "check",
         operands: Operands::BoardAndRecord,
-        usage: "scmi check [--tap] [--json] [--protocols LIST] BOARD [RECORD]",
+        usage: "scmi check [--tap] [--json] [--protocols LIST] [--refusals] BOARD [RECORD]",
         summary: "checks a record of another platform's replies against SCMI",
         about: "\
 Checks a record of a platform's channels against the definitions of SCMI.",
@@ -91,6 +91,10 @@ can't be checked too: a command is unanswered, a reply unmatched, or events are 
 counts them.
 --protocols 0x10,0x13 checks the messages of these protocols, and skips others; without it those of
 0x10, 0x11 and 0x14 are checked.
+--refusals is for hardware that may refuse what was accepted: a delayed response of HARDWARE_ERROR
+is then right too.
+A record may be as long as it likes: it is read a line at a time, and the report is written as it
+is read.
 --tap prints TAP, for a test system, and --json an object a line. docs/CHECK.md has the lines and
 the rules.
 Exit status: 0 if nothing differs, 5 if something does, 6 if nothing does but the check ended before

@@ -5,12 +5,13 @@
 //! The main type is `Asked`, what the arguments ask for. The main theorem is the contract of
 //! `run_request`: if the status is 0, a run or a diagram is written to the last byte, dumps have an
 //! area, and tables are of a board that keeps every rule; that of `run_session`: if the status is 0,
-//! its listener was given exactly the steps of the lines; and that of `run_record`: what is checked is
-//! the record with numbers in place of names.
+//! its listener was given exactly the steps of the lines; and that of `run_record`: each line of a
+//! record is checked as the line of numbers that is the same step.
 #![tactic(auto)]
 
 mod arguments;
 mod asked;
+mod board_names;
 mod command;
 mod form;
 mod forms;
@@ -42,6 +43,7 @@ mod teller;
 mod terminal;
 mod texts;
 mod unknown_text;
+mod watched;
 
 use crate::arguments::{ArgumentError, read_arguments};
 use crate::refusal::{WRONG_ARGUMENT, refuse, refuse_unread};

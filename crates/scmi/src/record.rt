@@ -1,16 +1,14 @@
 //! A record, as it is checked: with numbers in place of the names in its commands.
-ghost use Rattle.std.specs.Prelude.{◌≡◌, IfOk, IfSome};
-ghost use Rattle.scmi_check.specs.Check.{HasVerdict, IsChecked};
+ghost use Rattle.std.specs.Prelude.{◌≡◌, ◌≢◌, IfErr, IfOk, IfSome};
+ghost use Rattle.scmi_check.specs.Check.{HasVerdict};
 ghost use Rattle.scmi_live.specs.Hertz.{in_hertz};
-ghost use Rattle.scmi.specs.Record.{IsGivenRecord, OfGivenRecord, after_board};
+ghost use Rattle.scmi.specs.Record.{AreNamesOf, IsNamedRecord};
 
-use crate::given::behind_line;
-use scmi_board::read_valid_board;
-use scmi_check::{CheckError, Style, run_check};
-use scmi_explain::split_first;
+use crate::board_names::BoardNames;
+use scmi_check::{CheckError, CheckOptions, Style, run_check};
 use scmi_io::{CountedReader, read_rest, write_fault};
-use scmi_live::{in_hertz, numbered};
-use std::alloc::{AllocError, Global};
+use scmi_live::in_hertz;
+use std::alloc::Global;
 use std::io::{Read, Write};
 
 /// Checks a record whose commands may have names as `run_check` checks one of numbers, and gives the
@@ -19,82 +17,44 @@ pub fn run_record<B: Read, R: Read, W: Write>(
     alloc: Global,
     board: &mut B,
     shown: &mut R,
+    options: CheckOptions<'_>,
     writer: &mut W,
     style: Style,
-    judged: &[u8],
 ) -> u8
-    ensures { HasVerdict result → OfGivenRecord (λ board given.
-        IsChecked judged.now board given result) (B.remaining board.old) (R.remaining shown.old) }
+    ensures checked { HasVerdict result → IfSome (B.remaining board.old)
+        (λ text. IsNamedRecord options.entry (in_hertz text) (R.remaining shown.old) result) }
 {
-    let text = match board_text(alloc, board) {
-        Ok(text) => text,
-        Err(fault) => return write_fault(writer, &fault, fault.status()),
-    };
-    let given = match given_record(alloc, &text, shown) {
+    let GivenBoard { text, names } = match read_given(alloc, board) {
         Ok(given) => given,
         Err(fault) => return write_fault(writer, &fault, fault.status()),
     };
     run_check(
         alloc,
         &mut text.as_slice(),
-        &mut given.as_slice(),
+        shown,
+        options,
+        &names,
         writer,
         style,
-        judged,
     )
 }
 
-/// The text of a board that keeps every rule, in Hz.
-fn board_text<B: Read>(alloc: Global, board: &mut B) -> Result<Vec<u8>, CheckError>
-    ensures { IfOk result (λ all. IfSome (B.remaining board.old)
-        (λ text. all.items ≡ in_hertz text)) }
+/// A board, as a record is checked by it.
+#[derive(Drop)]
+pub(crate) struct GivenBoard {
+    /// Its text, in Hz.
+    text: Vec<u8>,
+    names: BoardNames,
+}
+
+/// A board that keeps every rule, in Hz, with its names.
+fn read_given<B: Read>(alloc: Global, board: &mut B) -> Result<GivenBoard, CheckError>
+    ensures text { IfOk result (λ given. IfSome (B.remaining board.old)
+        (λ text. given.text.items ≡ in_hertz text)) }
+    ensures names { IfOk result (λ given. AreNamesOf given.text.items given.names) }
 {
     let text = read_rest(alloc, &mut CountedReader::new(board))?;
-    let Ok(hertz) = in_hertz(alloc, &text) else {
-        return Err(CheckError::Memory);
-    };
-    let _ = read_valid_board(alloc, &hertz)?;
-    Ok(hertz)
-}
-
-/// A record of a platform of a board with this text, as it is checked.
-fn given_record<R: Read>(alloc: Global, board: &[u8], shown: &mut R) -> Result<Vec<u8>, CheckError>
-    ensures { IfOk result (λ given. IfSome (R.remaining shown.old)
-        (λ text. IsGivenRecord board.now text given.items)) }
-{
-    let text = read_rest(alloc, &mut CountedReader::new(shown))?;
-    match numbered_record(alloc, board, &text) {
-        Ok(given) => Ok(given),
-        Err(_) => Err(CheckError::Memory),
-    }
-}
-
-/// The text of a record after that of its board, with numbers in place of names.
-pub(crate) fn numbered_record(
-    alloc: Global,
-    board: &[u8],
-    text: &[u8],
-) -> Result<Vec<u8>, AllocError>
-    ensures { IfOk result (λ given. IsGivenRecord board.now text.now given.items) }
-{
-    let whole = behind_line(alloc, board, text)?;
-    let made = numbered(alloc, &whole)?;
-    let mut given = Vec::new(alloc);
-    given.extend_from_slice(after_board(board, &made))?;
-    Ok(given)
-}
-
-/// What follows as many lines of a text as the text of a board has, one after its last line feed
-/// included.
-fn after_board<'a>(mut board: &[u8], text: &'a [u8]) -> &'a [u8]
-    ensures { result.now ≡ after_board board.entry.now text.now }
-{
-    let mut rest = text;
-    'bytes: while let [byte, left @ ..] = board {
-        if *byte == b'\n' {
-            rest = split_first(rest).1;
-        }
-        board = left;
-    }
-    split_first(rest).1
+    let text = in_hertz(alloc, &text)?;
+    let names = BoardNames::of_text(alloc, &text)?;
+    Ok(GivenBoard { text, names })
 }

@@ -1,7 +1,7 @@
 //! Why a line of a record is refused, found by what the lines before it and the line alone encode.
 
 use crate::refusal::BOARD_START;
-use scmi_board::{Lines, number, read_valid_board};
+use scmi_board::{Lines, number};
 use scmi_check::{NoteKind, read_record};
 use scmi_explain::{MODES, split_first};
 use std::alloc::Global;
@@ -23,6 +23,8 @@ pub enum RecordCause {
     Script,
     /// It is not a line of a record.
     Form,
+    /// Any of these: the line is behind what is kept of the record.
+    Far,
 }
 
 /// The event of a trace that shows a message, and its field with the instance.
@@ -33,14 +35,23 @@ const INSTANCE: &[u8] = b"id=";
 /// The words of lines that post, before the number of an agent.
 const POSTS: [&[u8]; 3] = [b"do", b"raw", b"bad"];
 
-/// Why the line of this number of a record is refused, if the board has this text.
-pub fn record_cause(alloc: Global, board: &[u8], record: &[u8], line: u32) -> RecordCause {
-    cause_in(alloc, board, record, line).unwrap_or(RecordCause::Form)
+/// Why the line of this number of a record is refused, if the board has so many agents, and the first
+/// lines of the record are these.
+pub fn record_cause(alloc: Global, agents: u32, record: &[u8], line: u32) -> RecordCause {
+    if !has_line(record, line) {
+        return RecordCause::Far;
+    }
+    cause_in(alloc, agents, record, line).unwrap_or(RecordCause::Form)
+}
+
+/// Whether a text has a line of this number.
+fn has_line(text: &[u8], line: u32) -> bool {
+    let feeds = text.iter().filter(|byte| **byte == b'\n').count();
+    feeds >= line.saturating_sub(1) as usize
 }
 
 /// The same; `None` if the line has another form, or there is no memory to find more.
-fn cause_in(alloc: Global, board: &[u8], record: &[u8], line: u32) -> Option<RecordCause> {
-    let agents = read_valid_board(alloc, board).ok()?.plan.agents();
+fn cause_in(alloc: Global, agents: u32, record: &[u8], line: u32) -> Option<RecordCause> {
     let (before, text) = parted(record, line);
     if text.starts_with(BOARD_START) {
         return Some(RecordCause::Board);

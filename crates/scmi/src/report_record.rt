@@ -1,14 +1,16 @@
 //! What is reported on standard error of a rejected record.
 
-use crate::record::numbered_record;
+use crate::board_names::BoardNames;
 use crate::record_cause::{RecordCause, is_post, line_of, record_cause};
 use crate::report_unknown::report_names;
-use scmi_board::{Lines, read_board_with_channels};
-use std::alloc::Global;
+use scmi_check::Names;
+use scmi_explain::split_first;
+use scmi_live::in_hertz;
+use std::alloc::{AllocError, Global};
 use std::io::Eprint;
 
 /// Reports why the line of this number of the record of this name is refused, if the board has this
-/// text.
+/// text. Of the record these are the first bytes.
 pub fn report_record(
     rt: &impl Eprint,
     alloc: Global,
@@ -17,33 +19,49 @@ pub fn report_record(
     record: &[u8],
     line: u32,
 ) {
-    let cause = match numbered_record(alloc, board, record) {
-        Ok(given) => record_cause(alloc, board, &given, line),
+    let Some(names) = names_of(alloc, board) else {
+        return report_cause(rt, name, line, RecordCause::Form);
+    };
+    let cause = match in_numbers(alloc, &names, record, line) {
+        Ok(given) => record_cause(alloc, names.agents(), &given, line),
         Err(_) => RecordCause::Form,
     };
     let text = line_of(record, line);
-    if matches!(cause, RecordCause::Form)
-        && is_post(text)
-        && report_unknown_names(rt, alloc, name, board, line, text)
-    {
+    let may_have_names = matches!(cause, RecordCause::Form) && is_post(text);
+    if may_have_names && report_names(rt, alloc, name, names.board(), line, text) {
         return;
     }
     report_cause(rt, name, line, cause);
 }
 
-/// Reports why a line of a record encodes no command, if names are looked up in it: whether they are.
-fn report_unknown_names(
-    rt: &impl Eprint,
+/// The names of the board of a text, whose rates may have units.
+fn names_of(alloc: Global, text: &[u8]) -> Option<BoardNames> {
+    let hertz = in_hertz(alloc, text).ok()?;
+    BoardNames::of_text(alloc, &hertz).ok()
+}
+
+/// The lines of a record up to that of this number, with numbers in place of names.
+fn in_numbers(
     alloc: Global,
-    name: &str,
-    board: &[u8],
+    names: &BoardNames,
+    record: &[u8],
     line: u32,
-    text: &[u8],
-) -> bool {
-    match read_board_with_channels(alloc, &mut Lines::of_text(board)) {
-        Ok(said) => report_names(rt, alloc, name, &said.board, line, text),
-        Err(_) => false,
+) -> Result<Vec<u8>, AllocError> {
+    let mut made = Vec::new(alloc);
+    let mut rest = record;
+    for _ in 0..line {
+        let (text, behind) = split_first(rest);
+        match names.line(alloc, text)? {
+            Some(given) => made.extend_from_slice(given.as_bytes())?,
+            None => made.extend_from_slice(text)?,
+        }
+        if behind.is_empty() {
+            break;
+        }
+        made.push(b'\n')?;
+        rest = behind;
     }
+    Ok(made)
 }
 
 /// Reports why a line of a record is refused.
@@ -66,6 +84,11 @@ fn report_cause(rt: &impl Eprint, name: &str, line: u32, cause: RecordCause) {
         ),
         RecordCause::Script => eprintln!(rt;
             "{name}:{line}: this is the mode of a script, which scmi run takes; a record has none"
+        ),
+        RecordCause::Far => eprintln!(rt;
+            "{name}:{line}: this line can't be here: it is no line of a record, or a reply without \
+            its command, or a command before the reply to the one before it; docs/CHECK.md has the \
+            forms"
         ),
         RecordCause::Form => eprintln!(rt;
             "{name}:{line}: not a line of a record; docs/CHECK.md has the forms"

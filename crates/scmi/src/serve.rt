@@ -45,7 +45,9 @@ pub fn serve<T: Threads + Wait + Sync + Files + Print + Eprint + Input>(
         let check = AskedCheck {
             style: asked.style,
             is_colored: is_colored && asked.style == Style::Plain,
+            is_watched: terminal.is_watched,
             protocols: asked.protocols,
+            refusals: asked.refusals,
             board: name,
             record: asked.second,
         };

@@ -9,8 +9,9 @@ use crate::refusal::{BOARD_START, WRONG_ARGUMENT, begins_as_board, refuse_file, 
 use crate::report::report_output;
 use crate::report_board::report_board;
 use crate::report_record::report_record;
+use crate::watched::Watched;
 use scmi_board::{Items, byte};
-use scmi_check::{DIFFERS, PROTOCOLS, Style, UNSURE};
+use scmi_check::{CheckOptions, DIFFERS, PROTOCOLS, Refusals, Style, UNSURE};
 use scmi_explain::{Fault, Kept, LastLine};
 use scmi_io::{FAILED_OUTPUT, INPUT_BYTES};
 use std::alloc::Global;
@@ -23,8 +24,12 @@ pub struct AskedCheck<'a> {
     pub style: Style,
     /// Whether words of the report are in colour.
     pub is_colored: bool,
+    /// Whether a person sees how far the record is checked.
+    pub is_watched: bool,
     /// The protocols that are judged, with commas between their numbers.
     pub protocols: Option<&'a str>,
+    /// Which changes the hardware behind the record may have refused.
+    pub refusals: Refusals,
     /// `-` if the board is standard input.
     pub board: &'a str,
     /// `None` or `-` if the record is standard input.
@@ -72,6 +77,11 @@ impl<'a> AskedCheck<'a> {
             Some(STANDARD) | None => None,
             name => name,
         }
+    }
+
+    /// What messages call the record.
+    fn record_name(&self) -> &'a str {
+        self.file_of_record().unwrap_or(STANDARD_INPUT)
     }
 
     /// The numbers of the protocols that are judged: those of the profile if none are listed, and
@@ -139,10 +149,15 @@ fn check_on<T: Eprint, B: Read + Drop, R: Read + Drop, W: Write + Drop>(
         return WRONG_ARGUMENT;
     };
     let mut board = Kept::new(alloc, board);
+    let record = Watched::new(rt, asked.record_name(), asked.is_watched, record);
     let mut record = Kept::new(alloc, record);
     let mut output = LastLine::new(writer);
+    let options = CheckOptions {
+        protocols: &judged,
+        refusals: asked.refusals,
+    };
     let style = asked.style;
-    let status = run_record(alloc, &mut board, &mut record, &mut output, style, &judged);
+    let status = run_record(alloc, &mut board, &mut record, options, &mut output, style);
     let status = report_output(rt, &mut output, status);
     if !matches!(status, 0 | DIFFERS | UNSURE | FAILED_OUTPUT) {
         if asked.file_of_record().is_some() && is_swapped(&board, &mut record) {
@@ -184,9 +199,11 @@ fn report<B: Read + Drop, R: Read + Drop>(
     record: &Kept<R>,
     last_line: &[u8],
 ) {
-    let name = asked.file_of_record().unwrap_or(STANDARD_INPUT);
-    if let Some(line) = line_of_record(last_line) {
+    let name = asked.record_name();
+    if let Some(line) = line_of(last_line, b"record") {
         report_record(rt, alloc, name, board.bytes(), record.bytes(), line);
+    } else if let Some(line) = line_of(last_line, b"long") {
+        let _ = eprintln!(rt; "{name}:{line}: this line is longer than {INPUT_BYTES} bytes");
     } else if last_line == NOTHING {
         let listed = Listed(judged);
         let _ = eprintln!(rt;
@@ -197,10 +214,6 @@ fn report<B: Read + Drop, R: Read + Drop>(
         let _ = eprintln!(rt; "{name}: the record can't be read: {error}");
     } else if let Some(fault) = fault_of_board(last_line, board) {
         report_board(rt, alloc, asked.board_name(), board, fault);
-    } else if Fault::of_line(last_line) == Some(Fault::Size) {
-        let _ = eprintln!(rt;
-            "{name}: the record is longer than {INPUT_BYTES} bytes; check a shorter one"
-        );
     }
 }
 
@@ -208,20 +221,19 @@ fn report<B: Read + Drop, R: Read + Drop>(
 fn fault_of_board<B: Read + Drop>(last_line: &[u8], board: &Kept<B>) -> Option<Fault> {
     let fault = Fault::of_line(last_line)?;
     let is_of_board = match fault {
-        Fault::Board(_) | Fault::Plan(_) => true,
+        Fault::Board(_) | Fault::Plan(_) | Fault::Size => true,
         Fault::Read => board.error().is_some(),
-        Fault::Size => board.bytes().len() >= INPUT_BYTES,
         _ => false,
     };
     if is_of_board { Some(fault) } else { None }
 }
 
-/// The line of a record that a fault names.
-fn line_of_record(fault: &[u8]) -> Option<u32> {
+/// The line of a record that a fault of this kind names.
+fn line_of(fault: &[u8], kind: &[u8]) -> Option<u32> {
     let mut items = Items::new(fault);
-    let is_of_record = items.next_item().ok()? == b"fault".as_slice()
-        && items.next_item().ok()? == b"record".as_slice();
-    if is_of_record {
+    let is_of_kind = items.next_item().ok()? == b"fault".as_slice()
+        && items.next_item().ok()? == kind;
+    if is_of_kind {
         items.next_word().ok()
     } else {
         None

@@ -10,6 +10,8 @@ pub struct Terminal {
     pub is_typed: bool,
     /// Standard output may have colours.
     pub is_colored: bool,
+    /// A person sees standard error, and not standard output.
+    pub is_watched: bool,
 }
 
 impl Terminal {
@@ -19,6 +21,7 @@ impl Terminal {
         Terminal {
             is_typed: rt.stdin().is_terminal(),
             is_colored: rt.stdout().is_terminal() && allows_colors(rt),
+            is_watched: rt.stderr().is_terminal() && !rt.stdout().is_terminal(),
         }
     }
 }

@@ -34,7 +34,7 @@ pub use hertz::in_hertz;
 pub use listener::Listener;
 pub use live_error::LiveError;
 pub use meant::{HELP, step_meant};
-pub use numbering::numbered;
+pub use numbering::{line_in_numbers, numbered};
 pub use plain_step::PlainStep;
 pub use rate::rate_meant;
 pub use run::run_live;

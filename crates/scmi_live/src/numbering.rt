@@ -70,8 +70,9 @@ fn add_line(
     Ok(())
 }
 
-/// The line of numbers in place of a line; `None` if the line stays.
-fn line_in_numbers(
+/// The line of numbers in place of a line of a script; `None` if the line stays. The only error is out
+/// of memory.
+pub fn line_in_numbers(
     alloc: Global,
     board: &RawPlan,
     agents: u32,

@@ -1,18 +1,20 @@
-use Rattle.std.proofs.Common.{ℕ, List, Option, Some, IfSome, subst}
+use Rattle.std.proofs.Common.{ℕ, List, Option, Some, subst}
 use Rattle.scmi_check.specs.Check.{IsChecked}
-use Rattle.scmi.specs.Record.{IsGivenRecord}
-use Rattle.scmi.proofs.Records.{given_known}
+use Rattle.scmi_live.specs.Numbered.{IsLineInNumbers}
+use Rattle.scmi_plan.specs.RawPlan.{asked_board}
+use Rattle.scmi.specs.Record.{IsNamedRecord}
+use Rattle.scmi.proofs.Records.{by_names, of_known}
 use Rattle.scmi.proofs.record.run_record.Goals as goal
 
 pub returns : goal.returns
 returns g c = λ is.
-    let Does : Option (List ℕ) → Option (List ℕ) → Type 0 =
-    λ board given. IsChecked c.args.judged.now board given c.run_check.result in
-    let text = c.in-Ok.text.items in
-    let given = c.in-Ok-given_record.given.items in
-    let board_known = g.B.Read.remaining c.args.board.now in
-    let record_known = g.R.Read.remaining c.args.shown.now in
-    let made = subst (λ d. IfSome record_known (λ t. IsGivenRecord d t given)) c.deref.ensures.value c.in-Ok-given_record.ensures in
-    let does = subst (λ b. Does (Some b) (Some given)) c.as_slice.ensures.value
-    (subst (λ x. Does (Some c.as_slice.result.now) (Some x)) c.as_slice-2.ensures.value (c.run_check.ensures.checked is)) in
-    given_known Does board_known record_known text given c.in-Ok.ensures made does
+    let known = g.R.Read.remaining c.args.shown.now in
+    let options = c.args.options in
+    let given = c.in-Ok.given in
+    let Checks = λ (text : List ℕ). IsNamedRecord options text known c.run_check.result in
+    let checked = subst
+    (λ (text : List ℕ). IsChecked
+    (IsLineInNumbers (asked_board given.names.board) given.names.agents) options (Some text) known c.run_check.result)
+    c.as_slice.ensures.value (c.run_check.ensures.checked is) in
+    of_known Checks (g.B.Read.remaining c.args.board.now) given.text.items c.in-Ok.ensures.text
+    (by_names options given.text.items given.names known c.run_check.result c.in-Ok.ensures.names checked)
