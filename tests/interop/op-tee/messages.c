@@ -1,0 +1,74 @@
+#include "messages.h"
+
+#define WORDS(...) { sizeof((uint32_t[]){ __VA_ARGS__ }) / 4, { __VA_ARGS__ } }
+
+/* The kinds of a change, as scmi.h has them. */
+enum { NONE, STATE, RATE, ENABLED };
+/* Statuses, by the standard. */
+enum { SUCCESS = 0, UNSUPPORTED = -1, INVALID = -2, DENIED = -3, NOT_FOUND = -4, OUT_OF_RANGE = -5, PROTOCOL = -10 };
+enum { ON = 0, OFF = 0x40000000, MHZ = 1000000 };
+
+const struct exchange exchanges[] = {
+    { "BASE PROTOCOL_VERSION", LINUX, WORDS(0x4000), WORDS(0x4000, SUCCESS, 0x20000), { NONE } },
+    { "its token and reserved bits", LINUX, WORDS(0xfabc4000), WORDS(0xfabc4000, SUCCESS, 0x20000), { NONE } },
+    { "BASE PROTOCOL_ATTRIBUTES", LINUX, WORDS(0x4001), WORDS(0x4001, SUCCESS, 3 << 8 | 2), { NONE } },
+    { "BASE MESSAGE_ATTRIBUTES", LINUX, WORDS(0x4002, 0x6), WORDS(0x4002, SUCCESS, 0), { NONE } },
+    { "BASE MESSAGE_ATTRIBUTES of none", LINUX, WORDS(0x4002, 0x8), WORDS(0x4002, NOT_FOUND), { NONE } },
+    { "DISCOVER_VENDOR", LINUX, WORDS(0x4003), WORDS(0x4003, SUCCESS, 0x656d6341, 0, 0, 0), { NONE } },
+    { "DISCOVER_SUB_VENDOR", LINUX, WORDS(0x4004), WORDS(0x4004, SUCCESS, 0x0062614c, 0, 0, 0), { NONE } },
+    { "DISCOVER_IMPLEMENTATION_VERSION", LINUX, WORDS(0x4005), WORDS(0x4005, SUCCESS, 0x10000), { NONE } },
+    { "DISCOVER_LIST_PROTOCOLS", LINUX, WORDS(0x4006, 0), WORDS(0x4006, SUCCESS, 2, 0x1411), { NONE } },
+    { "DISCOVER_LIST_PROTOCOLS, beyond", LINUX, WORDS(0x4006, 3), WORDS(0x4006, INVALID), { NONE } },
+    { "DISCOVER_AGENT", LINUX, WORDS(0x4007, 2), WORDS(0x4007, SUCCESS, 2, 0x65646f6d, 0x6d, 0, 0), { NONE } },
+    { "DISCOVER_AGENT, itself", LINUX, WORDS(0x4007, 0xffffffff), WORDS(0x4007, SUCCESS, 1, 0x756e696c, 0x78, 0, 0), { NONE } },
+    { "DISCOVER_AGENT, the other", MODEM, WORDS(0x4007, 0xffffffff), WORDS(0x4007, SUCCESS, 2, 0x65646f6d, 0x6d, 0, 0), { NONE } },
+    { "NOTIFY_ERRORS", LINUX, WORDS(0x4008, 1), WORDS(0x4008, UNSUPPORTED), { NONE } },
+    { "SET_DEVICE_PERMISSIONS", LINUX, WORDS(0x4009, 2, 0, 1), WORDS(0x4009, DENIED), { NONE } },
+    { "SET_PROTOCOL_PERMISSIONS", LINUX, WORDS(0x400a, 2, 0, 0x14, 1), WORDS(0x400a, DENIED), { NONE } },
+    { "RESET_AGENT_CONFIGURATION", LINUX, WORDS(0x400b, 2, 1), WORDS(0x400b, DENIED), { NONE } },
+
+    { "POWER PROTOCOL_VERSION", LINUX, WORDS(0x4400), WORDS(0x4400, SUCCESS, 0x20000), { NONE } },
+    { "POWER PROTOCOL_ATTRIBUTES", LINUX, WORDS(0x4401), WORDS(0x4401, SUCCESS, 2, 0, 0, 0), { NONE } },
+    { "POWER MESSAGE_ATTRIBUTES", LINUX, WORDS(0x4402, 4), WORDS(0x4402, SUCCESS, 0), { NONE } },
+    { "DOMAIN_ATTRIBUTES, one-way", LINUX, WORDS(0x4403, 1), WORDS(0x4403, SUCCESS, 0x20000000, 0x00707364, 0, 0, 0), { NONE } },
+    { "STATE_SET", LINUX, WORDS(0x4404, 0, 0, ON), WORDS(0x4404, SUCCESS), { STATE, 0, ON, 0 } },
+    { "STATE_GET", LINUX, WORDS(0x4405, 0), WORDS(0x4405, SUCCESS, ON), { NONE } },
+    { "STATE_SET, off again", LINUX, WORDS(0x4404, 0, 0, OFF), WORDS(0x4404, SUCCESS), { STATE, 0, OFF, 0 } },
+    { "STATE_SET of no domain", LINUX, WORDS(0x4404, 0, 2, ON), WORDS(0x4404, NOT_FOUND), { NONE } },
+    { "STATE_SET of no state", LINUX, WORDS(0x4404, 0, 0, 1), WORDS(0x4404, INVALID), { NONE } },
+    { "STATE_SET, asynchronous, one-way", LINUX, WORDS(0x4404, 1, 1, OFF), WORDS(0x4404, UNSUPPORTED), { NONE } },
+    { "STATE_SET, not permitted", MODEM, WORDS(0x4404, 0, 0, ON), WORDS(0x4404, DENIED), { NONE } },
+    { "STATE_SET, of what both have", MODEM, WORDS(0x4404, 0, 1, OFF), WORDS(0x4404, SUCCESS), { STATE, 1, OFF, 0 } },
+    { "STATE_GET, as the other set it", LINUX, WORDS(0x4405, 1), WORDS(0x4405, SUCCESS, OFF), { NONE } },
+    { "STATE_NOTIFY, one-way", LINUX, WORDS(0x4406, 1, 1), WORDS(0x4406, UNSUPPORTED), { NONE } },
+
+    { "CLOCK PROTOCOL_VERSION", LINUX, WORDS(0x5000), WORDS(0x5000, SUCCESS, 0x10000), { NONE } },
+    { "CLOCK PROTOCOL_ATTRIBUTES, one-way", LINUX, WORDS(0x5001), WORDS(0x5001, SUCCESS, 2), { NONE } },
+    { "CLOCK MESSAGE_ATTRIBUTES", LINUX, WORDS(0x5002, 7), WORDS(0x5002, SUCCESS, 0), { NONE } },
+    { "CLOCK_ATTRIBUTES", LINUX, WORDS(0x5003, 0), WORDS(0x5003, SUCCESS, 1, 0x00757063, 0, 0, 0), { NONE } },
+    { "DESCRIBE_RATES, of a list", LINUX, WORDS(0x5004, 0, 0),
+      WORDS(0x5004, SUCCESS, 4, 500 * MHZ, 0, 1000 * MHZ, 0, 1500 * MHZ, 0, 2000 * MHZ, 0), { NONE } },
+    { "DESCRIBE_RATES, as many as there is room for", MODEM, WORDS(0x5004, 0, 0),
+      WORDS(0x5004, SUCCESS, 1 << 16 | 3, 500 * MHZ, 0, 1000 * MHZ, 0, 1500 * MHZ, 0), { NONE } },
+    { "DESCRIBE_RATES, the rest", MODEM, WORDS(0x5004, 0, 3), WORDS(0x5004, SUCCESS, 1, 2000 * MHZ, 0), { NONE } },
+    { "DESCRIBE_RATES, beyond", LINUX, WORDS(0x5004, 0, 4), WORDS(0x5004, OUT_OF_RANGE), { NONE } },
+    { "DESCRIBE_RATES, of steps", LINUX, WORDS(0x5004, 1, 0),
+      WORDS(0x5004, SUCCESS, 0x1003, 100 * MHZ, 0, 800 * MHZ, 0, 100 * MHZ, 0), { NONE } },
+    { "RATE_SET", LINUX, WORDS(0x5005, 0, 0, 1500 * MHZ, 0), WORDS(0x5005, SUCCESS), { RATE, 0, 1500 * MHZ, 0 } },
+    { "RATE_GET", LINUX, WORDS(0x5006, 0), WORDS(0x5006, SUCCESS, 1500 * MHZ, 0), { NONE } },
+    { "RATE_SET, rounded down", LINUX, WORDS(0x5005, 0, 1, 550 * MHZ, 0), WORDS(0x5005, SUCCESS), { RATE, 1, 500 * MHZ, 0 } },
+    { "RATE_GET, rounded", LINUX, WORDS(0x5006, 1), WORDS(0x5006, SUCCESS, 500 * MHZ, 0), { NONE } },
+    { "RATE_SET, below all", LINUX, WORDS(0x5005, 0, 1, 99 * MHZ, 0), WORDS(0x5005, INVALID), { NONE } },
+    { "RATE_SET, asynchronous, one-way", LINUX, WORDS(0x5005, 1, 0, 500 * MHZ, 0), WORDS(0x5005, UNSUPPORTED), { NONE } },
+    { "RATE_SET, not permitted", MODEM, WORDS(0x5005, 0, 1, 100 * MHZ, 0), WORDS(0x5005, DENIED), { NONE } },
+    { "CONFIG_SET", LINUX, WORDS(0x5007, 1, 1), WORDS(0x5007, SUCCESS), { ENABLED, 1, 1, 0 } },
+    { "CLOCK_ATTRIBUTES, enabled", LINUX, WORDS(0x5003, 1), WORDS(0x5003, SUCCESS, 1, 0x00737562, 0, 0, 0), { NONE } },
+    { "CONFIG_SET of no clock", LINUX, WORDS(0x5007, 2, 1), WORDS(0x5007, NOT_FOUND), { NONE } },
+
+    { "a protocol that is not there", LINUX, WORDS(0x5400), WORDS(0x5400, UNSUPPORTED), { NONE } },
+    { "a message that is not there", LINUX, WORDS(0x5009, 0), WORDS(0x5009, UNSUPPORTED), { NONE } },
+    { "a delayed response", LINUX, WORDS(0x5205, 0, 0, 0), WORDS(0x5205, PROTOCOL), { NONE } },
+    { "too few words", LINUX, WORDS(0x5006), WORDS(0x5006, PROTOCOL), { NONE } },
+    { "too many words", LINUX, WORDS(0x5006, 0, 0), WORDS(0x5006, PROTOCOL), { NONE } },
+};
+const size_t exchange_count = sizeof(exchanges) / sizeof(exchanges[0]);
