@@ -4,9 +4,10 @@ use Rattle.hex.specs.Hex.{decode_pairs}
 use Rattle.std.specs.Option.{option_map}
 use Rattle.scmi_decode.specs.Cell.{settled}
 use Rattle.scmi_decode.specs.Decoded.{is_remark}
-use Rattle.scmi_decode.specs.declared.open_dump.TheConstants.{REPEATED_BYTES}
+use Rattle.scmi_decode.specs.declared.dump_end.TheConstants.{REPEATED_BYTES}
 use Rattle.scmi_decode.specs.declared.layout.Layout.TheVariants.{Whole}
-use Rattle.scmi_decode.specs.OpenDump.{begun, end_at, is_filled_from, is_star, no_dump, reaches}
+use Rattle.scmi_decode.specs.DumpEnd.{end_of, is_filled_from, line_end, reaches}
+use Rattle.scmi_decode.specs.OpenDump.{begun, end_at, is_star, no_dump}
 use Rattle.scmi_decode.specs.Row.{row_of, without_prefix, parts_at, parts_row, marked_parts, offset_parts, piped_parts, address_of}
 use Rattle.scmi_decode.specs.declared.form.Form.{Form}
 use Rattle.scmi_decode.specs.declared.form.Form.TheVariants.{Plain, Marked, Offset, Equals, Value}
@@ -197,12 +198,12 @@ abbrev pub repeats_at : List ℕ → Option Bool
 repeats_at line = option_map (λ r. is_star (begun (no_dump Whole) 1 r) (codes "*")) (row_of line)
 
 pub od_repeats : repeats_at (codes "0000000 0000 0000 0010 0000 4404 001c 0001 0000") ≡ Some true
-unfolding row_of without_prefix parts_at parts_row marked_parts offset_parts piped_parts address_of decode_pairs begun is_star
+unfolding row_of without_prefix parts_at parts_row marked_parts offset_parts piped_parts address_of decode_pairs begun end_of is_star
 od_repeats = refl
 
 -- the third row of hexdump, whose address has another base
 pub hexdump_repeats : repeats_at (codes "0000020 0000 0000 0010 0000 4404 001c 0001 0000") ≡ Some false
-unfolding row_of without_prefix parts_at parts_row marked_parts offset_parts piped_parts address_of decode_pairs begun is_star
+unfolding row_of without_prefix parts_at parts_row marked_parts offset_parts piped_parts address_of decode_pairs begun end_of is_star
 hexdump_repeats = refl
 
 -- the address at which a line ends a dump of one row
@@ -210,20 +211,20 @@ abbrev pub ends_at : (line end : List ℕ) → Option (Option ℕ)
 ends_at line end = option_map (λ r. end_at (begun (no_dump Whole) 1 r) end) (row_of line)
 
 pub od_longs_end : ends_at (codes "000110 0000000000000000 0000000000000000") (codes "00011c") ≡ Some (Some 0x11C)
-unfolding row_of without_prefix parts_at parts_row marked_parts offset_parts piped_parts address_of decode_pairs begun reaches is_filled_from end_at
+unfolding row_of without_prefix parts_at parts_row marked_parts offset_parts piped_parts address_of decode_pairs begun end_of reaches is_filled_from line_end end_at
 od_longs_end = refl
 
 pub od_longs_octal_end : ends_at (codes "0000420 0000000000000000 0000000000000000") (codes "0000434") ≡ Some (Some 284)
-unfolding row_of without_prefix parts_at parts_row marked_parts offset_parts piped_parts address_of decode_pairs begun reaches is_filled_from end_at
+unfolding row_of without_prefix parts_at parts_row marked_parts offset_parts piped_parts address_of decode_pairs begun end_of reaches is_filled_from line_end end_at
 od_longs_octal_end = refl
 
 -- an end before the last number, and bytes behind the end
 pub od_early_end : ends_at (codes "000110 0000000000000000 0000000000000000") (codes "000118") ≡ Some None
-unfolding row_of without_prefix parts_at parts_row marked_parts offset_parts piped_parts address_of decode_pairs begun reaches is_filled_from end_at
+unfolding row_of without_prefix parts_at parts_row marked_parts offset_parts piped_parts address_of decode_pairs begun end_of reaches is_filled_from line_end end_at
 od_early_end = refl
 
 pub od_bytes_behind : ends_at (codes "000110 0000000000000000 0000000100000000") (codes "00011c") ≡ Some None
-unfolding row_of without_prefix parts_at parts_row marked_parts offset_parts piped_parts address_of decode_pairs begun reaches is_filled_from end_at
+unfolding row_of without_prefix parts_at parts_row marked_parts offset_parts piped_parts address_of decode_pairs begun end_of reaches is_filled_from line_end end_at
 od_bytes_behind = refl
 
 -- the lines that devmem2 prints beside each number

@@ -4,11 +4,11 @@ use Rattle.std.specs.Prelude.{◌||◌}
 use Rattle.scmi_decode.proofs.Reporting.{any_area-both, or_assoc, or_false}
 use Rattle.scmi_decode.specs.Decoded.{dump_after, dump_after_end, dump_after_row, end_found, is_remark, line_found, lines_found, row_found, step_found}
 use Rattle.scmi_decode.specs.Finding.{any_area}
-use Rattle.scmi_decode.specs.OpenDump.{DumpView, added, begun, beside, closed, cut, dump_found, end_at, extended, filled, goes_on, is_star, repeated}
+use Rattle.scmi_decode.specs.OpenDump.{DumpView, added, begun, beside, closed, dump_found, end_at, ended, goes_on, is_star, repeated}
 use Rattle.scmi_decode.specs.Row.{RowView, row_of}
 
 found_after-row : (d : DumpView) (n : ℕ) (line : List ℕ) (row : Option RowView) → (dump_after_row d n line row).found ≡ (d.found || any_area (row_found d n line row))
-unfolding begun beside closed extended filled
+unfolding begun beside closed added
 found_after-row d n line None =
     or_assoc d.found (any_area (dump_found d)) (any_area (line_found d.layout n line))
     ∙ ap (λ (b : Bool). d.found || b) (sym (any_area-both (dump_found d) (line_found d.layout n line)))
@@ -18,7 +18,7 @@ found_after-row d n line (Some r) = by (goes_on d r) where
   by false = refl
 
 found_after-end : (d : DumpView) (n : ℕ) (line : List ℕ) (address : Option ℕ) → (dump_after_end d n line address).found ≡ (d.found || any_area (end_found d n line address))
-unfolding closed cut filled
+unfolding closed ended
 found_after-end d n line (Some address) = refl
 found_after-end d n line None = found_after-row d n line (row_of line)
 

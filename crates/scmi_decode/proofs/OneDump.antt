@@ -5,7 +5,8 @@ use Rattle.std.specs.List.{slice_split}
 use Rattle.std.proofs.lemmas.Bool.Decides.{nat_tests}
 use Rattle.std.proofs.lemmas.List.{length-append}
 use Rattle.scmi_io.specs.Lines.{is_line_feed}
-use Rattle.scmi_decode.specs.OpenDump.{DumpView, no_dump, added, begun, bytes_before, closed, copies, cut, dump_found, end_at, ended, extended, filled, goes_on, is_open, is_star, last_row, rows_before}
+use Rattle.scmi_decode.specs.DumpEnd.{EndView, bytes_before, copies, cut, emptied, end_of, extended, filled, last_row, rows_before}
+use Rattle.scmi_decode.specs.OpenDump.{DumpView, no_dump, added, begun, closed, dump_found, end_at, ended, goes_on, is_open, is_star}
 use Rattle.scmi_decode.specs.Finding.{dump_findings}
 use Rattle.scmi_decode.specs.Reported.{Reported}
 use Rattle.scmi_decode.specs.declared.finding.Finding.{Finding}
@@ -26,29 +27,29 @@ dump_after-row : (d : DumpView) (n : ℕ) (line : List ℕ) (r : RowView) → Is
 unfolding dump_after
 dump_after-row d n line r is = rw (is.is_row.no_remark, is.is_row.not_empty, is.no_star, is.no_end, is.is_row.row, is.next) refl
 
-rows_before-none : (d : DumpView) (address : ℕ) → d.repeats ≡ false → rows_before d address ≡ 0
-rows_before-none d address even = rw even refl
+rows_before-none : (e : EndView) (address : ℕ) → e.repeats ≡ false → rows_before e address ≡ 0
+rows_before-none e address even = rw even refl
 
-added-cells : (d : DumpView) (r : RowView) → d.repeats ≡ false → (added d r).cells ≡ d.cells ++ r.cells
-unfolding extended filled
+added-cells : (d : DumpView) (r : RowView) → d.end.repeats ≡ false → (added d r).end.cells ≡ d.end.cells ++ r.cells
+unfolding added extended filled
 added-cells d r even =
-    ap (λ (k : ℕ). (d.cells ++ copies k (last_row d)) ++ r.cells) (rows_before-none d r.address even) ∙ ap (λ (cs : List Cell). cs ++ r.cells) (append-nil d.cells)
+    ap (λ (k : ℕ). (d.end.cells ++ copies k (last_row d.end)) ++ r.cells) (rows_before-none d.end r.address even) ∙ ap (λ (cs : List Cell). cs ++ r.cells) (append-nil d.end.cells)
 
 added-first : (d : DumpView) (r : RowView) → (added d r).first ≡ d.first
-unfolding extended filled
+unfolding added extended filled
 added-first d r = refl
 
-added-even : (d : DumpView) (r : RowView) → (added d r).repeats ≡ false
-unfolding extended filled
+added-even : (d : DumpView) (r : RowView) → (added d r).end.repeats ≡ false
+unfolding added extended filled
 added-even d r = refl
 
-added-open : (d : DumpView) (r : RowView) → is_open d ≡ true → d.repeats ≡ false → is_open (added d r) ≡ true
+added-open : (d : DumpView) (r : RowView) → is_open d ≡ true → d.end.repeats ≡ false → is_open (added d r) ≡ true
 added-open d r open_now even =
-    let size : length (added d r).cells ≡ length d.cells + length r.cells = ap length (added-cells d r even) ∙ length-append d.cells r.cells in
+    let size : length (added d r).end.cells ≡ length d.end.cells + length r.cells = ap length (added-cells d r even) ∙ length-append d.end.cells r.cells in
     grind (arith, nat_tests, size)
 
 closed-found : (d : DumpView) → dump_found (closed d) ≡ []
-unfolding closed
+unfolding closed emptied
 closed-found d = refl
 
 empty-found : (d : DumpView) (n : ℕ) → lines_found d n ([] ∷ []) ≡ dump_found d
@@ -59,20 +60,20 @@ empty-found d n = ap (λ (t : List Finding). dump_found d ++ t) (closed-found d)
 abbrev cells_found : Layout → ℕ → Order → List Cell → List Finding
 cells_found l n o cells = dump_findings l n lack.Order (settled o cells)
 
-added-order : (d : DumpView) (r : RowView) → (added d r).order ≡ d.order
-unfolding extended filled
+added-order : (d : DumpView) (r : RowView) → (added d r).end.order ≡ d.end.order
+unfolding added extended filled
 added-order d r = refl
 
-added-next : (d : DumpView) (r : RowView) → (added d r).next ≡ rows_next 0 (r ∷ [])
-unfolding extended filled
+added-next : (d : DumpView) (r : RowView) → (added d r).end.next ≡ rows_next 0 (r ∷ [])
+unfolding added extended filled
 added-next d r = refl
 
 added-layout : (d : DumpView) (r : RowView) → (added d r).layout ≡ d.layout
-unfolding extended filled
+unfolding added extended filled
 added-layout d r = refl
 
-open-found : (d : DumpView) → is_open d ≡ true → dump_found d ≡ cells_found d.layout d.first d.order (d.cells ++ [])
-open-found d open_now = rw open_now (ap (λ (cs : List Cell). cells_found d.layout d.first d.order cs) (sym (append-nil d.cells)))
+open-found : (d : DumpView) → is_open d ≡ true → dump_found d ≡ cells_found d.layout d.first d.end.order (d.end.cells ++ [])
+open-found d open_now = rw open_now (ap (λ (cs : List Cell). cells_found d.layout d.first d.end.order cs) (sym (append-nil d.end.cells)))
 
 end-found : (d : DumpView) (n : ℕ) (lines : List (List ℕ)) → IsEnd lines → lines_found d n lines ≡ dump_found d
 end-found d n [] is = refl
@@ -89,21 +90,21 @@ end_line-after : (d : DumpView) (n : ℕ) (line : List ℕ) (address : ℕ) → 
 unfolding dump_after
 end_line-after d n line address is = rw (is.no_remark, is.not_empty, is.no_star, is.is_end) refl
 
-ended-cells : (d : DumpView) (address : ℕ) → d.repeats ≡ false → (ended d address).cells ≡ bytes_before d address
-unfolding cut filled
+ended-cells : (d : DumpView) (address : ℕ) → d.end.repeats ≡ false → (ended d address).end.cells ≡ bytes_before d.end address
+unfolding ended cut filled
 ended-cells d address even =
-    ap (λ (k : ℕ). take (length (d.cells ++ copies k (last_row d)) - (d.next - address)) (d.cells ++ copies k (last_row d))) (rows_before-none d address even)
-    ∙ ap (λ (cs : List Cell). take (length cs - (d.next - address)) cs) (append-nil d.cells)
+    ap (λ (k : ℕ). take (length (d.end.cells ++ copies k (last_row d.end)) - (d.end.next - address)) (d.end.cells ++ copies k (last_row d.end))) (rows_before-none d.end address even)
+    ∙ ap (λ (cs : List Cell). take (length cs - (d.end.next - address)) cs) (append-nil d.end.cells)
 
-ended-found : (d : DumpView) (address : ℕ) → d.repeats ≡ false → (length (bytes_before d address) == 0) ≡ false → dump_found (ended d address) ≡ cells_found d.layout d.first d.order (bytes_before d address)
-unfolding cut filled
+ended-found : (d : DumpView) (address : ℕ) → d.end.repeats ≡ false → (length (bytes_before d.end address) == 0) ≡ false → dump_found (ended d address) ≡ cells_found d.layout d.first d.end.order (bytes_before d.end address)
+unfolding ended cut filled
 ended-found d address even some =
-    let cells : (ended d address).cells ≡ bytes_before d address = ended-cells d address even in
+    let cells : (ended d address).end.cells ≡ bytes_before d.end address = ended-cells d address even in
     open-found (ended d address) (ap (λ (cs : List Cell). not (length cs == 0)) cells ∙ ap not some)
-    ∙ ap (λ (cs : List Cell). cells_found d.layout d.first d.order cs) (append-nil (ended d address).cells ∙ cells)
+    ∙ ap (λ (cs : List Cell). cells_found d.layout d.first d.end.order cs) (append-nil (ended d address).end.cells ∙ cells)
 
-found_in_rows : (d : DumpView) (n : ℕ) (rows : List RowView) (end : Option ℕ) (lines : List (List ℕ)) → is_open d ≡ true → d.repeats ≡ false → AreRows d rows end lines
-    → lines_found d n lines ≡ cells_found d.layout d.first d.order (cells_to end (rows_next d.next rows) (d.cells ++ rows_cells rows))
+found_in_rows : (d : DumpView) (n : ℕ) (rows : List RowView) (end : Option ℕ) (lines : List (List ℕ)) → is_open d ≡ true → d.end.repeats ≡ false → AreRows d rows end lines
+    → lines_found d n lines ≡ cells_found d.layout d.first d.end.order (cells_to end (rows_next d.end.next rows) (d.end.cells ++ rows_cells rows))
 found_in_rows d n [] None lines open_now even are = end-found d n lines are ∙ open-found d open_now
 found_in_rows d n [] (Some address) [] open_now even are = absurd are
 found_in_rows d n [] (Some address) (line ∷ lines) open_now even are =
@@ -112,56 +113,56 @@ found_in_rows d n [] (Some address) (line ∷ lines) open_now even are =
     ∙ ap (λ (v : DumpView). dump_found e ++ lines_found v (n + 1) lines) (end_line-after d n line address are.0)
     ∙ ap (λ (t : List Finding). dump_found e ++ t) (end-found (closed e) (n + 1) lines are.1 ∙ closed-found e)
     ∙ append-nil (dump_found e) ∙ ended-found d address even are.0.has_cells
-    ∙ ap (λ (cs : List Cell). cells_found d.layout d.first d.order (take (length cs - (d.next - address)) cs)) (sym (append-nil d.cells))
+    ∙ ap (λ (cs : List Cell). cells_found d.layout d.first d.end.order (take (length cs - (d.end.next - address)) cs)) (sym (append-nil d.end.cells))
 found_in_rows d n (r ∷ rows) end [] open_now even are = absurd are
 found_in_rows d n (r ∷ rows) end (line ∷ lines) open_now even are =
     let here : step_found d n line ≡ [] = step_found-row d n line r are.0 in
     let after : dump_after d n line ≡ added d r = dump_after-row d n line r are.0 in
     let rest = found_in_rows (added d r) (n + 1) rows end lines (added-open d r open_now even) (added-even d r) are.1 in
-    let all : List Cell = (added d r).cells ++ rows_cells rows in
-    let cells : all ≡ d.cells ++ (r.cells ++ rows_cells rows) =
-    ap (λ (cs : List Cell). cs ++ rows_cells rows) (added-cells d r even) ∙ append_assoc d.cells r.cells (rows_cells rows) in
+    let all : List Cell = (added d r).end.cells ++ rows_cells rows in
+    let cells : all ≡ d.end.cells ++ (r.cells ++ rows_cells rows) =
+    ap (λ (cs : List Cell). cs ++ rows_cells rows) (added-cells d r even) ∙ append_assoc d.end.cells r.cells (rows_cells rows) in
     ap (λ (t : List Finding). t ++ lines_found (dump_after d n line) (n + 1) lines) here ∙ ap (λ (v : DumpView). lines_found v (n + 1) lines) after
-    ∙ rest ∙ ap (λ (k : ℕ). cells_found (added d r).layout k (added d r).order (cells_to end (rows_next (added d r).next rows) all)) (added-first d r)
-    ∙ ap (λ (o : Order). cells_found (added d r).layout d.first o (cells_to end (rows_next (added d r).next rows) all)) (added-order d r)
-    ∙ ap (λ (l : Layout). cells_found l d.first d.order (cells_to end (rows_next (added d r).next rows) all)) (added-layout d r)
-    ∙ ap (λ (k : ℕ). cells_found d.layout d.first d.order (cells_to end (rows_next k rows) all)) (added-next d r)
-    ∙ ap (λ (cs : List Cell). cells_found d.layout d.first d.order (cells_to end (rows_next (rows_next 0 (r ∷ [])) rows) cs)) cells
+    ∙ rest ∙ ap (λ (k : ℕ). cells_found (added d r).layout k (added d r).end.order (cells_to end (rows_next (added d r).end.next rows) all)) (added-first d r)
+    ∙ ap (λ (o : Order). cells_found (added d r).layout d.first o (cells_to end (rows_next (added d r).end.next rows) all)) (added-order d r)
+    ∙ ap (λ (l : Layout). cells_found l d.first d.end.order (cells_to end (rows_next (added d r).end.next rows) all)) (added-layout d r)
+    ∙ ap (λ (k : ℕ). cells_found d.layout d.first d.end.order (cells_to end (rows_next k rows) all)) (added-next d r)
+    ∙ ap (λ (cs : List Cell). cells_found d.layout d.first d.end.order (cells_to end (rows_next (rows_next 0 (r ∷ [])) rows) cs)) cells
 
 first_found : (l : Layout) (line : List ℕ) (r : RowView) → IsRow line r → step_found (no_dump l) 1 line ≡ []
 unfolding step_found is_star end_at goes_on
 first_found l line r is = rw (is.no_remark, is.not_empty, is.row) refl
 
 first_dump : (l : Layout) (line : List ℕ) (r : RowView) → IsRow line r → dump_after (no_dump l) 1 line ≡ begun (no_dump l) 1 r
-unfolding dump_after is_star end_at goes_on closed
+unfolding dump_after is_star end_at goes_on closed emptied
 first_dump l line r is = rw (is.no_remark, is.not_empty, is.row) refl
 
 begun-open : (l : Layout) (r : RowView) → (length r.cells == 0) ≡ false → is_open (begun (no_dump l) 1 r) ≡ true
-unfolding begun
+unfolding begun end_of
 begun-open l r some = ap not some
 
-begun-cells : (l : Layout) (r : RowView) → (begun (no_dump l) 1 r).cells ≡ r.cells
-unfolding begun
+begun-cells : (l : Layout) (r : RowView) → (begun (no_dump l) 1 r).end.cells ≡ r.cells
+unfolding begun end_of
 begun-cells l r = refl
 
 begun-first : (l : Layout) (r : RowView) → (begun (no_dump l) 1 r).first ≡ 1
-unfolding begun
+unfolding begun end_of
 begun-first l r = refl
 
-begun-even : (l : Layout) (r : RowView) → (begun (no_dump l) 1 r).repeats ≡ false
-unfolding begun
+begun-even : (l : Layout) (r : RowView) → (begun (no_dump l) 1 r).end.repeats ≡ false
+unfolding begun end_of
 begun-even l r = refl
 
-begun-order : (l : Layout) (r : RowView) → (begun (no_dump l) 1 r).order ≡ r.order
-unfolding begun
+begun-order : (l : Layout) (r : RowView) → (begun (no_dump l) 1 r).end.order ≡ r.order
+unfolding begun end_of
 begun-order l r = refl
 
-begun-next : (l : Layout) (r : RowView) → (begun (no_dump l) 1 r).next ≡ rows_next 0 (r ∷ [])
-unfolding begun
+begun-next : (l : Layout) (r : RowView) → (begun (no_dump l) 1 r).end.next ≡ rows_next 0 (r ∷ [])
+unfolding begun end_of
 begun-next l r = refl
 
 begun-layout : (l : Layout) (r : RowView) → (begun (no_dump l) 1 r).layout ≡ l
-unfolding begun
+unfolding begun end_of
 begun-layout l r = refl
 
 found_in_dump : (l : Layout) (rows : List RowView) (end : Option ℕ) (lines : List (List ℕ)) → IsDumpOf l rows end lines → lines_found (no_dump l) 1 lines ≡ dump_findings l 1 lack.Order (rows_bytes rows end)
@@ -170,10 +171,10 @@ found_in_dump l (r ∷ rows) end (line ∷ lines) is =
     let rest = found_in_rows d 2 rows end lines (begun-open l r is.0.has_cells) (begun-even l r) is.1 in
     ap (λ (t : List Finding). t ++ lines_found (dump_after (no_dump l) 1 line) 2 lines) (first_found l line r is.0)
     ∙ ap (λ (v : DumpView). lines_found v 2 lines) (first_dump l line r is.0)
-    ∙ rest ∙ ap (λ (k : ℕ). cells_found d.layout k d.order (cells_to end (rows_next d.next rows) (d.cells ++ rows_cells rows))) (begun-first l r)
-    ∙ ap (λ (o : Order). cells_found d.layout 1 o (cells_to end (rows_next d.next rows) (d.cells ++ rows_cells rows))) (begun-order l r)
-    ∙ ap (λ (m : Layout). cells_found m 1 r.order (cells_to end (rows_next d.next rows) (d.cells ++ rows_cells rows))) (begun-layout l r)
-    ∙ ap (λ (k : ℕ). cells_found l 1 r.order (cells_to end (rows_next k rows) (d.cells ++ rows_cells rows))) (begun-next l r)
+    ∙ rest ∙ ap (λ (k : ℕ). cells_found d.layout k d.end.order (cells_to end (rows_next d.end.next rows) (d.end.cells ++ rows_cells rows))) (begun-first l r)
+    ∙ ap (λ (o : Order). cells_found d.layout 1 o (cells_to end (rows_next d.end.next rows) (d.end.cells ++ rows_cells rows))) (begun-order l r)
+    ∙ ap (λ (m : Layout). cells_found m 1 r.order (cells_to end (rows_next d.end.next rows) (d.end.cells ++ rows_cells rows))) (begun-layout l r)
+    ∙ ap (λ (k : ℕ). cells_found l 1 r.order (cells_to end (rows_next k rows) (d.end.cells ++ rows_cells rows))) (begun-next l r)
     ∙ ap (λ (cs : List Cell). cells_found l 1 r.order (cells_to end (rows_next (rows_next 0 (r ∷ [])) rows) (cs ++ rows_cells rows))) (begun-cells l r)
 found_in_dump l [] end lines is = absurd is
 found_in_dump l (r ∷ rows) end [] is = absurd is

@@ -4,6 +4,7 @@ pub mod Row
 pub mod Layout
 pub mod Finding
 pub mod Reported
+pub mod DumpEnd
 pub mod OpenDump
 pub mod MessageArea
 pub mod Event

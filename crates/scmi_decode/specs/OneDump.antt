@@ -5,7 +5,8 @@ use Rattle.scmi_io.specs.Lines.{is_line_feed}
 use Rattle.scmi_decode.specs.Cell.{settled}
 use Rattle.scmi_decode.specs.declared.cell.Cell.{Cell}
 use Rattle.scmi_decode.specs.declared.no_bytes.NoBytes.TheVariants.{Order}
-use Rattle.scmi_decode.specs.OpenDump.{DumpView, no_dump, added, begun, bytes_before, end_at, goes_on, is_star}
+use Rattle.scmi_decode.specs.DumpEnd.{bytes_before}
+use Rattle.scmi_decode.specs.OpenDump.{DumpView, no_dump, added, begun, end_at, goes_on, is_star}
 use Rattle.scmi_decode.specs.Row.{RowView, row_of}
 use Rattle.scmi_decode.specs.Decoded.{is_remark}
 use Rattle.scmi_decode.specs.Finding.{dump_findings}
@@ -33,7 +34,7 @@ pub record IsEndLine (d : DumpView) (line : List ℕ) (address : ℕ) : Type 0 w
   pub not_empty : (length line == 0) ≡ false
   pub no_star : is_star d line ≡ false
   pub is_end : end_at d line ≡ Some address
-  pub has_cells : (length (bytes_before d address) == 0) ≡ false
+  pub has_cells : (length (bytes_before d.end address) == 0) ≡ false
 
 -- nothing, or the empty line after the last line feed
 abbrev pub IsEnd : List (List ℕ) → Type 0

@@ -47,6 +47,10 @@ first_item line = take (item_length (after_gap line)) (after_gap line)
 abbrev pub after_item : List ℕ → List ℕ
 after_item line = drop (item_length (after_gap line)) (after_gap line)
 
+-- whether a line has one item
+abbrev pub has_one_item : List ℕ → Bool
+has_one_item line = length (after_gap (after_item line)) == 0
+
 -- whether a text begins with a space
 abbrev pub begins_with_space : List ℕ → Bool
 begins_with_space [] = false

@@ -16,6 +16,7 @@ mod cell;
 mod decode;
 mod decode_error;
 mod dump;
+mod dump_end;
 mod event;
 mod finding;
 mod findings;

@@ -1,6 +1,6 @@
 //! The items of a line, from its begin on.
 ghost use Rattle.std.specs.Prelude.{◌≡◌, ◌≤◌, length};
-ghost use Rattle.scmi_decode.specs.Row.{gap_length, item_length, after_gap, first_item, after_item, column_length, bar_length, begins_with_space, pipe_length, behind_colon, after_cursor};
+ghost use Rattle.scmi_decode.specs.Row.{gap_length, item_length, after_gap, first_item, after_item, column_length, bar_length, begins_with_space, pipe_length, behind_colon, after_cursor, has_one_item};
 
 use crate::lines::is_gap;
 
@@ -55,6 +55,13 @@ pub(crate) fn after_item(line: &[u8]) -> &[u8]
 {
     let line = after_gap(line);
     &line[item_length(line)..]
+}
+
+/// Whether a line has one item.
+pub(crate) fn has_one_item(line: &[u8]) -> bool
+    ensures { result ≡ has_one_item line.now }
+{
+    after_gap(after_item(line)).is_empty()
 }
 
 /// The first item of a line, and what follows it.

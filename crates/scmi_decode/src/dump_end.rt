@@ -1,0 +1,309 @@
+//! Where a dump ends.
+ghost use Rattle.std.specs.Prelude.{◌≡◌, ◌≤◌, ◌+◌, ◌-◌, ◌%◌, ◌^◌, length, OnOk, IfOk};
+ghost use Rattle.scmi_decode.specs.DumpEnd.{are_zeros, bytes_before, bytes_behind, copies, cut, emptied, end_of, ended_at, extended, extended_to, filled, has_its_groups, is_even, is_filled_from, is_in_last_group, last_row, line_end, no_end, reaches, repeating, rows_before, takes};
+
+use crate::cell::{Cell, is_zero_in, order_shown};
+use crate::form::Form;
+use crate::order::Order;
+use crate::row::{Row, address_of};
+use crate::scan::{first_item, has_one_item};
+use std::alloc::{AllocError, Global};
+use std::marker::Model;
+
+/// The most bytes that `*` repeats (own).
+pub(crate) const REPEATED_BYTES: u64 = 0x1_0000;
+
+/// The rows of a dump so far, and where they end: the address after the last one, how many bytes the
+/// first one has, how many digits the first group of the last one has, in which order those of the
+/// first one are, whether the last one repeats up to the next address, and their bytes.
+#[derive(Drop)]
+pub(crate) struct DumpEnd {
+    next: u64,
+    width: usize,
+    group: usize,
+    order: Order,
+    repeats: bool,
+    cells: Vec<Cell>,
+}
+
+impl Model for DumpEnd {
+    ghost use Rattle.scmi_decode.specs.DumpEnd.{EndView};
+
+    ghost Value = { EndView };
+
+    ghost view = { λ e. record {
+      next = e.next;
+      width = e.width;
+      group = e.group;
+      order = e.order;
+      repeats = e.repeats;
+      cells = e.cells.items;
+    } };
+}
+
+impl DumpEnd {
+    /// No rows.
+    pub(crate) fn new(alloc: Global) -> DumpEnd
+        ensures { result ≡ no_end }
+    {
+        DumpEnd {
+            next: 0,
+            width: 0,
+            group: 0,
+            order: Order::Straight,
+            repeats: false,
+            cells: Vec::new(alloc),
+        }
+    }
+
+    /// The bytes of the rows.
+    pub(crate) fn cells(&self) -> &[Cell]
+        ensures { result.now ≡ self.now.cells }
+    {
+        self.cells.as_slice()
+    }
+
+    /// In which order the digits of the first row are.
+    pub(crate) fn order(&self) -> Order
+        ensures { result ≡ self.now.order }
+    {
+        self.order
+    }
+
+    /// How many digits the first group of the last row has.
+    pub(crate) fn group(&self) -> usize
+        ensures { result ≡ self.now.group }
+    {
+        self.group
+    }
+
+    /// The address after the last row.
+    pub(crate) fn next(&self) -> u64
+        ensures { result ≡ self.now.next }
+    {
+        self.next
+    }
+
+    /// Whether a row has the same groups as the rows so far, and is not longer than the first; and no
+    /// shorter row came before it.
+    pub(crate) fn takes(&self, row: &Row) -> bool
+        ensures { result ≡ takes self.now row.now }
+    {
+        self.has_its_groups(row) && self.is_even() && row.cells().len() <= self.width
+    }
+
+    /// Whether the groups of a row are those of the first row; those of a shorter row may be shorter.
+    fn has_its_groups(&self, row: &Row) -> bool
+        ensures { result ≡ has_its_groups self.now row.now }
+    {
+        row.group() == self.group || row.group() < self.group && row.cells().len() < self.width
+    }
+
+    /// Whether the rows so far have the same length.
+    fn is_even(&self) -> bool
+        ensures { result ≡ is_even self.now }
+    {
+        self.width != 0 && self.cells.len() % self.width == 0
+    }
+
+    /// Whether an address is the one after the last row, or, if rows repeat, whole rows after it.
+    #[tactic(auto, unfolding(crate::specs::DumpEnd::reaches))]
+    pub(crate) fn reaches(&self, address: u64) -> bool
+        ensures { result ≡ reaches self.now address }
+    {
+        if !self.repeats {
+            return address == self.next;
+        }
+        self.width != 0
+            && self.next <= address
+            && address - self.next <= REPEATED_BYTES
+            && (address - self.next) % self.width as u64 == 0
+    }
+
+    /// How many rows the last one is repeated before an address.
+    fn rows_before(&self, address: u64) -> u64
+        ensures { result ≡ rows_before self.now address }
+    {
+        if self.repeats && self.width != 0 {
+            address.saturating_sub(self.next) / self.width as u64
+        } else {
+            0
+        }
+    }
+
+    /// The last row.
+    fn last_row(&self) -> &[Cell]
+        ensures { result.now ≡ last_row self.now }
+    {
+        &self.cells[self.cells.len().saturating_sub(self.width)..]
+    }
+
+    /// Repeats the last row up to an address.
+    #[tactic(auto, unfolding(crate::specs::DumpEnd::filled))]
+    fn fill(&mut self, alloc: Global, address: u64) -> Result<(), AllocError>
+        ensures { OnOk result (self.new ≡ filled self.old address) }
+    {
+        if !self.repeats {
+            return Ok(());
+        }
+        let count = self.rows_before(address);
+        let row = copies(alloc, count, self.last_row())?;
+        self.cells.extend_from_slice(row.as_slice())?;
+        self.repeats = false;
+        Ok(())
+    }
+
+    /// Its bytes before an address that is not after its last row.
+    fn bytes_before(&self, address: u64) -> &[Cell]
+        ensures { result.now ≡ bytes_before self.now address }
+    {
+        &self.cells[..self.count_before(address)]
+    }
+
+    /// Its bytes from such an address on.
+    fn bytes_behind(&self, address: u64) -> &[Cell]
+        ensures { result.now ≡ bytes_behind self.now address }
+    {
+        &self.cells[self.count_before(address)..]
+    }
+
+    /// How many bytes it has before such an address.
+    fn count_before(&self, address: u64) -> usize
+        ensures value { result ≡ length self.now.cells - (self.now.next - address) }
+        ensures bound { result ≤ length self.now.cells }
+    {
+        let count = self.cells.len() as u64;
+        count.saturating_sub(self.next.saturating_sub(address)) as usize
+    }
+
+    /// Leaves out its bytes from such an address on.
+    #[tactic(auto, unfolding(crate::specs::DumpEnd::cut))]
+    fn cut(&mut self, address: u64)
+        ensures { self.new ≡ cut self.old address }
+    {
+        let count = self.count_before(address);
+        self.cells.truncate(count);
+    }
+
+    /// Ends at an address: the last row is repeated up to there, or what fills the last group is left
+    /// out.
+    pub(crate) fn end_at(&mut self, alloc: Global, address: u64) -> Result<(), AllocError>
+        ensures { OnOk result (self.new ≡ ended_at self.old address) }
+    {
+        self.fill(alloc, address)?;
+        self.cut(address);
+        Ok(())
+    }
+
+    /// Goes on with a row.
+    #[tactic(auto, unfolding(crate::specs::DumpEnd::extended))]
+    fn extend(&mut self, row: &Row) -> Result<(), AllocError>
+        ensures { OnOk result (self.new ≡ extended self.old row.now) }
+    {
+        self.cells.extend_from_slice(row.cells())?;
+        self.next = address_after(row);
+        self.group = row.group();
+        Ok(())
+    }
+
+    /// Goes on with a row, after its last row is repeated up to there.
+    pub(crate) fn extend_to(&mut self, alloc: Global, row: &Row) -> Result<(), AllocError>
+        ensures { OnOk result (self.new ≡ extended_to self.old row.now) }
+    {
+        self.fill(alloc, row.address())?;
+        self.extend(row)
+    }
+
+    /// Begins with a row.
+    #[tactic(auto, unfolding(crate::specs::DumpEnd::end_of))]
+    pub(crate) fn begin(&mut self, row: &Row) -> Result<(), AllocError>
+        ensures { OnOk result (self.new ≡ end_of row.now) }
+    {
+        self.cells.clear();
+        self.cells.extend_from_slice(row.cells())?;
+        self.next = address_after(row);
+        self.width = row.cells().len();
+        self.group = row.group();
+        self.order = row.order();
+        self.repeats = false;
+        Ok(())
+    }
+
+    /// Leaves out its bytes.
+    #[tactic(auto, unfolding(crate::specs::DumpEnd::emptied))]
+    pub(crate) fn clear(&mut self)
+        ensures { self.new ≡ emptied self.old }
+    {
+        self.cells.clear();
+    }
+
+    /// Repeats the last row up to the next address.
+    #[tactic(auto, unfolding(crate::specs::DumpEnd::repeating))]
+    pub(crate) fn repeat(&mut self)
+        ensures { self.new ≡ repeating self.old }
+    {
+        self.repeats = true;
+    }
+
+    /// The address of a line that has an address alone, that at which the bytes end.
+    #[tactic(auto, unfolding(crate::specs::DumpEnd::line_end))]
+    pub(crate) fn line_end(&self, line: &[u8]) -> Option<u64>
+        ensures { result ≡ line_end self.now line.now }
+    {
+        if !has_one_item(line) {
+            return None;
+        }
+        let address = address_of(Form::Offset, first_item(line))?;
+        if self.reaches(address) || self.is_filled_from(address) {
+            Some(address)
+        } else {
+            None
+        }
+    }
+
+    /// Whether the last group is filled up from an address on, as od does by zeros.
+    #[tactic(auto, unfolding(crate::specs::DumpEnd::is_filled_from))]
+    fn is_filled_from(&self, address: u64) -> bool
+        ensures { result ≡ is_filled_from self.now address }
+    {
+        self.is_in_last_group(address)
+            && are_zeros(
+                self.order,
+                self.bytes_before(address),
+                self.bytes_behind(address),
+            )
+    }
+
+    /// Whether an address is in the last group, and not at its begin.
+    fn is_in_last_group(&self, address: u64) -> bool
+        ensures { result ≡ is_in_last_group self.now address }
+    {
+        !self.repeats && address < self.next && self.next - address < self.group as u64 / 2
+    }
+}
+
+/// Whether bytes are zeros in the order that the bytes before them have.
+fn are_zeros(order: Order, before: &[Cell], behind: &[Cell]) -> bool
+    ensures { result ≡ are_zeros order before.now behind.now }
+{
+    let order = order_shown(order, before);
+    behind.iter().all(|cell| is_zero_in(order, cell))
+}
+
+/// The address after a row.
+fn address_after(row: &Row) -> u64
+    ensures { result ≡ (row.now.address + length row.now.cells) % 2 ^ 64 }
+{
+    row.address().wrapping_add(row.cells().len() as u64)
+}
+
+/// Copies of a row, as many as the number.
+fn copies(alloc: Global, count: u64, row: &[Cell]) -> Result<Vec<Cell>, AllocError>
+    ensures { IfOk result (λ all. all.items ≡ copies count row.now) }
+{
+    let mut all = Vec::new(alloc);
+    'copies: for _ in 0..count {
+        all.extend_from_slice(row)?;
+    }
+    Ok(all)
+}
