@@ -5,10 +5,12 @@ use Rattle.std.specs.Option.{option_map}
 use Rattle.scmi_decode.specs.Cell.{settled}
 use Rattle.scmi_decode.specs.Decoded.{is_remark}
 use Rattle.scmi_decode.specs.declared.dump_end.TheConstants.{REPEATED_BYTES}
+use Rattle.scmi_decode.specs.declared.first_column.TheConstants.{SURE_STEPS}
 use Rattle.scmi_decode.specs.declared.layout.Layout.TheVariants.{Whole}
-use Rattle.scmi_decode.specs.DumpEnd.{end_of, is_filled_from, line_end, reaches}
+use Rattle.scmi_decode.specs.DumpEnd.{column_begun, column_with, end_of, is_filled_from, line_end, reaches}
+use Rattle.scmi_decode.specs.FirstColumn.{counts}
 use Rattle.scmi_decode.specs.OpenDump.{begun, end_at, is_star, no_dump}
-use Rattle.scmi_decode.specs.Row.{row_of, without_prefix, parts_at, parts_row, marked_parts, offset_parts, piped_parts, address_of}
+use Rattle.scmi_decode.specs.Row.{RowView, row_of, without_prefix, parts_at, parts_row, marked_parts, offset_parts, piped_parts, address_of}
 use Rattle.scmi_decode.specs.declared.form.Form.{Form}
 use Rattle.scmi_decode.specs.declared.form.Form.TheVariants.{Plain, Marked, Offset, Equals, Value}
 
@@ -92,6 +94,52 @@ od_halves = refl
 pub od_longs : read_row (codes "0000020 0000001000000000 00000001001c4404") ≡ Some (row_at Offset 16)
 unfolding row_of without_prefix parts_at parts_row marked_parts offset_parts piped_parts address_of decode_pairs
 od_longs = refl
+
+-- addresses of more digits, but not as many as a group has
+pub od_far_bytes : read_row (codes "80000010 00 00 00 00 10 00 00 00 04 44 1c 00 01 00 00 00") ≡ Some (row_at Offset 0x80000010)
+unfolding row_of without_prefix parts_at parts_row marked_parts offset_parts piped_parts address_of decode_pairs
+od_far_bytes = refl
+
+pub od_far_halves : read_row (codes "80000010 0000 0000 0010 0000 4404 001c 0001 0000") ≡ Some (row_at Offset 0x80000010)
+unfolding row_of without_prefix parts_at parts_row marked_parts offset_parts piped_parts address_of decode_pairs
+od_far_halves = refl
+
+pub od_far_longs : read_row (codes "80000010 0000001000000000 00000001001c4404") ≡ Some (row_at Offset 0x80000010)
+unfolding row_of without_prefix parts_at parts_row marked_parts offset_parts piped_parts address_of decode_pairs
+od_far_longs = refl
+
+pub od_farther_words : read_row (codes "1080000010 00000000 00000010 001c4404 00000001") ≡ Some (row_at Offset 0x1080000010)
+unfolding row_of without_prefix parts_at parts_row marked_parts offset_parts piped_parts address_of decode_pairs
+od_farther_words = refl
+
+-- as many: whether the first items of two rows may be their addresses
+abbrev pub count_both : Option RowView → Option RowView → Option Bool
+count_both (Some r) (Some s) = Some (counts (column_with (column_begun r) s))
+count_both _ _ = None
+
+pub od_far_words : count_both (row_of (codes "80000000 00000000 00000000 00000000 00000000")) (row_of (codes "80000010 00000000 00000010 001c4404 00000001")) ≡ Some true
+unfolding row_of without_prefix parts_at parts_row marked_parts offset_parts piped_parts address_of decode_pairs
+od_far_words = refl
+
+pub od_octal_words : count_both (row_of (codes "10000000 00000000 00000000 00000000 00000000")) (row_of (codes "10000020 00000000 00000010 001c4404 00000001")) ≡ Some true
+unfolding row_of without_prefix parts_at parts_row marked_parts offset_parts piped_parts address_of decode_pairs
+od_octal_words = refl
+
+pub od_decimal_words : count_both (row_of (codes "20000000 00000000 00000000 00000000 00000000")) (row_of (codes "20000016 00000000 00000010 001c4404 00000001")) ≡ Some true
+unfolding row_of without_prefix parts_at parts_row marked_parts offset_parts piped_parts address_of decode_pairs
+od_decimal_words = refl
+
+pub od_filled_words : count_both (row_of (codes "80000020 00000000 40000000 00000000 00000000")) (row_of (codes "8000002e")) ≡ Some true
+unfolding row_of without_prefix parts_at parts_row marked_parts offset_parts piped_parts address_of decode_pairs
+od_filled_words = refl
+
+pub od_bare_words : count_both (row_of (codes "00000000 00000000 00000000 00000000")) (row_of (codes "00000000 00000010 001c4404 00000001")) ≡ Some false
+unfolding row_of without_prefix parts_at parts_row marked_parts offset_parts piped_parts address_of decode_pairs
+od_bare_words = refl
+
+pub bare_words : count_both (row_of (codes "00000000")) (row_of (codes "00000000")) ≡ Some false
+unfolding row_of without_prefix parts_at parts_row marked_parts offset_parts piped_parts address_of decode_pairs
+bare_words = refl
 
 -- groups whose order the column of text shows
 pub xxd_fours : read_row (codes "00000010: 00000000 10000000 04441c00 01000000  .........D......") ≡ Some (row_at Marked 0x10)
@@ -237,3 +285,7 @@ devmem2_mapped = refl
 -- 64 KiB
 pub repeated_bytes : REPEATED_BYTES ≡ 65536
 repeated_bytes = refl
+
+-- two rows that go on with the first
+pub sure_steps : SURE_STEPS ≡ 2
+sure_steps = refl

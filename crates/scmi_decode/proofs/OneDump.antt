@@ -5,7 +5,7 @@ use Rattle.std.specs.List.{slice_split}
 use Rattle.std.proofs.lemmas.Bool.Decides.{nat_tests}
 use Rattle.std.proofs.lemmas.List.{length-append}
 use Rattle.scmi_io.specs.Lines.{is_line_feed}
-use Rattle.scmi_decode.specs.DumpEnd.{EndView, bytes_before, copies, cut, emptied, end_of, extended, filled, last_row, rows_before}
+use Rattle.scmi_decode.specs.DumpEnd.{EndView, bytes_before, column_begun, column_with, copies, cut, emptied, end_of, extended, filled, last_row, rows_before}
 use Rattle.scmi_decode.specs.OpenDump.{DumpView, no_dump, added, begun, closed, dump_found, end_at, ended, goes_on, is_open, is_star}
 use Rattle.scmi_decode.specs.Finding.{dump_findings}
 use Rattle.scmi_decode.specs.Reported.{Reported}
@@ -13,11 +13,11 @@ use Rattle.scmi_decode.specs.declared.finding.Finding.{Finding}
 use Rattle.scmi_decode.specs.declared.layout.Layout.{Layout}
 use Rattle.scmi_decode.specs.Row.{RowView}
 use Rattle.scmi_decode.specs.Decoded.{IsDecoded, dump_after, lines_found, step_found}
-use Rattle.scmi_decode.specs.Cell.{settled}
+use Rattle.scmi_decode.specs.FirstColumn.{bytes_beside, lack_beside}
 use Rattle.scmi_decode.specs.declared.cell.Cell.{Cell}
-use Rattle.scmi_decode.specs.declared.no_bytes.NoBytes.TheVariants as lack
+use Rattle.scmi_decode.specs.declared.first_column.FirstColumn.{FirstColumn}
 use Rattle.scmi_decode.specs.declared.order.Order.{Order}
-use Rattle.scmi_decode.specs.OneDump.{AreRows, IsDumpOf, IsEnd, IsEndLine, IsNextRow, IsRow, ReportsForms, cells_to, rows_bytes, rows_cells, rows_next}
+use Rattle.scmi_decode.specs.OneDump.{AreRows, IsDumpOf, IsEnd, IsEndLine, IsNextRow, IsRow, ReportsForms, cells_to, rows_bytes, rows_cells, rows_column, rows_lack, rows_next}
 
 step_found-row : (d : DumpView) (n : ℕ) (line : List ℕ) (r : RowView) → IsNextRow d line r → step_found d n line ≡ []
 unfolding step_found
@@ -56,13 +56,17 @@ empty-found : (d : DumpView) (n : ℕ) → lines_found d n ([] ∷ []) ≡ dump_
 unfolding step_found dump_after
 empty-found d n = ap (λ (t : List Finding). dump_found d ++ t) (closed-found d) ∙ append-nil (dump_found d)
 
--- what is found in cells in an order, after a number
-abbrev cells_found : Layout → ℕ → Order → List Cell → List Finding
-cells_found l n o cells = dump_findings l n lack.Order (settled o cells)
+-- what is found in cells in an order, after a number, beside a first column
+abbrev cells_found : Layout → ℕ → Order → FirstColumn → List Cell → List Finding
+cells_found l n o c cells = dump_findings l n (lack_beside c) (bytes_beside c o cells)
 
 added-order : (d : DumpView) (r : RowView) → (added d r).end.order ≡ d.end.order
 unfolding added extended filled
 added-order d r = refl
+
+added-column : (d : DumpView) (r : RowView) → (added d r).end.column ≡ column_with d.end.column r
+unfolding added extended filled
+added-column d r = refl
 
 added-next : (d : DumpView) (r : RowView) → (added d r).end.next ≡ rows_next 0 (r ∷ [])
 unfolding added extended filled
@@ -72,8 +76,8 @@ added-layout : (d : DumpView) (r : RowView) → (added d r).layout ≡ d.layout
 unfolding added extended filled
 added-layout d r = refl
 
-open-found : (d : DumpView) → is_open d ≡ true → dump_found d ≡ cells_found d.layout d.first d.end.order (d.end.cells ++ [])
-open-found d open_now = rw open_now (ap (λ (cs : List Cell). cells_found d.layout d.first d.end.order cs) (sym (append-nil d.end.cells)))
+open-found : (d : DumpView) → is_open d ≡ true → dump_found d ≡ cells_found d.layout d.first d.end.order d.end.column (d.end.cells ++ [])
+open-found d open_now = rw open_now (ap (λ (cs : List Cell). cells_found d.layout d.first d.end.order d.end.column cs) (sym (append-nil d.end.cells)))
 
 end-found : (d : DumpView) (n : ℕ) (lines : List (List ℕ)) → IsEnd lines → lines_found d n lines ≡ dump_found d
 end-found d n [] is = refl
@@ -96,15 +100,15 @@ ended-cells d address even =
     ap (λ (k : ℕ). take (length (d.end.cells ++ copies k (last_row d.end)) - (d.end.next - address)) (d.end.cells ++ copies k (last_row d.end))) (rows_before-none d.end address even)
     ∙ ap (λ (cs : List Cell). take (length cs - (d.end.next - address)) cs) (append-nil d.end.cells)
 
-ended-found : (d : DumpView) (address : ℕ) → d.end.repeats ≡ false → (length (bytes_before d.end address) == 0) ≡ false → dump_found (ended d address) ≡ cells_found d.layout d.first d.end.order (bytes_before d.end address)
+ended-found : (d : DumpView) (address : ℕ) → d.end.repeats ≡ false → (length (bytes_before d.end address) == 0) ≡ false → dump_found (ended d address) ≡ cells_found d.layout d.first d.end.order d.end.column (bytes_before d.end address)
 unfolding ended cut filled
 ended-found d address even some =
     let cells : (ended d address).end.cells ≡ bytes_before d.end address = ended-cells d address even in
     open-found (ended d address) (ap (λ (cs : List Cell). not (length cs == 0)) cells ∙ ap not some)
-    ∙ ap (λ (cs : List Cell). cells_found d.layout d.first d.end.order cs) (append-nil (ended d address).end.cells ∙ cells)
+    ∙ ap (λ (cs : List Cell). cells_found d.layout d.first d.end.order d.end.column cs) (append-nil (ended d address).end.cells ∙ cells)
 
 found_in_rows : (d : DumpView) (n : ℕ) (rows : List RowView) (end : Option ℕ) (lines : List (List ℕ)) → is_open d ≡ true → d.end.repeats ≡ false → AreRows d rows end lines
-    → lines_found d n lines ≡ cells_found d.layout d.first d.end.order (cells_to end (rows_next d.end.next rows) (d.end.cells ++ rows_cells rows))
+    → lines_found d n lines ≡ cells_found d.layout d.first d.end.order (rows_column d.end.column rows) (cells_to end (rows_next d.end.next rows) (d.end.cells ++ rows_cells rows))
 found_in_rows d n [] None lines open_now even are = end-found d n lines are ∙ open-found d open_now
 found_in_rows d n [] (Some address) [] open_now even are = absurd are
 found_in_rows d n [] (Some address) (line ∷ lines) open_now even are =
@@ -113,7 +117,7 @@ found_in_rows d n [] (Some address) (line ∷ lines) open_now even are =
     ∙ ap (λ (v : DumpView). dump_found e ++ lines_found v (n + 1) lines) (end_line-after d n line address are.0)
     ∙ ap (λ (t : List Finding). dump_found e ++ t) (end-found (closed e) (n + 1) lines are.1 ∙ closed-found e)
     ∙ append-nil (dump_found e) ∙ ended-found d address even are.0.has_cells
-    ∙ ap (λ (cs : List Cell). cells_found d.layout d.first d.end.order (take (length cs - (d.end.next - address)) cs)) (sym (append-nil d.end.cells))
+    ∙ ap (λ (cs : List Cell). cells_found d.layout d.first d.end.order d.end.column (take (length cs - (d.end.next - address)) cs)) (sym (append-nil d.end.cells))
 found_in_rows d n (r ∷ rows) end [] open_now even are = absurd are
 found_in_rows d n (r ∷ rows) end (line ∷ lines) open_now even are =
     let here : step_found d n line ≡ [] = step_found-row d n line r are.0 in
@@ -123,11 +127,12 @@ found_in_rows d n (r ∷ rows) end (line ∷ lines) open_now even are =
     let cells : all ≡ d.end.cells ++ (r.cells ++ rows_cells rows) =
     ap (λ (cs : List Cell). cs ++ rows_cells rows) (added-cells d r even) ∙ append_assoc d.end.cells r.cells (rows_cells rows) in
     ap (λ (t : List Finding). t ++ lines_found (dump_after d n line) (n + 1) lines) here ∙ ap (λ (v : DumpView). lines_found v (n + 1) lines) after
-    ∙ rest ∙ ap (λ (k : ℕ). cells_found (added d r).layout k (added d r).end.order (cells_to end (rows_next (added d r).end.next rows) all)) (added-first d r)
-    ∙ ap (λ (o : Order). cells_found (added d r).layout d.first o (cells_to end (rows_next (added d r).end.next rows) all)) (added-order d r)
-    ∙ ap (λ (l : Layout). cells_found l d.first d.end.order (cells_to end (rows_next (added d r).end.next rows) all)) (added-layout d r)
-    ∙ ap (λ (k : ℕ). cells_found d.layout d.first d.end.order (cells_to end (rows_next k rows) all)) (added-next d r)
-    ∙ ap (λ (cs : List Cell). cells_found d.layout d.first d.end.order (cells_to end (rows_next (rows_next 0 (r ∷ [])) rows) cs)) cells
+    ∙ rest ∙ ap (λ (k : ℕ). cells_found (added d r).layout k (added d r).end.order (rows_column (added d r).end.column rows) (cells_to end (rows_next (added d r).end.next rows) all)) (added-first d r)
+    ∙ ap (λ (o : Order). cells_found (added d r).layout d.first o (rows_column (added d r).end.column rows) (cells_to end (rows_next (added d r).end.next rows) all)) (added-order d r)
+    ∙ ap (λ (l : Layout). cells_found l d.first d.end.order (rows_column (added d r).end.column rows) (cells_to end (rows_next (added d r).end.next rows) all)) (added-layout d r)
+    ∙ ap (λ (c : FirstColumn). cells_found d.layout d.first d.end.order (rows_column c rows) (cells_to end (rows_next (added d r).end.next rows) all)) (added-column d r)
+    ∙ ap (λ (k : ℕ). cells_found d.layout d.first d.end.order (rows_column (column_with d.end.column r) rows) (cells_to end (rows_next k rows) all)) (added-next d r)
+    ∙ ap (λ (cs : List Cell). cells_found d.layout d.first d.end.order (rows_column (column_with d.end.column r) rows) (cells_to end (rows_next (rows_next 0 (r ∷ [])) rows) cs)) cells
 
 first_found : (l : Layout) (line : List ℕ) (r : RowView) → IsRow line r → step_found (no_dump l) 1 line ≡ []
 unfolding step_found is_star end_at goes_on
@@ -157,6 +162,10 @@ begun-order : (l : Layout) (r : RowView) → (begun (no_dump l) 1 r).end.order �
 unfolding begun end_of
 begun-order l r = refl
 
+begun-column : (l : Layout) (r : RowView) → (begun (no_dump l) 1 r).end.column ≡ column_begun r
+unfolding begun end_of
+begun-column l r = refl
+
 begun-next : (l : Layout) (r : RowView) → (begun (no_dump l) 1 r).end.next ≡ rows_next 0 (r ∷ [])
 unfolding begun end_of
 begun-next l r = refl
@@ -165,17 +174,18 @@ begun-layout : (l : Layout) (r : RowView) → (begun (no_dump l) 1 r).layout ≡
 unfolding begun end_of
 begun-layout l r = refl
 
-found_in_dump : (l : Layout) (rows : List RowView) (end : Option ℕ) (lines : List (List ℕ)) → IsDumpOf l rows end lines → lines_found (no_dump l) 1 lines ≡ dump_findings l 1 lack.Order (rows_bytes rows end)
+found_in_dump : (l : Layout) (rows : List RowView) (end : Option ℕ) (lines : List (List ℕ)) → IsDumpOf l rows end lines → lines_found (no_dump l) 1 lines ≡ dump_findings l 1 (rows_lack rows) (rows_bytes rows end)
 found_in_dump l (r ∷ rows) end (line ∷ lines) is =
     let d : DumpView = begun (no_dump l) 1 r in
     let rest = found_in_rows d 2 rows end lines (begun-open l r is.0.has_cells) (begun-even l r) is.1 in
     ap (λ (t : List Finding). t ++ lines_found (dump_after (no_dump l) 1 line) 2 lines) (first_found l line r is.0)
     ∙ ap (λ (v : DumpView). lines_found v 2 lines) (first_dump l line r is.0)
-    ∙ rest ∙ ap (λ (k : ℕ). cells_found d.layout k d.end.order (cells_to end (rows_next d.end.next rows) (d.end.cells ++ rows_cells rows))) (begun-first l r)
-    ∙ ap (λ (o : Order). cells_found d.layout 1 o (cells_to end (rows_next d.end.next rows) (d.end.cells ++ rows_cells rows))) (begun-order l r)
-    ∙ ap (λ (m : Layout). cells_found m 1 r.order (cells_to end (rows_next d.end.next rows) (d.end.cells ++ rows_cells rows))) (begun-layout l r)
-    ∙ ap (λ (k : ℕ). cells_found l 1 r.order (cells_to end (rows_next k rows) (d.end.cells ++ rows_cells rows))) (begun-next l r)
-    ∙ ap (λ (cs : List Cell). cells_found l 1 r.order (cells_to end (rows_next (rows_next 0 (r ∷ [])) rows) (cs ++ rows_cells rows))) (begun-cells l r)
+    ∙ rest ∙ ap (λ (k : ℕ). cells_found d.layout k d.end.order (rows_column d.end.column rows) (cells_to end (rows_next d.end.next rows) (d.end.cells ++ rows_cells rows))) (begun-first l r)
+    ∙ ap (λ (o : Order). cells_found d.layout 1 o (rows_column d.end.column rows) (cells_to end (rows_next d.end.next rows) (d.end.cells ++ rows_cells rows))) (begun-order l r)
+    ∙ ap (λ (m : Layout). cells_found m 1 r.order (rows_column d.end.column rows) (cells_to end (rows_next d.end.next rows) (d.end.cells ++ rows_cells rows))) (begun-layout l r)
+    ∙ ap (λ (c : FirstColumn). cells_found l 1 r.order (rows_column c rows) (cells_to end (rows_next d.end.next rows) (d.end.cells ++ rows_cells rows))) (begun-column l r)
+    ∙ ap (λ (k : ℕ). cells_found l 1 r.order (rows_column (column_begun r) rows) (cells_to end (rows_next k rows) (d.end.cells ++ rows_cells rows))) (begun-next l r)
+    ∙ ap (λ (cs : List Cell). cells_found l 1 r.order (rows_column (column_begun r) rows) (cells_to end (rows_next (rows_next 0 (r ∷ [])) rows) (cs ++ rows_cells rows))) (begun-cells l r)
 found_in_dump l [] end lines is = absurd is
 found_in_dump l (r ∷ rows) end [] is = absurd is
 

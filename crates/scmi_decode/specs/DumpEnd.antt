@@ -2,29 +2,56 @@
 use Rattle.std.specs.Prelude.{ℕ, zero, suc, ◌+◌, ◌-◌, ◌/◌, ◌%◌, ◌^◌, ◌==◌, ◌&&◌, ◌||◌, nat_le, nat_lt, not, Bool, true, false, if◌then◌else◌, List, [], ◌++◌, length, take, drop, Option, Some, None}
 use Rattle.std.specs.List.{list_all}
 use Rattle.scmi_decode.specs.Cell.{is_zero_in, order_shown}
+use Rattle.scmi_decode.specs.FirstColumn.{column_after, followed, no_column}
 use Rattle.scmi_decode.specs.Row.{RowView, address_of, first_item, has_one_item}
 use Rattle.scmi_decode.specs.declared.cell.Cell.{Cell}
+use Rattle.scmi_decode.specs.declared.first_column.FirstColumn.{FirstColumn}
 use Rattle.scmi_decode.specs.declared.dump_end.TheConstants.{REPEATED_BYTES}
 use Rattle.scmi_decode.specs.declared.form.Form.TheVariants.{Offset}
 use Rattle.scmi_decode.specs.declared.order.Order.{Order}
 use Rattle.scmi_decode.specs.declared.order.Order.TheVariants.{Straight}
 
--- the rows of a dump so far: the address after the last one, how many bytes the first one has, how many digits the first group of the last one has, in which order those of the first one are, whether the last one repeats up to the next address, and their bytes
+-- the rows of a dump so far: the address after the last one, how many bytes the first one has, how many digits the first group of the last one has, in which order those of the first one are, whether the last one repeats up to the next address, the addresses that their first items may be, and their bytes
 pub record EndView : Type 0 where
   pub next : ℕ
   pub width : ℕ
   pub group : ℕ
   pub order : Order
   pub repeats : Bool
+  pub column : FirstColumn
   pub cells : List Cell
 
 -- no rows
 abbrev pub no_end : EndView
-no_end = record { next = 0; width = 0; group = 0; order = Straight; repeats = false; cells = [] }
+no_end = record { next = 0; width = 0; group = 0; order = Straight; repeats = false; column = no_column; cells = [] }
+
+-- how many bytes of a row come after its first group
+abbrev pub bytes_after_group : RowView → ℕ
+bytes_after_group r = length r.cells - r.group / 2
+
+-- the column of one row: an address alone begins none
+abbrev pub column_begun : RowView → FirstColumn
+column_begun r = if bytes_after_group r == 0 then no_column else column_after (bytes_after_group r) r.column
+
+-- how many bytes the item of a row may be less than the expected address: an address alone, after a number that `od` filled up, is in that number
+abbrev pub slack_of : RowView → ℕ
+slack_of r = if bytes_after_group r == 0 then r.group / 2 - 1 else 0
+
+-- a column with one more row
+abbrev pub column_with : FirstColumn → RowView → FirstColumn
+column_with c r = followed (slack_of r) (bytes_after_group r) c r.column
 
 -- one row
 unfoldable pub end_of : RowView → EndView
-end_of r = record { next = (r.address + length r.cells) % 2 ^ 64; width = length r.cells; group = r.group; order = r.order; repeats = false; cells = r.cells }
+end_of r = record {
+  next = (r.address + length r.cells) % 2 ^ 64;
+  width = length r.cells;
+  group = r.group;
+  order = r.order;
+  repeats = false;
+  column = column_begun r;
+  cells = r.cells;
+}
 
 -- rows without their bytes
 unfoldable pub emptied : EndView → EndView
@@ -87,7 +114,7 @@ ended_at e address = cut (filled e address) address
 
 -- one more row after the last
 unfoldable pub extended : EndView → RowView → EndView
-extended e r = record e { cells = e.cells ++ r.cells; next = (r.address + length r.cells) % 2 ^ 64; group = r.group }
+extended e r = record e { cells = e.cells ++ r.cells; next = (r.address + length r.cells) % 2 ^ 64; group = r.group; column = column_with e.column r }
 
 -- the same, if the last one may repeat up to there
 abbrev pub extended_to : EndView → RowView → EndView

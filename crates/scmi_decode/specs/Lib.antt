@@ -1,5 +1,6 @@
 pub mod Dump
 pub mod Cell
+pub mod FirstColumn
 pub mod Row
 pub mod Layout
 pub mod Finding

@@ -2,10 +2,12 @@
 use Rattle.std.specs.Prelude.{◌≡◌, ℕ, ◌+◌, ◌-◌, ◌%◌, ◌^◌, ◌==◌, false, true, List, [], ◌∷◌, ◌++◌, length, take, Option, Some, None, IfSome}
 use Rattle.std.specs.List.{slice_split}
 use Rattle.scmi_io.specs.Lines.{is_line_feed}
-use Rattle.scmi_decode.specs.Cell.{settled}
+use Rattle.scmi_decode.specs.FirstColumn.{bytes_beside, lack_beside}
 use Rattle.scmi_decode.specs.declared.cell.Cell.{Cell}
+use Rattle.scmi_decode.specs.declared.first_column.FirstColumn.{FirstColumn}
+use Rattle.scmi_decode.specs.declared.no_bytes.NoBytes.{NoBytes}
 use Rattle.scmi_decode.specs.declared.no_bytes.NoBytes.TheVariants.{Order}
-use Rattle.scmi_decode.specs.DumpEnd.{bytes_before}
+use Rattle.scmi_decode.specs.DumpEnd.{bytes_before, column_begun, column_with}
 use Rattle.scmi_decode.specs.OpenDump.{DumpView, no_dump, added, begun, end_at, goes_on, is_star}
 use Rattle.scmi_decode.specs.Row.{RowView, row_of}
 use Rattle.scmi_decode.specs.Decoded.{is_remark}
@@ -74,12 +76,22 @@ abbrev pub cells_to : Option ℕ → (next : ℕ) → List Cell → List Cell
 cells_to None next cells = cells
 cells_to (Some address) next cells = take (length cells - (next - address)) cells
 
--- the bytes of rows up to the end of their dump, in the order that a column of text shows, or else in that of the first row
+-- the column of rows, the first of which go before others
+abbrev pub rows_column : FirstColumn → List RowView → FirstColumn
+rows_column c [] = c
+rows_column c (r ∷ rows) = rows_column (column_with c r) rows
+
+-- the bytes of rows up to the end of their dump, in the order that a column of text shows, or else in that of the first row; none if their first column may be one of addresses
 abbrev pub rows_bytes : List RowView → Option ℕ → Option (List ℕ)
 rows_bytes [] end = None
-rows_bytes (r ∷ rows) end = settled r.order (cells_to end (rows_next 0 (r ∷ rows)) (rows_cells (r ∷ rows)))
+rows_bytes (r ∷ rows) end = bytes_beside (rows_column (column_begun r) rows) r.order (cells_to end (rows_next 0 (r ∷ rows)) (rows_cells (r ∷ rows)))
+
+-- why they have none
+abbrev pub rows_lack : List RowView → NoBytes
+rows_lack [] = Order
+rows_lack (r ∷ rows) = lack_beside (rows_column (column_begun r) rows)
 
 -- of an input that is one dump, in whatever form, what is found in its bytes is reported
 abbrev pub ReportsForms : Layout → (input : Option (List ℕ)) → (old new : Option (List Finding)) → Type 0
 ReportsForms l input old new =
-    IfSome input (λ bytes. (rows : List RowView) (end : Option ℕ) → IsDumpOf l rows end (slice_split is_line_feed bytes) → Reported old new (dump_findings l 1 Order (rows_bytes rows end)))
+    IfSome input (λ bytes. (rows : List RowView) (end : Option ℕ) → IsDumpOf l rows end (slice_split is_line_feed bytes) → Reported old new (dump_findings l 1 (rows_lack rows) (rows_bytes rows end)))

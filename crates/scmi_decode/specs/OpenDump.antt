@@ -1,6 +1,6 @@
 -- A dump over several lines, as far as it was read.
 use Rattle.std.specs.Prelude.{ℕ, ◌==◌, ◌&&◌, ◌||◌, not, Bool, true, false, if◌then◌else◌, List, [], length, slice_index, Option, None}
-use Rattle.scmi_decode.specs.Cell.{settled}
+use Rattle.scmi_decode.specs.FirstColumn.{bytes_beside, lack_beside}
 use Rattle.scmi_decode.specs.DumpEnd.{EndView, no_end, end_of, emptied, ended_at, extended_to, line_end, reaches, repeating, takes}
 use Rattle.scmi_decode.specs.Finding.{any_area, dump_findings}
 use Rattle.scmi_decode.specs.Row.{RowView, first_item, has_one_item}
@@ -8,7 +8,6 @@ use Rattle.scmi_decode.specs.declared.finding.Finding.{Finding}
 use Rattle.scmi_decode.specs.declared.form.Form.{Form}
 use Rattle.scmi_decode.specs.declared.form.Form.TheVariants.{Plain, Marked, Offset, Equals, Value}
 use Rattle.scmi_decode.specs.declared.layout.Layout.{Layout}
-use Rattle.scmi_decode.specs.declared.no_bytes.NoBytes.TheVariants as lack
 
 -- a dump, which has no bytes if none is open: which bytes of it are areas; the number of its first line, its form, its rows so far; and whether an area was found before
 pub record DumpView : Type 0 where
@@ -22,9 +21,9 @@ pub record DumpView : Type 0 where
 abbrev pub no_dump : Layout → DumpView
 no_dump l = record { layout = l; first = 0; form = Plain; end = no_end; found = false }
 
--- the bytes of a dump, in the order of its digits
+-- the bytes of a dump, in the order of its digits; none if its first column may be one of addresses
 abbrev pub dump_bytes : DumpView → Option (List ℕ)
-dump_bytes d = settled d.end.order d.end.cells
+dump_bytes d = bytes_beside d.end.column d.end.order d.end.cells
 
 -- whether a dump is open
 abbrev pub is_open : DumpView → Bool
@@ -32,7 +31,7 @@ is_open d = not (length d.end.cells == 0)
 
 -- what is found in a dump once it has ended
 abbrev pub dump_found : DumpView → List Finding
-dump_found d = if is_open d then dump_findings d.layout d.first lack.Order (dump_bytes d) else []
+dump_found d = if is_open d then dump_findings d.layout d.first (lack_beside d.end.column) (dump_bytes d) else []
 
 -- whether two forms are the same
 abbrev pub same_form : Form → Form → Bool

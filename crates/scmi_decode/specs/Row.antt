@@ -4,8 +4,10 @@ use Rattle.std.specs.Int.{to_le_bytes, w32}
 use Rattle.std.specs.List.{list_all, starts_with}
 use Rattle.std.specs.Option.{option_map}
 use Rattle.scmi_decode.specs.Cell.{cells_of, later_bytes}
+use Rattle.scmi_decode.specs.FirstColumn.{no_column}
 use Rattle.scmi_decode.specs.Dump.{is_gap, has_mark, line_bytes}
 use Rattle.scmi_decode.specs.declared.cell.Cell.{Cell}
+use Rattle.scmi_decode.specs.declared.first_column.FirstColumn.{FirstColumn}
 use Rattle.scmi_decode.specs.declared.form.Form.{Form}
 use Rattle.scmi_decode.specs.declared.form.Form.TheVariants.{Plain, Marked, Offset, Equals, Value}
 use Rattle.scmi_decode.specs.declared.order.Order.{Order}
@@ -104,10 +106,10 @@ has_pipe item = nat_lt (pipe_length item) (length item)
 abbrev pub is_group : List ℕ → Bool
 is_group item = (length item == 2) || (length item == 4) || (length item == 8) || (length item == 16)
 
--- whether an item is an address before groups of digits
+-- whether an item is an address before groups of digits: it has six to sixteen digits, and not as many as the group after it
 abbrev pub is_offset : (first second : List ℕ) → Bool
 is_offset first second =
-    nat_lt 5 (length first) && nat_lt (length first) 9 && is_group second && not (length first == length second)
+    nat_lt 5 (length first) && nat_lt (length first) 17 && is_group second && not (length first == length second)
 
 -- the form of a row, the digits of its address, the place of its bytes, and what follows those
 pub record RowParts : Type 0 where
@@ -181,12 +183,13 @@ parts_at line =
     else if is_offset (first_item line) (first_item (after_item line)) then offset_parts (first_item line) (after_item line)
     else record { form = Plain; digits = []; bytes = line; column = [] }
 
--- a row: its form, its address (0 for a plain one), how many digits its first group has, 0 of a number with its mark; in which order digits are, if no column shows it; and its bytes
+-- a row: its form, its address (0 for a plain one), how many digits its first group has, 0 of a number with its mark; in which order digits are, if no column shows it; what its first item is if it is an address; and its bytes
 pub record RowView : Type 0 where
   pub form : Form
   pub address : ℕ
   pub group : ℕ
   pub order : Order
+  pub column : FirstColumn
   pub cells : List Cell
 
 -- the base of an address: od prints seven octal digits, all others hexadecimal ones
@@ -227,9 +230,13 @@ long_order Offset gap alone = Turned
 long_order Equals gap alone = Turned
 long_order Value gap alone = Turned
 
+-- whether a group has eight or sixteen digits
+abbrev pub is_long : (group : ℕ) → Bool
+is_long group = (group == 8) || (group == 16)
+
 -- the order of the digits of a row, by how many its first group has, the spaces before its column of text, and whether its group is alone
 abbrev pub order_of : Form → (group gap : ℕ) → (alone : Bool) → Order
-order_of f group gap alone = if group == 4 then half_order f gap else if (group == 8) || (group == 16) then long_order f gap alone else Straight
+order_of f group gap alone = if group == 4 then half_order f gap else if is_long group then long_order f gap alone else Straight
 
 -- whether a byte is the digit 0 or 1, or in a gap
 abbrev pub is_bit : ℕ → Bool
@@ -296,20 +303,29 @@ groups_order f groups gap = order_of f (group_of (first_item groups)) gap (lengt
 abbrev pub data_order : Form → (groups column : List ℕ) → Order
 data_order f groups column = beside_text f (not (length column == 0)) (groups_order f groups (gap_before column))
 
+-- an item as an address in each base that `od` prints
+abbrev pub item_column : List ℕ → FirstColumn
+item_column item = record { hexadecimal = number_from 16 0 item; decimal = number_from 10 0 item; octal = number_from 8 0 item; steps = 0 }
+
+-- the first item of data as an address, if the row has none before them and it may be one
+abbrev pub data_column : Form → (groups : List ℕ) → FirstColumn
+data_column Plain groups = if is_long (group_of (first_item groups)) then item_column (first_item groups) else no_column
+data_column f groups = no_column
+
 -- a row of cells, if it has some and not too many
-abbrev pub row_with : Form → (address group : ℕ) → Order → List Cell → Option RowView
-row_with f address group order cells =
+abbrev pub row_with : Form → (address group : ℕ) → Order → FirstColumn → List Cell → Option RowView
+row_with f address group order column cells =
     if nat_lt 0 (length cells) && nat_lt (length cells) (ROW_BYTES + 1)
-    then Some (record { form = f; address = address; group = group; order = order; cells = cells }) else None
+    then Some (record { form = f; address = address; group = group; order = order; column = column; cells = cells }) else None
 
 -- the same, if address and bytes are there
-abbrev pub row_if : Form → Option ℕ → (group : ℕ) → Order → Option (List Cell) → Option RowView
-row_if f (Some address) group order (Some cells) = row_with f address group order cells
-row_if f _ group order _ = None
+abbrev pub row_if : Form → Option ℕ → (group : ℕ) → Order → FirstColumn → Option (List Cell) → Option RowView
+row_if f (Some address) group order column (Some cells) = row_with f address group order column cells
+row_if f _ group order column _ = None
 
 -- the row of a form, the digits of an address, the data, and the column after them; bits are none
 unfoldable pub parts_row : Form → (digits groups column : List ℕ) → Option RowView
-parts_row f digits groups column = if are_bits f groups column then None else row_if f (address_of f digits) (group_of (first_item groups)) (data_order f groups column) (form_cells f groups column)
+parts_row f digits groups column = if are_bits f groups column then None else row_if f (address_of f digits) (group_of (first_item groups)) (data_order f groups column) (data_column f groups) (form_cells f groups column)
 
 -- whether a text begins with an address and a colon: eight digits at least
 abbrev pub begins_with_address : List ℕ → Bool

@@ -1,8 +1,9 @@
 //! Where a dump ends.
 ghost use Rattle.std.specs.Prelude.{◌≡◌, ◌≤◌, ◌+◌, ◌-◌, ◌%◌, ◌^◌, length, OnOk, IfOk};
-ghost use Rattle.scmi_decode.specs.DumpEnd.{are_zeros, bytes_before, bytes_behind, copies, cut, emptied, end_of, ended_at, extended, extended_to, filled, has_its_groups, is_even, is_filled_from, is_in_last_group, last_row, line_end, no_end, reaches, repeating, rows_before, takes};
+ghost use Rattle.scmi_decode.specs.DumpEnd.{are_zeros, bytes_after_group, bytes_before, bytes_behind, column_begun, column_with, copies, cut, emptied, end_of, ended_at, extended, extended_to, filled, has_its_groups, is_even, is_filled_from, is_in_last_group, last_row, line_end, no_end, reaches, repeating, rows_before, slack_of, takes};
 
 use crate::cell::{Cell, is_zero_in, order_shown};
+use crate::first_column::{FirstColumn, column_after, followed, no_column};
 use crate::form::Form;
 use crate::order::Order;
 use crate::row::{Row, address_of};
@@ -15,7 +16,8 @@ pub(crate) const REPEATED_BYTES: u64 = 0x1_0000;
 
 /// The rows of a dump so far, and where they end: the address after the last one, how many bytes the
 /// first one has, how many digits the first group of the last one has, in which order those of the
-/// first one are, whether the last one repeats up to the next address, and their bytes.
+/// first one are, whether the last one repeats up to the next address, the addresses that their first
+/// items may be, and their bytes.
 #[derive(Drop)]
 pub(crate) struct DumpEnd {
     next: u64,
@@ -23,6 +25,7 @@ pub(crate) struct DumpEnd {
     group: usize,
     order: Order,
     repeats: bool,
+    column: FirstColumn,
     cells: Vec<Cell>,
 }
 
@@ -37,6 +40,7 @@ impl Model for DumpEnd {
       group = e.group;
       order = e.order;
       repeats = e.repeats;
+      column = e.column;
       cells = e.cells.items;
     } };
 }
@@ -52,6 +56,7 @@ impl DumpEnd {
             group: 0,
             order: Order::Straight,
             repeats: false,
+            column: no_column(),
             cells: Vec::new(alloc),
         }
     }
@@ -82,6 +87,13 @@ impl DumpEnd {
         ensures { result ≡ self.now.next }
     {
         self.next
+    }
+
+    /// The addresses that the first items of the rows may be.
+    pub(crate) fn column(&self) -> FirstColumn
+        ensures { result ≡ self.now.column }
+    {
+        self.column
     }
 
     /// Whether a row has the same groups as the rows so far, and is not longer than the first; and no
@@ -203,6 +215,7 @@ impl DumpEnd {
         self.cells.extend_from_slice(row.cells())?;
         self.next = address_after(row);
         self.group = row.group();
+        self.column = column_with(self.column, row);
         Ok(())
     }
 
@@ -226,6 +239,7 @@ impl DumpEnd {
         self.group = row.group();
         self.order = row.order();
         self.repeats = false;
+        self.column = column_begun(row);
         Ok(())
     }
 
@@ -295,6 +309,44 @@ fn address_after(row: &Row) -> u64
     ensures { result ≡ (row.now.address + length row.now.cells) % 2 ^ 64 }
 {
     row.address().wrapping_add(row.cells().len() as u64)
+}
+
+/// The column of one row: an address alone begins none.
+fn column_begun(row: &Row) -> FirstColumn
+    ensures { result ≡ column_begun row.now }
+{
+    let count = bytes_after_group(row);
+    if count == 0 {
+        no_column()
+    } else {
+        column_after(count, row.column())
+    }
+}
+
+/// A column with one more row.
+fn column_with(column: FirstColumn, row: &Row) -> FirstColumn
+    ensures { result ≡ column_with column row.now }
+{
+    followed(slack_of(row), bytes_after_group(row), column, row.column())
+}
+
+/// How many bytes the item of a row may be less than the expected address: an address alone, after a
+/// number that od filled up, is in that number.
+fn slack_of(row: &Row) -> usize
+    ensures { result ≡ slack_of row.now }
+{
+    if bytes_after_group(row) == 0 {
+        (row.group() / 2).saturating_sub(1)
+    } else {
+        0
+    }
+}
+
+/// How many bytes of a row come after its first group.
+fn bytes_after_group(row: &Row) -> usize
+    ensures { result ≡ bytes_after_group row.now }
+{
+    row.cells().len().saturating_sub(row.group() / 2)
 }
 
 /// Copies of a row, as many as the number.

@@ -20,6 +20,7 @@ mod dump_end;
 mod event;
 mod finding;
 mod findings;
+mod first_column;
 mod form;
 mod layout;
 mod line;

@@ -15,7 +15,6 @@ use crate::findings::Findings;
 use crate::layout::Layout;
 use crate::lines::{is_described, items_of};
 use crate::message_line::{alone_bytes, items_lack, items_layout};
-use crate::no_bytes::NoBytes;
 use crate::open_dump::OpenDump;
 use crate::parts_found::report_dump;
 use crate::reading::{Reading, alone_reading};
@@ -69,12 +68,5 @@ pub(crate) fn report_open<S: Findings>(
         return Ok(false);
     }
     let found = dump.bytes(alloc)?;
-    report_dump(
-        sink,
-        dump.layout(),
-        dump.first(),
-        &[],
-        NoBytes::Order,
-        &found,
-    )
+    report_dump(sink, dump.layout(), dump.first(), &[], dump.lack(), &found)
 }

@@ -7,4 +7,6 @@ pub enum NoBytes {
     Digits,
     /// Its groups of digits may be bytes or numbers.
     Order,
+    /// The first items of its rows may be addresses.
+    Address,
 }

@@ -1,13 +1,16 @@
 //! A dump over several lines.
 ghost use Rattle.std.specs.Prelude.{◌≡◌, OnOk, IfOk};
 ghost use Rattle.std.specs.Option.{is_some, option_map};
+ghost use Rattle.scmi_decode.specs.FirstColumn.{lack_beside};
 ghost use Rattle.scmi_decode.specs.Finding.{any_area};
 ghost use Rattle.scmi_decode.specs.OpenDump.{added, begun, beside, closed, dump_bytes, dump_found, end_at, ended, goes_on, is_open, is_star, may_repeat, no_dump, repeated, same_form};
 
 use crate::cell::{order_shown, settled};
 use crate::dump_end::DumpEnd;
+use crate::first_column::{counts, lack_beside};
 use crate::form::Form;
 use crate::layout::Layout;
+use crate::no_bytes::NoBytes;
 use crate::order::Order;
 use crate::reading::{Reading, rows_reading};
 use crate::readings::{Readings, Unsaid};
@@ -80,12 +83,23 @@ impl OpenDump {
         self.first
     }
 
-    /// Its bytes, in the order of its digits; `None` if that is unclear.
+    /// Its bytes, in the order of its digits; `None` if that is unclear, or if its first column may be
+    /// one of addresses.
     pub(crate) fn bytes(&self, alloc: Global) -> Result<Option<Vec<u8>>, AllocError>
         ensures { IfOk result (λ found.
             option_map (λ bytes. bytes.items) found ≡ dump_bytes self.now) }
     {
+        if counts(self.end.column()) {
+            return Ok(None);
+        }
         settled(alloc, self.end.order(), self.end.cells())
+    }
+
+    /// Why it has no bytes, if it has none.
+    pub(crate) fn lack(&self) -> NoBytes
+        ensures { result ≡ lack_beside self.now.end.column }
+    {
+        lack_beside(self.end.column())
     }
 
     /// Whether an area was found.

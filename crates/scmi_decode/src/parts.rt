@@ -257,12 +257,12 @@ fn is_pair(first: &[u8], second: &[u8], behind: &[u8]) -> bool
     has_mark(first) && has_mark(second) && after_gap(behind).is_empty()
 }
 
-/// Whether an item is an address before groups of digits: six to eight digits, and not as many as
-/// the group has.
+/// Whether an item is an address before groups of digits: six to sixteen digits, and not as many as
+/// the group after it.
 fn is_offset(first: &[u8], second: &[u8]) -> bool
     ensures { result ≡ is_offset first.now second.now }
 {
-    first.len() > 5 && first.len() < 9 && is_group(second) && first.len() != second.len()
+    first.len() > 5 && first.len() < 17 && is_group(second) && first.len() != second.len()
 }
 
 /// Whether a group of digits is one byte, or a number of two, four or eight.

@@ -59,6 +59,13 @@ fn write_finding<W: Write>(writer: &mut W, finding: &Finding, text: &[u8]) -> io
             "no area: its digits may be bytes or numbers; print single bytes (xxd -g 1, \
             od -t x1, md.b) or mark numbers with 0x\n"
         ),
+        Found::NoBytes {
+            why: NoBytes::Address,
+        } => write!(
+            writer,
+            "no area: its first column may be addresses; print single bytes (od -t x1), or no \
+            addresses (od -A n -v)\n"
+        ),
     }
 }
 

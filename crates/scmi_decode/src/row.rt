@@ -1,10 +1,11 @@
 //! A row of a dump.
 ghost use Rattle.std.specs.Prelude.{◌≡◌, IfOk};
 ghost use Rattle.std.specs.Option.{option_map};
-ghost use Rattle.scmi_decode.specs.Row.{address_of, are_bits, base_of, beside_text, column_text, data_cells, data_order, form_cells, gap_before, group_of, groups_order, half_order, has_bits_alone, is_bit, long_order, order_of, parts_row, row_of, row_with, shown_of, word_bytes_of, word_cells};
+ghost use Rattle.scmi_decode.specs.Row.{address_of, are_bits, base_of, beside_text, column_text, data_cells, data_column, data_order, form_cells, gap_before, group_of, groups_order, half_order, has_bits_alone, is_bit, is_long, item_column, long_order, order_of, parts_row, row_of, row_with, shown_of, word_bytes_of, word_cells};
 
 use crate::cell::{Cell, cells_of};
 use crate::dump::{has_mark, line_bytes};
+use crate::first_column::{FirstColumn, no_column};
 use crate::form::Form;
 use crate::lines::is_gap;
 use crate::number::{number_from, without_mark};
@@ -21,14 +22,15 @@ pub const ROW_BYTES: usize = 32;
 pub const ROW_LINE_BYTES: usize = 512;
 
 /// A row of a dump: its form, its address (0 of a plain one), how many digits its first group has (0 of
-/// a number with its mark), in which order digits are if no column shows it, and its bytes, at most
-/// `ROW_BYTES`.
+/// a number with its mark), in which order digits are if no column shows it, what its first item is if
+/// that is an address, and its bytes, at most `ROW_BYTES`.
 #[derive(Drop)]
 pub(crate) struct Row {
     form: Form,
     address: u64,
     group: usize,
     order: Order,
+    column: FirstColumn,
     cells: Vec<Cell>,
 }
 
@@ -42,6 +44,7 @@ impl Model for Row {
       address = r.address;
       group = r.group;
       order = r.order;
+      column = r.column;
       cells = r.cells.items;
     } };
 }
@@ -69,6 +72,12 @@ impl Row {
         ensures { result ≡ self.now.order }
     {
         self.order
+    }
+
+    pub(crate) fn column(&self) -> FirstColumn
+        ensures { result ≡ self.now.column }
+    {
+        self.column
     }
 
     pub(crate) fn cells(&self) -> &[Cell]
@@ -110,8 +119,9 @@ fn parts_row(
     };
     let group = group_of(first_item(groups));
     let order = data_order(form, groups, column);
+    let addresses = data_column(form, groups);
     match form_cells(alloc, form, groups, column)? {
-        Some(cells) => Ok(row_with(form, address, group, order, cells)),
+        Some(cells) => Ok(row_with(form, address, group, order, addresses, cells)),
         None => Ok(None),
     }
 }
@@ -181,8 +191,15 @@ fn data_cells(
 }
 
 /// A row of cells, if it has some and not too many.
-fn row_with(form: Form, address: u64, group: usize, order: Order, cells: Vec<Cell>) -> Option<Row>
-    ensures { result ≡ row_with form address group order cells.items }
+fn row_with(
+    form: Form,
+    address: u64,
+    group: usize,
+    order: Order,
+    column: FirstColumn,
+    cells: Vec<Cell>,
+) -> Option<Row>
+    ensures { result ≡ row_with form address group order column cells.items }
 {
     if cells.is_empty() || cells.len() > ROW_BYTES {
         return None;
@@ -192,8 +209,34 @@ fn row_with(form: Form, address: u64, group: usize, order: Order, cells: Vec<Cel
         address,
         group,
         order,
+        column,
         cells,
     })
+}
+
+/// The first item of data as an address, if the row has none before them and it may be one: it has
+/// eight or sixteen digits, as the numbers after it may have.
+fn data_column(form: Form, groups: &[u8]) -> FirstColumn
+    ensures { result ≡ data_column form groups.now }
+{
+    let item = first_item(groups);
+    if form == Form::Plain && is_long(group_of(item)) {
+        item_column(item)
+    } else {
+        no_column()
+    }
+}
+
+/// An item as an address in each base that od prints.
+fn item_column(item: &[u8]) -> FirstColumn
+    ensures { result ≡ item_column item.now }
+{
+    FirstColumn {
+        hexadecimal: number_from(16, 0, item),
+        decimal: number_from(10, 0, item),
+        octal: number_from(8, 0, item),
+        steps: 0,
+    }
 }
 
 /// The order of the digits of data, if no column shows it.
@@ -247,11 +290,20 @@ fn gap_before(column: &[u8]) -> usize
 pub(crate) fn order_of(form: Form, group: usize, gap: usize, is_alone: bool) -> Order
     ensures { result ≡ order_of form group gap is_alone }
 {
-    match group {
-        4 => half_order(form, gap),
-        8 | 16 => long_order(form, gap, is_alone),
-        _ => Order::Straight,
+    if group == 4 {
+        half_order(form, gap)
+    } else if is_long(group) {
+        long_order(form, gap, is_alone)
+    } else {
+        Order::Straight
     }
+}
+
+/// Whether a group has eight or sixteen digits.
+fn is_long(group: usize) -> bool
+    ensures { result ≡ is_long group }
+{
+    group == 8 || group == 16
 }
 
 /// The order of groups of four digits: od and J-Link print numbers, xxd bytes and two spaces, md.w
