@@ -4,7 +4,7 @@ use Rattle.std.specs.Prelude.{◌||◌}
 use Rattle.scmi_decode.proofs.Reporting.{any_area-both, or_assoc, or_false}
 use Rattle.scmi_decode.specs.Decoded.{dump_after, dump_after_end, dump_after_row, end_found, is_remark, line_found, lines_found, row_found, step_found}
 use Rattle.scmi_decode.specs.Finding.{any_area}
-use Rattle.scmi_decode.specs.OpenDump.{DumpView, added, begun, beside, closed, dump_found, end_at, ended, goes_on, is_star, repeated}
+use Rattle.scmi_decode.specs.OpenDump.{DumpView, added, begun, beside, closed, dump_found, end_at, ended, goes_on, is_star, repeated, seen}
 use Rattle.scmi_decode.specs.Row.{RowView, row_of}
 
 found_after-row : (d : DumpView) (n : ℕ) (line : List ℕ) (row : Option RowView) → (dump_after_row d n line row).found ≡ (d.found || any_area (row_found d n line row))
@@ -12,8 +12,8 @@ unfolding begun beside closed added
 found_after-row d n line None =
     or_assoc d.found (any_area (dump_found d)) (any_area (line_found d.layout n line))
     ∙ ap (λ (b : Bool). d.found || b) (sym (any_area-both (dump_found d) (line_found d.layout n line)))
-found_after-row d n line (Some r) = by (goes_on d r) where
-  by : (goes : Bool) → (if goes then added d r else begun (closed d) n r).found ≡ (d.found || any_area (if goes then [] else dump_found d))
+found_after-row d n line (Some r) = by (goes_on d (seen d r)) where
+  by : (goes : Bool) → (if goes then added d (seen d r) else begun (closed d) n r).found ≡ (d.found || any_area (if goes then [] else dump_found d))
   by true = sym (or_false d.found)
   by false = refl
 

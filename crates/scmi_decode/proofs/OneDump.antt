@@ -5,7 +5,7 @@ use Rattle.std.specs.List.{slice_split}
 use Rattle.std.proofs.lemmas.Bool.Decides.{nat_tests}
 use Rattle.std.proofs.lemmas.List.{length-append}
 use Rattle.scmi_io.specs.Lines.{is_line_feed}
-use Rattle.scmi_decode.specs.DumpEnd.{EndView, bytes_before, column_begun, column_with, copies, cut, emptied, end_of, extended, filled, last_row, rows_before}
+use Rattle.scmi_decode.specs.DumpEnd.{EndView, bytes_before, column_begun, column_filled, column_with, copies, cut, emptied, end_of, extended, filled, last_row, rows_before}
 use Rattle.scmi_decode.specs.OpenDump.{DumpView, no_dump, added, begun, closed, dump_found, end_at, ended, goes_on, is_open, is_star}
 use Rattle.scmi_decode.specs.Finding.{dump_findings}
 use Rattle.scmi_decode.specs.Reported.{Reported}
@@ -21,11 +21,11 @@ use Rattle.scmi_decode.specs.OneDump.{AreRows, IsDumpOf, IsEnd, IsEndLine, IsNex
 
 step_found-row : (d : DumpView) (n : ℕ) (line : List ℕ) (r : RowView) → IsNextRow d line r → step_found d n line ≡ []
 unfolding step_found
-step_found-row d n line r is = rw (is.is_row.no_remark, is.is_row.not_empty, is.no_star, is.no_end, is.is_row.row, is.next) refl
+step_found-row d n line r is = rw (is.is_row.no_remark, is.is_row.not_empty, is.no_star, is.no_end, is.is_row.row, is.is_seen, is.next) refl
 
 dump_after-row : (d : DumpView) (n : ℕ) (line : List ℕ) (r : RowView) → IsNextRow d line r → dump_after d n line ≡ added d r
 unfolding dump_after
-dump_after-row d n line r is = rw (is.is_row.no_remark, is.is_row.not_empty, is.no_star, is.no_end, is.is_row.row, is.next) refl
+dump_after-row d n line r is = rw (is.is_row.no_remark, is.is_row.not_empty, is.no_star, is.no_end, is.is_row.row, is.is_seen, is.next) refl
 
 rows_before-none : (e : EndView) (address : ℕ) → e.repeats ≡ false → rows_before e address ≡ 0
 rows_before-none e address even = rw even refl
@@ -64,9 +64,12 @@ added-order : (d : DumpView) (r : RowView) → (added d r).end.order ≡ d.end.o
 unfolding added extended filled
 added-order d r = refl
 
-added-column : (d : DumpView) (r : RowView) → (added d r).end.column ≡ column_with d.end.column r
+column_filled-even : (e : EndView) → e.repeats ≡ false → column_filled e ≡ e.column
+column_filled-even e even = rw even refl
+
+added-column : (d : DumpView) (r : RowView) → d.end.repeats ≡ false → (added d r).end.column ≡ column_with d.end.column r
 unfolding added extended filled
-added-column d r = refl
+added-column d r even = ap (λ (c : FirstColumn). column_with c r) (column_filled-even d.end even)
 
 added-next : (d : DumpView) (r : RowView) → (added d r).end.next ≡ rows_next 0 (r ∷ [])
 unfolding added extended filled
@@ -105,6 +108,7 @@ unfolding ended cut filled
 ended-found d address even some =
     let cells : (ended d address).end.cells ≡ bytes_before d.end address = ended-cells d address even in
     open-found (ended d address) (ap (λ (cs : List Cell). not (length cs == 0)) cells ∙ ap not some)
+    ∙ ap (λ (c : FirstColumn). cells_found d.layout d.first d.end.order c ((ended d address).end.cells ++ [])) (column_filled-even d.end even)
     ∙ ap (λ (cs : List Cell). cells_found d.layout d.first d.end.order d.end.column cs) (append-nil (ended d address).end.cells ∙ cells)
 
 found_in_rows : (d : DumpView) (n : ℕ) (rows : List RowView) (end : Option ℕ) (lines : List (List ℕ)) → is_open d ≡ true → d.end.repeats ≡ false → AreRows d rows end lines
@@ -130,7 +134,7 @@ found_in_rows d n (r ∷ rows) end (line ∷ lines) open_now even are =
     ∙ rest ∙ ap (λ (k : ℕ). cells_found (added d r).layout k (added d r).end.order (rows_column (added d r).end.column rows) (cells_to end (rows_next (added d r).end.next rows) all)) (added-first d r)
     ∙ ap (λ (o : Order). cells_found (added d r).layout d.first o (rows_column (added d r).end.column rows) (cells_to end (rows_next (added d r).end.next rows) all)) (added-order d r)
     ∙ ap (λ (l : Layout). cells_found l d.first d.end.order (rows_column (added d r).end.column rows) (cells_to end (rows_next (added d r).end.next rows) all)) (added-layout d r)
-    ∙ ap (λ (c : FirstColumn). cells_found d.layout d.first d.end.order (rows_column c rows) (cells_to end (rows_next (added d r).end.next rows) all)) (added-column d r)
+    ∙ ap (λ (c : FirstColumn). cells_found d.layout d.first d.end.order (rows_column c rows) (cells_to end (rows_next (added d r).end.next rows) all)) (added-column d r even)
     ∙ ap (λ (k : ℕ). cells_found d.layout d.first d.end.order (rows_column (column_with d.end.column r) rows) (cells_to end (rows_next k rows) all)) (added-next d r)
     ∙ ap (λ (cs : List Cell). cells_found d.layout d.first d.end.order (rows_column (column_with d.end.column r) rows) (cells_to end (rows_next (rows_next 0 (r ∷ [])) rows) cs)) cells
 

@@ -5,7 +5,7 @@ use Rattle.scmi_io.specs.Lines.{is_line_feed}
 use Rattle.scmi_decode.specs.Dump.{is_gap}
 use Rattle.scmi_decode.specs.Finding.{any_area, dump_findings}
 use Rattle.scmi_decode.specs.MessageLine.{alone_bytes, alone_lack, items_layout}
-use Rattle.scmi_decode.specs.OpenDump.{DumpView, no_dump, dump_found, goes_on, added, begun, beside, closed, ended, repeated, is_star, end_at}
+use Rattle.scmi_decode.specs.OpenDump.{DumpView, no_dump, dump_found, goes_on, added, begun, beside, closed, ended, repeated, is_star, end_at, seen}
 use Rattle.scmi_decode.specs.Reported.{Reported}
 use Rattle.scmi_decode.specs.Row.{RowView, row_of}
 use Rattle.scmi_decode.specs.declared.finding.Finding.{Finding}
@@ -32,12 +32,12 @@ is_remark line = starts_with nat_eq line REMARK.now || starts_with nat_eq line O
 -- what is found at a line by the row that it is, if it is one: a row that goes on with the dump is added to it, and any other line ends it
 abbrev pub row_found : DumpView → ℕ → List ℕ → Option RowView → List Finding
 row_found d number line None = dump_found d ++ line_found d.layout number line
-row_found d number line (Some r) = if goes_on d r then [] else dump_found d
+row_found d number line (Some r) = if goes_on d (seen d r) then [] else dump_found d
 
 -- the dump after such a line
 abbrev pub dump_after_row : DumpView → ℕ → List ℕ → Option RowView → DumpView
 dump_after_row d number line None = beside (closed d) (line_is_area d.layout number line)
-dump_after_row d number line (Some r) = if goes_on d r then added d r else begun (closed d) number r
+dump_after_row d number line (Some r) = if goes_on d (seen d r) then added d (seen d r) else begun (closed d) number r
 
 -- what is found at a line that ends the dump at an address, or else by its row
 abbrev pub end_found : DumpView → ℕ → List ℕ → Option ℕ → List Finding

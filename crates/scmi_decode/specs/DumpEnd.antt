@@ -2,16 +2,16 @@
 use Rattle.std.specs.Prelude.{ℕ, zero, suc, ◌+◌, ◌-◌, ◌/◌, ◌%◌, ◌^◌, ◌==◌, ◌&&◌, ◌||◌, nat_le, nat_lt, not, Bool, true, false, if◌then◌else◌, List, [], ◌++◌, length, take, drop, Option, Some, None}
 use Rattle.std.specs.List.{list_all}
 use Rattle.scmi_decode.specs.Cell.{is_zero_in, order_shown}
-use Rattle.scmi_decode.specs.FirstColumn.{column_after, followed, no_column}
+use Rattle.scmi_decode.specs.FirstColumn.{column_after, followed, has_base, no_column}
 use Rattle.scmi_decode.specs.Row.{RowView, address_of, first_item, has_one_item}
 use Rattle.scmi_decode.specs.declared.cell.Cell.{Cell}
 use Rattle.scmi_decode.specs.declared.first_column.FirstColumn.{FirstColumn}
 use Rattle.scmi_decode.specs.declared.dump_end.TheConstants.{REPEATED_BYTES}
 use Rattle.scmi_decode.specs.declared.form.Form.TheVariants.{Offset}
 use Rattle.scmi_decode.specs.declared.order.Order.{Order}
-use Rattle.scmi_decode.specs.declared.order.Order.TheVariants.{Straight}
+use Rattle.scmi_decode.specs.declared.order.Order.TheVariants.{Straight, Turned}
 
--- the rows of a dump so far: the address after the last one, how many bytes the first one has, how many digits the first group of the last one has, in which order those of the first one are, whether the last one repeats up to the next address, the addresses that their first items may be, and their bytes
+-- the rows of a dump so far: the address after the last one, how many bytes the first one has, how many digits the first group of the last one has, in which order those of the first one are, whether the last one repeats up to the next address, the addresses that their first items may be, their bytes, and those without the first items if these may be addresses
 pub record EndView : Type 0 where
   pub next : ℕ
   pub width : ℕ
@@ -20,10 +20,11 @@ pub record EndView : Type 0 where
   pub repeats : Bool
   pub column : FirstColumn
   pub cells : List Cell
+  pub bare : List Cell
 
 -- no rows
 abbrev pub no_end : EndView
-no_end = record { next = 0; width = 0; group = 0; order = Straight; repeats = false; column = no_column; cells = [] }
+no_end = record { next = 0; width = 0; group = 0; order = Straight; repeats = false; column = no_column; cells = []; bare = [] }
 
 -- how many bytes of a row come after its first group
 abbrev pub bytes_after_group : RowView → ℕ
@@ -41,6 +42,10 @@ slack_of r = if bytes_after_group r == 0 then r.group / 2 - 1 else 0
 abbrev pub column_with : FirstColumn → RowView → FirstColumn
 column_with c r = followed (slack_of r) (bytes_after_group r) c r.column
 
+-- the bytes of a row without its first item, if that may be an address
+abbrev pub row_bare : RowView → List Cell
+row_bare r = if has_base r.column then drop (r.group / 2) r.cells else []
+
 -- one row
 unfoldable pub end_of : RowView → EndView
 end_of r = record {
@@ -51,15 +56,20 @@ end_of r = record {
   repeats = false;
   column = column_begun r;
   cells = r.cells;
+  bare = row_bare r;
 }
 
 -- rows without their bytes
 unfoldable pub emptied : EndView → EndView
-emptied e = record e { cells = [] }
+emptied e = record e { cells = []; bare = [] }
 
 -- rows of which the last one repeats
 unfoldable pub repeating : EndView → EndView
 repeating e = record e { repeats = true }
+
+-- the same, if their first items are addresses, of which this is the next; they have no bytes before that is read
+unfoldable pub addressed : EndView → (next : ℕ) → EndView
+addressed e next = record e { next = next; width = e.width - e.group / 2; order = Turned; repeats = true; cells = e.bare; bare = [] }
 
 -- whether the rows so far have the same length
 abbrev pub is_even : EndView → Bool
@@ -92,9 +102,13 @@ rows_before e address = if e.repeats && not (e.width == 0) then (address - e.nex
 abbrev pub last_row : EndView → List Cell
 last_row e = drop (length e.cells - e.width) e.cells
 
+-- what the first items may still be once an address was read up to which the last row repeats
+abbrev pub column_filled : EndView → FirstColumn
+column_filled e = if e.repeats then no_column else e.column
+
 -- rows of which the last one is repeated up to an address
 unfoldable pub filled : EndView → ℕ → EndView
-filled e address = record e { cells = e.cells ++ copies (rows_before e address) (last_row e); repeats = false }
+filled e address = record e { cells = e.cells ++ copies (rows_before e address) (last_row e); repeats = false; column = column_filled e }
 
 -- the bytes before an address, if that is not after the last row
 abbrev pub bytes_before : EndView → ℕ → List Cell
@@ -114,7 +128,7 @@ ended_at e address = cut (filled e address) address
 
 -- one more row after the last
 unfoldable pub extended : EndView → RowView → EndView
-extended e r = record e { cells = e.cells ++ r.cells; next = (r.address + length r.cells) % 2 ^ 64; group = r.group; column = column_with e.column r }
+extended e r = record e { cells = e.cells ++ r.cells; next = (r.address + length r.cells) % 2 ^ 64; group = r.group; column = column_with e.column r; bare = e.bare ++ row_bare r }
 
 -- the same, if the last one may repeat up to there
 abbrev pub extended_to : EndView → RowView → EndView

@@ -23,27 +23,18 @@ is_area bytes = is_channel_size (length bytes)
 abbrev pub if_well_formed : ℕ → Option ℕ
 if_well_formed n = if is_well_formed n then Some n else None
 
--- the length of an area's frame if the numbers are printed in the other byte order: of 32 bits
-abbrev pub length_of_words : List ℕ → ℕ
-length_of_words area = big_from 0x14 4 area
+-- a number of an area that is printed in the other byte order, if a frame may have it as its length
+abbrev pub length_from : (place : ℕ) → List ℕ → Option ℕ
+length_from place area = if_well_formed (big_from place 4 area)
 
--- of 16 bits
-abbrev pub length_of_halves : List ℕ → ℕ
-length_of_halves area = big_from 0x14 2 area + big_from 0x16 2 area * 2 ^ 16
+-- the same of two numbers of 16 bits, where the length is
+abbrev pub length_of_halves : List ℕ → Option ℕ
+length_of_halves area = if_well_formed (big_from 0x14 2 area + big_from 0x16 2 area * 2 ^ 16)
 
--- of 64 bits, of which the second half is the length
-abbrev pub length_of_longs : List ℕ → ℕ
-length_of_longs area = big_from 0x10 4 area
-
--- of 64 bits, of which the first half is the length, since the area begins in the middle of one
-abbrev pub length_of_shifted_longs : List ℕ → ℕ
-length_of_shifted_longs area = big_from 0x18 4 area
-
--- the first of these that a frame may have
+-- the first length that a frame may have if the numbers are printed in the other byte order: of 32 bits; of 16; of 64, of which the second half is the length; or of 64, of which the first half is it, since the area begins in the middle of one
 abbrev pub swapped_length : List ℕ → Option ℕ
 swapped_length area =
-    option_or (if_well_formed (length_of_words area)) (option_or (if_well_formed (length_of_halves area))
-    (option_or (if_well_formed (length_of_longs area)) (if_well_formed (length_of_shifted_longs area))))
+    option_or (length_from 0x14 area) (option_or (length_of_halves area) (option_or (length_from 0x10 area) (length_from 0x18 area)))
 
 -- that length, if the length of an area's frame as it is printed is that of no frame
 abbrev pub swapped_of : List ℕ → Option ℕ

@@ -8,7 +8,7 @@ use Rattle.scmi_decode.specs.declared.first_column.FirstColumn.{FirstColumn}
 use Rattle.scmi_decode.specs.declared.no_bytes.NoBytes.{NoBytes}
 use Rattle.scmi_decode.specs.declared.no_bytes.NoBytes.TheVariants.{Order}
 use Rattle.scmi_decode.specs.DumpEnd.{bytes_before, column_begun, column_with}
-use Rattle.scmi_decode.specs.OpenDump.{DumpView, no_dump, added, begun, end_at, goes_on, is_star}
+use Rattle.scmi_decode.specs.OpenDump.{DumpView, no_dump, added, begun, end_at, goes_on, is_star, seen}
 use Rattle.scmi_decode.specs.Row.{RowView, row_of}
 use Rattle.scmi_decode.specs.Decoded.{is_remark}
 use Rattle.scmi_decode.specs.Finding.{dump_findings}
@@ -23,9 +23,11 @@ pub record IsRow (line : List ℕ) (r : RowView) : Type 0 where
   pub row : row_of line ≡ Some r
   pub has_cells : (length r.cells == 0) ≡ false
 
--- a line is this row, and goes on with a dump
+-- a line is this row after the rows of a dump, and goes on with it
 pub record IsNextRow (d : DumpView) (line : List ℕ) (r : RowView) : Type 0 where
-  pub is_row : IsRow line r
+  pub alone : RowView
+  pub is_row : IsRow line alone
+  pub is_seen : seen d alone ≡ r
   pub no_star : is_star d line ≡ false
   pub no_end : end_at d line ≡ None
   pub next : goes_on d r ≡ true

@@ -1,9 +1,9 @@
 -- A dump over several lines, as far as it was read.
-use Rattle.std.specs.Prelude.{ℕ, ◌==◌, ◌&&◌, ◌||◌, not, Bool, true, false, if◌then◌else◌, List, [], length, slice_index, Option, None}
-use Rattle.scmi_decode.specs.FirstColumn.{bytes_beside, lack_beside}
-use Rattle.scmi_decode.specs.DumpEnd.{EndView, no_end, end_of, emptied, ended_at, extended_to, line_end, reaches, repeating, takes}
+use Rattle.std.specs.Prelude.{ℕ, ◌==◌, ◌&&◌, ◌||◌, not, Bool, true, false, if◌then◌else◌, List, [], length, slice_index, Option, Some, None, is_some}
+use Rattle.scmi_decode.specs.FirstColumn.{bytes_beside, counts, lack_beside}
+use Rattle.scmi_decode.specs.DumpEnd.{EndView, no_end, addressed, end_of, emptied, ended_at, extended_to, is_even, line_end, reaches, repeating, row_bare, takes}
 use Rattle.scmi_decode.specs.Finding.{any_area, dump_findings}
-use Rattle.scmi_decode.specs.Row.{RowView, first_item, has_one_item}
+use Rattle.scmi_decode.specs.Row.{RowView, first_item, has_one_item, offset_row}
 use Rattle.scmi_decode.specs.declared.finding.Finding.{Finding}
 use Rattle.scmi_decode.specs.declared.form.Form.{Form}
 use Rattle.scmi_decode.specs.declared.form.Form.TheVariants.{Plain, Marked, Offset, Equals, Value}
@@ -42,6 +42,20 @@ same_form Equals Equals = true
 same_form Value Value = true
 same_form f g = false
 
+-- a row whose first item is this address
+abbrev pub row_at : RowView → (address : Option ℕ) → RowView
+row_at r None = r
+row_at r (Some address) = offset_row address r.group (row_bare r)
+
+-- the first that is there, or else the second
+abbrev pub or_row : Option RowView → RowView → RowView
+or_row None r = r
+or_row (Some seen) r = seen
+
+-- a row as it is after the rows of a dump: if these have addresses alone, its first item is one too
+abbrev pub seen : DumpView → RowView → RowView
+seen d r = if same_form d.form Offset && same_form r.form Plain then row_at r r.column.hexadecimal else r
+
 -- whether a row goes on with a dump: it has the same form and groups, follows the last row, and is not longer than the first; and no shorter row came before it
 unfoldable pub goes_on : DumpView → RowView → Bool
 goes_on d r = is_open d && same_form d.form r.form && takes d.end r && (same_form r.form Plain || reaches d.end r.address)
@@ -66,18 +80,30 @@ closed d = record d { end = emptied d.end; found = d.found || any_area (dump_fou
 unfoldable pub beside : DumpView → Bool → DumpView
 beside d area = record d { found = d.found || area }
 
+-- the form of a dump whose last row repeats: then its first items are addresses
+abbrev pub form_repeated : Form → Form
+form_repeated Plain = Offset
+form_repeated f = f
+
+-- rows with these addresses, of which the last one repeats
+abbrev pub end_repeated : Form → EndView → (next : Option ℕ) → EndView
+end_repeated Plain e (Some next) = addressed e next
+end_repeated f e next = repeating e
+
 -- a dump whose last row repeats
 unfoldable pub repeated : DumpView → DumpView
-repeated d = record d { end = repeating d.end }
+repeated d = record d { form = form_repeated d.form; end = end_repeated d.form d.end d.end.column.hexadecimal }
 
--- whether it is known how far a row repeats: groups of four digits after an address alone may be those of `hexdump`, whose addresses are read in another base, so there a dump begins at 0
-abbrev pub may_repeat : DumpView → Bool
-may_repeat d = not (same_form d.form Offset && (d.end.group == 4)) || (d.end.next == length d.end.cells)
+-- whether it is known how far a row repeats: a dump without addresses has a first column that counts its bytes; groups of four digits after an address alone may be those of `hexdump`, whose addresses are read in another base, so there a dump begins at 0
+abbrev pub may_repeat : Form → EndView → Bool
+may_repeat Plain e = counts e.column && is_some e.column.hexadecimal && is_even e
+may_repeat Offset e = not (e.group == 4) || (e.next == length e.cells)
+may_repeat f e = true
 
 -- whether a line is `*`, by which the last row of a dump with addresses repeats
 unfoldable pub is_star : DumpView → List ℕ → Bool
 is_star d line =
-    is_open d && not (same_form d.form Plain) && may_repeat d && (length (first_item line) == 1) && (slice_index (first_item line) 0 == 42) && has_one_item line
+    is_open d && may_repeat d.form d.end && (length (first_item line) == 1) && (slice_index (first_item line) 0 == 42) && has_one_item line
 
 -- the address of a line that ends a dump as `hexdump` and `od` do: it has an address alone, that at which the dump's bytes end
 unfoldable pub end_at : DumpView → List ℕ → Option ℕ

@@ -303,6 +303,10 @@ groups_order f groups gap = order_of f (group_of (first_item groups)) gap (lengt
 abbrev pub data_order : Form → (groups column : List ℕ) → Order
 data_order f groups column = beside_text f (not (length column == 0)) (groups_order f groups (gap_before column))
 
+-- a row of numbers after an address alone
+abbrev pub offset_row : (address group : ℕ) → List Cell → RowView
+offset_row address group cells = record { form = Offset; address = address; group = group; order = Turned; column = no_column; cells = cells }
+
 -- an item as an address in each base that `od` prints
 abbrev pub item_column : List ℕ → FirstColumn
 item_column item = record { hexadecimal = number_from 16 0 item; decimal = number_from 10 0 item; octal = number_from 8 0 item; steps = 0 }

@@ -30,6 +30,8 @@ pub(crate) fn advice_for(text: &[u8]) -> &'static str {
         "bits, as xxd -b prints them; print bytes (xxd -g 1)"
     } else if first.len() == 7 && is_hexadecimal(first) {
         "its base is unclear; print it as od -t x1 or hexdump -C do"
+    } else if is_word_beside_text(line) {
+        "its first column may be addresses; print single bytes (od -t x1)"
     } else if first.len() == 8 && is_hexadecimal(first) && text_is_bare(line) {
         "PowerShell's Format-Hex; decode the file itself with -b"
     } else if line.len() > 40 && after_gap(after_item(line)).is_empty() && is_base64(first) {
@@ -64,6 +66,16 @@ fn has_short_numbers(line: &[u8]) -> bool {
         rest = after_item(rest);
     }
     false
+}
+
+/// Whether a line begins with two words of as many digits, and has a column of text between bars: the
+/// first may be an address.
+fn is_word_beside_text(line: &[u8]) -> bool {
+    let first = first_item(line);
+    first.len() >= 8
+        && is_hexadecimal(first)
+        && first.len() == first_item(after_item(line)).len()
+        && !text_is_bare(line)
 }
 
 /// Whether no bar is before a column of text.

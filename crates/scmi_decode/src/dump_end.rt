@@ -1,15 +1,16 @@
 //! Where a dump ends.
 ghost use Rattle.std.specs.Prelude.{◌≡◌, ◌≤◌, ◌+◌, ◌-◌, ◌%◌, ◌^◌, length, OnOk, IfOk};
-ghost use Rattle.scmi_decode.specs.DumpEnd.{are_zeros, bytes_after_group, bytes_before, bytes_behind, column_begun, column_with, copies, cut, emptied, end_of, ended_at, extended, extended_to, filled, has_its_groups, is_even, is_filled_from, is_in_last_group, last_row, line_end, no_end, reaches, repeating, rows_before, slack_of, takes};
+ghost use Rattle.scmi_decode.specs.DumpEnd.{addressed, are_zeros, bytes_after_group, bytes_before, bytes_behind, column_begun, column_with, copies, cut, emptied, end_of, ended_at, extended, extended_to, filled, has_its_groups, is_even, is_filled_from, is_in_last_group, last_row, line_end, no_end, reaches, repeating, row_bare, rows_before, slack_of, takes};
 
 use crate::cell::{Cell, is_zero_in, order_shown};
-use crate::first_column::{FirstColumn, column_after, followed, no_column};
+use crate::first_column::{FirstColumn, column_after, followed, has_base, no_column};
 use crate::form::Form;
 use crate::order::Order;
 use crate::row::{Row, address_of};
 use crate::scan::{first_item, has_one_item};
 use std::alloc::{AllocError, Global};
 use std::marker::Model;
+use std::mem;
 
 /// The most bytes that `*` repeats (own).
 pub(crate) const REPEATED_BYTES: u64 = 0x1_0000;
@@ -17,7 +18,7 @@ pub(crate) const REPEATED_BYTES: u64 = 0x1_0000;
 /// The rows of a dump so far, and where they end: the address after the last one, how many bytes the
 /// first one has, how many digits the first group of the last one has, in which order those of the
 /// first one are, whether the last one repeats up to the next address, the addresses that their first
-/// items may be, and their bytes.
+/// items may be, their bytes, and those without the first items if these may be addresses.
 #[derive(Drop)]
 pub(crate) struct DumpEnd {
     next: u64,
@@ -27,6 +28,7 @@ pub(crate) struct DumpEnd {
     repeats: bool,
     column: FirstColumn,
     cells: Vec<Cell>,
+    bare: Vec<Cell>,
 }
 
 impl Model for DumpEnd {
@@ -42,6 +44,7 @@ impl Model for DumpEnd {
       repeats = e.repeats;
       column = e.column;
       cells = e.cells.items;
+      bare = e.bare.items;
     } };
 }
 
@@ -58,6 +61,7 @@ impl DumpEnd {
             repeats: false,
             column: no_column(),
             cells: Vec::new(alloc),
+            bare: Vec::new(alloc),
         }
     }
 
@@ -112,7 +116,7 @@ impl DumpEnd {
     }
 
     /// Whether the rows so far have the same length.
-    fn is_even(&self) -> bool
+    pub(crate) fn is_even(&self) -> bool
         ensures { result ≡ is_even self.now }
     {
         self.width != 0 && self.cells.len() % self.width == 0
@@ -162,6 +166,7 @@ impl DumpEnd {
         let row = copies(alloc, count, self.last_row())?;
         self.cells.extend_from_slice(row.as_slice())?;
         self.repeats = false;
+        self.column = no_column();
         Ok(())
     }
 
@@ -213,6 +218,7 @@ impl DumpEnd {
         ensures { OnOk result (self.new ≡ extended self.old row.now) }
     {
         self.cells.extend_from_slice(row.cells())?;
+        self.bare.extend_from_slice(row_bare(row))?;
         self.next = address_after(row);
         self.group = row.group();
         self.column = column_with(self.column, row);
@@ -234,6 +240,8 @@ impl DumpEnd {
     {
         self.cells.clear();
         self.cells.extend_from_slice(row.cells())?;
+        self.bare.clear();
+        self.bare.extend_from_slice(row_bare(row))?;
         self.next = address_after(row);
         self.width = row.cells().len();
         self.group = row.group();
@@ -249,6 +257,7 @@ impl DumpEnd {
         ensures { self.new ≡ emptied self.old }
     {
         self.cells.clear();
+        self.bare.clear();
     }
 
     /// Repeats the last row up to the next address.
@@ -257,6 +266,20 @@ impl DumpEnd {
         ensures { self.new ≡ repeating self.old }
     {
         self.repeats = true;
+    }
+
+    /// The same, if the first items are addresses, of which this is the next. The rows have no bytes
+    /// before that is read.
+    #[tactic(auto, unfolding(crate::specs::DumpEnd::addressed))]
+    pub(crate) fn repeat_addressed(&mut self, next: u64)
+        ensures { self.new ≡ addressed self.old next }
+    {
+        self.next = next;
+        self.width = self.width.saturating_sub(self.group / 2);
+        self.order = Order::Turned;
+        self.repeats = true;
+        mem::swap(&mut self.cells, &mut self.bare);
+        self.bare.clear();
     }
 
     /// The address of a line that has an address alone, that at which the bytes end.
@@ -309,6 +332,17 @@ fn address_after(row: &Row) -> u64
     ensures { result ≡ (row.now.address + length row.now.cells) % 2 ^ 64 }
 {
     row.address().wrapping_add(row.cells().len() as u64)
+}
+
+/// The bytes of a row without its first item, if that may be an address.
+pub(crate) fn row_bare(row: &Row) -> &[Cell]
+    ensures { result.now ≡ row_bare row.now }
+{
+    if has_base(row.column()) {
+        &row.cells()[(row.group() / 2).min(row.cells().len())..]
+    } else {
+        &[]
+    }
 }
 
 /// The column of one row: an address alone begins none.

@@ -104,7 +104,7 @@ fn met(slack: usize, expected: Option<u64>, found: Option<u64>) -> Option<u64>
 }
 
 /// Whether there is an address in one base at least.
-fn has_base(column: FirstColumn) -> bool
+pub(crate) fn has_base(column: FirstColumn) -> bool
     ensures { result ≡ has_base column }
 {
     column.hexadecimal.is_some() || column.decimal.is_some() || column.octal.is_some()

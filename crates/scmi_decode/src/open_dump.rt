@@ -3,10 +3,10 @@ ghost use Rattle.std.specs.Prelude.{◌≡◌, OnOk, IfOk};
 ghost use Rattle.std.specs.Option.{is_some, option_map};
 ghost use Rattle.scmi_decode.specs.FirstColumn.{lack_beside};
 ghost use Rattle.scmi_decode.specs.Finding.{any_area};
-ghost use Rattle.scmi_decode.specs.OpenDump.{added, begun, beside, closed, dump_bytes, dump_found, end_at, ended, goes_on, is_open, is_star, may_repeat, no_dump, repeated, same_form};
+ghost use Rattle.scmi_decode.specs.OpenDump.{added, begun, beside, closed, dump_bytes, dump_found, end_at, end_repeated, ended, form_repeated, goes_on, is_open, is_star, may_repeat, no_dump, or_row, repeated, row_at, same_form, seen};
 
 use crate::cell::{order_shown, settled};
-use crate::dump_end::DumpEnd;
+use crate::dump_end::{DumpEnd, row_bare};
 use crate::first_column::{counts, lack_beside};
 use crate::form::Form;
 use crate::layout::Layout;
@@ -109,6 +109,18 @@ impl OpenDump {
         self.found
     }
 
+    /// A row as it is after the rows of the dump, if that is not as it is alone: if these have
+    /// addresses alone, its first item is one too.
+    pub(crate) fn see(&self, alloc: Global, row: &Row) -> Result<Option<Row>, AllocError>
+        ensures { IfOk result (λ other. or_row other row.now ≡ seen self.now row.now) }
+    {
+        if same_form(self.form, Form::Offset) && same_form(row.form(), Form::Plain) {
+            row_at(alloc, row)
+        } else {
+            Ok(None)
+        }
+    }
+
     /// Whether a row goes on with the dump.
     #[tactic(auto, unfolding(crate::specs::OpenDump::goes_on))]
     pub(crate) fn goes_on(&self, row: &Row) -> bool
@@ -200,20 +212,10 @@ impl OpenDump {
     {
         let item = first_item(line);
         self.is_open()
-            && !same_form(self.form, Form::Plain)
-            && self.may_repeat()
+            && may_repeat(self.form, &self.end)
             && item.len() == 1
             && item[0] == b'*'
             && has_one_item(line)
-    }
-
-    /// Whether it is known how far a row repeats: groups of four digits after an address alone may be
-    /// those of `hexdump`, whose addresses are read in another base, so there a dump begins at 0.
-    fn may_repeat(&self) -> bool
-        ensures { result ≡ may_repeat self.now }
-    {
-        !(same_form(self.form, Form::Offset) && self.end.group() == 4)
-            || self.end.next() == self.end.cells().len() as u64
     }
 
     /// Repeats the last row up to the next address.
@@ -221,7 +223,11 @@ impl OpenDump {
     pub(crate) fn repeat(&mut self)
         ensures { self.new ≡ repeated self.old }
     {
-        self.end.repeat();
+        match (self.form, self.end.column().hexadecimal) {
+            (Form::Plain, Some(next)) => self.end.repeat_addressed(next),
+            _ => self.end.repeat(),
+        }
+        self.form = form_repeated(self.form);
     }
 
     /// The address of a line that ends the dump as `hexdump` and `od` do: it has an address alone,
@@ -235,6 +241,45 @@ impl OpenDump {
         } else {
             None
         }
+    }
+}
+
+/// The form of a dump whose last row repeats: then its first items are addresses.
+fn form_repeated(form: Form) -> Form
+    ensures { result ≡ form_repeated form }
+{
+    match form {
+        Form::Plain => Form::Offset,
+        _ => form,
+    }
+}
+
+/// Whether it is known how far a row repeats: a dump without addresses has a first column that counts
+/// its bytes; groups of four digits after an address alone may be those of `hexdump`, whose addresses
+/// are read in another base, so there a dump begins at 0.
+fn may_repeat(form: Form, end: &DumpEnd) -> bool
+    ensures { result ≡ may_repeat form end.now }
+{
+    match form {
+        Form::Plain => {
+            counts(end.column()) && end.column().hexadecimal.is_some() && end.is_even()
+        }
+        Form::Offset => end.group() != 4 || end.next() == end.cells().len() as u64,
+        Form::Marked | Form::Equals | Form::Value => true,
+    }
+}
+
+/// A row whose first item is an address, if it is a number.
+fn row_at(alloc: Global, row: &Row) -> Result<Option<Row>, AllocError>
+    ensures { IfOk result (λ other.
+        or_row other row.now ≡ row_at row.now row.now.column.hexadecimal) }
+{
+    match row.column().hexadecimal {
+        Some(address) => {
+            let row = Row::offset(alloc, address, row.group(), row_bare(row))?;
+            Ok(Some(row))
+        }
+        None => Ok(None),
     }
 }
 

@@ -1,7 +1,7 @@
 //! A row of a dump.
 ghost use Rattle.std.specs.Prelude.{◌≡◌, IfOk};
 ghost use Rattle.std.specs.Option.{option_map};
-ghost use Rattle.scmi_decode.specs.Row.{address_of, are_bits, base_of, beside_text, column_text, data_cells, data_column, data_order, form_cells, gap_before, group_of, groups_order, half_order, has_bits_alone, is_bit, is_long, item_column, long_order, order_of, parts_row, row_of, row_with, shown_of, word_bytes_of, word_cells};
+ghost use Rattle.scmi_decode.specs.Row.{address_of, are_bits, base_of, beside_text, column_text, data_cells, data_column, data_order, form_cells, gap_before, group_of, groups_order, half_order, has_bits_alone, is_bit, is_long, item_column, long_order, offset_row, order_of, parts_row, row_of, row_with, shown_of, word_bytes_of, word_cells};
 
 use crate::cell::{Cell, cells_of};
 use crate::dump::{has_mark, line_bytes};
@@ -84,6 +84,27 @@ impl Row {
         ensures { result.now ≡ self.now.cells }
     {
         self.cells.as_slice()
+    }
+
+    /// A row of numbers after an address alone, which have these bytes.
+    pub(crate) fn offset(
+        alloc: Global,
+        address: u64,
+        group: usize,
+        cells: &[Cell],
+    ) -> Result<Row, AllocError>
+        ensures { IfOk result (λ row. row ≡ offset_row address group cells.now) }
+    {
+        let mut own = Vec::new(alloc);
+        own.extend_from_slice(cells)?;
+        Ok(Row {
+            form: Form::Offset,
+            address,
+            group,
+            order: Order::Turned,
+            column: no_column(),
+            cells: own,
+        })
     }
 }
 

@@ -125,8 +125,13 @@ fn add_row<S: Findings>(
         (dump.new ≡ dump_after_row dump.old number line.now (Some row.now)) }
     ensures errors { IfErr result (λ e. (e ≡ DecodeError.Memory) ⊎ (e ≡ DecodeError.Write)) }
 {
-    if dump.goes_on(row) {
-        dump.add(alloc, row)?;
+    let other = dump.see(alloc, row)?;
+    let seen = match &other {
+        Some(seen) => seen,
+        None => row,
+    };
+    if dump.goes_on(seen) {
+        dump.add(alloc, seen)?;
         return Ok(());
     }
     close(alloc, sink, dump)?;

@@ -1,7 +1,7 @@
 //! The length of an area whose numbers were printed in the other byte order.
-ghost use Rattle.std.specs.Prelude.{◌≡◌, ◌≤◌, length};
+ghost use Rattle.std.specs.Prelude.{◌≡◌, ◌≤◌, ◌+◌, length};
 ghost use Rattle.scmi_codec.specs.Area.{length_at};
-ghost use Rattle.scmi_decode.specs.Finding.{if_well_formed, length_of_halves, length_of_longs, length_of_shifted_longs, length_of_words, swapped_length, swapped_of};
+ghost use Rattle.scmi_decode.specs.Finding.{if_well_formed, length_from, length_of_halves, swapped_length, swapped_of};
 
 use byteorder::{BigEndian, ByteOrder, LittleEndian};
 use scmi_codec::is_well_formed;
@@ -33,10 +33,10 @@ fn swapped_length(area: &[u8]) -> Option<u32>
     requires room { 0x1C ≤ length area.now }
     ensures { result ≡ swapped_length area.now }
 {
-    if_well_formed(length_of_words(area))
-        .or(if_well_formed(length_of_halves(area)))
-        .or(if_well_formed(length_of_longs(area)))
-        .or(if_well_formed(length_of_shifted_longs(area)))
+    length_from(LENGTH_AT, area)
+        .or(length_of_halves(area))
+        .or(length_from(SECOND_HALF_AT, area))
+        .or(length_from(FIRST_HALF_AT, area))
 }
 
 /// A length, if a frame may have it.
@@ -58,36 +58,20 @@ fn own_length(area: &[u8]) -> u32
     LittleEndian::read_u32(&area[LENGTH_AT..])
 }
 
-/// The length in the other byte order, of numbers of 32 bits.
-fn length_of_words(area: &[u8]) -> u32
-    requires room { 0x18 ≤ length area.now }
-    ensures { result ≡ length_of_words area.now }
+/// A number of an area that is printed in the other byte order, if a frame may have it as its length.
+fn length_from(place: usize, area: &[u8]) -> Option<u32>
+    requires room { place + 4 ≤ length area.now }
+    ensures { result ≡ length_from place area.now }
 {
-    BigEndian::read_u32(&area[LENGTH_AT..])
+    if_well_formed(BigEndian::read_u32(&area[place..]))
 }
 
-/// The same of numbers of 16 bits.
-fn length_of_halves(area: &[u8]) -> u32
+/// The same of two numbers of 16 bits, where the length is.
+fn length_of_halves(area: &[u8]) -> Option<u32>
     requires room { 0x18 ≤ length area.now }
     ensures { result ≡ length_of_halves area.now }
 {
     let low = BigEndian::read_u16(&area[LENGTH_AT..]);
     let high = BigEndian::read_u16(&area[LENGTH_AT + 2..]);
-    u32::from(low) + u32::from(high) * 0x1_0000
-}
-
-/// The same of numbers of 64 bits.
-fn length_of_longs(area: &[u8]) -> u32
-    requires room { 0x18 ≤ length area.now }
-    ensures { result ≡ length_of_longs area.now }
-{
-    BigEndian::read_u32(&area[SECOND_HALF_AT..])
-}
-
-/// The same of numbers of 64 bits, if the area begins in the middle of one.
-fn length_of_shifted_longs(area: &[u8]) -> u32
-    requires room { 0x1C ≤ length area.now }
-    ensures { result ≡ length_of_shifted_longs area.now }
-{
-    BigEndian::read_u32(&area[FIRST_HALF_AT..])
+    if_well_formed(u32::from(low) + u32::from(high) * 0x1_0000)
 }
