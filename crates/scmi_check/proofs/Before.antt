@@ -1,5 +1,5 @@
 -- What is found of a record before a line with a fault.
-use Rattle.std.proofs.Common.{◌≡◌, ◌∙◌, ℕ, Bool, List, [], ◌++◌, Option, None, Some, Result, Ok, Err, IfSome, IfErr, sym, ap, subst}
+use Rattle.std.proofs.Common.{◌≡◌, ◌∙◌, ℕ, Bool, List, [], ◌++◌, Option, None, Some, IfSome, sym, ap, subst}
 use Rattle.std.specs.Option.{IsSomeAnd}
 use Rattle.scmi_board.specs.Lines.{Line, first_number_in, lines_behind, lines_left, lines_of, number_behind, whole}
 use Rattle.scmi_io.specs.Lines.{first_line, has_line_feed}
@@ -12,7 +12,7 @@ use Rattle.scmi_check.specs.CheckError.{IsRefused, line_error}
 use Rattle.scmi_check.specs.Judged.{AreJudged}
 use Rattle.scmi_check.specs.Listener.{Grows}
 use Rattle.scmi_check.specs.RecordText.{RecordView, Shows, nothing_shown}
-use Rattle.scmi_check.specs.UnderWay.{AddsLines, IsStopBy, IsUnderWay, if_counts}
+use Rattle.scmi_check.specs.UnderWay.{AddsLines, IsStopBy, if_counts}
 use Rattle.scmi_check.specs.declared.check_error.CheckError.{CheckError}
 use Rattle.scmi_check.specs.declared.check_error.CheckError.TheVariants as error
 use Rattle.scmi_check.specs.declared.judged.Judged.{Judged}

@@ -1,9 +1,9 @@
 //! Records of what went over another platform's channels, checked against the definitions of SCMI.
 //!
-//! The main type is `Checked`, the entries of a record with the verdicts on them. The main theorems
-//! are the contracts of `read_record`, which gives exactly the entries that a text encodes, and what
-//! is not judged, and of `check_record`: however many of the entries are taken, from the first on,
-//! none of them differs if and only if a legal history of the board is behind them.
+//! The main theorem is the contract of `check_record`, which reads a record a line at a time, and
+//! gives a `Listener` the verdict on each entry: however many of the entries are taken, from the
+//! first on, none of them differs if and only if a legal history of the board is behind them. That of
+//! `read_record` is that it gives exactly the entries that a text encodes, and what is not judged.
 #![tactic(auto)]
 
 mod area_shown;

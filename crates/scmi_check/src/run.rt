@@ -17,8 +17,9 @@ use std::io::{Read, Write};
 pub const PROTOCOLS: [u8; 3] = [BASE_PROTOCOL, POWER_PROTOCOL, CLOCK_PROTOCOL];
 
 /// Checks a record of a platform of a board, writes the report as it goes, and gives the exit
-/// status: that of the record, or else that of the error, whose text is written as the last line. A
-/// report or a fault that can't be written gives status 1.
+/// status: that of the record, or else that of the error, whose text is written as the last line, and
+/// as the only one if the board's text is rejected. A report or a fault that can't be written gives
+/// status 1.
 ///
 /// The board's text is that from its line `board` to its line `end`; only empty lines and comments
 /// may follow.
