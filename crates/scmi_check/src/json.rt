@@ -8,6 +8,7 @@ use crate::judged::Judged;
 use crate::lost::Lost;
 use crate::note::{Note, NoteKind};
 use crate::reasons::status_of_reply;
+use crate::trace_time::TraceTime;
 use scmi_codec::{Answer, Message};
 use scmi_judge::{Entry, Verdict};
 use std::io;
@@ -19,13 +20,10 @@ pub(crate) fn write_json_entry<W: Write>(
     one: &Judged,
     finding: Finding,
     help: &Help,
+    time: Option<TraceTime>,
 ) -> io::Result<()> {
-    write!(
-        writer,
-        "{{\"line\":{},\"found\":\"{}\"",
-        one.line,
-        finding_word(finding)
-    )?;
+    write_place(writer, one.line, time)?;
+    write!(writer, ",\"found\":\"{}\"", finding_word(finding))?;
     if let Some(name) = entry_name(&one.entry) {
         write!(writer, ",\"message\":\"{name}\"")?;
     }
@@ -39,6 +37,19 @@ pub(crate) fn write_json_entry<W: Write>(
         write_help(writer, help)?;
     }
     writeln!(writer, "}}")
+}
+
+/// Writes the begin of an object: the line, and its time, if that is known.
+fn write_place<W: Write>(writer: &mut W, line: u32, time: Option<TraceTime>) -> io::Result<()> {
+    write!(writer, "{{\"line\":{line}")?;
+    match time {
+        Some(time) => {
+            write!(writer, ",\"time\":\"")?;
+            time.write(writer)?;
+            write!(writer, "\"")
+        }
+        None => Ok(()),
+    }
 }
 
 fn finding_word(finding: Finding) -> &'static str {
@@ -104,8 +115,13 @@ fn write_words<W: Write>(writer: &mut W, message: &Message) -> io::Result<()> {
 }
 
 /// Writes the object of a note.
-pub(crate) fn write_json_note<W: Write>(writer: &mut W, note: &Note) -> io::Result<()> {
-    write!(writer, "{{\"line\":{},\"found\":", note.line)?;
+pub(crate) fn write_json_note<W: Write>(
+    writer: &mut W,
+    note: &Note,
+    time: Option<TraceTime>,
+) -> io::Result<()> {
+    write_place(writer, note.line, time)?;
+    write!(writer, ",\"found\":")?;
     match note.kind {
         NoteKind::Unanswered => write!(writer, "\"unanswered\"")?,
         NoteKind::Unmatched => write!(writer, "\"unmatched\"")?,

@@ -43,6 +43,7 @@ mod so_far;
 mod style;
 mod subject;
 mod trace_line;
+mod trace_time;
 mod under_way;
 mod waiting;
 

@@ -18,6 +18,11 @@ pub trait Listener {
 
     ghost noted: { Self → Option (List Note) };
 
+    /// What is found next is found at the line of this number, which has this text.
+    fn at_line(&mut self, line: u32, text: &[u8])
+        ensures judged { judged self.new ≡ judged self.old }
+        ensures noted { noted self.new ≡ noted self.old };
+
     /// The next entry, with the verdict on it. `Write` if the output fails, `Memory` if out of
     /// memory.
     fn found(&mut self, one: &Judged) -> Result<(), CheckError>

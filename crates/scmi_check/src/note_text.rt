@@ -4,6 +4,7 @@ use crate::counts::Counts;
 use crate::lost::Lost;
 use crate::note::{Note, NoteKind};
 use crate::style::Style;
+use crate::trace_time::{TraceTime, write_time};
 use std::io;
 use std::io::Write;
 
@@ -11,10 +12,17 @@ const UNANSWERED: &str = "unanswered";
 
 const UNMATCHED: &str = "unmatched";
 
-/// Writes the line of a note. For a test system it is a comment.
-pub(crate) fn write_note<W: Write>(writer: &mut W, style: Style, note: &Note) -> io::Result<()> {
+/// Writes the line of a note, which ends with its time, if that is known. For a test system it is a
+/// comment.
+pub(crate) fn write_note<W: Write>(
+    writer: &mut W,
+    style: Style,
+    note: &Note,
+    time: Option<TraceTime>,
+) -> io::Result<()> {
     write!(writer, "{}{} ", mark(style), note.line)?;
     write_kind(writer, note.kind)?;
+    write_time(writer, time)?;
     writeln!(writer)
 }
 

@@ -15,13 +15,15 @@ use crate::note_text::{write_left, write_note, write_unsure};
 use crate::origins::Origins;
 use crate::reasons::write_reasons;
 use crate::style::Style;
+use crate::trace_time::{TraceTime, time_in, write_time};
 use scmi_judge::{Entry, Refusals};
 use std::io;
 use std::io::Write;
 
 /// Writes what is found of a record as it comes: a line for each entry, and one for each note of
 /// what is not judged (own). The line of an entry that differs ends with the check that decides, if
-/// an error was due, and with the lines of earlier entries that it may follow from.
+/// an error was due, with the lines of earlier entries that it may follow from, and with its time, if
+/// it is an event of a trace.
 #[derive(Drop)]
 pub struct Report<'a, W: Write> {
     writer: &'a mut W,
@@ -30,6 +32,9 @@ pub struct Report<'a, W: Write> {
     refusals: Refusals,
     counts: Counts,
     origins: Origins,
+    // The line of which the next findings are, and its time, if it is one of a trace.
+    line: u32,
+    time: Option<TraceTime>,
 }
 
 impl<'a, W: Write> Report<'a, W> {
@@ -46,6 +51,8 @@ impl<'a, W: Write> Report<'a, W> {
             refusals,
             counts,
             origins,
+            line: 0,
+            time: None,
         }
     }
 
@@ -59,6 +66,8 @@ impl<'a, W: Write> Report<'a, W> {
             refusals: _,
             counts,
             origins: _,
+            line: _,
+            time: _,
         } = self;
         if style == Style::Json {
             write_json_unsure(writer, checked)?;
@@ -81,17 +90,23 @@ impl<'a, W: Write> Report<'a, W> {
         self.origins.add(one, finding);
         self.counts.add(finding);
         match self.style {
-            Style::Json => write_json_entry(self.writer, one, finding, &help),
-            style => write_line(self.writer, style, one, finding, &help),
+            Style::Json => write_json_entry(self.writer, one, finding, &help, self.time),
+            style => write_line(self.writer, style, one, finding, &help, self.time),
         }
     }
 
     /// Writes a note, and counts it.
     fn write_note(&mut self, note: &Note) -> io::Result<()> {
         self.counts.note(note.kind);
+        // A command without an answer has an earlier line.
+        let time = if note.line == self.line {
+            self.time
+        } else {
+            None
+        };
         match self.style {
-            Style::Json => write_json_note(self.writer, note),
-            style => write_note(self.writer, style, note),
+            Style::Json => write_json_note(self.writer, note, time),
+            style => write_note(self.writer, style, note, time),
         }
     }
 }
@@ -103,6 +118,11 @@ impl<W: Write> Listener for Report<'_, W> {
     ghost judged = { λ _. None };
 
     ghost noted = { λ _. None };
+
+    fn at_line(&mut self, line: u32, text: &[u8]) {
+        self.line = line;
+        self.time = time_in(text);
+    }
 
     fn found(&mut self, one: &Judged) -> Result<(), CheckError> {
         match self.write_entry(one) {
@@ -125,18 +145,20 @@ fn write_line<W: Write>(
     one: &Judged,
     finding: Finding,
     help: &Help,
+    time: Option<TraceTime>,
 ) -> io::Result<()> {
     write!(writer, "{}{}", mark(style, finding), one.line)?;
     match finding {
-        Finding::Same => writeln!(writer, " same"),
+        Finding::Same => return writeln!(writer, " same"),
         Finding::Own(rule) => {
             write!(writer, " own {}", rule.name())?;
             write_name(writer, &one.entry)?;
             write_reasons(writer, &one.entry, &one.verdict)?;
-            writeln!(writer)
         }
-        Finding::Differs => write_difference(writer, one, help),
+        Finding::Differs => write_difference(writer, one, help)?,
     }
+    write_time(writer, time)?;
+    writeln!(writer)
 }
 
 /// Writes what is behind the number of an entry that differs.
@@ -153,7 +175,7 @@ fn write_difference<W: Write>(writer: &mut W, one: &Judged, help: &Help) -> io::
     if let Some(line) = help.origin.after {
         write!(writer, " after {line}")?;
     }
-    writeln!(writer)
+    Ok(())
 }
 
 fn write_name<W: Write>(writer: &mut W, entry: &Entry) -> io::Result<()> {

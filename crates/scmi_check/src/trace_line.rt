@@ -37,7 +37,7 @@ pub(crate) fn items_of<'a>(alloc: Global, line: &'a [u8]) -> Result<Vec<&'a [u8]
 }
 
 /// Whether a byte is between the items of a line, as `read_traced` has it.
-fn is_gap(byte: u8) -> bool
+pub(crate) fn is_gap(byte: u8) -> bool
     ensures { result ≡ is_gap byte }
 {
     byte == b' ' || byte == b'\t' || byte == b'\r' || byte == b','
@@ -137,7 +137,7 @@ fn cpu_left(item: &[u8]) -> Option<&[u8]>
 }
 
 /// Whether an item is a time, such as `12.000100:`.
-fn is_stamp(item: &[u8]) -> bool
+pub(crate) fn is_stamp(item: &[u8]) -> bool
     ensures { result ≡ is_stamp item.now }
 {
     match stamp_left(item) {
