@@ -10,6 +10,7 @@
 #include <string.h>
 
 #include "../common/checks.h"
+#include "../common/refusing.h"
 #include "messages.h"
 #include "scmi.h"
 #include "scmi_service.h"
@@ -24,8 +25,6 @@ static unsigned int messages;
 static uint8_t *in_now, *out_now;
 static size_t in_bytes, out_bytes;
 static bool is_shared;
-static unsigned int requests_left = UINT32_MAX;
-static bool is_other_version;
 
 /* ---- In place of the library's calls, by the linker: the normal world writes when it may. */
 
@@ -33,14 +32,6 @@ uint32_t __real_scmi_ask_words(scmi_platform *platform, uint32_t agent, const ui
                                uint32_t *reply, size_t room, uint32_t *given, scmi_effect *effect);
 uint32_t __wrap_scmi_ask_words(scmi_platform *platform, uint32_t agent, const uint32_t *message, size_t count,
                                uint32_t *reply, size_t room, uint32_t *given, scmi_effect *effect);
-struct tried {
-    bool ok;
-    void *at;
-};
-struct tried __real_rattle_alloc(size_t bytes, size_t alignment);
-struct tried __wrap_rattle_alloc(size_t bytes, size_t alignment);
-uint32_t __real_scmi_version(void);
-uint32_t __wrap_scmi_version(void);
 
 static void write_over(void)
 {
@@ -57,19 +48,6 @@ uint32_t __wrap_scmi_ask_words(scmi_platform *platform, uint32_t agent, const ui
     if ((uint8_t *)reply >= out_now && (uint8_t *)reply < out_now + out_bytes)
         is_shared = true;
     return __real_scmi_ask_words(platform, agent, message, count, reply, room, given, effect);
-}
-
-struct tried __wrap_rattle_alloc(size_t bytes, size_t alignment)
-{
-    if (requests_left == 0)
-        return (struct tried){ false, NULL };
-    requests_left--;
-    return __real_rattle_alloc(bytes, alignment);
-}
-
-uint32_t __wrap_scmi_version(void)
-{
-    return is_other_version ? 0 : __real_scmi_version();
 }
 
 /* ---- One message, by each kind of frame. */

@@ -13,8 +13,7 @@
 enum { SECONDS = 60 };
 
 char said[1 << 14];
-bool overflows, is_other_version;
-unsigned int requests_left = UINT32_MAX;
+bool overflows;
 static bool is_locked;
 static unsigned int failed_here;
 
@@ -57,29 +56,6 @@ uint32_t scmi_service_on_stack(uintptr_t top, uint32_t (*call)(unsigned int), un
     if (overflows)
         *(uint64_t *)(top - SCMI_PORT_STACK) = 0;
     return given;
-}
-
-/* The linker puts these in place of the calls for memory, and of the library's version. */
-struct tried {
-    bool ok;
-    void *at;
-};
-struct tried __real_rattle_alloc(size_t bytes, size_t alignment);
-struct tried __wrap_rattle_alloc(size_t bytes, size_t alignment);
-uint32_t __real_scmi_version(void);
-uint32_t __wrap_scmi_version(void);
-
-struct tried __wrap_rattle_alloc(size_t bytes, size_t alignment)
-{
-    if (requests_left == 0)
-        return (struct tried){ false, NULL };
-    requests_left--;
-    return __real_rattle_alloc(bytes, alignment);
-}
-
-uint32_t __wrap_scmi_version(void)
-{
-    return is_other_version ? 0 : __real_scmi_version();
 }
 
 void check(const char *what, bool holds)

@@ -12,10 +12,9 @@ struct test {
     int ends; /* the status of its process: 0, or PANIC */
 };
 
-/* All that was said, and what a test sets: the end of the stack is written to, the library is another, memory ends. */
+/* All that was said, and what a test sets: that the end of the stack is written to. */
 extern char said[1 << 14];
-extern bool overflows, is_other_version;
-extern unsigned int requests_left;
+extern bool overflows;
 
 void check(const char *what, bool holds);
 void says(const char *line);

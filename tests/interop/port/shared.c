@@ -11,6 +11,7 @@
 
 #include <drivers/scmi.h>
 
+#include "../common/refusing.h"
 #include "bl31.h"
 #include "scmi_service.h"
 #include "scmi_service_board.h"
