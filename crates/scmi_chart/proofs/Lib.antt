@@ -1,6 +1,4 @@
+mod DetailExamples
 mod Heads
-mod LabelExamples
-mod Named
 mod Numbers
 mod Turned
-mod WithFields

@@ -1,13 +1,8 @@
-pub mod Answered
-pub mod Asked
 pub mod Detail
-pub mod Fields
-pub mod LabelWords
 pub mod Posted
 pub mod Service
 pub mod Shown
 pub mod Signs
 pub mod Standing
 pub mod Value
-pub mod Wording
 pub mod Words

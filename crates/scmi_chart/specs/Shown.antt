@@ -14,11 +14,11 @@ abbrev pub none_later : List Bool
 none_later = replicate LANES false
 
 -- what is shown of a run of these steps on a board, which came to these lines, one for each: of each agent it is known whether its last command takes effect later
-abbrev pub run_signs : Board → List Bool → List Step → List StepLine → List Sign
-run_signs board laters (s ∷ steps) (l ∷ lines) =
-    signs_of board (is_some (served_by s l) || is_served (lane (line_agent l)) steps lines) (is_later laters s l) s l
-    ++ run_signs board (laters_after laters s l) steps lines
-run_signs board laters _ _ = []
+abbrev pub run_signs : List Bool → List Step → List StepLine → List Sign
+run_signs laters (s ∷ steps) (l ∷ lines) =
+    signs_of (is_some (served_by s l) || is_served (lane (line_agent l)) steps lines) (is_later laters s l) s l
+    ++ run_signs (laters_after laters s l) steps lines
+run_signs laters _ _ = []
 
 -- what a chart shows so far: what its marks show, and of each lifeline whether the last command of its agent takes effect later; the board
 pub record Shown : Type 0 where
@@ -46,7 +46,7 @@ with_later a later shown = record shown { laters = set shown.laters a later }
 abbrev pub exchanged : Step → ℕ → Collected → List Sign → Shown → Shown
 exchanged s a c between shown =
     with_later a (sets_later s) (serves (if_got a c)
-    (exchange_signs shown.board (is_some (if_got a c)) s a c ++ between ++ collected_signs shown.board a (get_or (set shown.laters a (sets_later s)) a false) c) shown)
+    (exchange_signs (is_some (if_got a c)) s a c ++ between ++ collected_signs a (get_or (set shown.laters a (sets_later s)) a false) c) shown)
 
 -- what a step adds that came to this line: its own marks, and that commands of the agent that was served in it are executed ones
 abbrev pub shown_after : Step → StepLine → Shown → Shown
@@ -54,7 +54,7 @@ shown_after s l shown =
     record {
       signs =
           served_so_far (served_by s l) shown.signs
-          ++ signs_of shown.board (is_some (served_by s l)) (is_later shown.laters s l) s l;
+          ++ signs_of (is_some (served_by s l)) (is_later shown.laters s l) s l;
       laters = laters_after shown.laters s l;
       board = shown.board;
     }

@@ -8,7 +8,6 @@ use Rattle.scmi_codec.specs.declared.frame.Answer.{Answer}
 use Rattle.scmi_codec.specs.declared.frame.Answer.TheVariants.{Reply}
 use Rattle.scmi_codec.specs.declared.frame.Frame.{Frame}
 use Rattle.scmi_codec.specs.declared.frame.Frame.TheVariants.{Good}
-use Rattle.scmi_plan.specs.Board.{Board}
 use Rattle.scmi_link.specs.declared.collected.Collected.{Collected}
 use Rattle.scmi_link.specs.declared.collected.Collected.TheVariants as collected
 use Rattle.scmi_link.specs.declared.closing.Closing.{Closing}
@@ -29,16 +28,17 @@ use Rattle.scmi_svg.specs.declared.mark.Outcome.{Outcome}
 use Rattle.scmi_svg.specs.declared.mark.Outcome.TheVariants as outcome
 use Rattle.scmi_svg.specs.declared.mark.Side.{Side}
 use Rattle.scmi_svg.specs.declared.mark.Side.TheVariants as side
-use Rattle.scmi_chart.specs.Wording.{Wording, answer_wording, asked_wording, posted_wording, refused_wording, wording_of}
+use Rattle.scmi_svg.specs.declared.mark.Message.{Message as Arrow}
+use Rattle.scmi_chart.specs.Detail.{answer_detail, message_detail, step_detail}
 
--- what a mark shows, with the words of its message: whether a command that an agent posted was executed, with its token if it has one; a post was refused; the platform executed a command; the outcome of the answer to its command that an agent read; an agent took a delayed response or a notification; the platform posted a message; it was to complete a pending set, and whether there was one; it ended one whose change the hardware refused; the hardware refused what an agent's command was to change; channels were closed; an agent restarted; or a step of an agent's came to nothing
+-- what a mark shows, with the header and the words of its message in hexadecimal: whether a command that an agent posted was executed, with its token if it has one; a post was refused; the platform executed a command; the outcome of the answer to its command that an agent read; an agent took a delayed response or a notification; the platform posted a message; it was to complete a pending set, and whether there was one; it ended one whose change the hardware refused; the hardware refused what an agent's command was to change; channels were closed; an agent restarted; or a step of an agent's came to nothing
 pub data Sign : Type 0 where
-  sent : Bool → ℕ → Option ℕ → Wording → Sign
-  unsent : ℕ → Wording → Sign
+  sent : Bool → ℕ → Option ℕ → List ℕ → Sign
+  unsent : ℕ → List ℕ → Sign
   executed : Sign
-  answered : ℕ → Outcome → Wording → Sign
-  delayed : ℕ → ℕ → Wording → Sign
-  notified : ℕ → Wording → Sign
+  answered : ℕ → Outcome → List ℕ → Sign
+  delayed : ℕ → ℕ → List ℕ → Sign
+  notified : ℕ → List ℕ → Sign
   posted : Sign
   advanced : Bool → Sign
   failed : Sign
@@ -47,15 +47,19 @@ pub data Sign : Type 0 where
   restarted : ℕ → Sign
   remarked : ℕ → Sign
 
+-- the header and the words of the message of an arrow, in hexadecimal
+abbrev pub detail_of : Arrow → List ℕ
+detail_of m = m.detail.items
+
 -- what a mark shows
 abbrev pub sign_of : Mark → Sign
-sign_of (mark.Command m token) = sent true m.agent token (wording_of m)
-sign_of (mark.Withdrawn m token) = sent false m.agent token (wording_of m)
-sign_of (mark.Refused m) = unsent m.agent (wording_of m)
+sign_of (mark.Command m token) = sent true m.agent token (detail_of m)
+sign_of (mark.Withdrawn m token) = sent false m.agent token (detail_of m)
+sign_of (mark.Refused m) = unsent m.agent (detail_of m)
 sign_of (mark.Execution slot until) = executed
-sign_of (mark.Reply m outcome) = answered m.agent outcome (wording_of m)
-sign_of (mark.Delayed m token) = delayed m.agent token (wording_of m)
-sign_of (mark.Notification m) = notified m.agent (wording_of m)
+sign_of (mark.Reply m outcome) = answered m.agent outcome (detail_of m)
+sign_of (mark.Delayed m token) = delayed m.agent token (detail_of m)
+sign_of (mark.Notification m) = notified m.agent (detail_of m)
 sign_of (mark.Posted slot) = posted
 sign_of (mark.Advance slot effective text) = advanced effective
 sign_of (mark.Closed agent slot by text) = closed agent by
@@ -98,23 +102,23 @@ is_hardware_error (collected.Got (Reply m)) = begins_with_hardware_error m.paylo
 is_hardware_error _ = false
 
 -- what is shown of an agent that read an answer with this outcome
-abbrev pub answered_sign : Board → ℕ → Answer → Outcome → Sign
-answered_sign board a answer outcome = answered a outcome (answer_wording board answer outcome)
+abbrev pub answered_sign : ℕ → Answer → Outcome → Sign
+answered_sign a answer outcome = answered a outcome (answer_detail answer)
 
 -- what is shown of a command that a step posted with this token, if it is known
-abbrev pub sent_sign : Board → Bool → Step → ℕ → Option ℕ → Sign
-sent_sign board x s a token = sent x a token (asked_wording board s token)
+abbrev pub sent_sign : Bool → Step → ℕ → Option ℕ → Sign
+sent_sign x s a token = sent x a token (step_detail s token)
 
 -- what is shown of an agent that collected, whose last command was to take effect later or at once
-abbrev pub collected_signs : Board → ℕ → Bool → Collected → List Sign
-collected_signs board a later collected.Nothing = remarked a ∷ []
-collected_signs board a later collected.Closed = remarked a ∷ []
-collected_signs board a later (collected.Got answer) = answered_sign board a answer (outcome_of answer later) ∷ []
+abbrev pub collected_signs : ℕ → Bool → Collected → List Sign
+collected_signs a later collected.Nothing = remarked a ∷ []
+collected_signs a later collected.Closed = remarked a ∷ []
+collected_signs a later (collected.Got answer) = answered_sign a answer (outcome_of answer later) ∷ []
 
 -- what is shown of an agent's command before it is collected in the same step: it was executed if it was answered
-abbrev pub exchange_signs : Board → Bool → Step → ℕ → Collected → List Sign
-exchange_signs board x s a (collected.Got answer) = sent_sign board x s a (reply_token (collected.Got answer)) ∷ executed ∷ []
-exchange_signs board x s a c = sent_sign board x s a (reply_token c) ∷ []
+abbrev pub exchange_signs : Bool → Step → ℕ → Collected → List Sign
+exchange_signs x s a (collected.Got answer) = sent_sign x s a (reply_token (collected.Got answer)) ∷ executed ∷ []
+exchange_signs x s a c = sent_sign x s a (reply_token c) ∷ []
 
 -- what is shown of hardware that refused, before an agent collected in the same step
 abbrev pub fault_signs : ℕ → Collected → List Sign
@@ -126,13 +130,13 @@ failed_signs true = failed ∷ []
 failed_signs false = advanced false ∷ []
 
 -- what is shown of an agent that took a message with this header, which reports this
-abbrev pub posted_sign : ℕ → HeaderFields → Wording → Sign
+abbrev pub posted_sign : ℕ → HeaderFields → List ℕ → Sign
 posted_sign a h says = if h.kind == 3 then notified a says else delayed a h.token says
 
 -- what is shown of an agent that was to take a message
-abbrev pub taken_signs : Board → ℕ → Option Frame → List Sign
-taken_signs board a (Some (Good m)) = posted_sign a m.header (posted_wording board m) ∷ []
-taken_signs board a _ = remarked a ∷ []
+abbrev pub taken_signs : ℕ → Option Frame → List Sign
+taken_signs a (Some (Good m)) = posted_sign a m.header (message_detail m) ∷ []
+taken_signs a _ = remarked a ∷ []
 
 -- what is shown of an agent that was served
 abbrev pub served_signs : ℕ → Served → List Sign
@@ -155,21 +159,21 @@ shut_signs a (Ok u) = closed a side.Platform ∷ []
 shut_signs a (Err refusal) = remarked a ∷ []
 
 -- what is shown of a step that came to this line: each command that was posted, and whether it is executed, in this step or later; each post that was refused, each execution, answer and message, each message that was posted, each advance, each refusal of the hardware, each restart and each close, by its agent, once, in the words of its message; and what came to nothing. A set of the agent's last command may be one that takes effect later
-abbrev pub signs_of : Board → Bool → Bool → Step → StepLine → List Sign
-signs_of board x later s (line.Token a token) = sent_sign board x s (lane a) (Some token) ∷ []
-signs_of board x later s (line.Posted a) = sent_sign board x s (lane a) (raw_token s) ∷ []
-signs_of board x later s (line.NotPosted a refusal) = unsent (lane a) (refused_wording board s refusal) ∷ []
-signs_of board x later s (line.Served a served) = served_signs (lane a) served
-signs_of board x later (step.Do b call) (line.Collected a c) =
-    exchange_signs board x (step.Do b call) (lane a) c ++ collected_signs board (lane a) later c
-signs_of board x later (step.Fail b call) (line.Collected a c) =
-    exchange_signs board x (step.Fail b call) (lane a) c ++ fault_signs (lane a) c ++ collected_signs board (lane a) later c
-signs_of board x later s (line.Collected a c) = collected_signs board (lane a) later c
-signs_of board x later s (line.Advanced more) = advanced more ∷ []
-signs_of board x later s (line.AdvanceFailed more) = failed_signs more
-signs_of board x later s (line.Flushed a flushed) = flushed_signs (lane a) flushed
-signs_of board x later s (line.P2a a frame) = taken_signs board (lane a) frame
-signs_of board x later s (line.Closed a closing) = closed_signs (lane a) closing
-signs_of board x later s (line.Shut a closing) = shut_signs (lane a) closing
-signs_of board x later s (line.Restarted a) = restarted (lane a) ∷ []
-signs_of board x later s (line.Trace events) = []
+abbrev pub signs_of : Bool → Bool → Step → StepLine → List Sign
+signs_of x later s (line.Token a token) = sent_sign x s (lane a) (Some token) ∷ []
+signs_of x later s (line.Posted a) = sent_sign x s (lane a) (raw_token s) ∷ []
+signs_of x later s (line.NotPosted a refusal) = unsent (lane a) (step_detail s None) ∷ []
+signs_of x later s (line.Served a served) = served_signs (lane a) served
+signs_of x later (step.Do b call) (line.Collected a c) =
+    exchange_signs x (step.Do b call) (lane a) c ++ collected_signs (lane a) later c
+signs_of x later (step.Fail b call) (line.Collected a c) =
+    exchange_signs x (step.Fail b call) (lane a) c ++ fault_signs (lane a) c ++ collected_signs (lane a) later c
+signs_of x later s (line.Collected a c) = collected_signs (lane a) later c
+signs_of x later s (line.Advanced more) = advanced more ∷ []
+signs_of x later s (line.AdvanceFailed more) = failed_signs more
+signs_of x later s (line.Flushed a flushed) = flushed_signs (lane a) flushed
+signs_of x later s (line.P2a a frame) = taken_signs (lane a) frame
+signs_of x later s (line.Closed a closing) = closed_signs (lane a) closing
+signs_of x later s (line.Shut a closing) = shut_signs (lane a) closing
+signs_of x later s (line.Restarted a) = restarted (lane a) ∷ []
+signs_of x later s (line.Trace events) = []

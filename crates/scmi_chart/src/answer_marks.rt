@@ -19,7 +19,7 @@ impl<'a> Recorder<'a> {
         slot: u16,
         collected: &Collected,
     ) -> Result<(), AllocError>
-        ensures { OnOk result (self.new ≡ adds (collected_signs self.old.board agent
+        ensures { OnOk result (self.new ≡ adds (collected_signs agent
             (get_or self.old.laters agent false) collected.now) self.old) }
     {
         match collected {
@@ -36,7 +36,7 @@ impl<'a> Recorder<'a> {
         slot: u16,
         answer: &Answer,
     ) -> Result<(), AllocError>
-        ensures { OnOk result (self.new ≡ adds (answered_sign self.old.board agent answer.now
+        ensures { OnOk result (self.new ≡ adds (answered_sign agent answer.now
             (outcome_of answer.now (get_or self.old.laters agent false)) ∷ []) self.old) }
     {
         let outcome = outcome_of(answer, self.parties.is_later(agent));

@@ -1,7 +1,7 @@
 //! The messages of a chart, each with its words.
-ghost use Rattle.std.specs.Prelude.{◌≡◌, IfOk};
-ghost use Rattle.scmi_plan.specs.RawPlan.{asked_board};
-ghost use Rattle.scmi_chart.specs.Wording.{answer_wording, asked_wording, posted_wording, refusal_text, refused_wording, wording_of};
+ghost use Rattle.std.specs.Prelude.{◌≡◌, IfOk, None};
+ghost use Rattle.scmi_chart.specs.Detail.{answer_detail, message_detail, step_detail};
+ghost use Rattle.scmi_chart.specs.Signs.{detail_of};
 
 use crate::asked::asked_label;
 use crate::detail::{answer_detail, message_detail, step_detail};
@@ -24,7 +24,6 @@ pub(crate) struct Way {
 }
 
 /// The command of a step, which has this token if it is known.
-#[tactic(auto, unfolding(crate::specs::Wording::asked_wording))]
 pub(crate) fn asked_arrow(
     alloc: Global,
     board: &RawPlan,
@@ -34,7 +33,7 @@ pub(crate) fn asked_arrow(
 ) -> Result<Arrow, AllocError>
     ensures agent { IfOk result (λ arrow. arrow.agent ≡ way.agent) }
     ensures says { IfOk result (λ arrow.
-        wording_of arrow ≡ asked_wording (asked_board board.now) step.now token) }
+        detail_of arrow ≡ step_detail step.now token) }
 {
     Ok(Arrow {
         agent: way.agent,
@@ -46,7 +45,6 @@ pub(crate) fn asked_arrow(
 }
 
 /// The command of a step that was not posted.
-#[tactic(auto, unfolding(crate::specs::Wording::refused_wording))]
 pub(crate) fn refused_arrow(
     alloc: Global,
     board: &RawPlan,
@@ -56,7 +54,7 @@ pub(crate) fn refused_arrow(
 ) -> Result<Arrow, AllocError>
     ensures agent { IfOk result (λ arrow. arrow.agent ≡ way.agent) }
     ensures says { IfOk result (λ arrow.
-        wording_of arrow ≡ refused_wording (asked_board board.now) step.now refusal) }
+        detail_of arrow ≡ step_detail step.now None) }
 {
     let mut label = asked_label(alloc, board, step)?;
     label.tag = Vec::from_slice(alloc, refusal_words(refusal).as_bytes())?;
@@ -70,9 +68,7 @@ pub(crate) fn refused_arrow(
 }
 
 /// Why a post was refused, in words.
-fn refusal_words(refusal: PostError) -> &'static str
-    ensures { result.now ≡ refusal_text refusal }
-{
+fn refusal_words(refusal: PostError) -> &'static str {
     match refusal {
         PostError::Outstanding => OUTSTANDING,
         PostError::Closed => CLOSED,
@@ -82,7 +78,6 @@ fn refusal_words(refusal: PostError) -> &'static str
 }
 
 /// An answer with this outcome.
-#[tactic(auto, unfolding(crate::specs::Wording::answer_wording))]
 pub(crate) fn answer_arrow(
     alloc: Global,
     board: &RawPlan,
@@ -92,7 +87,7 @@ pub(crate) fn answer_arrow(
 ) -> Result<Arrow, AllocError>
     ensures agent { IfOk result (λ arrow. arrow.agent ≡ way.agent) }
     ensures says { IfOk result (λ arrow.
-        wording_of arrow ≡ answer_wording (asked_board board.now) answer.now outcome) }
+        detail_of arrow ≡ answer_detail answer.now) }
 {
     Ok(Arrow {
         agent: way.agent,
@@ -104,7 +99,6 @@ pub(crate) fn answer_arrow(
 }
 
 /// A message of the platform's own accord.
-#[tactic(auto, unfolding(crate::specs::Wording::posted_wording))]
 pub(crate) fn posted_arrow(
     alloc: Global,
     board: &RawPlan,
@@ -113,7 +107,7 @@ pub(crate) fn posted_arrow(
 ) -> Result<Arrow, AllocError>
     ensures agent { IfOk result (λ arrow. arrow.agent ≡ way.agent) }
     ensures says { IfOk result (λ arrow.
-        wording_of arrow ≡ posted_wording (asked_board board.now) message.now) }
+        detail_of arrow ≡ message_detail message.now) }
 {
     Ok(Arrow {
         agent: way.agent,

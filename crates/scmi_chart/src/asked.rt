@@ -1,9 +1,4 @@
 //! What the agents' posts ask for, in words.
-ghost use Rattle.std.specs.Prelude.{◌≡◌, IfOk, OnOk};
-ghost use Rattle.scmi_codec.specs.Command.{command_of};
-ghost use Rattle.scmi_plan.specs.RawPlan.{asked_board};
-ghost use Rattle.scmi_chart.specs.LabelWords.{words_of};
-ghost use Rattle.scmi_chart.specs.Asked.{asked_words, asks_for_itself, command_words, malformed_words, with_command, with_itself, with_kind};
 
 use crate::fields::add_fields;
 use crate::label::{name_label, name_of, plain_label};
@@ -18,10 +13,11 @@ use scmi_text::{AgentStep, Step};
 use std::alloc::{AllocError, Global};
 
 /// What the command of a step asks for. Nothing of a step that posts none.
-pub(crate) fn asked_label(alloc: Global, board: &RawPlan, step: &Step) -> Result<Label, AllocError>
-    ensures { IfOk result (λ label.
-        words_of label ≡ asked_words (asked_board board.now) step.now) }
-{
+pub(crate) fn asked_label(
+    alloc: Global,
+    board: &RawPlan,
+    step: &Step,
+) -> Result<Label, AllocError> {
     match step {
         Step::Agent {
             step: AgentStep::Malformed { length, .. },
@@ -34,20 +30,14 @@ pub(crate) fn asked_label(alloc: Global, board: &RawPlan, step: &Step) -> Result
     }
 }
 
-fn malformed_label(alloc: Global, length: u32) -> Result<Label, AllocError>
-    ensures { IfOk result (λ label. words_of label ≡ malformed_words length) }
-{
+fn malformed_label(alloc: Global, length: u32) -> Result<Label, AllocError> {
     let mut label = plain_label(alloc, MALFORMED)?;
     label.object = numbered_words(alloc, LENGTH, length)?;
     Ok(label)
 }
 
 /// What a message asks for: the fields of the command that it carries, or its words.
-#[tactic(auto, unfolding(crate::specs::Asked::command_words))]
-fn command_label(alloc: Global, board: &RawPlan, message: &Message) -> Result<Label, AllocError>
-    ensures { IfOk result (λ label.
-        words_of label ≡ command_words (asked_board board.now) message.now) }
-{
+fn command_label(alloc: Global, board: &RawPlan, message: &Message) -> Result<Label, AllocError> {
     let header = message.header;
     let mut label = name_label(alloc, name_of(alloc, header.protocol(), header.id())?);
     add_command(alloc, board, &mut label, message)?;
@@ -62,10 +52,7 @@ fn add_command(
     board: &RawPlan,
     label: &mut Label,
     message: &Message,
-) -> Result<(), AllocError>
-    ensures { OnOk result (words_of label.new ≡ with_command (asked_board board.now)
-        message.now.payload.items (command_of message.now) (words_of label.old)) }
-{
+) -> Result<(), AllocError> {
     match Command::read(message) {
         Ok(command) => {
             let fields = command_fields(&command);
@@ -79,10 +66,7 @@ fn add_command(
 }
 
 /// Adds that an agent asks for itself, if it does.
-fn add_itself(alloc: Global, label: &mut Label, message: &Message) -> Result<(), AllocError>
-    ensures { OnOk result (words_of label.new
-        ≡ with_itself (asks_for_itself message.now) (words_of label.old)) }
-{
+fn add_itself(alloc: Global, label: &mut Label, message: &Message) -> Result<(), AllocError> {
     if asks_for_itself(message) {
         label.object = Vec::from_slice(alloc, ITSELF.as_bytes())?;
     }
@@ -90,9 +74,7 @@ fn add_itself(alloc: Global, label: &mut Label, message: &Message) -> Result<(),
 }
 
 /// Whether a message is BASE_DISCOVER_AGENT of the number that means the caller there.
-fn asks_for_itself(message: &Message) -> bool
-    ensures { result ≡ asks_for_itself message.now }
-{
+fn asks_for_itself(message: &Message) -> bool {
     if message.header.protocol() != BASE_PROTOCOL || message.header.id() != 0x7 {
         return false;
     }
@@ -103,9 +85,7 @@ fn asks_for_itself(message: &Message) -> bool
 }
 
 /// Adds the type of a message that is no command.
-fn add_kind(alloc: Global, label: &mut Label, kind: u8) -> Result<(), AllocError>
-    ensures { OnOk result (words_of label.new ≡ with_kind kind (words_of label.old)) }
-{
+fn add_kind(alloc: Global, label: &mut Label, kind: u8) -> Result<(), AllocError> {
     if kind != 0 {
         label.tag = numbered_words(alloc, TYPE, u32::from(kind))?;
     }

@@ -1,9 +1,9 @@
 //! Commands that agents posted, and those that were not posted.
-ghost use Rattle.std.specs.Prelude.{◌≡◌, [], ◌∷◌, OnOk};
+ghost use Rattle.std.specs.Prelude.{◌≡◌, [], ◌∷◌, None, OnOk};
+ghost use Rattle.scmi_chart.specs.Detail.{step_detail};
 ghost use Rattle.scmi_chart.specs.Signs.{sent_sign, unsent};
 ghost use Rattle.scmi_chart.specs.Service.{sets_later};
 ghost use Rattle.scmi_chart.specs.Shown.{adds, with_later};
-ghost use Rattle.scmi_chart.specs.Wording.{refused_wording};
 
 use crate::arrows::{Way, asked_arrow, refused_arrow};
 use crate::posts::sets_later;
@@ -25,7 +25,7 @@ impl<'a> Recorder<'a> {
         is_executed: bool,
     ) -> Result<(), AllocError>
         ensures { OnOk result (self.new ≡ with_later agent (sets_later step.now)
-            (adds (sent_sign self.old.board is_executed step.now agent token ∷ []) self.old)) }
+            (adds (sent_sign is_executed step.now agent token ∷ []) self.old)) }
     {
         let way = Way {
             agent,
@@ -47,7 +47,7 @@ impl<'a> Recorder<'a> {
         refusal: PostError,
     ) -> Result<(), AllocError>
         ensures { OnOk result (self.new ≡ adds (unsent agent
-            (refused_wording self.old.board step.now refusal) ∷ []) self.old) }
+            (step_detail step.now None) ∷ []) self.old) }
     {
         let way = Way {
             agent,

@@ -40,7 +40,7 @@ impl<'a> Recorder<'a> {
         frame: &Option<Frame>,
     ) -> Result<(), AllocError>
         ensures { OnOk result (self.new
-            ≡ adds (taken_signs self.old.board agent frame.now) self.old) }
+            ≡ adds (taken_signs agent frame.now) self.old) }
     {
         match frame {
             None => self.remark(agent, slot, Side::Agent, "no message"),

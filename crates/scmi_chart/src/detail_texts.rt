@@ -7,6 +7,3 @@ pub(crate) const WORDS: &str = ", words %";
 
 /// The length of a malformed frame, after its header.
 pub(crate) const LENGTH: &str = ", length %";
-
-/// The notification of a domain's state for an agent.
-pub(crate) const DROPPED: &str = "the notification of % for % was dropped: its outbox has no room";

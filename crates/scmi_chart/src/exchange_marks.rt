@@ -51,8 +51,7 @@ impl<'a> Recorder<'a> {
         collected: &Collected,
     ) -> Result<(), AllocError>
         ensures { OnOk result (self.new ≡ with_later agent (sets_later step.now)
-            (serves (if_got agent collected.now) (exchange_signs self.old.board
-            (is_some (if_got agent collected.now)) step.now agent collected.now) self.old)) }
+            (serves (if_got agent collected.now) (exchange_signs (is_some (if_got agent collected.now)) step.now agent collected.now) self.old)) }
     {
         let token = reply_token(collected);
         match collected {
@@ -71,7 +70,7 @@ impl<'a> Recorder<'a> {
     ) -> Result<(), AllocError>
         ensures { OnOk result (self.new ≡ with_later agent (sets_later step.now)
             (serves (Some agent)
-            (sent_sign self.old.board true step.now agent token ∷ executed ∷ []) self.old)) }
+            (sent_sign true step.now agent token ∷ executed ∷ []) self.old)) }
     {
         let until = slot.saturating_add(1);
         self.parties.answer(agent, until);

@@ -1,8 +1,4 @@
 //! What the fields of a message add to its label.
-ghost use Rattle.std.specs.Prelude.{◌≡◌, OnOk, IfOk};
-ghost use Rattle.scmi_plan.specs.RawPlan.{asked_board};
-ghost use Rattle.scmi_chart.specs.LabelWords.{with_remark, words_of};
-ghost use Rattle.scmi_chart.specs.Fields.{cause_text, counts_text, version_text, with_field, with_fields, with_value};
 
 use crate::board_names::{agent_name, clock_name, domain_name};
 use crate::flags::{
@@ -23,10 +19,7 @@ pub(crate) fn add_fields(
     board: &RawPlan,
     label: &mut Label,
     fields: &[Field],
-) -> Result<(), AllocError>
-    ensures { OnOk result (words_of label.new
-        ≡ with_fields (asked_board board.now) fields.now (words_of label.old)) }
-{
+) -> Result<(), AllocError> {
     'fields: for field in fields {
         add_field(alloc, board, label, field)?;
     }
@@ -39,10 +32,7 @@ fn add_field(
     board: &RawPlan,
     label: &mut Label,
     field: &Field,
-) -> Result<(), AllocError>
-    ensures { OnOk result (words_of label.new
-        ≡ with_field (asked_board board.now) field.now (words_of label.old)) }
-{
+) -> Result<(), AllocError> {
     match field {
         Field::Domain(domain) => label.object = domain_name(alloc, board, *domain)?,
         Field::Clock(clock) => label.object = clock_name(alloc, board, *clock)?,
@@ -73,9 +63,7 @@ fn add_field(
 }
 
 /// Sets a state or a rate: what an object gets, or what it has if the message names none.
-fn set_value(label: &mut Label, words: Vec<u8>)
-    ensures { words_of label.new ≡ with_value words.items (words_of label.old) }
-{
+fn set_value(label: &mut Label, words: Vec<u8>) {
     if label.object.is_empty() {
         label.object = words;
     } else {
@@ -84,18 +72,13 @@ fn set_value(label: &mut Label, words: Vec<u8>)
 }
 
 /// The version of a protocol.
-#[tactic(auto, unfolding(crate::specs::Fields::version_text))]
-fn version_words(alloc: Global, word: u32) -> Result<Vec<u8>, AllocError>
-    ensures { IfOk result (λ words. words.items ≡ version_text word) }
-{
+fn version_words(alloc: Global, word: u32) -> Result<Vec<u8>, AllocError> {
     let numbers = [Value::Number(word >> 16), Value::Number(word % 65536)];
     filled_words(alloc, VERSION, &numbers)
 }
 
 /// How many agents and protocols there are.
-fn counts_words(alloc: Global, word: u32) -> Result<Vec<u8>, AllocError>
-    ensures { IfOk result (λ words. words.items ≡ counts_text word) }
-{
+fn counts_words(alloc: Global, word: u32) -> Result<Vec<u8>, AllocError> {
     let mut words = counted_words(alloc, AGENTS, word / 256 % 256)?;
     add_behind(&mut words, &counted_words(alloc, PROTOCOLS, word % 256)?)?;
     Ok(words)
@@ -107,10 +90,7 @@ fn add_cause(
     board: &RawPlan,
     label: &mut Label,
     agent: u32,
-) -> Result<(), AllocError>
-    ensures { OnOk result (words_of label.new
-        ≡ with_remark (cause_text (asked_board board.now) agent) (words_of label.old)) }
-{
+) -> Result<(), AllocError> {
     let name = agent_name(alloc, board, agent)?;
     add_remark(label, &filled_words(alloc, BY, &[Value::Words(&name)])?)
 }

@@ -1,7 +1,4 @@
 //! What the flags of a message add to its label.
-ghost use Rattle.std.specs.Prelude.{◌≡◌, OnOk};
-ghost use Rattle.scmi_chart.specs.LabelWords.{words_of};
-ghost use Rattle.scmi_chart.specs.Fields.{with_bits, with_permit_flags, with_power_flags, with_rate_flags, with_reset_flags, with_rounding, with_switch, with_timing};
 
 use crate::label::{add_remark, add_remark_if};
 use crate::label_texts::{ALLOW, ASYNC, DENY, FLAGS, NEAREST, NO_RESPONSE, PERMISSIONS, UP};
@@ -11,16 +8,16 @@ use scmi_svg::Label;
 use std::alloc::{AllocError, Global};
 
 /// Adds what bit 0 of a word switches.
-pub(crate) fn add_switch(alloc: Global, label: &mut Label, bits: u32) -> Result<(), AllocError>
-    ensures { OnOk result (words_of label.new ≡ with_switch bits (words_of label.old)) }
-{
+pub(crate) fn add_switch(alloc: Global, label: &mut Label, bits: u32) -> Result<(), AllocError> {
     label.value = Vec::from_slice(alloc, switch_word(bits).as_bytes())?;
     add_bits(alloc, label, 1, bits)
 }
 
-pub(crate) fn add_power_flags(alloc: Global, label: &mut Label, bits: u32) -> Result<(), AllocError>
-    ensures { OnOk result (words_of label.new ≡ with_power_flags bits (words_of label.old)) }
-{
+pub(crate) fn add_power_flags(
+    alloc: Global,
+    label: &mut Label,
+    bits: u32,
+) -> Result<(), AllocError> {
     add_remark_if(label, bits % 2 == 1, ASYNC)?;
     add_bits(alloc, label, 1, bits)
 }
@@ -29,44 +26,40 @@ pub(crate) fn add_permit_flags(
     alloc: Global,
     label: &mut Label,
     bits: u32,
-) -> Result<(), AllocError>
-    ensures { OnOk result (words_of label.new ≡ with_permit_flags bits (words_of label.old)) }
-{
+) -> Result<(), AllocError> {
     let words = if bits % 2 == 1 { ALLOW } else { DENY };
     add_remark(label, words.as_bytes())?;
     add_bits(alloc, label, 1, bits)
 }
 
-pub(crate) fn add_reset_flags(alloc: Global, label: &mut Label, bits: u32) -> Result<(), AllocError>
-    ensures { OnOk result (words_of label.new ≡ with_reset_flags bits (words_of label.old)) }
-{
+pub(crate) fn add_reset_flags(
+    alloc: Global,
+    label: &mut Label,
+    bits: u32,
+) -> Result<(), AllocError> {
     add_remark_if(label, bits % 2 == 1, PERMISSIONS)?;
     add_bits(alloc, label, 1, bits)
 }
 
 /// Adds when a rate set takes effect, whether it is announced, and how the rate is rounded.
-pub(crate) fn add_rate_flags(alloc: Global, label: &mut Label, bits: u32) -> Result<(), AllocError>
-    ensures { OnOk result (words_of label.new ≡ with_rate_flags bits (words_of label.old)) }
-{
+pub(crate) fn add_rate_flags(
+    alloc: Global,
+    label: &mut Label,
+    bits: u32,
+) -> Result<(), AllocError> {
     add_timing(label, bits)?;
     add_rounding(label, bits)?;
     add_bits(alloc, label, 15, bits)
 }
 
 /// Adds when a rate set takes effect, and whether it is announced.
-#[tactic(auto, unfolding(crate::specs::Fields::with_timing))]
-fn add_timing(label: &mut Label, bits: u32) -> Result<(), AllocError>
-    ensures { OnOk result (words_of label.new ≡ with_timing bits (words_of label.old)) }
-{
+fn add_timing(label: &mut Label, bits: u32) -> Result<(), AllocError> {
     add_remark_if(label, bits % 2 == 1, ASYNC)?;
     add_remark_if(label, bits / 2 % 2 == 1, NO_RESPONSE)
 }
 
 /// Adds how a rate is rounded.
-#[tactic(auto, unfolding(crate::specs::Fields::with_rounding))]
-fn add_rounding(label: &mut Label, bits: u32) -> Result<(), AllocError>
-    ensures { OnOk result (words_of label.new ≡ with_rounding bits (words_of label.old)) }
-{
+fn add_rounding(label: &mut Label, bits: u32) -> Result<(), AllocError> {
     if bits / 8 % 2 == 1 {
         return add_remark(label, NEAREST.as_bytes());
     }
@@ -75,9 +68,7 @@ fn add_rounding(label: &mut Label, bits: u32) -> Result<(), AllocError>
 
 /// Adds all bits of a word to the comment, if a bit is set other than the low ones that have a
 /// meaning.
-fn add_bits(alloc: Global, label: &mut Label, known: u32, bits: u32) -> Result<(), AllocError>
-    ensures { OnOk result (words_of label.new ≡ with_bits known bits (words_of label.old)) }
-{
+fn add_bits(alloc: Global, label: &mut Label, known: u32, bits: u32) -> Result<(), AllocError> {
     if bits <= known {
         return Ok(());
     }

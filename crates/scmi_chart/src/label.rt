@@ -1,7 +1,4 @@
 //! What messages are about, in words.
-ghost use Rattle.std.specs.Prelude.{◌≡◌, IfOk, OnOk};
-ghost use Rattle.scmi_describe.specs.Names.{protocol_text};
-ghost use Rattle.scmi_chart.specs.LabelWords.{behind, message_text, name_alone, protocol_or_number, with_remark, with_remark_if, words_of};
 
 use crate::label_texts::{COMMA, PROTOCOL, UNNAMED};
 use crate::value::{Value, filled_words};
@@ -11,9 +8,7 @@ use scmi_svg::Label;
 use std::alloc::{AllocError, Global};
 
 /// A label of a name alone.
-pub(crate) fn name_label(alloc: Global, name: Vec<u8>) -> Label
-    ensures { words_of result ≡ name_alone name.items }
-{
+pub(crate) fn name_label(alloc: Global, name: Vec<u8>) -> Label {
     Label {
         name,
         object: Vec::new(alloc),
@@ -23,16 +18,12 @@ pub(crate) fn name_label(alloc: Global, name: Vec<u8>) -> Label
 }
 
 /// A label of these words alone.
-pub(crate) fn plain_label(alloc: Global, words: &str) -> Result<Label, AllocError>
-    ensures { IfOk result (λ label. words_of label ≡ name_alone words.now) }
-{
+pub(crate) fn plain_label(alloc: Global, words: &str) -> Result<Label, AllocError> {
     Ok(name_label(alloc, Vec::from_slice(alloc, words.as_bytes())?))
 }
 
 /// The name of a message; if the profile has none, its protocol and id.
-pub(crate) fn name_of(alloc: Global, protocol: u8, id: u8) -> Result<Vec<u8>, AllocError>
-    ensures { IfOk result (λ name. name.items ≡ message_text protocol id) }
-{
+pub(crate) fn name_of(alloc: Global, protocol: u8, id: u8) -> Result<Vec<u8>, AllocError> {
     if let Some(name) = message_name(protocol, id) {
         return Vec::from_slice(alloc, name.as_bytes());
     }
@@ -42,10 +33,7 @@ pub(crate) fn name_of(alloc: Global, protocol: u8, id: u8) -> Result<Vec<u8>, Al
 }
 
 /// The short name of a protocol, or its number.
-pub(crate) fn protocol_words(alloc: Global, protocol: u32) -> Result<Vec<u8>, AllocError>
-    ensures { IfOk result (λ words.
-        words.items ≡ protocol_or_number protocol (protocol_text protocol)) }
-{
+pub(crate) fn protocol_words(alloc: Global, protocol: u32) -> Result<Vec<u8>, AllocError> {
     if protocol <= 0xff
         && let Some(name) = protocol_name(protocol as u8)
     {
@@ -55,9 +43,7 @@ pub(crate) fn protocol_words(alloc: Global, protocol: u32) -> Result<Vec<u8>, Al
 }
 
 /// Adds words after the present ones, with a comma between.
-pub(crate) fn add_behind(words: &mut Vec<u8>, more: &[u8]) -> Result<(), AllocError>
-    ensures { OnOk result (words.new.items ≡ behind words.old.items more.now) }
-{
+pub(crate) fn add_behind(words: &mut Vec<u8>, more: &[u8]) -> Result<(), AllocError> {
     if !words.is_empty() {
         words.extend_from_slice(COMMA.as_bytes())?;
     }
@@ -65,17 +51,12 @@ pub(crate) fn add_behind(words: &mut Vec<u8>, more: &[u8]) -> Result<(), AllocEr
 }
 
 /// Adds a comment.
-pub(crate) fn add_remark(label: &mut Label, words: &[u8]) -> Result<(), AllocError>
-    ensures { OnOk result (words_of label.new ≡ with_remark words.now (words_of label.old)) }
-{
+pub(crate) fn add_remark(label: &mut Label, words: &[u8]) -> Result<(), AllocError> {
     add_behind(&mut label.tag, words)
 }
 
 /// Adds a comment if a condition holds.
-pub(crate) fn add_remark_if(label: &mut Label, holds: bool, words: &str) -> Result<(), AllocError>
-    ensures { OnOk result (words_of label.new
-        ≡ with_remark_if holds words.now (words_of label.old)) }
-{
+pub(crate) fn add_remark_if(label: &mut Label, holds: bool, words: &str) -> Result<(), AllocError> {
     if holds {
         return add_remark(label, words.as_bytes());
     }

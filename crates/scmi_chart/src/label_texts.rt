@@ -106,3 +106,6 @@ pub(crate) const CHANNEL_ERROR: &str = "channel error";
 pub(crate) const COMPLETED: &str = "% completed";
 
 pub(crate) const FAILED: &str = "% failed";
+
+/// A mark of a notification that was dropped, for a reader who points at it.
+pub(crate) const DROPPED: &str = "the notification of % for % was dropped: its outbox has no room";

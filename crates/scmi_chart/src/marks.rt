@@ -1,8 +1,7 @@
 //! The marks of a chart so far.
 ghost use Rattle.std.specs.Prelude.{◌≡◌, [], ◌∷◌, ◌++◌, true, OnOk, Some, map};
-ghost use Rattle.scmi_chart.specs.Signs.{sign_of, sent};
+ghost use Rattle.scmi_chart.specs.Signs.{detail_of, sign_of, sent};
 ghost use Rattle.scmi_chart.specs.Service.{executed_by};
-ghost use Rattle.scmi_chart.specs.Wording.{wording_of};
 
 use scmi_svg::{Mark, Message};
 use std::alloc::{AllocError, Global};
@@ -82,7 +81,7 @@ fn execute(mark: &mut Mark, agent: u8, slot: u16)
 
 /// A command that was taken in this slot.
 fn executed_command(message: Message, token: Option<u16>, slot: u16) -> Mark
-    ensures { sign_of result ≡ sent true message.agent token (wording_of message) }
+    ensures { sign_of result ≡ sent true message.agent token (detail_of message) }
 {
     let mut message = message;
     message.taken = slot;

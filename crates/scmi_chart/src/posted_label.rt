@@ -1,10 +1,4 @@
 //! What the messages that the platform posts of its own accord report, in words.
-ghost use Rattle.std.specs.Prelude.{◌≡◌, ◌==◌, IfOk, OnOk};
-ghost use Rattle.scmi_plan.specs.RawPlan.{asked_board};
-ghost use Rattle.scmi_chart.specs.LabelWords.{words_of};
-ghost use Rattle.scmi_chart.specs.Fields.{with_fields};
-ghost use Rattle.scmi_chart.specs.Answered.{delayed_words, notified_words, posted_fields, posted_words};
-ghost use Rattle.scmi_describe.specs.Names.{notification_text};
 
 use crate::fields::add_fields;
 use crate::label::{name_label, name_of, plain_label};
@@ -18,26 +12,18 @@ use scmi_svg::Label;
 use std::alloc::{AllocError, Global};
 
 /// What a delayed response or a notification reports.
-#[tactic(auto, unfolding(crate::specs::Answered::posted_words))]
 pub(crate) fn posted_label(
     alloc: Global,
     board: &RawPlan,
     message: &Message,
-) -> Result<Label, AllocError>
-    ensures { IfOk result (λ label.
-        words_of label ≡ posted_words (asked_board board.now) message.now) }
-{
+) -> Result<Label, AllocError> {
     let mut label = posted_name(alloc, message)?;
     add_posted_fields(alloc, board, &mut label, message)?;
     Ok(label)
 }
 
 /// The name of a notification, or that of a delayed response.
-fn posted_name(alloc: Global, message: &Message) -> Result<Label, AllocError>
-    ensures { IfOk result (λ label. words_of label ≡ notified_words message.now
-        (notification_text message.now.header.protocol message.now.header.id)
-        (message.now.header.kind == 3)) }
-{
+fn posted_name(alloc: Global, message: &Message) -> Result<Label, AllocError> {
     match notification_name(message.header.protocol(), message.header.id()) {
         Some(name) if message.header.kind() == 3 => plain_label(alloc, name),
         _ => delayed_label(alloc, message),
@@ -45,10 +31,7 @@ fn posted_name(alloc: Global, message: &Message) -> Result<Label, AllocError>
 }
 
 /// The name of a delayed response, and its status if that is not success.
-fn delayed_label(alloc: Global, message: &Message) -> Result<Label, AllocError>
-    ensures { IfOk result (λ label. words_of label ≡ delayed_words message.now.header.protocol
-        message.now.header.id message.now.payload.items) }
-{
+fn delayed_label(alloc: Global, message: &Message) -> Result<Label, AllocError> {
     let name = name_of(alloc, message.header.protocol(), message.header.id())?;
     match message.payload.as_slice() {
         [status, ..] if *status != 0 => {
@@ -70,10 +53,7 @@ fn add_posted_fields(
     board: &RawPlan,
     label: &mut Label,
     message: &Message,
-) -> Result<(), AllocError>
-    ensures { OnOk result (words_of label.new ≡ with_fields (asked_board board.now)
-        (posted_fields message.now) (words_of label.old)) }
-{
+) -> Result<(), AllocError> {
     match message.header.kind() {
         3 => {
             let fields = notification_fields(message);

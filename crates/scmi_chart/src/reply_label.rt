@@ -1,9 +1,4 @@
 //! What answers report, in words.
-ghost use Rattle.std.specs.Prelude.{◌≡◌, IfOk, OnOk};
-ghost use Rattle.scmi_describe.specs.Replies.{reply_fields};
-ghost use Rattle.scmi_plan.specs.RawPlan.{asked_board};
-ghost use Rattle.scmi_chart.specs.LabelWords.{words_of};
-ghost use Rattle.scmi_chart.specs.Answered.{answer_words, list_text, reply_words, status_text, with_list, with_outcome, with_reply};
 
 use crate::fields::add_fields;
 use crate::label::{name_label, plain_label};
@@ -17,16 +12,12 @@ use scmi_svg::{Label, Outcome};
 use std::alloc::{AllocError, Global};
 
 /// What an answer reports.
-#[tactic(auto, unfolding(crate::specs::Answered::answer_words))]
 pub(crate) fn answer_label(
     alloc: Global,
     board: &RawPlan,
     answer: &Answer,
     outcome: Outcome,
-) -> Result<Label, AllocError>
-    ensures { IfOk result (λ label.
-        words_of label ≡ answer_words (asked_board board.now) answer.now outcome) }
-{
+) -> Result<Label, AllocError> {
     match answer {
         Answer::Reply(message) => reply_label(alloc, board, message, outcome),
         Answer::Released => plain_label(alloc, RELEASED),
@@ -40,11 +31,7 @@ fn reply_label(
     board: &RawPlan,
     message: &Message,
     outcome: Outcome,
-) -> Result<Label, AllocError>
-    ensures { IfOk result (λ label. words_of label
-        ≡ reply_words (asked_board board.now) message.now.header outcome
-        message.now.payload.items) }
-{
+) -> Result<Label, AllocError> {
     let [word, words @ ..] = message.payload.as_slice() else {
         return plain_label(alloc, NO_STATUS);
     };
@@ -61,11 +48,7 @@ fn add_reply(
     label: &mut Label,
     header: &Header,
     words: &[u32],
-) -> Result<(), AllocError>
-    ensures { OnOk result (words_of label.new
-        ≡ with_reply (asked_board board.now) header.now.protocol words.now
-        (reply_fields header.now.protocol header.now.id words.now) (words_of label.old)) }
-{
+) -> Result<(), AllocError> {
     match reply_fields(header.protocol(), header.id(), words) {
         Ok(fields) => add_fields(alloc, board, label, fields.as_slice()),
         Err(Status::NotSupported) => add_list(alloc, label, header.protocol(), words),
@@ -77,9 +60,7 @@ fn add_reply(
 }
 
 /// Adds that a set takes effect later, if it does.
-fn add_outcome(alloc: Global, label: &mut Label, outcome: Outcome) -> Result<(), AllocError>
-    ensures { OnOk result (words_of label.new ≡ with_outcome outcome (words_of label.old)) }
-{
+fn add_outcome(alloc: Global, label: &mut Label, outcome: Outcome) -> Result<(), AllocError> {
     match outcome {
         Outcome::Pending => {
             label.tag = Vec::from_slice(alloc, PENDING.as_bytes())?;
@@ -90,9 +71,7 @@ fn add_outcome(alloc: Global, label: &mut Label, outcome: Outcome) -> Result<(),
 }
 
 /// A status by its name, or else its word.
-pub(crate) fn status_words(alloc: Global, word: u32) -> Result<Vec<u8>, AllocError>
-    ensures { IfOk result (λ words. words.items ≡ status_text word) }
-{
+pub(crate) fn status_words(alloc: Global, word: u32) -> Result<Vec<u8>, AllocError> {
     match Status::of_word(word) {
         Some(status) => Vec::from_slice(alloc, status_name(status).as_bytes()),
         None => hex_words(alloc, word),
@@ -100,10 +79,12 @@ pub(crate) fn status_words(alloc: Global, word: u32) -> Result<Vec<u8>, AllocErr
 }
 
 /// Adds how many rates or protocols a list has.
-fn add_list(alloc: Global, label: &mut Label, protocol: u8, words: &[u32]) -> Result<(), AllocError>
-    ensures { OnOk result (words_of label.new
-        ≡ with_list protocol words.now (words_of label.old)) }
-{
+fn add_list(
+    alloc: Global,
+    label: &mut Label,
+    protocol: u8,
+    words: &[u32],
+) -> Result<(), AllocError> {
     if let [word, ..] = words {
         label.object = list_words(alloc, protocol, *word)?;
     }
@@ -111,10 +92,7 @@ fn add_list(alloc: Global, label: &mut Label, protocol: u8, words: &[u32]) -> Re
 }
 
 /// How many rates or protocols a list has, by its first word.
-#[tactic(auto, unfolding(crate::specs::Answered::list_text))]
-fn list_words(alloc: Global, protocol: u8, word: u32) -> Result<Vec<u8>, AllocError>
-    ensures { IfOk result (λ words. words.items ≡ list_text protocol word) }
-{
+fn list_words(alloc: Global, protocol: u8, word: u32) -> Result<Vec<u8>, AllocError> {
     if protocol != CLOCK_PROTOCOL {
         return counted_words(alloc, PROTOCOLS, word);
     }

@@ -1,8 +1,7 @@
 //! What a step and its result determine of a mark: its lane, token, outcome and words.
 ghost use Rattle.std.specs.Prelude.{◌≡◌, if◌then◌else◌};
 ghost use Rattle.scmi_svg.specs.declared.mark.Outcome.TheVariants as Outcome;
-ghost use Rattle.scmi_chart.specs.Signs.{sign_of, lane, raw_token, reply_token, is_hardware_error, outcome_of, posted_sign, sent};
-ghost use Rattle.scmi_chart.specs.Wording.{wording_of};
+ghost use Rattle.scmi_chart.specs.Signs.{detail_of, sign_of, lane, raw_token, reply_token, is_hardware_error, outcome_of, posted_sign, sent};
 
 use scmi_codec::{Answer, Header, Status, is_success};
 use scmi_link::Collected;
@@ -74,7 +73,7 @@ fn success_of(is_later: bool) -> Outcome
 
 /// The mark of a command that an agent posted.
 pub(crate) fn command_mark(message: Message, token: Option<u16>, is_executed: bool) -> Mark
-    ensures { sign_of result ≡ sent is_executed message.agent token (wording_of message) }
+    ensures { sign_of result ≡ sent is_executed message.agent token (detail_of message) }
 {
     if is_executed {
         Mark::Command { message, token }
@@ -85,7 +84,7 @@ pub(crate) fn command_mark(message: Message, token: Option<u16>, is_executed: bo
 
 /// The mark of a message that the platform sent of its own accord.
 pub(crate) fn posted_mark(message: Message, header: &Header) -> Mark
-    ensures { sign_of result ≡ posted_sign message.agent header.now (wording_of message) }
+    ensures { sign_of result ≡ posted_sign message.agent header.now (detail_of message) }
 {
     if header.kind() == 3 {
         Mark::Notification { message }

