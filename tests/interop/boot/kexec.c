@@ -18,8 +18,8 @@
 #include <sys/syscall.h>
 #include <unistd.h>
 
-/* As in the device tree (build), and where TF-A has the first kernel; tree and entry are beyond the file system. */
-#define KERNEL 0x40400000
+/* As in the device tree (build), and where the first kernel is (bare/start.S); tree and entry are beyond the file system. */
+#define KERNEL 0x40600000
 #define ROOT 0x48000000
 #define TREE 0x4e000000
 #define ENTRY 0x4e100000

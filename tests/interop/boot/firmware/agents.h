@@ -8,6 +8,9 @@
 
 enum { LINUX = 0, MODEM = 1, MAILBOX = 2, AGENTS = 3 };
 
+/* The first of the cores that a kernel does not have: agent 2 is there, a program on bare metal. */
+enum { FIRST_BARE = 2 };
+
 /* Of mailbox.c: the mailbox from its start on, and after a restart of its agent. */
 int32_t mailbox_start(void);
 void mailbox_restart(void);

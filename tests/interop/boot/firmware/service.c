@@ -1,6 +1,6 @@
 /*
- * SCMI as a service of BL31. Each agent of Linux without a mailbox has a function number: on its SMC the command in
- * its area is served.
+ * SCMI as a service of BL31. Each agent without a mailbox has a function number: on its SMC the command in its area is
+ * served.
  */
 #include <stdio.h>
 
@@ -38,20 +38,26 @@ static uintptr_t handle(uint32_t id, u_register_t x1, u_register_t x2, u_registe
         SMC_RET1(context, measure(id, x1, x2));
     if (agent >= MAILBOX)
         SMC_RET1(context, SMC_UNK);
-    /* Agent 1 has no interrupt to be told by, whatever its flags say. */
-    if (scmi_service_serve(agent) && agent == MODEM)
-        plat_ic_set_interrupt_pending(SCMI_INTERRUPT);
+    if (scmi_service_serve(agent))
+        plat_ic_set_interrupt_pending(SCMI_INTERRUPT + agent);
     SMC_RET1(context, 0);
 }
 
-/* Linux takes no core off while it runs. So one that comes on is of a kernel that starts, and the last one is gone. */
+/*
+ * Linux takes no core off while it runs. So one of its cores that comes on is of a kernel that starts, and the last one
+ * is gone; another core that comes on is of a program that starts.
+ */
 static void *restart(const void *unused)
 {
+    bool bare = plat_my_core_pos() >= FIRST_BARE;
+
     for (unsigned int agent = 0; agent < AGENTS; agent++)
-        scmi_service_restart(agent);
-    if (!SCMI_MEASURED)
+        if ((agent == MODEM) == bare)
+            scmi_service_restart(agent);
+    if (!bare && !SCMI_MEASURED)
         mailbox_restart();
-    printf("SCMI: a kernel starts; of the port's stack %zu bytes were written to\n", scmi_service_stack_used());
+    printf("SCMI: a %s starts; of the port's stack %zu bytes were written to\n", bare ? "program" : "kernel",
+           scmi_service_stack_used());
     return NULL;
 }
 

@@ -23,7 +23,7 @@
 #define SCMI_SHARED_BYTES (5 * SCMI_SHARED_EACH)
 /* As board.txt says. */
 #define SCMI_CHANNEL_BYTES 156
-/* The interrupt that announces an answer to agent 2, and the first of those of the mailbox. */
-#define SCMI_INTERRUPT 132
+/* The interrupt that announces an answer to agent 1, that of agent 2 after it, and the first of those of the mailbox. */
+#define SCMI_INTERRUPT 131
 #define SCMI_MAILBOX_INTERRUPT 133
 #endif
