@@ -1,2 +1,3 @@
 pub mod Harmless
 pub mod Quiet
+pub mod ReadExamples
