@@ -1,3 +1,5 @@
 pub mod Harmless
 pub mod Quiet
 pub mod ReadExamples
+pub mod Views
+pub mod Reaching

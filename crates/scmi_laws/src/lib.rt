@@ -5,6 +5,8 @@
 //! and refused commands is as legal, and the same to every other agent.
 #![tactic(auto)]
 
+mod others;
 mod reads;
 
+pub use others::every_other_agent;
 pub use reads::every_read;

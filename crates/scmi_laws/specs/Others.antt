@@ -1,0 +1,58 @@
+-- What one agent's command is to another: what an answer depends on, and what a command changes of it.
+use Rattle.std.specs.Prelude.{◌≡◌, ◌≢◌, ◌⊎◌, ℕ, true, List, [], ◌∷◌, ◌++◌, Option, unwrap_or, IfSome}
+use Rattle.std.specs.Option.{option_and_then, option_to_list}
+use Rattle.scmi_plan.specs.Board.{Board}
+use Rattle.scmi_plan.specs.declared.resource.Resource.{Resource}
+use Rattle.scmi_base.specs.declared.scope.Scope.{Scope}
+use Rattle.scmi_core.specs.declared.event.Event.{Event}
+use Rattle.scmi_core.specs.declared.pending_set.PendingSet.{PendingSet}
+use Rattle.scmi_core.specs.History.{deeds}
+use Rattle.scmi_core.specs.Laws.{may_after}
+use Rattle.scmi_core.specs.Outbox.{situation_after, state_changed}
+use Rattle.scmi_core.specs.Pending.{has_set_of}
+use Rattle.scmi_core.specs.Situation.{Situation, has_room}
+use Rattle.scmi_core.specs.Value.{Change, State, Thing, value_in}
+
+-- agent b sees the same in two situations: all that its answers depend on, besides the board
+pub record SeesTheSame (b : ℕ) (s u : Situation) : Type 0 where
+  -- the value of each domain and clock
+  pub value : (x : Thing) → s.value x ≡ u.value x
+  -- what the agent may do
+  pub allowed : (device : ℕ) (scope : Scope) → s.allowed device scope ≡ u.allowed device scope
+  -- whether a domain or clock has a pending set, whoever asked for it
+  pub busy : (r : Resource) → has_set_of r s.pending ≡ has_set_of r u.pending
+  -- whether fewer than 8 sets are pending in all, and fewer than 16 of the agent's own with its outbox
+  pub room : has_room b s ≡ has_room b u
+
+-- agent b, which asked for notifications of domain d, is notified of the new state that agent a gave it
+pub record IsNotified (a d : ℕ) (s t : Situation) : Type 0 where
+  pub subscribed : s.subscribed d ≡ true
+  pub new : t.value (State d) ≢ s.value (State d)
+  pub message : t.outbox ≡ s.outbox ++ state_changed a d (t.value (State d)) ∷ []
+
+-- the value of a thing after a change, if there is one
+abbrev pub value_with : Option Change → Thing → ℕ → ℕ
+value_with change x old = unwrap_or (option_and_then (value_in x) change) old
+
+-- all that a command of agent a after history h may change of another agent's situation s, so that it is t
+pub record ReachesOnly (board : Board) (h : List Event) (a : ℕ) (s t : Situation) : Type 0 where
+  -- a change that agent a makes, and may make, if there is one
+  pub change : Option Change
+  pub may : IfSome change (λ it. (it.causer ≡ a) × (may_after board h a it.thing ≡ true))
+  -- the values, by that change
+  pub value : (x : Thing) → t.value x ≡ value_with change x (s.value x)
+  -- permissions, only if it is the trusted agent
+  pub allowed : a ≢ board.trusted → (device : ℕ) (scope : Scope) → t.allowed device scope ≡ s.allowed device scope
+  -- requests for notifications, only if it is the trusted agent
+  pub subscribed : a ≢ board.trusted → (d : ℕ) → t.subscribed d ≡ s.subscribed d
+  -- a set of agent a, if there is one
+  pub set : Option PendingSet
+  pub own : IfSome set (λ p. p.agent ≡ a)
+  -- the pending sets, by that set after all others
+  pub pending : t.pending ≡ s.pending ++ option_to_list set
+  -- the outbox, by one notification
+  pub outbox : (t.outbox ≡ s.outbox) ⊎ ((d : ℕ) × IsNotified a d s t)
+
+-- after one more event agent b's situation is changed by no more than a command of agent a may
+abbrev pub Reaches : Board → List Event → Event → ℕ → ℕ → Type 0
+Reaches board h event a b = ReachesOnly board h a (situation_after board b (deeds board h)) (situation_after board b (deeds board (h ++ event ∷ [])))
