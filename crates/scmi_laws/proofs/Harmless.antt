@@ -23,36 +23,56 @@ module _ (board : Board) (a : ℕ) (header : HeaderFields) where
   success c = record { caller = a; header = header; command = c }
 
   nothing : (c : codec.Command) → is_read c ≡ true → DoesNothing board (success c)
-  nothing (Base base.Version) is = record { change = refl; set = refl; permission = λ b d s. refl; subscription = λ b d. refl }
-  nothing (Base base.Attributes) is = record { change = refl; set = refl; permission = λ b d s. refl; subscription = λ b d. refl }
-  nothing (Base (base.MessageAttributes message)) is = record { change = refl; set = refl; permission = λ b d s. refl; subscription = λ b d. refl }
-  nothing (Base base.Vendor) is = record { change = refl; set = refl; permission = λ b d s. refl; subscription = λ b d. refl }
-  nothing (Base base.SubVendor) is = record { change = refl; set = refl; permission = λ b d s. refl; subscription = λ b d. refl }
-  nothing (Base base.Implementation) is = record { change = refl; set = refl; permission = λ b d s. refl; subscription = λ b d. refl }
-  nothing (Base (base.Protocols skip)) is = record { change = refl; set = refl; permission = λ b d s. refl; subscription = λ b d. refl }
-  nothing (Base (base.Agent agent)) is = record { change = refl; set = refl; permission = λ b d s. refl; subscription = λ b d. refl }
+  nothing (Base base.Version) is =
+      record { change = refl; set = refl; permission = λ b d s. refl; subscription = λ b d. refl }
+  nothing (Base base.Attributes) is =
+      record { change = refl; set = refl; permission = λ b d s. refl; subscription = λ b d. refl }
+  nothing (Base (base.MessageAttributes message)) is =
+      record { change = refl; set = refl; permission = λ b d s. refl; subscription = λ b d. refl }
+  nothing (Base base.Vendor) is =
+      record { change = refl; set = refl; permission = λ b d s. refl; subscription = λ b d. refl }
+  nothing (Base base.SubVendor) is =
+      record { change = refl; set = refl; permission = λ b d s. refl; subscription = λ b d. refl }
+  nothing (Base base.Implementation) is =
+      record { change = refl; set = refl; permission = λ b d s. refl; subscription = λ b d. refl }
+  nothing (Base (base.Protocols skip)) is =
+      record { change = refl; set = refl; permission = λ b d s. refl; subscription = λ b d. refl }
+  nothing (Base (base.Agent agent)) is =
+      record { change = refl; set = refl; permission = λ b d s. refl; subscription = λ b d. refl }
   nothing (Base (base.Permit agent device flags)) is = absurd (cc)
   nothing (Base (base.PermitProtocol agent device protocol flags)) is = absurd (cc)
   nothing (Base (base.ResetAgent agent flags)) is = absurd (cc)
-  nothing (Power power.Version) is = record { change = refl; set = refl; permission = λ b d s. refl; subscription = λ b d. refl }
-  nothing (Power power.Attributes) is = record { change = refl; set = refl; permission = λ b d s. refl; subscription = λ b d. refl }
-  nothing (Power (power.MessageAttributes message)) is = record { change = refl; set = refl; permission = λ b d s. refl; subscription = λ b d. refl }
-  nothing (Power (power.DomainAttributes domain)) is = record { change = refl; set = refl; permission = λ b d s. refl; subscription = λ b d. refl }
+  nothing (Power power.Version) is =
+      record { change = refl; set = refl; permission = λ b d s. refl; subscription = λ b d. refl }
+  nothing (Power power.Attributes) is =
+      record { change = refl; set = refl; permission = λ b d s. refl; subscription = λ b d. refl }
+  nothing (Power (power.MessageAttributes message)) is =
+      record { change = refl; set = refl; permission = λ b d s. refl; subscription = λ b d. refl }
+  nothing (Power (power.DomainAttributes domain)) is =
+      record { change = refl; set = refl; permission = λ b d s. refl; subscription = λ b d. refl }
   nothing (Power (power.Set flags domain state)) is = absurd (cc)
-  nothing (Power (power.Get domain)) is = record { change = refl; set = refl; permission = λ b d s. refl; subscription = λ b d. refl }
+  nothing (Power (power.Get domain)) is =
+      record { change = refl; set = refl; permission = λ b d s. refl; subscription = λ b d. refl }
   nothing (Power (power.Notify domain enable)) is = absurd (cc)
-  nothing (Clock clock.Version) is = record { change = refl; set = refl; permission = λ b d s. refl; subscription = λ b d. refl }
-  nothing (Clock clock.Attributes) is = record { change = refl; set = refl; permission = λ b d s. refl; subscription = λ b d. refl }
-  nothing (Clock (clock.MessageAttributes message)) is = record { change = refl; set = refl; permission = λ b d s. refl; subscription = λ b d. refl }
-  nothing (Clock (clock.ClockAttributes c)) is = record { change = refl; set = refl; permission = λ b d s. refl; subscription = λ b d. refl }
-  nothing (Clock (clock.Describe c index)) is = record { change = refl; set = refl; permission = λ b d s. refl; subscription = λ b d. refl }
+  nothing (Clock clock.Version) is =
+      record { change = refl; set = refl; permission = λ b d s. refl; subscription = λ b d. refl }
+  nothing (Clock clock.Attributes) is =
+      record { change = refl; set = refl; permission = λ b d s. refl; subscription = λ b d. refl }
+  nothing (Clock (clock.MessageAttributes message)) is =
+      record { change = refl; set = refl; permission = λ b d s. refl; subscription = λ b d. refl }
+  nothing (Clock (clock.ClockAttributes c)) is =
+      record { change = refl; set = refl; permission = λ b d s. refl; subscription = λ b d. refl }
+  nothing (Clock (clock.Describe c index)) is =
+      record { change = refl; set = refl; permission = λ b d s. refl; subscription = λ b d. refl }
   nothing (Clock (clock.SetRate flags c rate)) is = absurd (cc)
-  nothing (Clock (clock.GetRate c)) is = record { change = refl; set = refl; permission = λ b d s. refl; subscription = λ b d. refl }
+  nothing (Clock (clock.GetRate c)) is =
+      record { change = refl; set = refl; permission = λ b d s. refl; subscription = λ b d. refl }
   nothing (Clock (clock.Config c attributes)) is = absurd (cc)
 
   -- what is set is set now or later
   now_or_later : {A B X Y : Type 0} (f : A → X) (x : A) (g : B → Y) (y : B) (later : Bool)
-      → option_or (option_map f (if later then None else Some x)) None ≡ None → option_map g (if later then Some y else None) ≡ None → ⊥
+      → option_or (option_map f (if later then None else Some x)) None ≡ None
+      → option_map g (if later then Some y else None) ≡ None → ⊥
   now_or_later f x g y true now after = absurd (cc)
   now_or_later f x g y false now after = absurd (cc)
 
@@ -73,23 +93,34 @@ module _ (board : Board) (a : ℕ) (header : HeaderFields) where
   something (Base base.Implementation) does = refl
   something (Base (base.Protocols skip)) does = refl
   something (Base (base.Agent agent)) does = refl
-  something (Base (base.Permit agent device flags)) does = absurd (cc (does.permission agent device scope.Device, eq-eqb agent agent refl, eq-eqb device device refl))
+  something (Base (base.Permit agent device flags)) does =
+      let says = does.permission agent device scope.Device in
+      absurd (cc (says, eq-eqb agent agent refl, eq-eqb device device refl))
   something (Base (base.PermitProtocol agent device protocol flags)) does =
-      absurd (cc (does.permission agent device (protocol_named protocol), eq-eqb agent agent refl, eq-eqb device device refl, same_scope (protocol_named protocol)))
-  something (Base (base.ResetAgent agent flags)) does = absurd (cc (does.subscription agent 0, eq-eqb agent agent refl))
+      let named = protocol_named protocol in
+      let says = does.permission agent device named in
+      absurd (cc (says, eq-eqb agent agent refl, eq-eqb device device refl, same_scope named))
+  something (Base (base.ResetAgent agent flags)) does =
+      absurd (cc (does.subscription agent 0, eq-eqb agent agent refl))
   something (Power power.Version) does = refl
   something (Power power.Attributes) does = refl
   something (Power (power.MessageAttributes message)) does = refl
   something (Power (power.DomainAttributes domain)) does = refl
-  something (Power (power.Set flags domain state)) does = absurd (now_or_later _ (domain, state) _ (domain, state) (bit_0 flags) (or_none _ does.change) does.set)
+  something (Power (power.Set flags domain state)) does =
+      let to : ℕ × ℕ = (domain, state) in
+      absurd (now_or_later _ to _ to (bit_0 flags) (or_none _ does.change) does.set)
   something (Power (power.Get domain)) does = refl
-  something (Power (power.Notify domain enable)) does = absurd (cc (does.subscription a domain, eq-eqb a a refl, eq-eqb domain domain refl))
+  something (Power (power.Notify domain enable)) does =
+      absurd (cc (does.subscription a domain, eq-eqb a a refl, eq-eqb domain domain refl))
   something (Clock clock.Version) does = refl
   something (Clock clock.Attributes) does = refl
   something (Clock (clock.MessageAttributes message)) does = refl
   something (Clock (clock.ClockAttributes c)) does = refl
   something (Clock (clock.Describe c index)) does = refl
-  something (Clock (clock.SetRate flags c rate)) does = absurd (now_or_later _ (c, set_rate board flags c rate) _ (c, set_rate board flags c rate, is_response_wanted flags) (is_asynchronous flags) does.change does.set)
+  something (Clock (clock.SetRate flags c rate)) does =
+      let to = set_rate board flags c rate in
+      let wanted = is_response_wanted flags in
+      absurd (now_or_later _ (c, to) _ (c, to, wanted) (is_asynchronous flags) does.change does.set)
   something (Clock (clock.GetRate c)) does = refl
   something (Clock (clock.Config c attributes)) does = absurd (cc (does.change))
 

@@ -1,3 +1,4 @@
+pub mod Added
 pub mod Harmless
 pub mod Quiet
 pub mod ReadExamples

@@ -4,11 +4,11 @@ use Rattle.std.specs.Prelude.{IfSome, Result, Ok, Err}
 use Rattle.std.specs.Option.{option_and_then, option_map_or, option_or, option_to_list}
 use Rattle.std.proofs.lemmas.List.{append-nil}
 use Rattle.std.proofs.lemmas.List.Elements.{All-pop}
-use Rattle.std.proofs.lemmas.Bool.{cases_Bool, eq-eqb, eqb-true, ne_eqb}
+use Rattle.std.proofs.lemmas.Bool.{eq-eqb, eqb-true, ne_eqb}
 use Rattle.scmi_codec.specs.Command.{command_of}
 use Rattle.scmi_codec.specs.Header.{HeaderFields}
 use Rattle.scmi_codec.specs.Payload.{begins_with_success}
-use Rattle.scmi_codec.specs.Reply.{bit_0, other_bits, reply_unless}
+use Rattle.scmi_codec.specs.Reply.{Check, bit_0, other_bits, reply_unless}
 use Rattle.scmi_codec.specs.declared.status.Status.{Status}
 use Rattle.scmi_codec.specs.declared.status.Status.TheVariants.{NotFound, InvalidParameters, Denied}
 use Rattle.scmi_codec.specs.declared.base_command.BaseCommand.{BaseCommand}
@@ -31,7 +31,7 @@ use Rattle.scmi_core.specs.Deed.{Deed, Success, success_of, success_with, succes
 use Rattle.scmi_core.specs.History.{deed_after, deeds}
 use Rattle.scmi_core.specs.Laws.{IsTrusted, change_asked, may_after}
 use Rattle.scmi_core.specs.Legal.{IsLegal}
-use Rattle.scmi_core.specs.Outbox.{made_in, notice_in, situation_after, state_changed}
+use Rattle.scmi_core.specs.Outbox.{made_in, notice_in, state_changed}
 use Rattle.scmi_core.specs.Pending.{acceptance, rate_set, sets_by, state_set}
 use Rattle.scmi_core.specs.Permissions.{permission_in}
 use Rattle.scmi_core.specs.declared.outboxes.TheConstants.{OUTBOX_ROOM}
@@ -42,19 +42,25 @@ use Rattle.scmi_core.specs.Subscriptions.{subscription}
 use Rattle.scmi_core.specs.Value.{Change, Enabled, Rate, State, Thing, change_now, completion, value_in}
 use Rattle.scmi_core.proofs.Causes.{asked-own}
 use Rattle.scmi_core.proofs.Deeds.{added_success, successes-push}
-use Rattle.scmi_core.proofs.Following.{next, situation-next}
-use Rattle.scmi_core.proofs.Legal.{advances_le-accepted, deeds-push, sent_le-made}
+use Rattle.scmi_core.proofs.Following.{next}
+use Rattle.scmi_core.proofs.Legal.{deeds-push}
 use Rattle.scmi_core.proofs.Trusted.{permissions}
-use Rattle.scmi_laws.specs.Others.{IsNotified, Reaches, ReachesOnly}
+use Rattle.scmi_laws.specs.Others.{IsNotified, Reaches, ReachesOnly, situation_of}
+use Rattle.scmi_laws.proofs.Added.{situation-more}
 
 -- WHAT A SUCCESS OF AN AGENT SAYS
 
--- agent a may make the change that its success makes, the set that it leaves pending is its own, and unless it is trusted it says nothing of others
-record IsOwnSuccess (board : Board) (h : List Event) (a : ℕ) (success : Option Success) : Type 0 where
-  pub change : (change : Change) → option_and_then (change_now board) success ≡ Some change → (change.causer ≡ a) × (may_after board h a change.thing ≡ true)
+-- agent a may make the change that its success makes, the set that it leaves pending is its own,
+-- and unless the agent is trusted it says nothing of others
+record IsOwnSuccess (board : Board) (h : List Event) (a : ℕ)
+    (success : Option Success) : Type 0 where
+  pub change : (change : Change) → option_and_then (change_now board) success ≡ Some change
+      → (change.causer ≡ a) × (may_after board h a change.thing ≡ true)
   pub set : (p : PendingSet) → option_and_then (acceptance board) success ≡ Some p → p.agent ≡ a
-  pub permission : a ≢ board.trusted → (b d : ℕ) (scope : Scope) → option_and_then (λ it. permission_in b d scope it.command) success ≡ None
-  pub subscription : a ≢ board.trusted → (b d : ℕ) → a ≢ b → option_and_then (subscription b d) success ≡ None
+  pub permission : a ≢ board.trusted → (b d : ℕ) (scope : Scope)
+      → option_and_then (λ it. permission_in b d scope it.command) success ≡ None
+  pub subscription : a ≢ board.trusted → (b d : ℕ) → a ≢ b
+      → option_and_then (subscription b d) success ≡ None
 
 none-own : (board : Board) (h : List Event) (a : ℕ) → IsOwnSuccess board h a None
 none-own board h a = record {
@@ -68,11 +74,19 @@ is_none : {T : Type 0} (o : Option T) → (o ≢ None → ⊥) → o ≡ None
 is_none None some = refl
 is_none (Some x) some = absurd (some (λ none. absurd (cc)))
 
-set-agent : {X : Type 0} (a : ℕ) (set_of : X → PendingSet) → ((x : X) → (set_of x).agent ≡ a) → (o : Option X) (p : PendingSet) → option_map set_of o ≡ Some p → p.agent ≡ a
+set-agent : {X : Type 0} (a : ℕ) (set_of : X → PendingSet) → ((x : X) → (set_of x).agent ≡ a)
+    → (o : Option X) (p : PendingSet) → option_map set_of o ≡ Some p → p.agent ≡ a
 set-agent a set_of own None p is = absurd (cc)
 set-agent a set_of own (Some x) p is = sym (ap (λ o. (unwrap_or o p).agent) is) ∙ own x
 
-reset-trusted : (c1 c2 trusted : Bool) → begins_with_success (reply_unless ((c1, NotFound) ∷ (c2, InvalidParameters) ∷ (not trusted, Denied) ∷ []) (0 ∷ [])) ≡ true → trusted ≡ true
+-- the checks of a reset, the last of which is whether the caller is trusted
+abbrev checks_with : Bool → Bool → Bool → List Check
+checks_with c1 c2 trusted =
+    (c1, NotFound) ∷ (c2, InvalidParameters) ∷ (not trusted, Denied) ∷ []
+
+reset-trusted : (c1 c2 trusted : Bool)
+    → begins_with_success (reply_unless (checks_with c1 c2 trusted) (0 ∷ [])) ≡ true
+    → trusted ≡ true
 reset-trusted c1 c2 true ok = refl
 reset-trusted true c2 false ok = absurd (cc)
 reset-trusted false true false ok = absurd (cc)
@@ -82,12 +96,20 @@ module _ (board : Board) (h : List Event) (a : ℕ) (header : HeaderFields) wher
   abbrev success : codec.Command → Success
   success c = record { caller = a; header = header; command = c }
 
-  accepted-own : (c : codec.Command) (p : PendingSet) → acceptance board (success c) ≡ Some p → p.agent ≡ a
+  -- whether a message of the agent succeeds
+  abbrev succeeds : Result codec.Command Status → Bool
+  succeeds r = begins_with_success (reply_words board a (situation_of board a h) r)
+
+  accepted-own : (c : codec.Command) (p : PendingSet) → acceptance board (success c) ≡ Some p
+      → p.agent ≡ a
   accepted-own (Base c) p is = absurd (cc)
   accepted-own (Power c) p is = set-agent a (state_set a header) (λ set. refl) (set_later c) p is
-  accepted-own (Clock c) p is = set-agent a (rate_set a header) (λ set. refl) (rate_later board c) p is
+  accepted-own (Clock c) p is =
+      set-agent a (rate_set a header) (λ set. refl) (rate_later board c) p is
 
-  base-silent : (b d : ℕ) → a ≢ board.trusted → (c : BaseCommand) → begins_with_success (base_reply board a c) ≡ true → subscription b d (success (Base c)) ≡ None
+  base-silent : (b d : ℕ) → a ≢ board.trusted → (c : BaseCommand)
+      → begins_with_success (base_reply board a c) ≡ true
+      → subscription b d (success (Base c)) ≡ None
   unfolding base_reply
   base-silent b d other base.Version ok = refl
   base-silent b d other base.Attributes ok = refl
@@ -99,164 +121,216 @@ module _ (board : Board) (h : List Event) (a : ℕ) (header : HeaderFields) wher
   base-silent b d other (base.Agent agent) ok = refl
   base-silent b d other (base.Permit agent device flags) ok = refl
   base-silent b d other (base.PermitProtocol agent device protocol flags) ok = refl
-  base-silent b d other (base.ResetAgent agent flags) ok = absurd (other (eqb-true a board.trusted (reset-trusted (no_agent board agent) (other_bits flags) (a == board.trusted) ok)))
+  base-silent b d other (base.ResetAgent agent flags) ok =
+      let is = reset-trusted (no_agent board agent) (other_bits flags) (a == board.trusted) ok in
+      absurd (other (eqb-true a board.trusted is))
 
-  power-silent : (b d : ℕ) → a ≢ b → (c : PowerCommand) → subscription b d (success (Power c)) ≡ None
+  power-silent : (b d : ℕ) → a ≢ b → (c : PowerCommand)
+      → subscription b d (success (Power c)) ≡ None
   power-silent b d differ power.Version = refl
   power-silent b d differ power.Attributes = refl
   power-silent b d differ (power.MessageAttributes message) = refl
   power-silent b d differ (power.DomainAttributes domain) = refl
   power-silent b d differ (power.Set flags domain state) = refl
   power-silent b d differ (power.Get domain) = refl
-  power-silent b d differ (power.Notify domain enable) = ap (λ own. if own && domain == d then Some (bit_0 enable) else None) (ne_eqb a b differ)
+  power-silent b d differ (power.Notify domain enable) =
+      ap (λ own. if own && domain == d then Some (bit_0 enable) else None) (ne_eqb a b differ)
 
-  subscription-silent : (b d : ℕ) → a ≢ board.trusted → a ≢ b → (c : codec.Command) → begins_with_success (reply_words board a (situation_after board a (deeds board h)) (Ok c)) ≡ true
-      → subscription b d (success c) ≡ None
+  subscription-silent : (b d : ℕ) → a ≢ board.trusted → a ≢ b → (c : codec.Command)
+      → succeeds (Ok c) ≡ true → subscription b d (success c) ≡ None
   unfolding reply_words
   subscription-silent b d other differ (Base c) ok = base-silent b d other c ok
   subscription-silent b d other differ (Power c) ok = power-silent b d differ c
   subscription-silent b d other differ (Clock c) ok = refl
 
-  command-own : (c : codec.Command) → (begins_with_success (reply_words board a (situation_after board a (deeds board h)) (Ok c)) ≡ true) → IsTrusted board (success c) → IsOwnSuccess board h a (Some (success c))
+  change-own : (c : codec.Command) (change : Change) → succeeds (Ok c) ≡ true
+      → change_now board (success c) ≡ Some change
+      → (change.causer ≡ a) × (may_after board h a change.thing ≡ true)
+  change-own c change ok is =
+      let later = option_map completion (acceptance board (success c)) in
+      let asked =
+      ap (λ it. option_and_then (change_asked board) (if it then Some (success c) else None)) ok
+      ∙ ap (λ now. option_or now later) is in
+      let own = asked-own board a header (situation_of board a h) change (Ok c) asked in
+      (own.causer, own.allowed)
+
+  command-own : (c : codec.Command) → succeeds (Ok c) ≡ true → IsTrusted board (success c)
+      → IsOwnSuccess board h a (Some (success c))
   command-own c ok trusted = record {
-    change = λ change is.
-        let asked : change_asked board (success c) ≡ Some change = ap (λ now. option_or now (option_map completion (acceptance board (success c)))) is in
-        let own = asked-own board a header (situation_after board a (deeds board h)) change (Ok c) (ap (λ succeeds. option_and_then (change_asked board) (if succeeds then Some (success c) else None)) ok ∙ asked) in
-        (own.causer, own.allowed);
+    change = λ change is. change-own c change ok is;
     set = λ p is. accepted-own c p is;
-    permission = λ other b d scope. is_none (permission_in b d scope c) (λ some. other (trusted b d scope some));
+    permission = λ other b d scope.
+        is_none (permission_in b d scope c) (λ some. other (trusted b d scope some));
     subscription = λ other b d differ. subscription-silent b d other differ c ok;
   }
 
-  reply-own : (r : Result codec.Command Status) (succeeds : Bool) → begins_with_success (reply_words board a (situation_after board a (deeds board h)) r) ≡ succeeds
-      → IfSome (if succeeds then success_with a header r else None) (IsTrusted board) → IsOwnSuccess board h a (if succeeds then success_with a header r else None)
-  reply-own (Err e) true is trusted = none-own board h a
-  reply-own (Ok c) true is trusted = command-own c is trusted
-  reply-own r false is trusted = none-own board h a
+  reply-own : (r : Result codec.Command Status) (is : Bool) → succeeds r ≡ is
+      → IfSome (if is then success_with a header r else None) (IsTrusted board)
+      → IsOwnSuccess board h a (if is then success_with a header r else None)
+  reply-own (Err e) true ok trusted = none-own board h a
+  reply-own (Ok c) true ok trusted = command-own c ok trusted
+  reply-own r false ok trusted = none-own board h a
+
+-- a frame of an agent is such a success, if it is one
+module _ (board : Board) (h : List Event) (a : ℕ) (m : Message) where
+  abbrev deed : Deed
+  deed = deed_after board (deeds board h) (Command a (Good m))
+
+  abbrev reply : List ℕ
+  reply = reply_words board a (situation_of board a h) (command_of m)
+
+  abbrev answered : Bool → Option Success
+  answered fits = success_of a m.header (command_of m) (if fits then reply else [])
+
+  trusted : IfSome (added_success deed) (IsTrusted board)
+  trusted =
+      let h' = h ++ Command a (Good m) ∷ [] in
+      let pushed = deeds-push board h (Command a (Good m)) in
+      let more = ap successes pushed ∙ successes-push (deeds board h) deed in
+      (All-pop (IsTrusted board) (successes (deeds board h')) (successes (deeds board h))
+      (added_success deed) more (permissions board h')).1
+
+  answered-own : (fits : Bool) → IfSome (answered fits) (IsTrusted board)
+      → IsOwnSuccess board h a (answered fits)
+  answered-own true all =
+      reply-own board h a m.header (command_of m) (begins_with_success reply) refl all
+  answered-own false all = none-own board h a
+
+  message-own : IsOwnSuccess board h a (added_success deed)
+  message-own = answered-own (fits_channel board a m) trusted
 
 -- WHAT IT CHANGES OF ANOTHER AGENT'S SITUATION
 
--- the notices of a change, if there are any
-record IsNotice (a d : ℕ) (s : Situation) (change : Option Change) (notices : List Message) : Type 0 where
+-- the notices of a change are one, of a new state that an agent gave
+record IsNotice (a d : ℕ) (s : Situation) (change : Option Change)
+    (notices : List Message) : Type 0 where
   pub state : ℕ
   pub given : change ≡ Some (record { thing = State d; value = state; causer = a })
   pub subscribed : s.subscribed d ≡ true
   pub new : state ≢ s.value (State d)
   pub message : notices ≡ state_changed a d state ∷ []
 
-module _ (board : Board) (h : List Event) (a b : ℕ) (s : Situation) where
-  notice : (x : Thing) (v c : ℕ) → c ≡ a
-      → (notice_in s (record { thing = x; value = v; causer = c }) ≡ [])
-      ⊎ ((d : ℕ) × IsNotice a d s (Some (record { thing = x; value = v; causer = c })) (notice_in s (record { thing = x; value = v; causer = c })))
+-- or there are none
+abbrev HasAtMostOne : ℕ → Situation → Option Change → List Message → Type 0
+HasAtMostOne a s change notices = (notices ≡ []) ⊎ ((d : ℕ) × IsNotice a d s change notices)
+
+abbrev change_to : Thing → ℕ → ℕ → Change
+change_to x v c = record { thing = x; value = v; causer = c }
+
+-- the notice of a change
+module _ (a : ℕ) (s : Situation) where
+  abbrev IsFine : Change → Type 0
+  IsFine change = HasAtMostOne a s (Some change) (notice_in s change)
+
+  state-notice : (d v c : ℕ) → c ≡ a → (same subscribed : Bool)
+      → (v == s.value (State d)) ≡ same → s.subscribed d ≡ subscribed
+      → IsFine (change_to (State d) v c)
+  state-notice d v c own true subscribed is asked =
+      inl (ap (λ it. if not it && s.subscribed d then state_changed c d v ∷ [] else []) is)
+  state-notice d v c own false false is asked =
+      inl (λ i. if not (is i) && asked i then state_changed c d v ∷ [] else [])
+  state-notice d v c own false true is asked = inr (
+    d,
+    record {
+      state = v;
+      given = ap (λ causer. Some (change_to (State d) v causer)) own;
+      subscribed = asked;
+      new = λ same. absurd (cc (eq-eqb v (s.value (State d)) same, is));
+      message = λ i. if not (is i) && asked i then state_changed (own i) d v ∷ [] else [];
+    },
+  )
+
+  notice : (x : Thing) (v c : ℕ) → c ≡ a → IsFine (change_to x v c)
   notice (Rate k) v c own = inl refl
   notice (Enabled k) v c own = inl refl
-  notice (State d) v c own = by (cases_Bool (v == s.value (State d))) (cases_Bool (s.subscribed d)) where
-    by : ((v == s.value (State d)) ≡ true) ⊎ ((v == s.value (State d)) ≡ false) → (s.subscribed d ≡ true) ⊎ (s.subscribed d ≡ false)
-        → (notice_in s (record { thing = State d; value = v; causer = c }) ≡ [])
-        ⊎ ((e : ℕ) × IsNotice a e s (Some (record { thing = State d; value = v; causer = c })) (notice_in s (record { thing = State d; value = v; causer = c })))
-    by (inl same) asked = inl (ap (λ it. if not it && s.subscribed d then state_changed c d v ∷ [] else []) same)
-    by (inr other) (inr silent) = inl (λ i. if not (other i) && silent i then state_changed c d v ∷ [] else [])
-    by (inr other) (inl asked) = inr (
-      d,
-      record {
-        state = v;
-        given = ap (λ causer. Some (record { thing = State d; value = v; causer = causer })) own;
-        subscribed = asked;
-        new = λ is. absurd (cc (eq-eqb v (s.value (State d)) is, other));
-        message = λ i. if not (other i) && asked i then state_changed (own i) d v ∷ [] else [];
-      },
-    )
+  notice (State d) v c own =
+      state-notice d v c own (v == s.value (State d)) (s.subscribed d) refl refl
 
-  notices : (room : Bool) (change : Option Change) → ((it : Change) → change ≡ Some it → it.causer ≡ a)
-      → ((if room then option_map_or (notice_in s) change [] else []) ≡ [])
-      ⊎ ((d : ℕ) × IsNotice a d s change (if room then option_map_or (notice_in s) change [] else []))
+  notices : (room : Bool) (change : Option Change)
+      → ((it : Change) → change ≡ Some it → it.causer ≡ a)
+      → HasAtMostOne a s change (if room then option_map_or (notice_in s) change [] else [])
   notices false change own = inl refl
   notices true None own = inl refl
   notices true (Some it) own = notice it.thing it.value it.causer (own it refl)
 
-  each : {X : Type 0} {P : X → Type 0} (o : Option X) → ((x : X) → o ≡ Some x → P x) → IfSome o P
-  each None all = tt
-  each (Some x) all = all x refl
+each : {X : Type 0} {P : X → Type 0} (o : Option X) → ((x : X) → o ≡ Some x → P x) → IfSome o P
+each None all = tt
+each (Some x) all = all x refl
 
-  module _ (differ : a ≢ b) (o : Option Success) (own : IsOwnSuccess board h a o) where
-    abbrev change : Option Change
-    change = option_and_then (change_now board) o
+-- another agent's situation after a success of agent a
+module _ (board : Board) (h : List Event) (a b : ℕ) (s : Situation) (differ : a ≢ b)
+    (o : Option Success) (is_own : IsOwnSuccess board h a o) where
+  abbrev change : Option Change
+  change = option_and_then (change_now board) o
 
-    abbrev set : Option PendingSet
-    set = option_and_then (acceptance board) o
+  abbrev set : Option PendingSet
+  set = option_and_then (acceptance board) o
 
-    abbrev moved : Situation
-    moved =
+  abbrev left : List PendingSet
+  left = s.pending ++ option_to_list set
+
+  abbrev permitted : ℕ → Scope → Option Bool
+  permitted d scope = option_and_then (λ it. permission_in b d scope it.command) o
+
+  abbrev moved : Situation
+  moved =
+      record {
+        value = λ x. unwrap_or (option_and_then (value_in x) change) (s.value x);
+        allowed = λ d scope. unwrap_or (permitted d scope) (s.allowed d scope);
+        subscribed = λ d. unwrap_or (option_and_then (subscription b d) o) (s.subscribed d);
+        pending = left;
+        outbox = s.outbox ++ made_in b s left None change;
+      }
+
+  outbox-moved : HasAtMostOne a s change (made_in b s left None change)
+      → (moved.outbox ≡ s.outbox) ⊎ ((d : ℕ) × IsNotified a d s moved)
+  outbox-moved (inl none) = inl (ap (λ ms. s.outbox ++ ms) none ∙ append-nil s.outbox)
+  outbox-moved (inr (d, is)) =
+      let old = s.value (State d) in
+      let state : moved.value (State d) ≡ is.state
+      = ap (λ it. unwrap_or (option_and_then (value_in (State d)) it) old) is.given
+      ∙ ap (λ same. unwrap_or (if same then Some is.state else None) old) (eq-eqb d d refl) in
+      inr (
+        d,
         record {
-          value = λ x. unwrap_or (option_and_then (value_in x) change) (s.value x);
-          allowed = λ d scope. unwrap_or (option_and_then (λ it. permission_in b d scope it.command) o) (s.allowed d scope);
-          subscribed = λ d. unwrap_or (option_and_then (subscription b d) o) (s.subscribed d);
-          pending = s.pending ++ option_to_list set;
-          outbox = s.outbox ++ made_in b s (s.pending ++ option_to_list set) None change;
-        }
+          subscribed = is.subscribed;
+          new = λ same. is.new (sym state ∙ same);
+          message =
+              ap (λ ms. s.outbox ++ ms) is.message
+              ∙ ap (λ v. s.outbox ++ state_changed a d v ∷ []) (sym state);
+        },
+      )
 
-    outbox-moved : ((made_in b s (s.pending ++ option_to_list set) None change ≡ []) ⊎ ((d : ℕ) × IsNotice a d s change (made_in b s (s.pending ++ option_to_list set) None change)))
-        → (moved.outbox ≡ s.outbox) ⊎ ((d : ℕ) × IsNotified a d s moved)
-    outbox-moved (inl none) = inl (ap (λ ms. s.outbox ++ ms) none ∙ append-nil s.outbox)
-    outbox-moved (inr (d, is)) =
-        let state : moved.value (State d) ≡ is.state
-        = ap (λ it. unwrap_or (option_and_then (value_in (State d)) it) (s.value (State d))) is.given
-        ∙ ap (λ same. unwrap_or (if same then Some is.state else None) (s.value (State d))) (eq-eqb d d refl) in
-        inr (
-          d,
-          record {
-            subscribed = is.subscribed;
-            new = λ same. is.new (sym state ∙ same);
-            message = ap (λ ms. s.outbox ++ ms) is.message ∙ ap (λ v. s.outbox ++ state_changed a d v ∷ []) (sym state);
-          },
-        )
+  reaches-moved : ReachesOnly board h a s moved
+  reaches-moved =
+      let load = length s.outbox + 0 + length (sets_by b left) in
+      record {
+        change = change;
+        may = each change is_own.change;
+        value = λ x. refl;
+        allowed = λ other d scope.
+            ap (λ said. unwrap_or said (s.allowed d scope)) (is_own.permission other b d scope);
+        subscribed = λ other d.
+            ap (λ said. unwrap_or said (s.subscribed d)) (is_own.subscription other b d differ);
+        set = set;
+        own = each set is_own.set;
+        pending = refl;
+        outbox = outbox-moved
+            (notices a s (nat_lt load OUTBOX_ROOM) change (λ it is. (is_own.change it is).0));
+      }
 
-    reaches-moved : ReachesOnly board h a s moved
-    reaches-moved = record {
-      change = change;
-      may = each change own.change;
-      value = λ x. refl;
-      allowed = λ other d scope. ap (λ said. unwrap_or said (s.allowed d scope)) (own.permission other b d scope);
-      subscribed = λ other d. ap (λ said. unwrap_or said (s.subscribed d)) (own.subscription other b d differ);
-      set = set;
-      own = each set own.set;
-      pending = refl;
-      outbox = outbox-moved (notices (nat_lt (length s.outbox + 0 + length (sets_by b (s.pending ++ option_to_list set))) OUTBOX_ROOM) change (λ it is. (own.change it is).0));
-    }
-
-reaches-next : (board : Board) (h : List Event) (a b : ℕ) (frame : Frame) → IsLegal board h
-    → ReachesOnly board h a (situation_after board b (deeds board h)) (next board b (situation_after board b (deeds board h)) (deed_after board (deeds board h) (Command a frame)))
+pub reaches : (board : Board) (h : List Event) (a b : ℕ) (frame : Frame) → IsLegal board h → a ≢ b
     → Reaches board h (Command a frame) a b
-reaches-next board h a b frame legal moved =
-    subst (ReachesOnly board h a (situation_after board b (deeds board h)))
-    (sym (ap (situation_after board b) (deeds-push board h (Command a frame))
-    ∙ situation-next board b (deeds board h) (Command a frame) (advances_le-accepted board h legal) (sent_le-made board h legal b)))
-    moved
-
--- a command that an agent posts is of that kind
-module _ (board : Board) (h : List Event) (a : ℕ) (m : Message) where
-  abbrev deed : Deed
-  deed = deed_after board (deeds board h) (Command a (Good m))
-
-  abbrev answered : Bool → Option Success
-  answered short = success_of a m.header (command_of m) (if short then reply_words board a (situation_after board a (deeds board h)) (command_of m) else [])
-
-  trusted : IfSome (added_success deed) (IsTrusted board)
-  trusted =
-      (All-pop (IsTrusted board) (successes (deeds board (h ++ Command a (Good m) ∷ []))) (successes (deeds board h)) (added_success deed)
-      (ap successes (deeds-push board h (Command a (Good m))) ∙ successes-push (deeds board h) deed)
-      (permissions board (h ++ Command a (Good m) ∷ []))).1
-
-  answered-own : (short : Bool) → IfSome (answered short) (IsTrusted board) → IsOwnSuccess board h a (answered short)
-  answered-own true all = reply-own board h a m.header (command_of m) (begins_with_success (reply_words board a (situation_after board a (deeds board h)) (command_of m))) refl all
-  answered-own false all = none-own board h a
-
-  message-own : IsOwnSuccess board h a (added_success deed)
-  message-own = answered-own (fits_channel board a m) trusted
-
-pub reaches : (board : Board) (h : List Event) (a b : ℕ) (frame : Frame) → IsLegal board h → a ≢ b → Reaches board h (Command a frame) a b
-reaches board h a b (Malformed len header) legal differ =
-    reaches-next board h a b (Malformed len header) legal (reaches-moved board h a b (situation_after board b (deeds board h)) differ None (none-own board h a))
-reaches board h a b (Good m) legal differ =
-    reaches-next board h a b (Good m) legal
-    (reaches-moved board h a b (situation_after board b (deeds board h)) differ (added_success (deed_after board (deeds board h) (Command a (Good m)))) (message-own board h a m))
+reaches board h a b frame legal differ =
+    subst (ReachesOnly board h a (situation_of board b h))
+    (sym (situation-more board h (Command a frame) legal b)) (by frame)
+  where
+    by : (frame : Frame)
+        → ReachesOnly board h a (situation_of board b h)
+        (next board b (situation_of board b h) (deed_after board (deeds board h) (Command a frame)))
+    by (Malformed len header) =
+        reaches-moved board h a b (situation_of board b h) differ None (none-own board h a)
+    by (Good m) =
+        reaches-moved board h a b (situation_of board b h) differ
+        (added_success (deed_after board (deeds board h) (Command a (Good m))))
+        (message-own board h a m)

@@ -13,7 +13,8 @@ use Rattle.scmi_core.specs.Reply.{reply_words}
 use Rattle.scmi_core.proofs.ExampleWords.{request}
 use Rattle.scmi_laws.specs.Reads.{without_quiet}
 
--- agent 2 sets a state and reads it, asks for an unknown domain and a rate, and reads the rates; agent 1 reads too
+-- agent 2 sets a state and reads it, sets an unknown domain, sets a rate, and reads the rates;
+-- agent 1 reads too
 mixed : List Event
 mixed =
     request 2 0 0x11 0x4 (0 ∷ 1 ∷ 0x40000000 ∷ [])

@@ -1,4 +1,4 @@
--- An answer depends on an agent's view of the values, its permissions, the pending sets and its room.
+-- An answer depends on values, permissions, pending sets and room.
 use Rattle.std.proofs.Common.{◌≡◌, ℕ, ◌==◌, List, refl, ap, if◌then◌else◌}
 use Rattle.std.specs.Prelude.{Result, Ok, Err}
 use Rattle.scmi_codec.specs.Command.{command_of}
@@ -14,14 +14,14 @@ use Rattle.scmi_base.specs.Permission.{may}
 use Rattle.scmi_power.specs.PowerReply.{power_reply}
 use Rattle.scmi_clock.specs.ClockReply.{clock_reply}
 use Rattle.scmi_core.specs.declared.event.Event.{Event}
-use Rattle.scmi_core.specs.History.{answer_to, deeds}
-use Rattle.scmi_core.specs.Outbox.{message_with, situation_after}
+use Rattle.scmi_core.specs.History.{answer_to}
+use Rattle.scmi_core.specs.Outbox.{message_with}
 use Rattle.scmi_core.specs.Reply.{answer_in, fits_channel, reply_words}
 use Rattle.scmi_core.specs.Situation.{Situation, clock_view, power_view}
 use Rattle.scmi_core.specs.Value.{Enabled, Rate, State}
-use Rattle.scmi_laws.specs.Others.{SeesTheSame}
+use Rattle.scmi_laws.specs.Others.{AreSeenAlike, SeesTheSame, situation_of}
 
-module _ (board : Board) (b : ℕ) (s u : Situation) (alike : SeesTheSame b s u) where
+module _ (board : Board) (b : ℕ) (s u : Situation) (alike : AreSeenAlike b s u) where
   power-same : power_view board b s ≡ power_view board b u
   power-same = λ i.
       record {
@@ -51,9 +51,12 @@ module _ (board : Board) (b : ℕ) (s u : Situation) (alike : SeesTheSame b s u)
   reply-same (Ok (Clock c)) = ap (λ view. clock_reply board view c) clock-same
 
   answer-same : (frame : Frame) → answer_in board b frame s ≡ answer_in board b frame u
-  answer-same (Good m) = ap (λ words. if fits_channel board b m then Reply (message_with m.header words) else ChannelError) (reply-same (command_of m))
+  answer-same (Good m) =
+      ap (λ words. if fits_channel board b m then Reply (message_with m.header words)
+      else ChannelError) (reply-same (command_of m))
   answer-same (Malformed len header) = refl
 
-pub answers : (board : Board) (h k : List Event) (b : ℕ) (frame : Frame) → SeesTheSame b (situation_after board b (deeds board h)) (situation_after board b (deeds board k))
+pub answers : (board : Board) (h k : List Event) (b : ℕ) (frame : Frame) → SeesTheSame board b h k
     → answer_to board b frame h ≡ answer_to board b frame k
-answers board h k b frame alike = answer-same board b (situation_after board b (deeds board h)) (situation_after board b (deeds board k)) alike frame
+answers board h k b frame alike =
+    answer-same board b (situation_of board b h) (situation_of board b k) alike frame

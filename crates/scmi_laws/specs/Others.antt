@@ -1,4 +1,4 @@
--- What one agent's command is to another: what an answer depends on, and what a command changes of it.
+-- What one agent's command is to another agent.
 use Rattle.std.specs.Prelude.{◌≡◌, ◌≢◌, ◌⊎◌, ℕ, true, List, [], ◌∷◌, ◌++◌, Option, unwrap_or, IfSome}
 use Rattle.std.specs.Option.{option_and_then, option_to_list}
 use Rattle.scmi_plan.specs.Board.{Board}
@@ -13,18 +13,27 @@ use Rattle.scmi_core.specs.Pending.{has_set_of}
 use Rattle.scmi_core.specs.Situation.{Situation, has_room}
 use Rattle.scmi_core.specs.Value.{Change, State, Thing, value_in}
 
--- agent b sees the same in two situations: all that its answers depend on, besides the board
-pub record SeesTheSame (b : ℕ) (s u : Situation) : Type 0 where
+-- the situation of agent b after a history
+abbrev pub situation_of : Board → ℕ → List Event → Situation
+situation_of board b h = situation_after board b (deeds board h)
+
+-- two situations of agent b are alike in all that its answers depend on, besides the board
+pub record AreSeenAlike (b : ℕ) (s u : Situation) : Type 0 where
   -- the value of each domain and clock
   pub value : (x : Thing) → s.value x ≡ u.value x
   -- what the agent may do
   pub allowed : (device : ℕ) (scope : Scope) → s.allowed device scope ≡ u.allowed device scope
   -- whether a domain or clock has a pending set, whoever asked for it
   pub busy : (r : Resource) → has_set_of r s.pending ≡ has_set_of r u.pending
-  -- whether fewer than 8 sets are pending in all, and fewer than 16 of the agent's own with its outbox
+  -- whether a set of its own has room, by the 8 of all agents and the 16 of its own with its outbox
   pub room : has_room b s ≡ has_room b u
 
--- agent b, which asked for notifications of domain d, is notified of the new state that agent a gave it
+-- agent b sees the same after two histories
+abbrev pub SeesTheSame : Board → ℕ → (h k : List Event) → Type 0
+SeesTheSame board b h k = AreSeenAlike b (situation_of board b h) (situation_of board b k)
+
+-- an agent that asked for notifications of domain d is notified of the new state that agent a gave
+-- it
 pub record IsNotified (a d : ℕ) (s t : Situation) : Type 0 where
   pub subscribed : s.subscribed d ≡ true
   pub new : t.value (State d) ≢ s.value (State d)
@@ -34,7 +43,8 @@ pub record IsNotified (a d : ℕ) (s t : Situation) : Type 0 where
 abbrev pub value_with : Option Change → Thing → ℕ → ℕ
 value_with change x old = unwrap_or (option_and_then (value_in x) change) old
 
--- all that a command of agent a after history h may change of another agent's situation s, so that it is t
+-- all that a command of agent a after history h may change of another agent's situation s, which is
+-- then t
 pub record ReachesOnly (board : Board) (h : List Event) (a : ℕ) (s t : Situation) : Type 0 where
   -- a change that agent a makes, and may make, if there is one
   pub change : Option Change
@@ -42,7 +52,8 @@ pub record ReachesOnly (board : Board) (h : List Event) (a : ℕ) (s t : Situati
   -- the values, by that change
   pub value : (x : Thing) → t.value x ≡ value_with change x (s.value x)
   -- permissions, only if it is the trusted agent
-  pub allowed : a ≢ board.trusted → (device : ℕ) (scope : Scope) → t.allowed device scope ≡ s.allowed device scope
+  pub allowed : a ≢ board.trusted
+      → (device : ℕ) (scope : Scope) → t.allowed device scope ≡ s.allowed device scope
   -- requests for notifications, only if it is the trusted agent
   pub subscribed : a ≢ board.trusted → (d : ℕ) → t.subscribed d ≡ s.subscribed d
   -- a set of agent a, if there is one
@@ -55,4 +66,5 @@ pub record ReachesOnly (board : Board) (h : List Event) (a : ℕ) (s t : Situati
 
 -- after one more event agent b's situation is changed by no more than a command of agent a may
 abbrev pub Reaches : Board → List Event → Event → ℕ → ℕ → Type 0
-Reaches board h event a b = ReachesOnly board h a (situation_after board b (deeds board h)) (situation_after board b (deeds board (h ++ event ∷ [])))
+Reaches board h event a b =
+    ReachesOnly board h a (situation_of board b h) (situation_of board b (h ++ event ∷ []))

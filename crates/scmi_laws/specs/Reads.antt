@@ -22,7 +22,8 @@ use Rattle.scmi_core.specs.Permissions.{permission_in}
 use Rattle.scmi_core.specs.Subscriptions.{subscription}
 use Rattle.scmi_core.specs.Value.{change_now}
 
--- whether a command only reads: it sets no permission, resets no agent, sets no state, rate or configuration, and asks for no notifications
+-- whether a command only reads: it sets no permission, state, rate or configuration, resets no
+-- agent, and asks for no notifications
 abbrev pub is_read : codec.Command → Bool
 is_read (Base (base.Permit agent device flags)) = false
 is_read (Base (base.PermitProtocol agent device protocol flags)) = false
@@ -33,7 +34,8 @@ is_read (Clock (clock.SetRate flags clock rate)) = false
 is_read (Clock (clock.Config clock attributes)) = false
 is_read _ = true
 
--- a success does nothing: it changes no value, leaves no set pending, and says nothing of what any agent may do or is notified of
+-- a success does nothing: it changes no value, leaves no set pending, and says nothing of what any
+-- agent may do or is notified of
 pub record DoesNothing (board : Board) (s : Success) : Type 0 where
   pub change : change_now board s ≡ None
   pub set : acceptance board s ≡ None
@@ -52,13 +54,17 @@ is_read_frame (Malformed len header) = false
 
 -- whether an event is a command of agent a, done or failed, that was refused or only reads
 abbrev pub is_quiet : Board → ℕ → List Event → Event → Bool
-is_quiet board a before event = is_refused board a before event || option_map_or is_read_frame (frame_from a event) false
+is_quiet board a before event =
+    is_refused board a before event || option_map_or is_read_frame (frame_from a event) false
 
--- a history without the commands of agent a that were refused or only read, each judged at its place
+-- a history without agent a's commands that were refused or only read, each judged at its place
 unfoldable pub without_quiet : Board → ℕ → List Event → List Event
-without_quiet board a h = flat_map_with_prefix (λ before event. if is_quiet board a before event then [] else event ∷ []) h
+without_quiet board a h =
+    flat_map_with_prefix
+    (λ before event. if is_quiet board a before event then [] else event ∷ []) h
 
--- without the refused commands and the reads of agent a this history is as legal, and the same to all others
+-- without the refused commands and the reads of any one agent this history is as legal, and the
+-- same to all others
 pub record HasQuietReads (board : Board) (h : List Event) : Type 0 where
   pub legal : (a : ℕ) → IsLegal board (without_quiet board a h)
   pub alike : (a : ℕ) → AreAlikeBut board a (without_quiet board a h) h

@@ -2,7 +2,8 @@
 //!
 //! The main definition is `is_read`: which commands only read (specs/Reads.antt). The main theorem
 //! is the contract of `every_read`: reads move nobody. A legal history without one agent's reads
-//! and refused commands is as legal, and the same to every other agent.
+//! and refused commands is as legal, and the same to every other agent. `every_other_agent` has all
+//! that other commands are to another agent.
 #![tactic(auto)]
 
 mod others;
