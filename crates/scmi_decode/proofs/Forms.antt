@@ -1,15 +1,18 @@
 -- Rows as programs print them, which the prover reads by the definitions: each has the same sixteen bytes.
 use Rattle.std.proofs.Common.{◌≡◌, ℕ, Bool, List, [], ◌∷◌, Option, None, Some, true, false, codes, refl}
 use Rattle.hex.specs.Hex.{decode_pairs}
+use Rattle.std.specs.List.{slice_split}
 use Rattle.std.specs.Option.{option_map}
 use Rattle.scmi_decode.specs.Cell.{settled}
 use Rattle.scmi_decode.specs.Decoded.{is_remark}
-use Rattle.scmi_decode.specs.declared.dump_end.TheConstants.{REPEATED_BYTES}
+use Rattle.scmi_decode.specs.Dump.{is_gap}
+use Rattle.scmi_decode.specs.declared.dump_end.TheConstants.{REPEATED_BYTES, SURE_BYTES}
 use Rattle.scmi_decode.specs.declared.first_column.TheConstants.{SURE_STEPS}
 use Rattle.scmi_decode.specs.declared.layout.Layout.TheVariants.{Whole}
-use Rattle.scmi_decode.specs.DumpEnd.{column_begun, column_with, end_of, is_filled_from, line_end, reaches}
+use Rattle.scmi_decode.specs.DumpEnd.{column_begun, column_with, end_of, extended, is_filled_from, line_end}
 use Rattle.scmi_decode.specs.FirstColumn.{counts}
-use Rattle.scmi_decode.specs.OpenDump.{begun, end_at, is_star, no_dump}
+use Rattle.scmi_decode.specs.OpenDump.{begun, end_at, may_repeat, no_dump}
+use Rattle.scmi_decode.specs.WideRow.{is_wide_row}
 use Rattle.scmi_decode.specs.Row.{RowView, row_of, without_prefix, parts_at, parts_row, marked_parts, offset_parts, piped_parts, address_of}
 use Rattle.scmi_decode.specs.declared.form.Form.{Form}
 use Rattle.scmi_decode.specs.declared.form.Form.TheVariants.{Plain, Marked, Offset, Equals, Value}
@@ -241,38 +244,75 @@ pub xxd_last_bits : read_row (codes "0000007e: 00000000 00000000                
 unfolding row_of without_prefix parts_at parts_row marked_parts offset_parts piped_parts address_of decode_pairs
 xxd_last_bits = refl
 
--- whether `*` repeats a row that begins a dump
-abbrev pub repeats_at : List ℕ → Option Bool
-repeats_at line = option_map (λ r. is_star (begun (no_dump Whole) 1 r) (codes "*")) (row_of line)
+-- whether it is known how often `*` repeats the first row of a dump, and the second
+abbrev pub repeats_one : Option RowView → Option Bool
+repeats_one row = option_map (λ r. may_repeat r.form (end_of r)) row
 
-pub od_repeats : repeats_at (codes "0000000 0000 0000 0010 0000 4404 001c 0001 0000") ≡ Some true
-unfolding row_of without_prefix parts_at parts_row marked_parts offset_parts piped_parts address_of decode_pairs begun end_of is_star
-od_repeats = refl
+abbrev pub repeats_two : Option RowView → Option RowView → Option Bool
+repeats_two (Some r) (Some s) = Some (may_repeat r.form (extended (end_of r) s))
+repeats_two _ _ = None
 
--- the third row of hexdump, whose address has another base
-pub hexdump_repeats : repeats_at (codes "0000020 0000 0000 0010 0000 4404 001c 0001 0000") ≡ Some false
-unfolding row_of without_prefix parts_at parts_row marked_parts offset_parts piped_parts address_of decode_pairs begun end_of is_star
-hexdump_repeats = refl
+-- of hexdump and od -A d, whose addresses have other bases, and of od
+pub one_row : repeats_one (row_of (codes "0000000 0000 0000 0000 0000 0000 0000 0000 0000")) ≡ Some false
+unfolding row_of without_prefix parts_at parts_row marked_parts offset_parts piped_parts address_of decode_pairs end_of
+one_row = refl
+
+pub two_rows : repeats_two (row_of (codes "0000000 0000 0000 0000 0000 0000 0000 0000 0000")) (row_of (codes "0000020 0000 0000 0010 0000 4404 001c 0001 0000")) ≡ Some true
+unfolding row_of without_prefix parts_at parts_row marked_parts offset_parts piped_parts address_of decode_pairs end_of extended
+two_rows = refl
+
+-- rows of eight bytes, whose addresses may be decimal, and rows that are none
+pub eight_bytes : repeats_two (row_of (codes "00000000: 0000 0000 0000 0000  ........")) (row_of (codes "00000008: 0000 0000 0000 0000  ........")) ≡ Some false
+unfolding row_of without_prefix parts_at parts_row marked_parts offset_parts piped_parts address_of decode_pairs end_of extended
+eight_bytes = refl
+
+pub eight_words : repeats_two (row_of (codes "10000000 00000000 00000000")) (row_of (codes "10000008 00000000 00000000")) ≡ Some false
+unfolding row_of without_prefix parts_at parts_row marked_parts offset_parts piped_parts address_of decode_pairs end_of extended
+eight_words = refl
+
+pub far_words : repeats_two (row_of (codes "80000000 00000000 00000000 00000000 00000000")) (row_of (codes "80000010 00000000 00000010 001c4404 00000001")) ≡ Some true
+unfolding row_of without_prefix parts_at parts_row marked_parts offset_parts piped_parts address_of decode_pairs end_of extended
+far_words = refl
+
+pub bytes_alone : repeats_two (row_of (codes "00 00 00 00 00 00 00 00 00 00 00 00 00 00 00 00")) (row_of (codes "00 00 00 00 10 00 00 00 04 44 1c 00 01 00 00 00")) ≡ Some false
+unfolding row_of without_prefix parts_at parts_row marked_parts offset_parts piped_parts address_of decode_pairs end_of extended
+bytes_alone = refl
+
+-- an address alone before 36 bytes, before 32, and words alone
+abbrev pub is_wide : List ℕ → Bool
+is_wide line = is_wide_row (slice_split is_gap line)
+
+pub od_wide : is_wide (codes "10000000 0000000000000000 0000001000000000 00000001001c4404 4000000000000000 00000000") ≡ true
+od_wide = refl
+
+pub od_octal_wide : is_wide (codes "0000000 00000000 00000000 00000000 00000000 00000000 00000010 001c4404 00000001 00000000") ≡ true
+od_octal_wide = refl
+
+pub od_not_wide : is_wide (codes "10000000 0000000000000000 0000001000000000 00000001001c4404 4000000000000000") ≡ false
+od_not_wide = refl
+
+pub words_alone : is_wide (codes "00000000 00000000 00000000 00000000 00000000 00000010 001c4404 00000001 00000000 40000000") ≡ false
+words_alone = refl
 
 -- the address at which a line ends a dump of one row
 abbrev pub ends_at : (line end : List ℕ) → Option (Option ℕ)
 ends_at line end = option_map (λ r. end_at (begun (no_dump Whole) 1 r) end) (row_of line)
 
 pub od_longs_end : ends_at (codes "000110 0000000000000000 0000000000000000") (codes "00011c") ≡ Some (Some 0x11C)
-unfolding row_of without_prefix parts_at parts_row marked_parts offset_parts piped_parts address_of decode_pairs begun end_of reaches is_filled_from line_end end_at
+unfolding row_of without_prefix parts_at parts_row marked_parts offset_parts piped_parts address_of decode_pairs begun end_of is_filled_from line_end end_at
 od_longs_end = refl
 
 pub od_longs_octal_end : ends_at (codes "0000420 0000000000000000 0000000000000000") (codes "0000434") ≡ Some (Some 284)
-unfolding row_of without_prefix parts_at parts_row marked_parts offset_parts piped_parts address_of decode_pairs begun end_of reaches is_filled_from line_end end_at
+unfolding row_of without_prefix parts_at parts_row marked_parts offset_parts piped_parts address_of decode_pairs begun end_of is_filled_from line_end end_at
 od_longs_octal_end = refl
 
 -- an end before the last number, and bytes behind the end
 pub od_early_end : ends_at (codes "000110 0000000000000000 0000000000000000") (codes "000118") ≡ Some None
-unfolding row_of without_prefix parts_at parts_row marked_parts offset_parts piped_parts address_of decode_pairs begun end_of reaches is_filled_from line_end end_at
+unfolding row_of without_prefix parts_at parts_row marked_parts offset_parts piped_parts address_of decode_pairs begun end_of is_filled_from line_end end_at
 od_early_end = refl
 
 pub od_bytes_behind : ends_at (codes "000110 0000000000000000 0000000100000000") (codes "00011c") ≡ Some None
-unfolding row_of without_prefix parts_at parts_row marked_parts offset_parts piped_parts address_of decode_pairs begun end_of reaches is_filled_from line_end end_at
+unfolding row_of without_prefix parts_at parts_row marked_parts offset_parts piped_parts address_of decode_pairs begun end_of is_filled_from line_end end_at
 od_bytes_behind = refl
 
 -- the lines that devmem2 prints beside each number
@@ -285,6 +325,10 @@ devmem2_mapped = refl
 -- 64 KiB
 pub repeated_bytes : REPEATED_BYTES ≡ 65536
 repeated_bytes = refl
+
+-- ten bytes
+pub sure_bytes : SURE_BYTES ≡ 10
+sure_bytes = refl
 
 -- two rows that go on with the first
 pub sure_steps : SURE_STEPS ≡ 2

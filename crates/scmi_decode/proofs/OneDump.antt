@@ -1,11 +1,11 @@
 -- What is found in an input that is one dump is what is found in its bytes, in whatever form they are.
-use Rattle.std.proofs.Common.{◌≡◌, ℕ, ◌+◌, true, false, List, [], ◌∷◌, ◌++◌, length, take, Option, None, Some, ◌∙◌, sym, ap, refl, subst, arith, append_assoc, append-nil}
-use Rattle.std.specs.Prelude.{◌-◌, ◌==◌, not}
+use Rattle.std.proofs.Common.{◌≡◌, ℕ, ◌+◌, Bool, true, false, List, [], ◌∷◌, ◌++◌, length, take, Option, None, Some, ◌∙◌, sym, ap, refl, subst, true≢false, arith, append_assoc, append-nil}
+use Rattle.std.specs.Prelude.{◌-◌, ◌==◌, ◌||◌, not}
 use Rattle.std.specs.List.{slice_split}
 use Rattle.std.proofs.lemmas.Bool.Decides.{nat_tests}
 use Rattle.std.proofs.lemmas.List.{length-append}
 use Rattle.scmi_io.specs.Lines.{is_line_feed}
-use Rattle.scmi_decode.specs.DumpEnd.{EndView, bytes_before, column_begun, column_filled, column_with, copies, cut, emptied, end_of, extended, filled, last_row, rows_before}
+use Rattle.scmi_decode.specs.DumpEnd.{EndView, bytes_before, column_begun, column_with, cut, emptied, end_of, extended, filled, lacks_rows}
 use Rattle.scmi_decode.specs.OpenDump.{DumpView, no_dump, added, begun, closed, dump_found, end_at, ended, goes_on, is_open, is_star}
 use Rattle.scmi_decode.specs.Finding.{dump_findings}
 use Rattle.scmi_decode.specs.Reported.{Reported}
@@ -27,25 +27,40 @@ dump_after-row : (d : DumpView) (n : ℕ) (line : List ℕ) (r : RowView) → Is
 unfolding dump_after
 dump_after-row d n line r is = rw (is.is_row.no_remark, is.is_row.not_empty, is.no_star, is.no_end, is.is_row.row, is.is_seen, is.next) refl
 
-rows_before-none : (e : EndView) (address : ℕ) → e.repeats ≡ false → rows_before e address ≡ 0
-rows_before-none e address even = rw even refl
+or_none : (a b : Bool) → (a || b) ≡ false → (a ≡ false) × (b ≡ false)
+or_none true b none = absurd (true≢false none)
+or_none false b none = (refl, none)
 
-added-cells : (d : DumpView) (r : RowView) → d.end.repeats ≡ false → (added d r).end.cells ≡ d.end.cells ++ r.cells
-unfolding added extended filled
-added-cells d r even =
-    ap (λ (k : ℕ). (d.end.cells ++ copies k (last_row d.end)) ++ r.cells) (rows_before-none d.end r.address even) ∙ ap (λ (cs : List Cell). cs ++ r.cells) (append-nil d.end.cells)
+-- rows of which none is left out
+filled-none : (e : EndView) (address : ℕ) → lacks_rows e ≡ false → filled e address ≡ e
+unfolding filled
+filled-none e address none = rw (or_none e.unclear e.repeats none).1 refl
+
+added-is : (d : DumpView) (r : RowView) → lacks_rows d.end ≡ false
+    → added d r ≡ record d { end = extended d.end r }
+unfolding added
+added-is d r none =
+    ap (λ (e : EndView). record d { end = extended e r }) (filled-none d.end r.address none)
+
+added-cells : (d : DumpView) (r : RowView) → lacks_rows d.end ≡ false
+    → (added d r).end.cells ≡ d.end.cells ++ r.cells
+unfolding extended
+added-cells d r none = ap (λ (v : DumpView). v.end.cells) (added-is d r none)
 
 added-first : (d : DumpView) (r : RowView) → (added d r).first ≡ d.first
-unfolding added extended filled
+unfolding added
 added-first d r = refl
 
-added-even : (d : DumpView) (r : RowView) → (added d r).end.repeats ≡ false
-unfolding added extended filled
-added-even d r = refl
+added-none : (d : DumpView) (r : RowView) → lacks_rows d.end ≡ false
+    → lacks_rows (added d r).end ≡ false
+unfolding extended
+added-none d r none = ap (λ (v : DumpView). lacks_rows v.end) (added-is d r none) ∙ none
 
-added-open : (d : DumpView) (r : RowView) → is_open d ≡ true → d.end.repeats ≡ false → is_open (added d r) ≡ true
-added-open d r open_now even =
-    let size : length (added d r).end.cells ≡ length d.end.cells + length r.cells = ap length (added-cells d r even) ∙ length-append d.end.cells r.cells in
+added-open : (d : DumpView) (r : RowView) → is_open d ≡ true → lacks_rows d.end ≡ false
+    → is_open (added d r) ≡ true
+added-open d r open_now none =
+    let size : length (added d r).end.cells ≡ length d.end.cells + length r.cells =
+    ap length (added-cells d r none) ∙ length-append d.end.cells r.cells in
     grind (arith, nat_tests, size)
 
 closed-found : (d : DumpView) → dump_found (closed d) ≡ []
@@ -60,27 +75,30 @@ empty-found d n = ap (λ (t : List Finding). dump_found d ++ t) (closed-found d)
 abbrev cells_found : Layout → ℕ → Order → FirstColumn → List Cell → List Finding
 cells_found l n o c cells = dump_findings l n (lack_beside c) (bytes_beside c o cells)
 
-added-order : (d : DumpView) (r : RowView) → (added d r).end.order ≡ d.end.order
-unfolding added extended filled
-added-order d r = refl
+added-order : (d : DumpView) (r : RowView) → lacks_rows d.end ≡ false
+    → (added d r).end.order ≡ d.end.order
+unfolding extended
+added-order d r none = ap (λ (v : DumpView). v.end.order) (added-is d r none)
 
-column_filled-even : (e : EndView) → e.repeats ≡ false → column_filled e ≡ e.column
-column_filled-even e even = rw even refl
-
-added-column : (d : DumpView) (r : RowView) → d.end.repeats ≡ false → (added d r).end.column ≡ column_with d.end.column r
-unfolding added extended filled
-added-column d r even = ap (λ (c : FirstColumn). column_with c r) (column_filled-even d.end even)
+added-column : (d : DumpView) (r : RowView) → lacks_rows d.end ≡ false
+    → (added d r).end.column ≡ column_with d.end.column r
+unfolding extended
+added-column d r none = ap (λ (v : DumpView). v.end.column) (added-is d r none)
 
 added-next : (d : DumpView) (r : RowView) → (added d r).end.next ≡ rows_next 0 (r ∷ [])
-unfolding added extended filled
+unfolding added extended
 added-next d r = refl
 
 added-layout : (d : DumpView) (r : RowView) → (added d r).layout ≡ d.layout
-unfolding added extended filled
+unfolding added
 added-layout d r = refl
 
-open-found : (d : DumpView) → is_open d ≡ true → dump_found d ≡ cells_found d.layout d.first d.end.order d.end.column (d.end.cells ++ [])
-open-found d open_now = rw open_now (ap (λ (cs : List Cell). cells_found d.layout d.first d.end.order d.end.column cs) (sym (append-nil d.end.cells)))
+open-found : (d : DumpView) → is_open d ≡ true → lacks_rows d.end ≡ false
+    → dump_found d ≡ cells_found d.layout d.first d.end.order d.end.column (d.end.cells ++ [])
+open-found d open_now none =
+    rw (open_now, none)
+    (ap (λ (cs : List Cell). cells_found d.layout d.first d.end.order d.end.column cs)
+    (sym (append-nil d.end.cells)))
 
 end-found : (d : DumpView) (n : ℕ) (lines : List (List ℕ)) → IsEnd lines → lines_found d n lines ≡ dump_found d
 end-found d n [] is = refl
@@ -97,44 +115,47 @@ end_line-after : (d : DumpView) (n : ℕ) (line : List ℕ) (address : ℕ) → 
 unfolding dump_after
 end_line-after d n line address is = rw (is.no_remark, is.not_empty, is.no_star, is.is_end) refl
 
-ended-cells : (d : DumpView) (address : ℕ) → d.end.repeats ≡ false → (ended d address).end.cells ≡ bytes_before d.end address
-unfolding ended cut filled
-ended-cells d address even =
-    ap (λ (k : ℕ). take (length (d.end.cells ++ copies k (last_row d.end)) - (d.end.next - address)) (d.end.cells ++ copies k (last_row d.end))) (rows_before-none d.end address even)
-    ∙ ap (λ (cs : List Cell). take (length cs - (d.end.next - address)) cs) (append-nil d.end.cells)
+ended-is : (d : DumpView) (address : ℕ) → lacks_rows d.end ≡ false
+    → ended d address ≡ record d { end = record d.end { cells = bytes_before d.end address } }
+unfolding ended cut
+ended-is d address none =
+    ap (λ (e : EndView). record d { end = cut e address }) (filled-none d.end address none)
+    ∙ (rw (or_none d.end.unclear d.end.repeats none).0 refl)
 
-ended-found : (d : DumpView) (address : ℕ) → d.end.repeats ≡ false → (length (bytes_before d.end address) == 0) ≡ false → dump_found (ended d address) ≡ cells_found d.layout d.first d.end.order d.end.column (bytes_before d.end address)
-unfolding ended cut filled
-ended-found d address even some =
-    let cells : (ended d address).end.cells ≡ bytes_before d.end address = ended-cells d address even in
-    open-found (ended d address) (ap (λ (cs : List Cell). not (length cs == 0)) cells ∙ ap not some)
-    ∙ ap (λ (c : FirstColumn). cells_found d.layout d.first d.end.order c ((ended d address).end.cells ++ [])) (column_filled-even d.end even)
-    ∙ ap (λ (cs : List Cell). cells_found d.layout d.first d.end.order d.end.column cs) (append-nil (ended d address).end.cells ∙ cells)
+ended-found : (d : DumpView) (address : ℕ) → lacks_rows d.end ≡ false
+    → (length (bytes_before d.end address) == 0) ≡ false
+    → dump_found (ended d address)
+    ≡ cells_found d.layout d.first d.end.order d.end.column (bytes_before d.end address)
+ended-found d address none some =
+    let v : DumpView = record d { end = record d.end { cells = bytes_before d.end address } } in
+    ap dump_found (ended-is d address none) ∙ open-found v (ap not some) none
+    ∙ ap (λ (cs : List Cell). cells_found d.layout d.first d.end.order d.end.column cs)
+    (append-nil (bytes_before d.end address))
 
-found_in_rows : (d : DumpView) (n : ℕ) (rows : List RowView) (end : Option ℕ) (lines : List (List ℕ)) → is_open d ≡ true → d.end.repeats ≡ false → AreRows d rows end lines
+found_in_rows : (d : DumpView) (n : ℕ) (rows : List RowView) (end : Option ℕ) (lines : List (List ℕ)) → is_open d ≡ true → lacks_rows d.end ≡ false → AreRows d rows end lines
     → lines_found d n lines ≡ cells_found d.layout d.first d.end.order (rows_column d.end.column rows) (cells_to end (rows_next d.end.next rows) (d.end.cells ++ rows_cells rows))
-found_in_rows d n [] None lines open_now even are = end-found d n lines are ∙ open-found d open_now
-found_in_rows d n [] (Some address) [] open_now even are = absurd are
-found_in_rows d n [] (Some address) (line ∷ lines) open_now even are =
+found_in_rows d n [] None lines open_now none are = end-found d n lines are ∙ open-found d open_now none
+found_in_rows d n [] (Some address) [] open_now none are = absurd are
+found_in_rows d n [] (Some address) (line ∷ lines) open_now none are =
     let e : DumpView = ended d address in
     ap (λ (t : List Finding). t ++ lines_found (dump_after d n line) (n + 1) lines) (end_line-found d n line address are.0)
     ∙ ap (λ (v : DumpView). dump_found e ++ lines_found v (n + 1) lines) (end_line-after d n line address are.0)
     ∙ ap (λ (t : List Finding). dump_found e ++ t) (end-found (closed e) (n + 1) lines are.1 ∙ closed-found e)
-    ∙ append-nil (dump_found e) ∙ ended-found d address even are.0.has_cells
+    ∙ append-nil (dump_found e) ∙ ended-found d address none are.0.has_cells
     ∙ ap (λ (cs : List Cell). cells_found d.layout d.first d.end.order d.end.column (take (length cs - (d.end.next - address)) cs)) (sym (append-nil d.end.cells))
-found_in_rows d n (r ∷ rows) end [] open_now even are = absurd are
-found_in_rows d n (r ∷ rows) end (line ∷ lines) open_now even are =
+found_in_rows d n (r ∷ rows) end [] open_now none are = absurd are
+found_in_rows d n (r ∷ rows) end (line ∷ lines) open_now none are =
     let here : step_found d n line ≡ [] = step_found-row d n line r are.0 in
     let after : dump_after d n line ≡ added d r = dump_after-row d n line r are.0 in
-    let rest = found_in_rows (added d r) (n + 1) rows end lines (added-open d r open_now even) (added-even d r) are.1 in
+    let rest = found_in_rows (added d r) (n + 1) rows end lines (added-open d r open_now none) (added-none d r none) are.1 in
     let all : List Cell = (added d r).end.cells ++ rows_cells rows in
     let cells : all ≡ d.end.cells ++ (r.cells ++ rows_cells rows) =
-    ap (λ (cs : List Cell). cs ++ rows_cells rows) (added-cells d r even) ∙ append_assoc d.end.cells r.cells (rows_cells rows) in
+    ap (λ (cs : List Cell). cs ++ rows_cells rows) (added-cells d r none) ∙ append_assoc d.end.cells r.cells (rows_cells rows) in
     ap (λ (t : List Finding). t ++ lines_found (dump_after d n line) (n + 1) lines) here ∙ ap (λ (v : DumpView). lines_found v (n + 1) lines) after
     ∙ rest ∙ ap (λ (k : ℕ). cells_found (added d r).layout k (added d r).end.order (rows_column (added d r).end.column rows) (cells_to end (rows_next (added d r).end.next rows) all)) (added-first d r)
-    ∙ ap (λ (o : Order). cells_found (added d r).layout d.first o (rows_column (added d r).end.column rows) (cells_to end (rows_next (added d r).end.next rows) all)) (added-order d r)
+    ∙ ap (λ (o : Order). cells_found (added d r).layout d.first o (rows_column (added d r).end.column rows) (cells_to end (rows_next (added d r).end.next rows) all)) (added-order d r none)
     ∙ ap (λ (l : Layout). cells_found l d.first d.end.order (rows_column (added d r).end.column rows) (cells_to end (rows_next (added d r).end.next rows) all)) (added-layout d r)
-    ∙ ap (λ (c : FirstColumn). cells_found d.layout d.first d.end.order (rows_column c rows) (cells_to end (rows_next (added d r).end.next rows) all)) (added-column d r even)
+    ∙ ap (λ (c : FirstColumn). cells_found d.layout d.first d.end.order (rows_column c rows) (cells_to end (rows_next (added d r).end.next rows) all)) (added-column d r none)
     ∙ ap (λ (k : ℕ). cells_found d.layout d.first d.end.order (rows_column (column_with d.end.column r) rows) (cells_to end (rows_next k rows) all)) (added-next d r)
     ∙ ap (λ (cs : List Cell). cells_found d.layout d.first d.end.order (rows_column (column_with d.end.column r) rows) (cells_to end (rows_next (rows_next 0 (r ∷ [])) rows) cs)) cells
 
@@ -158,9 +179,9 @@ begun-first : (l : Layout) (r : RowView) → (begun (no_dump l) 1 r).first ≡ 1
 unfolding begun end_of
 begun-first l r = refl
 
-begun-even : (l : Layout) (r : RowView) → (begun (no_dump l) 1 r).end.repeats ≡ false
+begun-none : (l : Layout) (r : RowView) → lacks_rows (begun (no_dump l) 1 r).end ≡ false
 unfolding begun end_of
-begun-even l r = refl
+begun-none l r = refl
 
 begun-order : (l : Layout) (r : RowView) → (begun (no_dump l) 1 r).end.order ≡ r.order
 unfolding begun end_of
@@ -181,7 +202,7 @@ begun-layout l r = refl
 found_in_dump : (l : Layout) (rows : List RowView) (end : Option ℕ) (lines : List (List ℕ)) → IsDumpOf l rows end lines → lines_found (no_dump l) 1 lines ≡ dump_findings l 1 (rows_lack rows) (rows_bytes rows end)
 found_in_dump l (r ∷ rows) end (line ∷ lines) is =
     let d : DumpView = begun (no_dump l) 1 r in
-    let rest = found_in_rows d 2 rows end lines (begun-open l r is.0.has_cells) (begun-even l r) is.1 in
+    let rest = found_in_rows d 2 rows end lines (begun-open l r is.0.has_cells) (begun-none l r) is.1 in
     ap (λ (t : List Finding). t ++ lines_found (dump_after (no_dump l) 1 line) 2 lines) (first_found l line r is.0)
     ∙ ap (λ (v : DumpView). lines_found v 2 lines) (first_dump l line r is.0)
     ∙ rest ∙ ap (λ (k : ℕ). cells_found d.layout k d.end.order (rows_column d.end.column rows) (cells_to end (rows_next d.end.next rows) (d.end.cells ++ rows_cells rows))) (begun-first l r)

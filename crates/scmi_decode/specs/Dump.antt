@@ -9,6 +9,16 @@ use Rattle.hex.specs.Hex.{decode_of}
 abbrev pub is_gap : ℕ → Bool
 is_gap b = (b == 32) || (b == 9) || (b == 13) || (b == 44)
 
+-- the first item that is not empty
+abbrev pub first_full : List (List ℕ) → List ℕ
+first_full [] = []
+first_full (item ∷ items) = if length item == 0 then first_full items else item
+
+-- what follows it
+abbrev pub behind_full : List (List ℕ) → List (List ℕ)
+behind_full [] = []
+behind_full (item ∷ items) = if length item == 0 then behind_full items else items
+
 -- whether an item has the mark of a number, `0x`, and something after it
 abbrev pub has_mark : List ℕ → Bool
 has_mark item = nat_lt 2 (length item) && (slice_index item 0 == 48) && (slice_index item 1 == 120)

@@ -51,6 +51,10 @@ followed slack count c item = column_after count (stepped (met_by slack c item))
 abbrev pub counts : FirstColumn → Bool
 counts c = not (nat_lt c.steps SURE_STEPS) || (nat_lt 0 c.steps && has_base c)
 
+-- whether it counts in hexadecimal digits alone
+abbrev pub is_hexadecimal_alone : FirstColumn → Bool
+is_hexadecimal_alone c = is_some c.hexadecimal && not (is_some c.decimal) && not (is_some c.octal)
+
 -- the bytes of rows with this column, none if it may be one of addresses
 abbrev pub bytes_beside : FirstColumn → Order → List Cell → Option (List ℕ)
 bytes_beside c o cells = if counts c then None else settled o cells

@@ -7,6 +7,7 @@ pub mod Finding
 pub mod Reported
 pub mod DumpEnd
 pub mod OpenDump
+pub mod WideRow
 pub mod MessageArea
 pub mod Event
 pub mod MessageLine

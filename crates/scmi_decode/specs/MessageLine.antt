@@ -1,11 +1,12 @@
 -- Lines that report a message: of Linux's event `scmi_msg_dump`, or of a script.
-use Rattle.std.specs.Prelude.{ℕ, ◌^◌, ◌==◌, ◌&&◌, ◌||◌, Bool, true, false, length, if◌then◌else◌, List, [], ◌∷◌, Option, Some, None, is_some}
+use Rattle.std.specs.Prelude.{ℕ, ◌^◌, ◌&&◌, ◌||◌, not, Bool, true, false, if◌then◌else◌, List, [], ◌∷◌, Option, Some, None, is_some}
 use Rattle.std.specs.List.{slice_split}
 use Rattle.std.specs.Str.{bytes_eq}
-use Rattle.scmi_decode.specs.Dump.{is_gap, items_bytes}
+use Rattle.scmi_decode.specs.Dump.{first_full, is_gap, items_bytes}
 use Rattle.scmi_decode.specs.Row.{group_of, order_of}
 use Rattle.scmi_decode.specs.Event.{digits_number, event_area}
 use Rattle.scmi_decode.specs.MessageArea.{message_area}
+use Rattle.scmi_decode.specs.WideRow.{is_wide_row}
 use Rattle.scmi_decode.specs.declared.form.Form.TheVariants.{Plain}
 use Rattle.scmi_decode.specs.declared.layout.Layout.{Layout}
 use Rattle.scmi_decode.specs.declared.layout.Layout.TheVariants.{Whole}
@@ -39,11 +40,6 @@ abbrev pub got_area : Option (List ℕ) → Option (List ℕ)
 got_area None = None
 got_area (Some message) = message_area 1 message
 
--- the first item that is not empty
-abbrev pub first_full : List (List ℕ) → List ℕ
-first_full [] = []
-first_full (item ∷ items) = if length item == 0 then first_full items else item
-
 -- the order of the digits of a line that has several items
 abbrev pub own_order : List (List ℕ) → Order
 own_order items = order_of Plain (group_of (first_full items)) 0 false
@@ -59,10 +55,14 @@ ordered_bytes Straight items = items_bytes false items
 ordered_bytes Turned items = items_bytes true items
 ordered_bytes Unclear items = if_alike (items_bytes false items) (items_bytes true items)
 
+-- the bytes of a line that reports no message; none if it may be a row that is too wide
+abbrev pub own_bytes : List (List ℕ) → Option (List ℕ)
+own_bytes items = if is_wide_row items then None else ordered_bytes (own_order items) items
+
 -- the bytes of a line without an event: the area of the message that an agent has got, or its own
 abbrev pub got_or_own : Option (List (List ℕ)) → List (List ℕ) → Option (List ℕ)
 got_or_own (Some behind) items = got_area (items_bytes true behind)
-got_or_own None items = ordered_bytes (own_order items) items
+got_or_own None items = own_bytes items
 
 -- the bytes of a line: the area of the message that an event reports, or else as above
 abbrev pub event_or_own : Option (List (List ℕ)) → List (List ℕ) → Option (List ℕ)
@@ -77,13 +77,19 @@ items_alone items = event_or_own (behind_event items) items
 abbrev pub alone_bytes : List ℕ → Option (List ℕ)
 alone_bytes line = items_alone (slice_split is_gap line)
 
+-- whether a line reports a message
+abbrev pub is_message : List (List ℕ) → Bool
+is_message items = is_some (behind_event items) || is_some (behind_got items)
+
 -- which bytes of a line that is a dump of its own are areas: a message that is reported is one area, whatever the layout of dumps
 abbrev pub items_layout : Layout → List (List ℕ) → Layout
-items_layout l items = if is_some (behind_event items) || is_some (behind_got items) then Whole else l
+items_layout l items = if is_message items then Whole else l
 
--- why items have no bytes, if they have none: they are no digits, or the order of these is unclear
+-- why items have no bytes, if they have none: they may be a row that is too wide, they are no digits, or the order of these is unclear
 abbrev pub items_lack : List (List ℕ) → NoBytes
-items_lack items = if is_some (items_bytes false items) then lack.Order else lack.Digits
+items_lack items =
+    if not (is_message items) && is_wide_row items then lack.WideRow
+    else if is_some (items_bytes false items) then lack.Order else lack.Digits
 
 -- the same of a line
 abbrev pub alone_lack : List ℕ → NoBytes

@@ -1,13 +1,15 @@
 -- A dump over several lines, as far as it was read.
-use Rattle.std.specs.Prelude.{ℕ, ◌==◌, ◌&&◌, ◌||◌, not, Bool, true, false, if◌then◌else◌, List, [], length, slice_index, Option, Some, None, is_some}
-use Rattle.scmi_decode.specs.FirstColumn.{bytes_beside, counts, lack_beside}
-use Rattle.scmi_decode.specs.DumpEnd.{EndView, no_end, addressed, end_of, emptied, ended_at, extended_to, is_even, line_end, reaches, repeating, row_bare, takes}
+use Rattle.std.specs.Prelude.{ℕ, ◌==◌, ◌&&◌, ◌||◌, not, Bool, true, false, if◌then◌else◌, List, [], length, slice_index, Option, Some, None}
+use Rattle.scmi_decode.specs.FirstColumn.{bytes_beside, counts, is_hexadecimal_alone, lack_beside}
+use Rattle.scmi_decode.specs.DumpEnd.{EndView, no_end, addressed, doubtful, end_of, emptied, ended_at, extended_to, is_base_sure, is_even, lacks_rows, line_end, reaches, repeating, row_bare, takes}
 use Rattle.scmi_decode.specs.Finding.{any_area, dump_findings}
 use Rattle.scmi_decode.specs.Row.{RowView, first_item, has_one_item, offset_row}
 use Rattle.scmi_decode.specs.declared.finding.Finding.{Finding}
 use Rattle.scmi_decode.specs.declared.form.Form.{Form}
 use Rattle.scmi_decode.specs.declared.form.Form.TheVariants.{Plain, Marked, Offset, Equals, Value}
 use Rattle.scmi_decode.specs.declared.layout.Layout.{Layout}
+use Rattle.scmi_decode.specs.declared.no_bytes.NoBytes.{NoBytes}
+use Rattle.scmi_decode.specs.declared.no_bytes.NoBytes.TheVariants.{Repeats}
 
 -- a dump, which has no bytes if none is open: which bytes of it are areas; the number of its first line, its form, its rows so far; and whether an area was found before
 pub record DumpView : Type 0 where
@@ -21,9 +23,14 @@ pub record DumpView : Type 0 where
 abbrev pub no_dump : Layout → DumpView
 no_dump l = record { layout = l; first = 0; form = Plain; end = no_end; found = false }
 
--- the bytes of a dump, in the order of its digits; none if its first column may be one of addresses
+-- the bytes of a dump, in the order of its digits; none if its first column may be one of addresses, or if it is unclear how often a row repeats
 abbrev pub dump_bytes : DumpView → Option (List ℕ)
-dump_bytes d = bytes_beside d.end.column d.end.order d.end.cells
+dump_bytes d = if lacks_rows d.end then None else bytes_beside d.end.column d.end.order d.end.cells
+
+-- why it has none
+abbrev pub dump_lack : DumpView → NoBytes
+dump_lack d =
+    if lacks_rows d.end && not (counts d.end.column) then Repeats else lack_beside d.end.column
 
 -- whether a dump is open
 abbrev pub is_open : DumpView → Bool
@@ -31,7 +38,7 @@ is_open d = not (length d.end.cells == 0)
 
 -- what is found in a dump once it has ended
 abbrev pub dump_found : DumpView → List Finding
-dump_found d = if is_open d then dump_findings d.layout d.first (lack_beside d.end.column) (dump_bytes d) else []
+dump_found d = if is_open d then dump_findings d.layout d.first (dump_lack d) (dump_bytes d) else []
 
 -- whether two forms are the same
 abbrev pub same_form : Form → Form → Bool
@@ -90,21 +97,29 @@ abbrev pub end_repeated : Form → EndView → (next : Option ℕ) → EndView
 end_repeated Plain e (Some next) = addressed e next
 end_repeated f e next = repeating e
 
--- a dump whose last row repeats
-unfoldable pub repeated : DumpView → DumpView
-repeated d = record d { form = form_repeated d.form; end = end_repeated d.form d.end d.end.column.hexadecimal }
+-- whether the addresses of rows of a form, and their base, are known: a dump without addresses has a first column that counts its bytes
+abbrev pub has_addresses : Form → EndView → Bool
+has_addresses Plain e = counts e.column && is_hexadecimal_alone e.column
+has_addresses f e = is_base_sure e
 
--- whether it is known how far a row repeats: a dump without addresses has a first column that counts its bytes; groups of four digits after an address alone may be those of `hexdump`, whose addresses are read in another base, so there a dump begins at 0
+-- whether the next address will show how often the last row repeats: addresses are known, and no shorter row and no unclear `*` came before
 abbrev pub may_repeat : Form → EndView → Bool
-may_repeat Plain e = counts e.column && is_some e.column.hexadecimal && is_even e
-may_repeat Offset e = not (e.group == 4) || (e.next == length e.cells)
-may_repeat f e = true
+may_repeat f e = not e.unclear && is_even e && has_addresses f e
 
--- whether a line is `*`, by which the last row of a dump with addresses repeats
+-- a dump whose last row repeats, up to the next address if that will show how often
+unfoldable pub repeated : DumpView → DumpView
+repeated d = record d {
+  form = if may_repeat d.form d.end then form_repeated d.form else d.form;
+  end =
+      if may_repeat d.form d.end then end_repeated d.form d.end d.end.column.hexadecimal
+      else doubtful d.end;
+}
+
+-- whether a line is `*` alone, by which the last row of a dump repeats
 unfoldable pub is_star : DumpView → List ℕ → Bool
 is_star d line =
-    is_open d && may_repeat d.form d.end && (length (first_item line) == 1) && (slice_index (first_item line) 0 == 42) && has_one_item line
+    is_open d && (length (first_item line) == 1) && (slice_index (first_item line) 0 == 42) && has_one_item line
 
--- the address of a line that ends a dump as `hexdump` and `od` do: it has an address alone, that at which the dump's bytes end
+-- the address of a line that ends a dump as `hexdump` and `od` do: it has an address alone, that at which the dump's bytes end, or any if rows are left out
 unfoldable pub end_at : DumpView → List ℕ → Option ℕ
 end_at d line = if is_open d && same_form d.form Offset then line_end d.end line else None

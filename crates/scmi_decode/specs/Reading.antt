@@ -1,7 +1,7 @@
 -- How dumps are read.
 use Rattle.std.specs.Prelude.{ℕ, ◌==◌, ◌||◌, nat_lt, Bool, true, false, if◌then◌else◌, List, [], get_or, length, map, is_some}
-use Rattle.scmi_decode.specs.Dump.{has_mark}
-use Rattle.scmi_decode.specs.MessageLine.{behind_event, behind_got, first_full}
+use Rattle.scmi_decode.specs.Dump.{first_full, has_mark}
+use Rattle.scmi_decode.specs.MessageLine.{behind_event, behind_got}
 use Rattle.scmi_decode.specs.declared.form.Form.{Form}
 use Rattle.scmi_decode.specs.declared.form.Form.TheVariants.{Plain, Marked, Offset, Equals, Value}
 use Rattle.scmi_decode.specs.declared.reading.Reading.{Reading}

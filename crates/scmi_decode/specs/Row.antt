@@ -21,6 +21,10 @@ digit_value b =
     if nat_lt 47 b && nat_lt b 58 then b - 48 else if nat_lt 96 b && nat_lt b 103 then b - 97 + 10
     else if nat_lt 64 b && nat_lt b 71 then b - 65 + 10 else 16
 
+-- whether an item is hexadecimal digits
+abbrev pub is_hexadecimal : List ℕ → Bool
+is_hexadecimal item = list_all (λ b. nat_lt (digit_value b) 16) item
+
 -- the number that digits of a base give after what comes before them, if it has at most 64 bits
 abbrev pub number_from : (base before : ℕ) → List ℕ → Option ℕ
 number_from base before [] = Some before

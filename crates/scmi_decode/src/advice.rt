@@ -1,5 +1,6 @@
 //! What to do about a line that is no dump.
 
+use crate::number::is_hexadecimal;
 use crate::parts::parts_of;
 use crate::row::are_bits;
 use crate::scan::{after_gap, after_item, first_item};
@@ -95,10 +96,6 @@ fn is_s_record(line: &[u8]) -> bool {
 
 fn is_digit_or_end(byte: u8) -> bool {
     byte.is_ascii_hexdigit() || byte == b'\r'
-}
-
-fn is_hexadecimal(item: &[u8]) -> bool {
-    item.iter().all(|byte| byte.is_ascii_hexdigit())
 }
 
 fn is_base64(item: &[u8]) -> bool {

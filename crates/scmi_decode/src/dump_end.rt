@@ -1,6 +1,6 @@
 //! Where a dump ends.
 ghost use Rattle.std.specs.Prelude.{◌≡◌, ◌≤◌, ◌+◌, ◌-◌, ◌%◌, ◌^◌, length, OnOk, IfOk};
-ghost use Rattle.scmi_decode.specs.DumpEnd.{addressed, are_zeros, bytes_after_group, bytes_before, bytes_behind, column_begun, column_with, copies, cut, emptied, end_of, ended_at, extended, extended_to, filled, has_its_groups, is_even, is_filled_from, is_in_last_group, last_row, line_end, no_end, reaches, repeating, row_bare, rows_before, slack_of, takes};
+ghost use Rattle.scmi_decode.specs.DumpEnd.{addressed, are_zeros, bytes_after_group, bytes_before, bytes_behind, column_begun, column_with, copies, cut, doubtful, emptied, end_of, ended_at, extended, extended_to, filled, has_its_groups, is_base_sure, is_even, is_filled_from, is_in_last_group, is_rows_on, lacks_rows, last_row, line_end, no_end, reaches, repeated_to, repeating, row_bare, rows_before, slack_of, takes};
 
 use crate::cell::{Cell, is_zero_in, order_shown};
 use crate::first_column::{FirstColumn, column_after, followed, has_base, no_column};
@@ -15,10 +15,17 @@ use std::mem;
 /// The most bytes that `*` repeats (own).
 pub(crate) const REPEATED_BYTES: u64 = 0x1_0000;
 
+/// After so many bytes of rows the next address shows its base (own). If rows follow one another in two
+/// bases, so that their addresses grow by as much in both, only the last digit has changed: the digits
+/// before it are worth more in the larger base, the more the larger they are. So the addresses have grown
+/// by at most 9 in decimal and hexadecimal digits, and by at most 7 if one base is octal.
+pub(crate) const SURE_BYTES: usize = 10;
+
 /// The rows of a dump so far, and where they end: the address after the last one, how many bytes the
 /// first one has, how many digits the first group of the last one has, in which order those of the
-/// first one are, whether the last one repeats up to the next address, the addresses that their first
-/// items may be, their bytes, and those without the first items if these may be addresses.
+/// first one are, whether the last one repeats up to the next address, whether it is unclear how often a
+/// row of it repeats, the addresses that their first items may be, their bytes, and those without the
+/// first items if these may be addresses.
 #[derive(Drop)]
 pub(crate) struct DumpEnd {
     next: u64,
@@ -26,6 +33,7 @@ pub(crate) struct DumpEnd {
     group: usize,
     order: Order,
     repeats: bool,
+    unclear: bool,
     column: FirstColumn,
     cells: Vec<Cell>,
     bare: Vec<Cell>,
@@ -42,6 +50,7 @@ impl Model for DumpEnd {
       group = e.group;
       order = e.order;
       repeats = e.repeats;
+      unclear = e.unclear;
       column = e.column;
       cells = e.cells.items;
       bare = e.bare.items;
@@ -59,6 +68,7 @@ impl DumpEnd {
             group: 0,
             order: Order::Straight,
             repeats: false,
+            unclear: false,
             column: no_column(),
             cells: Vec::new(alloc),
             bare: Vec::new(alloc),
@@ -79,18 +89,19 @@ impl DumpEnd {
         self.order
     }
 
-    /// How many digits the first group of the last row has.
-    pub(crate) fn group(&self) -> usize
-        ensures { result ≡ self.now.group }
+    /// Whether it is unclear how often a row of it repeats.
+    pub(crate) fn is_unclear(&self) -> bool
+        ensures { result ≡ self.now.unclear }
     {
-        self.group
+        self.unclear
     }
 
-    /// The address after the last row.
-    pub(crate) fn next(&self) -> u64
-        ensures { result ≡ self.now.next }
+    /// Whether rows are fewer than their dump has: it is unclear how often one repeats, or no address
+    /// says it.
+    pub(crate) fn lacks_rows(&self) -> bool
+        ensures { result ≡ lacks_rows self.now }
     {
-        self.next
+        self.unclear || self.repeats
     }
 
     /// The addresses that the first items of the rows may be.
@@ -122,14 +133,25 @@ impl DumpEnd {
         self.width != 0 && self.cells.len() % self.width == 0
     }
 
-    /// Whether an address is the one after the last row, or, if rows repeat, whole rows after it.
-    #[tactic(auto, unfolding(crate::specs::DumpEnd::reaches))]
+    /// Whether the base of addresses is sure.
+    pub(crate) fn is_base_sure(&self) -> bool
+        ensures { result ≡ is_base_sure self.now }
+    {
+        self.cells.len().saturating_sub(self.width) >= SURE_BYTES
+    }
+
+    /// Whether a row at an address, or an end there, is of the same dump: it is the one after the last
+    /// row, or rows between them are left out.
     pub(crate) fn reaches(&self, address: u64) -> bool
         ensures { result ≡ reaches self.now address }
     {
-        if !self.repeats {
-            return address == self.next;
-        }
+        self.lacks_rows() || address == self.next
+    }
+
+    /// Whether an address is whole rows after the last one, and not too far.
+    fn is_rows_on(&self, address: u64) -> bool
+        ensures { result ≡ is_rows_on self.now address }
+    {
         self.width != 0
             && self.next <= address
             && address - self.next <= REPEATED_BYTES
@@ -140,10 +162,10 @@ impl DumpEnd {
     fn rows_before(&self, address: u64) -> u64
         ensures { result ≡ rows_before self.now address }
     {
-        if self.repeats && self.width != 0 {
-            address.saturating_sub(self.next) / self.width as u64
-        } else {
+        if self.width == 0 {
             0
+        } else {
+            address.saturating_sub(self.next) / self.width as u64
         }
     }
 
@@ -154,7 +176,7 @@ impl DumpEnd {
         &self.cells[self.cells.len().saturating_sub(self.width)..]
     }
 
-    /// Repeats the last row up to an address.
+    /// Repeats the last row, if it repeats, up to an address, if that is whole rows on.
     #[tactic(auto, unfolding(crate::specs::DumpEnd::filled))]
     fn fill(&mut self, alloc: Global, address: u64) -> Result<(), AllocError>
         ensures { OnOk result (self.new ≡ filled self.old address) }
@@ -162,6 +184,18 @@ impl DumpEnd {
         if !self.repeats {
             return Ok(());
         }
+        if self.is_rows_on(address) {
+            return self.repeat_to(alloc, address);
+        }
+        self.doubt();
+        Ok(())
+    }
+
+    /// Repeats the last row up to an address.
+    #[tactic(auto, unfolding(crate::specs::DumpEnd::repeated_to))]
+    fn repeat_to(&mut self, alloc: Global, address: u64) -> Result<(), AllocError>
+        ensures { OnOk result (self.new ≡ repeated_to self.old address) }
+    {
         let count = self.rows_before(address);
         let row = copies(alloc, count, self.last_row())?;
         self.cells.extend_from_slice(row.as_slice())?;
@@ -193,11 +227,14 @@ impl DumpEnd {
         count.saturating_sub(self.next.saturating_sub(address)) as usize
     }
 
-    /// Leaves out its bytes from such an address on.
+    /// Leaves out its bytes from such an address on; none if it is unclear how often a row repeats.
     #[tactic(auto, unfolding(crate::specs::DumpEnd::cut))]
     fn cut(&mut self, address: u64)
         ensures { self.new ≡ cut self.old address }
     {
+        if self.unclear {
+            return;
+        }
         let count = self.count_before(address);
         self.cells.truncate(count);
     }
@@ -247,6 +284,7 @@ impl DumpEnd {
         self.group = row.group();
         self.order = row.order();
         self.repeats = false;
+        self.unclear = false;
         self.column = column_begun(row);
         Ok(())
     }
@@ -268,7 +306,16 @@ impl DumpEnd {
         self.repeats = true;
     }
 
-    /// The same, if the first items are addresses, of which this is the next. The rows have no bytes
+    /// Notes that it is unclear how often a row repeats.
+    #[tactic(auto, unfolding(crate::specs::DumpEnd::doubtful))]
+    pub(crate) fn doubt(&mut self)
+        ensures { self.new ≡ doubtful self.old }
+    {
+        self.repeats = false;
+        self.unclear = true;
+    }
+
+    /// Repeats the last row, if the first items are addresses, of which this is the next. The rows have no bytes
     /// before that is read.
     #[tactic(auto, unfolding(crate::specs::DumpEnd::addressed))]
     pub(crate) fn repeat_addressed(&mut self, next: u64)
@@ -282,7 +329,8 @@ impl DumpEnd {
         self.bare.clear();
     }
 
-    /// The address of a line that has an address alone, that at which the bytes end.
+    /// The address of a line that has an address alone, that at which the bytes end, or any if rows are
+    /// left out.
     #[tactic(auto, unfolding(crate::specs::DumpEnd::line_end))]
     pub(crate) fn line_end(&self, line: &[u8]) -> Option<u64>
         ensures { result ≡ line_end self.now line.now }
@@ -315,7 +363,7 @@ impl DumpEnd {
     fn is_in_last_group(&self, address: u64) -> bool
         ensures { result ≡ is_in_last_group self.now address }
     {
-        !self.repeats && address < self.next && self.next - address < self.group as u64 / 2
+        address < self.next && self.next - address < self.group as u64 / 2
     }
 }
 

@@ -1,6 +1,6 @@
 //! The first column of rows without addresses: it may be one of addresses.
 ghost use Rattle.std.specs.Prelude.{◌≡◌};
-ghost use Rattle.scmi_decode.specs.FirstColumn.{column_after, counts, followed, has_base, lack_beside, later, met, met_by, no_column, stepped};
+ghost use Rattle.scmi_decode.specs.FirstColumn.{column_after, counts, followed, has_base, is_hexadecimal_alone, lack_beside, later, met, met_by, no_column, stepped};
 
 use crate::no_bytes::NoBytes;
 
@@ -115,6 +115,13 @@ pub(crate) fn counts(column: FirstColumn) -> bool
     ensures { result ≡ counts column }
 {
     column.steps >= SURE_STEPS || column.steps > 0 && has_base(column)
+}
+
+/// Whether it counts in hexadecimal digits alone.
+pub(crate) fn is_hexadecimal_alone(column: FirstColumn) -> bool
+    ensures { result ≡ is_hexadecimal_alone column }
+{
+    column.hexadecimal.is_some() && column.decimal.is_none() && column.octal.is_none()
 }
 
 /// Why rows with this column have no bytes, if they have none.

@@ -43,6 +43,7 @@ mod scan;
 mod step;
 mod swapped;
 mod traced;
+mod wide_row;
 
 pub use bytes::{decode_bytes, run_bytes};
 pub use decode::{decode_input, run_counted, run_decode};

@@ -1,18 +1,20 @@
 //! Lines that report a message: of Linux's event `scmi_msg_dump`, or of a script.
 ghost use Rattle.std.specs.Prelude.{◌≡◌, IfOk, map};
 ghost use Rattle.std.specs.Option.{option_map};
-ghost use Rattle.scmi_decode.specs.MessageLine.{behind_event, behind_got, first_full, got_or_own, is_agent, is_got, items_alone, items_lack, items_layout, ordered_bytes, own_order};
+ghost use Rattle.scmi_decode.specs.MessageLine.{behind_event, behind_got, got_or_own, is_agent, is_got, is_message, items_alone, items_lack, items_layout, ordered_bytes, own_bytes, own_order};
 ghost use Rattle.scmi_decode.specs.declared.order.Order.TheVariants.{Unclear};
 
 use crate::dump::items_bytes;
 use crate::event::{digits_number, event_area};
 use crate::form::Form;
 use crate::layout::Layout;
+use crate::lines::first_full;
 use crate::message_area::message_area;
 use crate::message_words::{EVENT, GOT, P2A, REPLY};
 use crate::no_bytes::NoBytes;
 use crate::order::Order;
 use crate::row::{group_of, order_of};
+use crate::wide_row::is_wide_row;
 use std::alloc::{AllocError, Global};
 
 /// The bytes that the items of a line encode alone: the area of the message that they report, or
@@ -48,12 +50,23 @@ fn got_or_own(alloc: Global, items: &[&[u8]]) -> Result<Option<Vec<u8>>, AllocEr
         got_or_own (behind_got (map (λ item. item.now) items.now)) (map (λ item. item.now) items.now)) }
 {
     let Some(behind) = behind_got(items) else {
-        return ordered_bytes(alloc, own_order(items), items);
+        return own_bytes(alloc, items);
     };
     match items_bytes(alloc, true, behind)? {
         Some(message) => message_area(alloc, 1, message.as_slice()),
         None => Ok(None),
     }
+}
+
+/// The bytes of a line that reports no message; none if it may be a row that is too wide.
+fn own_bytes(alloc: Global, items: &[&[u8]]) -> Result<Option<Vec<u8>>, AllocError>
+    ensures { IfOk result (λ found. option_map (λ bytes. bytes.items) found ≡
+        own_bytes (map (λ item. item.now) items.now)) }
+{
+    if is_wide_row(items) {
+        return Ok(None);
+    }
+    ordered_bytes(alloc, own_order(items), items)
 }
 
 /// The order of the digits of a line that has several items.
@@ -102,36 +115,31 @@ fn alike_bytes(alloc: Global, items: &[&[u8]]) -> Result<Option<Vec<u8>>, AllocE
 pub(crate) fn items_layout(layout: Layout, items: &[&[u8]]) -> Layout
     ensures { result ≡ items_layout layout (map (λ item. item.now) items.now) }
 {
-    if behind_event(items).is_some() || behind_got(items).is_some() {
+    if is_message(items) {
         Layout::Whole
     } else {
         layout
     }
 }
 
+/// Whether a line reports a message.
+fn is_message(items: &[&[u8]]) -> bool
+    ensures { result ≡ is_message (map (λ item. item.now) items.now) }
+{
+    behind_event(items).is_some() || behind_got(items).is_some()
+}
+
 /// Why items have no bytes, if they have none.
 pub(crate) fn items_lack(alloc: Global, items: &[&[u8]]) -> Result<NoBytes, AllocError>
     ensures { IfOk result (λ lack. lack ≡ items_lack (map (λ item. item.now) items.now)) }
 {
-    if items_bytes(alloc, false, items)?.is_some() {
+    if !is_message(items) && is_wide_row(items) {
+        Ok(NoBytes::WideRow)
+    } else if items_bytes(alloc, false, items)?.is_some() {
         Ok(NoBytes::Order)
     } else {
         Ok(NoBytes::Digits)
     }
-}
-
-/// The first item that is not empty; empty if there is none.
-pub(crate) fn first_full<'a>(items: &[&'a [u8]]) -> &'a [u8]
-    ensures { result.now ≡ first_full (map (λ item. item.now) items.now) }
-{
-    let mut rest = items;
-    'items: while let [item, behind @ ..] = rest {
-        if !item.is_empty() {
-            return item;
-        }
-        rest = behind;
-    }
-    &[]
 }
 
 /// What follows an agent and the word for a message that it has got.

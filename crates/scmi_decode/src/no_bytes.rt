@@ -9,4 +9,8 @@ pub enum NoBytes {
     Order,
     /// The first items of its rows may be addresses.
     Address,
+    /// It is unclear how often a row of it repeats.
+    Repeats,
+    /// It is one line that may be an address and more bytes than a row has.
+    WideRow,
 }

@@ -1,6 +1,6 @@
 //! The numbers of addresses.
 ghost use Rattle.std.specs.Prelude.{◌≡◌, length};
-ghost use Rattle.scmi_decode.specs.Row.{digit_value, number_from, without_mark};
+ghost use Rattle.scmi_decode.specs.Row.{digit_value, is_hexadecimal, number_from, without_mark};
 
 use crate::dump::has_mark;
 
@@ -14,6 +14,13 @@ fn digit_value(byte: u8) -> u64
         b'A'..=b'F' => u64::from(byte - b'A') + 10,
         _ => 16,
     }
+}
+
+/// Whether an item is hexadecimal digits.
+pub(crate) fn is_hexadecimal(item: &[u8]) -> bool
+    ensures { result ≡ is_hexadecimal item.now }
+{
+    item.iter().all(|byte| digit_value(*byte) < 16)
 }
 
 /// The number that digits of a base give after what comes before them, `None` if one of them is no

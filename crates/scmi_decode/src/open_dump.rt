@@ -1,13 +1,12 @@
 //! A dump over several lines.
 ghost use Rattle.std.specs.Prelude.{◌≡◌, OnOk, IfOk};
 ghost use Rattle.std.specs.Option.{is_some, option_map};
-ghost use Rattle.scmi_decode.specs.FirstColumn.{lack_beside};
 ghost use Rattle.scmi_decode.specs.Finding.{any_area};
-ghost use Rattle.scmi_decode.specs.OpenDump.{added, begun, beside, closed, dump_bytes, dump_found, end_at, end_repeated, ended, form_repeated, goes_on, is_open, is_star, may_repeat, no_dump, or_row, repeated, row_at, same_form, seen};
+ghost use Rattle.scmi_decode.specs.OpenDump.{added, begun, beside, closed, dump_bytes, dump_found, dump_lack, end_at, end_repeated, ended, form_repeated, goes_on, has_addresses, is_open, is_star, may_repeat, no_dump, or_row, repeated, row_at, same_form, seen};
 
 use crate::cell::{order_shown, settled};
 use crate::dump_end::{DumpEnd, row_bare};
-use crate::first_column::{counts, lack_beside};
+use crate::first_column::{counts, is_hexadecimal_alone, lack_beside};
 use crate::form::Form;
 use crate::layout::Layout;
 use crate::no_bytes::NoBytes;
@@ -83,13 +82,13 @@ impl OpenDump {
         self.first
     }
 
-    /// Its bytes, in the order of its digits; `None` if that is unclear, or if its first column may be
-    /// one of addresses.
+    /// Its bytes, in the order of its digits; `None` if that is unclear, if its first column may be one
+    /// of addresses, or if it is unclear how often a row repeats.
     pub(crate) fn bytes(&self, alloc: Global) -> Result<Option<Vec<u8>>, AllocError>
         ensures { IfOk result (λ found.
             option_map (λ bytes. bytes.items) found ≡ dump_bytes self.now) }
     {
-        if counts(self.end.column()) {
+        if self.end.lacks_rows() || counts(self.end.column()) {
             return Ok(None);
         }
         settled(alloc, self.end.order(), self.end.cells())
@@ -97,9 +96,13 @@ impl OpenDump {
 
     /// Why it has no bytes, if it has none.
     pub(crate) fn lack(&self) -> NoBytes
-        ensures { result ≡ lack_beside self.now.end.column }
+        ensures { result ≡ dump_lack self.now }
     {
-        lack_beside(self.end.column())
+        if self.end.lacks_rows() && !counts(self.end.column()) {
+            NoBytes::Repeats
+        } else {
+            lack_beside(self.end.column())
+        }
     }
 
     /// Whether an area was found.
@@ -205,24 +208,24 @@ impl OpenDump {
         self.unsaid.say(readings);
     }
 
-    /// Whether a line is `*`, by which the last row of a dump with addresses repeats.
+    /// Whether a line is `*` alone, by which the last row of a dump repeats.
     #[tactic(auto, unfolding(crate::specs::OpenDump::is_star))]
     pub(crate) fn is_star(&self, line: &[u8]) -> bool
         ensures { result ≡ is_star self.now line.now }
     {
         let item = first_item(line);
-        self.is_open()
-            && may_repeat(self.form, &self.end)
-            && item.len() == 1
-            && item[0] == b'*'
-            && has_one_item(line)
+        self.is_open() && item.len() == 1 && item[0] == b'*' && has_one_item(line)
     }
 
-    /// Repeats the last row up to the next address.
+    /// Repeats the last row up to the next address, if that will show how often.
     #[tactic(auto, unfolding(crate::specs::OpenDump::repeated))]
     pub(crate) fn repeat(&mut self)
         ensures { self.new ≡ repeated self.old }
     {
+        if !may_repeat(self.form, &self.end) {
+            self.end.doubt();
+            return;
+        }
         match (self.form, self.end.column().hexadecimal) {
             (Form::Plain, Some(next)) => self.end.repeat_addressed(next),
             _ => self.end.repeat(),
@@ -231,7 +234,7 @@ impl OpenDump {
     }
 
     /// The address of a line that ends the dump as `hexdump` and `od` do: it has an address alone,
-    /// that at which the dump's bytes end.
+    /// that at which the dump's bytes end, or any if rows are left out.
     #[tactic(auto, unfolding(crate::specs::OpenDump::end_at))]
     pub(crate) fn end_at(&self, line: &[u8]) -> Option<u64>
         ensures { result ≡ end_at self.now line.now }
@@ -254,18 +257,22 @@ fn form_repeated(form: Form) -> Form
     }
 }
 
-/// Whether it is known how far a row repeats: a dump without addresses has a first column that counts
-/// its bytes; groups of four digits after an address alone may be those of `hexdump`, whose addresses
-/// are read in another base, so there a dump begins at 0.
+/// Whether the next address will show how often the last row repeats: addresses are known, and no
+/// shorter row and no unclear `*` came before.
 fn may_repeat(form: Form, end: &DumpEnd) -> bool
     ensures { result ≡ may_repeat form end.now }
 {
+    !end.is_unclear() && end.is_even() && has_addresses(form, end)
+}
+
+/// Whether the addresses of rows of a form, and their base, are known: a dump without addresses has a
+/// first column that counts its bytes.
+fn has_addresses(form: Form, end: &DumpEnd) -> bool
+    ensures { result ≡ has_addresses form end.now }
+{
     match form {
-        Form::Plain => {
-            counts(end.column()) && end.column().hexadecimal.is_some() && end.is_even()
-        }
-        Form::Offset => end.group() != 4 || end.next() == end.cells().len() as u64,
-        Form::Marked | Form::Equals | Form::Value => true,
+        Form::Plain => counts(end.column()) && is_hexadecimal_alone(end.column()),
+        Form::Marked | Form::Offset | Form::Equals | Form::Value => end.is_base_sure(),
     }
 }
 

@@ -66,6 +66,20 @@ fn write_finding<W: Write>(writer: &mut W, finding: &Finding, text: &[u8]) -> io
             "no area: its first column may be addresses; print single bytes (od -t x1), or no \
             addresses (od -A n -v)\n"
         ),
+        Found::NoBytes {
+            why: NoBytes::Repeats,
+        } => write!(
+            writer,
+            "no area: it is unclear how often a row before `*` repeats; print each row (od -v, \
+            hexdump -vC, xxd without -a)\n"
+        ),
+        Found::NoBytes {
+            why: NoBytes::WideRow,
+        } => write!(
+            writer,
+            "no area: its first item may be an address; print at most 32 bytes a row (od -w16), \
+            or no addresses (od -A n -v)\n"
+        ),
     }
 }
 

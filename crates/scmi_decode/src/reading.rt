@@ -4,7 +4,8 @@ ghost use Rattle.scmi_decode.specs.Reading.{alone_reading, is_wide, reading_text
 
 use crate::dump::has_mark;
 use crate::form::Form;
-use crate::message_line::{behind_event, behind_got, first_full};
+use crate::lines::first_full;
+use crate::message_line::{behind_event, behind_got};
 use crate::parts::parts_of;
 use crate::scan::first_item;
 
