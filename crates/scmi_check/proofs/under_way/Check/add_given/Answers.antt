@@ -1,7 +1,9 @@
-use Rattle.std.proofs.Common.{◌∙◌, ap}
+use Rattle.std.proofs.Common.{◌∙◌, ap, subst}
+use Rattle.std.specs.Prelude.{OnOk}
 use Rattle.scmi_board.specs.Lines.{line_of}
 use Rattle.scmi_check.specs.CheckError.{error_of_text}
 use Rattle.scmi_check.specs.RecordText.{shows_of}
+use Rattle.scmi_check.specs.UnderWay.{AddsLine}
 use Rattle.scmi_check.proofs.Before.{refused-elsewhere}
 use Rattle.scmi_check.proofs.Growing.{if-err, on-ok}
 use Rattle.scmi_check.proofs.Telling.{adds-line, fails-line}
@@ -15,12 +17,21 @@ returns-in-Err-clause-errors g c = λ r b all judged notes way.
 
 pub returns-clause-line : goal.returns-clause-line
 returns-clause-line g c = λ r b all judged notes way.
-    on-ok c.tell.result (c.tell.ensures.told r b way.placed judged notes way.agents_are way.judging)
-    (adds-line r b all judged notes c.args.self.now way (line_of c.args.line)
-    (shows_of c.add_line.new.so_far) c.tell.new.self (g.L.Listener.judged c.args.listener.now)
-    (g.L.Listener.judged c.tell.new.listener)
-    (g.L.Listener.noted c.args.listener.now) (g.L.Listener.noted c.tell.new.listener)
-    c.in_default.ensures)
+    let given = g.L.Listener.judged in
+    let noted = g.L.Listener.noted in
+    let first = c.args.listener.now in
+    let at = c.at_line.new.self in
+    let last = c.tell.new.listener in
+    let line = line_of c.args.line in
+    let new = c.tell.new.self in
+    subst (λ old. OnOk c.tell.result (AddsLine r b all judged notes line new old (given last)
+    (noted first) (noted last))) c.at_line.ensures.judged
+    (subst (λ old. OnOk c.tell.result (AddsLine r b all judged notes line new (given at)
+    (given last) old (noted last))) c.at_line.ensures.noted
+    (on-ok c.tell.result
+    (c.tell.ensures.told r b way.placed judged notes way.agents_are way.judging)
+    (adds-line r b all judged notes c.args.self.now way line (shows_of c.add_line.new.so_far) new
+    (given at) (given last) (noted at) (noted last) c.in_default.ensures)))
 
 pub returns-clause-before : goal.returns-clause-before
 returns-clause-before g c =
