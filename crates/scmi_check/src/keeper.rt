@@ -19,7 +19,7 @@ impl Listener for Keeper {
 
     ghost noted = { λ k. Some k.notes.items };
 
-    fn at_line(&mut self, _line: u32, _text: &[u8]) {}
+    fn at_line(&mut self, _text: &[u8]) {}
 
     fn found(&mut self, one: &Judged) -> Result<(), CheckError> {
         match self.judged.push(one.copy()) {

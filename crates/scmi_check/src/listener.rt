@@ -18,8 +18,8 @@ pub trait Listener {
 
     ghost noted: { Self → Option (List Note) };
 
-    /// What is found next is found at the line of this number, which has this text.
-    fn at_line(&mut self, line: u32, text: &[u8])
+    /// What is found next is found at the line with this text.
+    fn at_line(&mut self, text: &[u8])
         ensures judged { judged self.new ≡ judged self.old }
         ensures noted { noted self.new ≡ noted self.old };
 

@@ -10,7 +10,7 @@ use crate::help::Help;
 use crate::json::{write_json_counts, write_json_entry, write_json_note, write_json_unsure};
 use crate::judged::Judged;
 use crate::listener::Listener;
-use crate::note::Note;
+use crate::note::{Note, NoteKind};
 use crate::note_text::{write_left, write_note, write_unsure};
 use crate::origins::Origins;
 use crate::reasons::write_reasons;
@@ -32,8 +32,7 @@ pub struct Report<'a, W: Write> {
     refusals: Refusals,
     counts: Counts,
     origins: Origins,
-    // The line of which the next findings are, and its time, if it is one of a trace.
-    line: u32,
+    // When that was of which the line tells, if it is one of a trace.
     time: Option<TraceTime>,
 }
 
@@ -51,7 +50,6 @@ impl<'a, W: Write> Report<'a, W> {
             refusals,
             counts,
             origins,
-            line: 0,
             time: None,
         }
     }
@@ -66,7 +64,6 @@ impl<'a, W: Write> Report<'a, W> {
             refusals: _,
             counts,
             origins: _,
-            line: _,
             time: _,
         } = self;
         if style == Style::Json {
@@ -98,11 +95,10 @@ impl<'a, W: Write> Report<'a, W> {
     /// Writes a note, and counts it.
     fn write_note(&mut self, note: &Note) -> io::Result<()> {
         self.counts.note(note.kind);
-        // A command without an answer has an earlier line.
-        let time = if note.line == self.line {
-            self.time
-        } else {
-            None
+        // Only such a note is of the line that was read last.
+        let time = match note.kind {
+            NoteKind::Unmatched => self.time,
+            NoteKind::Unanswered | NoteKind::Lost(_) => None,
         };
         match self.style {
             Style::Json => write_json_note(self.writer, note, time),
@@ -119,8 +115,7 @@ impl<W: Write> Listener for Report<'_, W> {
 
     ghost noted = { λ _. None };
 
-    fn at_line(&mut self, line: u32, text: &[u8]) {
-        self.line = line;
+    fn at_line(&mut self, text: &[u8]) {
         self.time = time_in(text);
     }
 

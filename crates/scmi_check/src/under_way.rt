@@ -112,7 +112,7 @@ impl<'a> Check<'a> {
         if let Err(error) = add_line(alloc, &mut self.so_far, line, self.agents) {
             return Err(CheckError::from(error.in_script(line.number)));
         }
-        listener.at_line(line.number, line.text);
+        listener.at_line(line.text);
         self.tell(listener)
     }
 
