@@ -3,7 +3,8 @@ use Rattle.std.specs.Prelude.{ℕ, zero, suc, ◌+◌, ◌-◌, ◌/◌, ◌%◌
 use Rattle.std.specs.List.{list_all}
 use Rattle.scmi_decode.specs.Cell.{is_zero_in, order_shown}
 use Rattle.scmi_decode.specs.FirstColumn.{column_after, followed, has_base, no_column}
-use Rattle.scmi_decode.specs.Row.{RowView, address_of, first_item, has_one_item}
+use Rattle.scmi_decode.specs.Row.{RowView, address_of}
+use Rattle.scmi_decode.specs.Scan.{first_item, has_one_item}
 use Rattle.scmi_decode.specs.declared.cell.Cell.{Cell}
 use Rattle.scmi_decode.specs.declared.first_column.FirstColumn.{FirstColumn}
 use Rattle.scmi_decode.specs.declared.dump_end.TheConstants.{REPEATED_BYTES, SURE_BYTES}

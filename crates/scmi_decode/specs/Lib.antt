@@ -1,6 +1,8 @@
 pub mod Dump
 pub mod Cell
 pub mod FirstColumn
+pub mod Scan
+pub mod GroupOrder
 pub mod Row
 pub mod Layout
 pub mod Finding

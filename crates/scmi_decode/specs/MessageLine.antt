@@ -3,7 +3,7 @@ use Rattle.std.specs.Prelude.{ℕ, ◌^◌, ◌&&◌, ◌||◌, not, Bool, true,
 use Rattle.std.specs.List.{slice_split}
 use Rattle.std.specs.Str.{bytes_eq}
 use Rattle.scmi_decode.specs.Dump.{first_full, is_gap, items_bytes}
-use Rattle.scmi_decode.specs.Row.{group_of, order_of}
+use Rattle.scmi_decode.specs.GroupOrder.{group_of, order_of}
 use Rattle.scmi_decode.specs.Event.{digits_number, event_area}
 use Rattle.scmi_decode.specs.MessageArea.{message_area}
 use Rattle.scmi_decode.specs.WideRow.{is_wide_row}

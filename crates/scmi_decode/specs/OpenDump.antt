@@ -3,7 +3,8 @@ use Rattle.std.specs.Prelude.{ℕ, ◌==◌, ◌&&◌, ◌||◌, not, Bool, true
 use Rattle.scmi_decode.specs.FirstColumn.{bytes_beside, counts, is_hexadecimal_alone, lack_beside}
 use Rattle.scmi_decode.specs.DumpEnd.{EndView, no_end, addressed, doubtful, end_of, emptied, ended_at, extended_to, is_base_sure, is_even, lacks_rows, line_end, reaches, repeating, row_bare, takes}
 use Rattle.scmi_decode.specs.Finding.{any_area, dump_findings}
-use Rattle.scmi_decode.specs.Row.{RowView, first_item, has_one_item, offset_row}
+use Rattle.scmi_decode.specs.Row.{RowView, offset_row}
+use Rattle.scmi_decode.specs.Scan.{first_item, has_one_item}
 use Rattle.scmi_decode.specs.declared.finding.Finding.{Finding}
 use Rattle.scmi_decode.specs.declared.form.Form.{Form}
 use Rattle.scmi_decode.specs.declared.form.Form.TheVariants.{Plain, Marked, Offset, Equals, Value}

@@ -1,17 +1,19 @@
 -- The rows of dumps: an address, some bytes, and a column of text.
-use Rattle.std.specs.Prelude.{ℕ, ◌+◌, ◌-◌, ◌*◌, ◌/◌, ◌^◌, ◌==◌, ◌&&◌, ◌||◌, nat_eq, nat_le, nat_lt, not, Bool, true, false, if◌then◌else◌, List, [], ◌∷◌, length, take, drop, slice_index, Option, Some, None, is_some}
+use Rattle.std.specs.Prelude.{ℕ, ◌+◌, ◌-◌, ◌*◌, ◌^◌, ◌==◌, ◌&&◌, ◌||◌, nat_eq, nat_lt, not, Bool, true, false, if◌then◌else◌, List, [], ◌∷◌, length, take, drop, slice_index, Option, Some, None, is_some}
 use Rattle.std.specs.Int.{to_le_bytes, w32}
 use Rattle.std.specs.List.{list_all, starts_with}
 use Rattle.std.specs.Option.{option_map}
 use Rattle.scmi_decode.specs.Cell.{cells_of, later_bytes}
 use Rattle.scmi_decode.specs.FirstColumn.{no_column}
 use Rattle.scmi_decode.specs.Dump.{is_gap, has_mark, line_bytes}
+use Rattle.scmi_decode.specs.GroupOrder.{group_of, is_long, are_bits, data_order}
+use Rattle.scmi_decode.specs.Scan.{item_length, after_gap, first_item, after_item, column_length, bar_length, pipe_length, behind_colon, without_last, without_return, after_cursor}
 use Rattle.scmi_decode.specs.declared.cell.Cell.{Cell}
 use Rattle.scmi_decode.specs.declared.first_column.FirstColumn.{FirstColumn}
 use Rattle.scmi_decode.specs.declared.form.Form.{Form}
 use Rattle.scmi_decode.specs.declared.form.Form.TheVariants.{Plain, Marked, Offset, Equals, Value}
 use Rattle.scmi_decode.specs.declared.order.Order.{Order}
-use Rattle.scmi_decode.specs.declared.order.Order.TheVariants.{Straight, Turned, Unclear}
+use Rattle.scmi_decode.specs.declared.order.Order.TheVariants.{Turned}
 use Rattle.scmi_decode.specs.declared.parts.TheConstants.{VALUE_AT}
 use Rattle.scmi_decode.specs.declared.row.TheConstants.{ROW_BYTES, ROW_LINE_BYTES}
 
@@ -31,64 +33,9 @@ number_from base before [] = Some before
 number_from base before (d ∷ ds) =
     if nat_lt (digit_value d) base && nat_lt (before * base + digit_value d) (2 ^ 64) then number_from base (before * base + digit_value d) ds else None
 
--- how many bytes of the gap at the begin
-abbrev pub gap_length : List ℕ → ℕ
-gap_length [] = 0
-gap_length (b ∷ bs) = if is_gap b then 1 + gap_length bs else 0
-
--- how many bytes come before the first gap
-abbrev pub item_length : List ℕ → ℕ
-item_length [] = 0
-item_length (b ∷ bs) = if is_gap b then 0 else 1 + item_length bs
-
--- what follows the gap at the beginning
-abbrev pub after_gap : List ℕ → List ℕ
-after_gap line = drop (gap_length line) line
-
--- the first item of a line
-abbrev pub first_item : List ℕ → List ℕ
-first_item line = take (item_length (after_gap line)) (after_gap line)
-
--- what follows the first item of a line
-abbrev pub after_item : List ℕ → List ℕ
-after_item line = drop (item_length (after_gap line)) (after_gap line)
-
--- whether a line has one item
-abbrev pub has_one_item : List ℕ → Bool
-has_one_item line = length (after_gap (after_item line)) == 0
-
--- whether a text begins with a space
-abbrev pub begins_with_space : List ℕ → Bool
-begins_with_space [] = false
-begins_with_space (b ∷ bs) = b == 32
-
--- how many bytes come before two spaces in a row
-abbrev pub column_length : List ℕ → ℕ
-column_length [] = 0
-column_length (b ∷ bs) = if (b == 32) && begins_with_space bs then 0 else 1 + column_length bs
-
--- how many bytes come before `|` or `>`
-abbrev pub bar_length : List ℕ → ℕ
-bar_length [] = 0
-bar_length (b ∷ bs) = if (b == 124) || (b == 62) then 0 else 1 + bar_length bs
-
--- how many bytes come before `|`
-abbrev pub pipe_length : List ℕ → ℕ
-pipe_length [] = 0
-pipe_length (b ∷ bs) = if b == 124 then 0 else 1 + pipe_length bs
-
--- what follows the last colon, or else what is best so far
-abbrev pub behind_colon : (best text : List ℕ) → List ℕ
-behind_colon best [] = best
-behind_colon best (b ∷ bs) = behind_colon (if b == 58 then bs else best) bs
-
 -- whether an item has a colon as its last byte
 abbrev pub ends_in_colon : List ℕ → Bool
 ends_in_colon item = not (length item == 0) && (slice_index item (length item - 1) == 58)
-
--- an item without its last byte
-abbrev pub without_last : List ℕ → List ℕ
-without_last item = take (length item - 1) item
 
 -- whether an item names the place of an address, `<NAME+N>:`
 abbrev pub is_symbol : List ℕ → Bool
@@ -130,14 +77,6 @@ cut_parts f digits size groups = record { form = f; digits = digits; bytes = tak
 unfoldable pub marked_parts : Form → (digits behind : List ℕ) → RowParts
 marked_parts f digits behind = cut_parts f digits (column_length (after_gap behind)) (after_gap behind)
 
--- whether a text ends in a carriage return
-abbrev pub ends_in_return : List ℕ → Bool
-ends_in_return text = not (length text == 0) && (slice_index text (length text - 1) == 13)
-
--- a text without the carriage return at its end
-abbrev pub without_return : List ℕ → List ℕ
-without_return text = if ends_in_return text then without_last text else text
-
 -- a row of an address alone, whose bytes follow it, before a column of text between `|` and `|` or `>` and `<`
 unfoldable pub offset_parts : (digits behind : List ℕ) → RowParts
 offset_parts digits behind = record {
@@ -158,11 +97,6 @@ smaller m n = if nat_lt m n then m else n
 -- how long the data of sixteen bytes are, by their first group
 abbrev pub data_length : List ℕ → ℕ
 data_length groups = smaller (sixteen_length (item_length groups)) (length groups)
-
--- data without `>` before them
-abbrev pub after_cursor : List ℕ → List ℕ
-after_cursor [] = []
-after_cursor (b ∷ bs) = if b == 62 then bs else b ∷ bs
 
 -- the data behind `|`
 abbrev pub piped_data : List ℕ → List ℕ
@@ -209,58 +143,6 @@ without_mark digits = if has_mark digits then drop 2 digits else digits
 unfoldable pub address_of : Form → List ℕ → Option ℕ
 address_of f digits = number_from (base_of f digits) 0 (without_mark digits)
 
--- how many digits an item has, 0 of one with its mark
-abbrev pub group_of : List ℕ → ℕ
-group_of item = if has_mark item then 0 else length item
-
--- how many spaces come before a column of text, 0 without one
-abbrev pub gap_before : List ℕ → ℕ
-gap_before column = if length (after_gap column) == 0 then 0 else gap_length column
-
--- the order of groups of four digits: od and J-Link print numbers, xxd bytes and two spaces, md.w numbers and more
-abbrev pub half_order : Form → (gap : ℕ) → Order
-half_order Offset gap = Turned
-half_order Marked gap = if gap == 2 then Straight else if nat_lt 2 gap then Turned else Unclear
-half_order Plain gap = Unclear
-half_order Equals gap = Turned
-half_order Value gap = Turned
-
--- the order of groups of eight or sixteen digits: numbers, but one alone on a line may be bytes, as xxd -p prints them, and so may those before two spaces and a column, as xxd -g 4 prints them
-abbrev pub long_order : Form → (gap : ℕ) → (alone : Bool) → Order
-long_order Plain gap true = Unclear
-long_order Plain gap false = Turned
-long_order Marked gap alone = if gap == 2 then Unclear else Turned
-long_order Offset gap alone = Turned
-long_order Equals gap alone = Turned
-long_order Value gap alone = Turned
-
--- whether a group has eight or sixteen digits
-abbrev pub is_long : (group : ℕ) → Bool
-is_long group = (group == 8) || (group == 16)
-
--- the order of the digits of a row, by how many its first group has, the spaces before its column of text, and whether its group is alone
-abbrev pub order_of : Form → (group gap : ℕ) → (alone : Bool) → Order
-order_of f group gap alone = if group == 4 then half_order f gap else if is_long group then long_order f gap alone else Straight
-
--- whether a byte is the digit 0 or 1, or in a gap
-abbrev pub is_bit : ℕ → Bool
-is_bit b = (b == 48) || (b == 49) || is_gap b
-
--- whether data are digits 0 and 1 alone, and gaps
-abbrev pub has_bits_alone : List ℕ → Bool
-has_bits_alone groups = list_all is_bit groups
-
--- a column without the gap before it
-abbrev pub shown_text : List ℕ → List ℕ
-shown_text column = without_return (after_gap column)
-
--- whether data are bits, as `xxd -b` prints them after an address and a colon: groups of eight digits 0 and 1, and a column of text with at most one character for each
-abbrev pub are_bits : Form → (groups column : List ℕ) → Bool
-are_bits Marked groups column =
-    (length (first_item groups) == 8) && nat_lt 0 (length (shown_text column)) && nat_le (length (shown_text column)) (length groups / 9 + 1)
-    && has_bits_alone groups
-are_bits f groups column = false
-
 -- what a column shows of so many bytes: the last characters
 abbrev pub column_text : (count : ℕ) → List ℕ → List ℕ
 column_text count column = if nat_lt count (length column) then drop (length column - count) column else []
@@ -293,19 +175,6 @@ data_cells f groups column = both_cells f (line_bytes false groups) (line_bytes 
 abbrev pub form_cells : Form → (groups column : List ℕ) → Option (List Cell)
 form_cells Value groups column = word_cells (first_item groups)
 form_cells f groups column = data_cells f groups column
-
--- an order, beside a column of text or not: `od` prints numbers in either byte order, so only the column shows in which
-abbrev pub beside_text : Form → (has_text : Bool) → Order → Order
-beside_text Offset true Turned = Unclear
-beside_text f has_text o = o
-
--- the order of groups of data, by the spaces before their column of text
-abbrev pub groups_order : Form → (groups : List ℕ) → (gap : ℕ) → Order
-groups_order f groups gap = order_of f (group_of (first_item groups)) gap (length (after_gap (after_item groups)) == 0)
-
--- the order of the digits of data, if no column shows it
-abbrev pub data_order : Form → (groups column : List ℕ) → Order
-data_order f groups column = beside_text f (not (length column == 0)) (groups_order f groups (gap_before column))
 
 -- a row of numbers after an address alone
 abbrev pub offset_row : (address group : ℕ) → List Cell → RowView

@@ -1,8 +1,8 @@
 //! What to do about a line that is no dump.
 
+use crate::group_order::are_bits;
 use crate::number::is_hexadecimal;
 use crate::parts::parts_of;
-use crate::row::are_bits;
 use crate::scan::{after_gap, after_item, first_item};
 
 /// The most digits of a number of 64 bits.

@@ -22,6 +22,7 @@ mod finding;
 mod findings;
 mod first_column;
 mod form;
+mod group_order;
 mod layout;
 mod line;
 mod lines;

@@ -7,13 +7,13 @@ ghost use Rattle.scmi_decode.specs.declared.order.Order.TheVariants.{Unclear};
 use crate::dump::items_bytes;
 use crate::event::{digits_number, event_area};
 use crate::form::Form;
+use crate::group_order::{group_of, order_of};
 use crate::layout::Layout;
 use crate::lines::first_full;
 use crate::message_area::message_area;
 use crate::message_words::{EVENT, GOT, P2A, REPLY};
 use crate::no_bytes::NoBytes;
 use crate::order::Order;
-use crate::row::{group_of, order_of};
 use crate::wide_row::is_wide_row;
 use std::alloc::{AllocError, Global};
 

@@ -1,7 +1,8 @@
 //! The parts of a row.
 ghost use Rattle.std.specs.Prelude.{◌≡◌, ◌≤◌, length};
 ghost use Rattle.std.specs.Option.{option_copied};
-ghost use Rattle.scmi_decode.specs.Row.{behind_value, cut_parts, data_length, ends_in_colon, ends_in_return, has_pipe, is_equals, is_group, is_offset, is_pair, is_symbol, marked_parts, offset_parts, parts_at, parts_of, piped_data, piped_digits, piped_parts, sixteen_length, value_parts, without_last, without_return};
+ghost use Rattle.scmi_decode.specs.Row.{behind_value, cut_parts, data_length, ends_in_colon, has_pipe, is_equals, is_group, is_offset, is_pair, is_symbol, marked_parts, offset_parts, parts_at, parts_of, piped_data, piped_digits, piped_parts, sixteen_length, value_parts};
+ghost use Rattle.scmi_decode.specs.Scan.{ends_in_return, without_last, without_return};
 
 use crate::cell::later_bytes;
 use crate::dump::has_mark;

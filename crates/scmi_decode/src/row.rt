@@ -1,17 +1,17 @@
 //! A row of a dump.
 ghost use Rattle.std.specs.Prelude.{◌≡◌, IfOk};
 ghost use Rattle.std.specs.Option.{option_map};
-ghost use Rattle.scmi_decode.specs.Row.{address_of, are_bits, base_of, beside_text, column_text, data_cells, data_column, data_order, form_cells, gap_before, group_of, groups_order, half_order, has_bits_alone, is_bit, is_long, item_column, long_order, offset_row, order_of, parts_row, row_of, row_with, shown_of, word_bytes_of, word_cells};
+ghost use Rattle.scmi_decode.specs.Row.{address_of, base_of, column_text, data_cells, data_column, form_cells, item_column, offset_row, parts_row, row_of, row_with, shown_of, word_bytes_of, word_cells};
 
 use crate::cell::{Cell, cells_of};
 use crate::dump::{has_mark, line_bytes};
 use crate::first_column::{FirstColumn, no_column};
 use crate::form::Form;
-use crate::lines::is_gap;
+use crate::group_order::{are_bits, data_order, group_of, is_long};
 use crate::number::{number_from, without_mark};
 use crate::order::Order;
 use crate::parts::{parts_of, without_return};
-use crate::scan::{after_gap, after_item, first_item, gap_length};
+use crate::scan::first_item;
 use std::alloc::{AllocError, Global};
 use std::marker::Model;
 
@@ -258,130 +258,6 @@ fn item_column(item: &[u8]) -> FirstColumn
         octal: number_from(8, 0, item),
         steps: 0,
     }
-}
-
-/// The order of the digits of data, if no column shows it.
-fn data_order(form: Form, groups: &[u8], column: &[u8]) -> Order
-    ensures { result ≡ data_order form groups.now column.now }
-{
-    let order = groups_order(form, groups, gap_before(column));
-    beside_text(form, !column.is_empty(), order)
-}
-
-/// The order of groups of data, by the spaces before their column of text.
-fn groups_order(form: Form, groups: &[u8], gap: usize) -> Order
-    ensures { result ≡ groups_order form groups.now gap }
-{
-    let group = group_of(first_item(groups));
-    let is_alone = after_gap(after_item(groups)).is_empty();
-    order_of(form, group, gap, is_alone)
-}
-
-/// An order, beside a column of text or not: od prints numbers in either byte order, so only the
-/// column shows in which.
-fn beside_text(form: Form, has_text: bool, order: Order) -> Order
-    ensures { result ≡ beside_text form has_text order }
-{
-    match (form, has_text, order) {
-        (Form::Offset, true, Order::Turned) => Order::Unclear,
-        _ => order,
-    }
-}
-
-/// How many digits an item has, 0 of one with its mark.
-pub(crate) fn group_of(item: &[u8]) -> usize
-    ensures { result ≡ group_of item.now }
-{
-    if has_mark(item) { 0 } else { item.len() }
-}
-
-/// How many spaces come before a column of text, 0 without one.
-fn gap_before(column: &[u8]) -> usize
-    ensures { result ≡ gap_before column.now }
-{
-    if after_gap(column).is_empty() {
-        0
-    } else {
-        gap_length(column)
-    }
-}
-
-/// The order of the digits of a row, by how many its first group has, the spaces before its column of
-/// text, and whether its group is alone.
-pub(crate) fn order_of(form: Form, group: usize, gap: usize, is_alone: bool) -> Order
-    ensures { result ≡ order_of form group gap is_alone }
-{
-    if group == 4 {
-        half_order(form, gap)
-    } else if is_long(group) {
-        long_order(form, gap, is_alone)
-    } else {
-        Order::Straight
-    }
-}
-
-/// Whether a group has eight or sixteen digits.
-fn is_long(group: usize) -> bool
-    ensures { result ≡ is_long group }
-{
-    group == 8 || group == 16
-}
-
-/// The order of groups of four digits: od and J-Link print numbers, xxd bytes and two spaces, md.w
-/// numbers and more.
-fn half_order(form: Form, gap: usize) -> Order
-    ensures { result ≡ half_order form gap }
-{
-    match form {
-        Form::Offset | Form::Equals | Form::Value => Order::Turned,
-        Form::Plain => Order::Unclear,
-        Form::Marked => if gap == 2 {
-            Order::Straight
-        } else if gap > 2 {
-            Order::Turned
-        } else {
-            Order::Unclear
-        },
-    }
-}
-
-/// The order of groups of eight or sixteen digits: numbers, but one alone on a line may be bytes, as
-/// xxd -p prints them, and so may those before two spaces and a column, as xxd -g 4 prints them.
-fn long_order(form: Form, gap: usize, is_alone: bool) -> Order
-    ensures { result ≡ long_order form gap is_alone }
-{
-    match form {
-        Form::Plain if is_alone => Order::Unclear,
-        Form::Marked if gap == 2 => Order::Unclear,
-        _ => Order::Turned,
-    }
-}
-
-/// Whether data are bits, as `xxd -b` prints them after an address and a colon: groups of eight digits 0
-/// and 1, and a column of text with at most one character for each.
-pub(crate) fn are_bits(form: Form, groups: &[u8], column: &[u8]) -> bool
-    ensures { result ≡ are_bits form groups.now column.now }
-{
-    let shown = without_return(after_gap(column)).len();
-    form == Form::Marked
-        && first_item(groups).len() == 8
-        && shown > 0
-        && shown <= groups.len() / 9 + 1
-        && has_bits_alone(groups)
-}
-
-/// Whether data are digits 0 and 1 alone, and gaps.
-fn has_bits_alone(groups: &[u8]) -> bool
-    ensures { result ≡ has_bits_alone groups.now }
-{
-    groups.iter().all(|byte| is_bit(*byte))
-}
-
-/// Whether a byte is the digit 0 or 1, or in a gap.
-fn is_bit(byte: u8) -> bool
-    ensures { result ≡ is_bit byte }
-{
-    byte == b'0' || byte == b'1' || is_gap(byte)
 }
 
 /// What a column shows of so many bytes: one between bars begins with the first byte, and has fewer

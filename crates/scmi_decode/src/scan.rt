@@ -1,6 +1,6 @@
 //! The items of a line, from its begin on.
 ghost use Rattle.std.specs.Prelude.{◌≡◌, ◌≤◌, length};
-ghost use Rattle.scmi_decode.specs.Row.{gap_length, item_length, after_gap, first_item, after_item, column_length, bar_length, begins_with_space, pipe_length, behind_colon, after_cursor, has_one_item};
+ghost use Rattle.scmi_decode.specs.Scan.{gap_length, item_length, after_gap, first_item, after_item, column_length, bar_length, begins_with_space, pipe_length, behind_colon, after_cursor, has_one_item};
 
 use crate::lines::is_gap;
 

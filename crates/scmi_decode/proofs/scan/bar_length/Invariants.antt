@@ -1,5 +1,5 @@
 use Rattle.std.proofs.Common.{◌≡◌, ◌+◌, ◌≤◌, length}
-use Rattle.scmi_decode.specs.Row.{bar_length}
+use Rattle.scmi_decode.specs.Scan.{bar_length}
 use Rattle.scmi_decode.proofs.scan.bar_length.Given as goal
 
 abbrev pub invariant-bytes : goal.invariant-bytes

@@ -1,5 +1,5 @@
 use Rattle.std.proofs.Common.{◌≡◌, length}
-use Rattle.scmi_decode.specs.Row.{behind_colon}
+use Rattle.scmi_decode.specs.Scan.{behind_colon}
 use Rattle.scmi_decode.proofs.scan.behind_colon.Given as goal
 
 abbrev pub invariant-bytes : goal.invariant-bytes

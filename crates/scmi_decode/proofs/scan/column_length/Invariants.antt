@@ -1,5 +1,5 @@
 use Rattle.std.proofs.Common.{◌≡◌, ◌+◌, ◌≤◌, length}
-use Rattle.scmi_decode.specs.Row.{column_length}
+use Rattle.scmi_decode.specs.Scan.{column_length}
 use Rattle.scmi_decode.proofs.scan.column_length.Given as goal
 
 abbrev pub invariant-bytes : goal.invariant-bytes

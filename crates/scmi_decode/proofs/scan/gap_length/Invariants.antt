@@ -1,5 +1,5 @@
 use Rattle.std.proofs.Common.{◌≡◌, ◌+◌, ◌≤◌, length}
-use Rattle.scmi_decode.specs.Row.{gap_length}
+use Rattle.scmi_decode.specs.Scan.{gap_length}
 use Rattle.scmi_decode.proofs.scan.gap_length.Given as goal
 
 abbrev pub invariant-bytes : goal.invariant-bytes

@@ -1,5 +1,5 @@
 use Rattle.std.proofs.Common.{◌≡◌, ◌+◌, ◌≤◌, length}
-use Rattle.scmi_decode.specs.Row.{item_length}
+use Rattle.scmi_decode.specs.Scan.{item_length}
 use Rattle.scmi_decode.proofs.scan.item_length.Given as goal
 
 abbrev pub invariant-bytes : goal.invariant-bytes
