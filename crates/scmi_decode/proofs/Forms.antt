@@ -6,7 +6,7 @@ use Rattle.std.specs.Option.{option_map}
 use Rattle.scmi_decode.specs.Cell.{settled}
 use Rattle.scmi_decode.specs.Decoded.{is_remark}
 use Rattle.scmi_decode.specs.Dump.{is_gap}
-use Rattle.scmi_decode.specs.declared.dump_end.TheConstants.{REPEATED_BYTES, SURE_BYTES}
+use Rattle.scmi_decode.specs.declared.dump_end.repeated.TheConstants.{REPEATED_BYTES, SURE_BYTES}
 use Rattle.scmi_decode.specs.declared.first_column.TheConstants.{SURE_STEPS}
 use Rattle.scmi_decode.specs.declared.layout.Layout.TheVariants.{Whole}
 use Rattle.scmi_decode.specs.DumpEnd.{column_begun, column_with, end_of, extended, is_filled_from, line_end}

@@ -7,7 +7,7 @@ use Rattle.scmi_decode.specs.Row.{RowView, address_of}
 use Rattle.scmi_decode.specs.Scan.{first_item, has_one_item}
 use Rattle.scmi_decode.specs.declared.cell.Cell.{Cell}
 use Rattle.scmi_decode.specs.declared.first_column.FirstColumn.{FirstColumn}
-use Rattle.scmi_decode.specs.declared.dump_end.TheConstants.{REPEATED_BYTES, SURE_BYTES}
+use Rattle.scmi_decode.specs.declared.dump_end.repeated.TheConstants.{REPEATED_BYTES, SURE_BYTES}
 use Rattle.scmi_decode.specs.declared.form.Form.TheVariants.{Offset}
 use Rattle.scmi_decode.specs.declared.order.Order.{Order}
 use Rattle.scmi_decode.specs.declared.order.Order.TheVariants.{Straight, Turned}
@@ -81,8 +81,8 @@ unfoldable pub repeating : EndView → EndView
 repeating e = record e { repeats = true }
 
 -- rows of which it is unclear how often one repeats
-unfoldable pub doubtful : EndView → EndView
-doubtful e = record e { repeats = false; unclear = true }
+unfoldable pub made_unclear : EndView → EndView
+made_unclear e = record e { repeats = false; unclear = true }
 
 -- whether rows are fewer than their dump has: it is unclear how often one repeats, or no address says it
 abbrev pub lacks_rows : EndView → Bool
@@ -142,7 +142,7 @@ repeated_to e address = record e {
 -- rows of which the last one, if it repeats, does so up to an address, if that is whole rows on
 unfoldable pub filled : EndView → ℕ → EndView
 filled e address =
-    if e.repeats then (if is_rows_on e address then repeated_to e address else doubtful e) else e
+    if e.repeats then (if is_rows_on e address then repeated_to e address else made_unclear e) else e
 
 -- the bytes before an address, if that is not after the last row
 abbrev pub bytes_before : EndView → ℕ → List Cell

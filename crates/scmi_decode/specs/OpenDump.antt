@@ -1,7 +1,7 @@
 -- A dump over several lines, as far as it was read.
 use Rattle.std.specs.Prelude.{ℕ, ◌==◌, ◌&&◌, ◌||◌, not, Bool, true, false, if◌then◌else◌, List, [], length, slice_index, Option, Some, None}
 use Rattle.scmi_decode.specs.FirstColumn.{bytes_beside, counts, is_hexadecimal_alone, lack_beside}
-use Rattle.scmi_decode.specs.DumpEnd.{EndView, no_end, addressed, doubtful, end_of, emptied, ended_at, extended_to, is_base_sure, is_even, lacks_rows, line_end, reaches, repeating, row_bare, takes}
+use Rattle.scmi_decode.specs.DumpEnd.{EndView, no_end, addressed, made_unclear, end_of, emptied, ended_at, extended_to, is_base_sure, is_even, lacks_rows, line_end, reaches, repeating, row_bare, takes}
 use Rattle.scmi_decode.specs.Finding.{any_area, dump_findings}
 use Rattle.scmi_decode.specs.Row.{RowView, offset_row}
 use Rattle.scmi_decode.specs.Scan.{first_item, has_one_item}
@@ -113,7 +113,7 @@ repeated d = record d {
   form = if may_repeat d.form d.end then form_repeated d.form else d.form;
   end =
       if may_repeat d.form d.end then end_repeated d.form d.end d.end.column.hexadecimal
-      else doubtful d.end;
+      else made_unclear d.end;
 }
 
 -- whether a line is `*` alone, by which the last row of a dump repeats

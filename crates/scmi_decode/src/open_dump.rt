@@ -223,7 +223,7 @@ impl OpenDump {
         ensures { self.new ≡ repeated self.old }
     {
         if !may_repeat(self.form, &self.end) {
-            self.end.doubt();
+            self.end.make_unclear();
             return;
         }
         match (self.form, self.end.column().hexadecimal) {
