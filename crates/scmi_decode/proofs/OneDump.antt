@@ -6,8 +6,9 @@ use Rattle.std.proofs.lemmas.Bool.Decides.{nat_tests}
 use Rattle.std.proofs.lemmas.List.{length-append}
 use Rattle.scmi_io.specs.Lines.{is_line_feed}
 use Rattle.scmi_decode.specs.DumpEnd.{EndView, bytes_before, column_begun, column_with, cut, emptied, end_of, extended, filled, lacks_rows}
-use Rattle.scmi_decode.specs.OpenDump.{DumpView, no_dump, added, begun, closed, dump_found, end_at, ended, goes_on, is_open, is_star}
+use Rattle.scmi_decode.specs.OpenDump.{DumpView, no_dump, added, begun, closed, dump_found, end_at, ended, goes_on, is_open, is_star, judged}
 use Rattle.scmi_decode.specs.Finding.{dump_findings}
+use Rattle.scmi_decode.specs.HeldRow.{is_held, released}
 use Rattle.scmi_decode.specs.Reported.{Reported}
 use Rattle.scmi_decode.specs.declared.finding.Finding.{Finding}
 use Rattle.scmi_decode.specs.declared.layout.Layout.{Layout}
@@ -19,13 +20,15 @@ use Rattle.scmi_decode.specs.declared.first_column.FirstColumn.{FirstColumn}
 use Rattle.scmi_decode.specs.declared.order.Order.{Order}
 use Rattle.scmi_decode.specs.OneDump.{AreRows, IsDumpOf, IsEnd, IsEndLine, IsNextRow, IsRow, ReportsForms, cells_to, rows_bytes, rows_cells, rows_column, rows_lack, rows_next}
 
-step_found-row : (d : DumpView) (n : ℕ) (line : List ℕ) (r : RowView) → IsNextRow d line r → step_found d n line ≡ []
-unfolding step_found
-step_found-row d n line r is = rw (is.is_row.no_remark, is.is_row.not_empty, is.no_star, is.no_end, is.is_row.row, is.is_seen, is.next) refl
+step_found-row : (d : DumpView) (n : ℕ) (line : List ℕ) (r : RowView) → is_held d.held ≡ false
+    → IsNextRow d line r → step_found d n line ≡ []
+unfolding step_found judged
+step_found-row d n line r alone is = rw (is.is_row.no_remark, is.is_row.not_empty, is.no_star, is.no_end, alone, is.is_row.row, is.is_seen, is.next) refl
 
-dump_after-row : (d : DumpView) (n : ℕ) (line : List ℕ) (r : RowView) → IsNextRow d line r → dump_after d n line ≡ added d r
-unfolding dump_after
-dump_after-row d n line r is = rw (is.is_row.no_remark, is.is_row.not_empty, is.no_star, is.no_end, is.is_row.row, is.is_seen, is.next) refl
+dump_after-row : (d : DumpView) (n : ℕ) (line : List ℕ) (r : RowView) → is_held d.held ≡ false
+    → IsNextRow d line r → dump_after d n line ≡ added d r
+unfolding dump_after judged
+dump_after-row d n line r alone is = rw (is.is_row.no_remark, is.is_row.not_empty, is.no_star, is.no_end, alone, is.is_row.row, is.is_seen, is.next) refl
 
 or_none : (a b : Bool) → (a || b) ≡ false → (a ≡ false) × (b ≡ false)
 or_none true b none = absurd (true≢false none)
@@ -56,6 +59,11 @@ added-none : (d : DumpView) (r : RowView) → lacks_rows d.end ≡ false
 unfolding extended
 added-none d r none = ap (λ (v : DumpView). lacks_rows v.end) (added-is d r none) ∙ none
 
+added-alone : (d : DumpView) (r : RowView) → is_held d.held ≡ false
+    → is_held (added d r).held ≡ false
+unfolding added
+added-alone d r alone = alone
+
 added-open : (d : DumpView) (r : RowView) → is_open d ≡ true → lacks_rows d.end ≡ false
     → is_open (added d r) ≡ true
 added-open d r open_now none =
@@ -64,7 +72,7 @@ added-open d r open_now none =
     grind (arith, nat_tests, size)
 
 closed-found : (d : DumpView) → dump_found (closed d) ≡ []
-unfolding closed emptied
+unfolding closed emptied released
 closed-found d = refl
 
 empty-found : (d : DumpView) (n : ℕ) → lines_found d n ([] ∷ []) ≡ dump_found d
@@ -93,10 +101,10 @@ added-layout : (d : DumpView) (r : RowView) → (added d r).layout ≡ d.layout
 unfolding added
 added-layout d r = refl
 
-open-found : (d : DumpView) → is_open d ≡ true → lacks_rows d.end ≡ false
+open-found : (d : DumpView) → is_held d.held ≡ false → is_open d ≡ true → lacks_rows d.end ≡ false
     → dump_found d ≡ cells_found d.layout d.first d.end.order d.end.column (d.end.cells ++ [])
-open-found d open_now none =
-    rw (open_now, none)
+open-found d alone open_now none =
+    rw (alone, open_now, none)
     (ap (λ (cs : List Cell). cells_found d.layout d.first d.end.order d.end.column cs)
     (sym (append-nil d.end.cells)))
 
@@ -122,32 +130,32 @@ ended-is d address none =
     ap (λ (e : EndView). record d { end = cut e address }) (filled-none d.end address none)
     ∙ (rw (or_none d.end.unclear d.end.repeats none).0 refl)
 
-ended-found : (d : DumpView) (address : ℕ) → lacks_rows d.end ≡ false
+ended-found : (d : DumpView) (address : ℕ) → is_held d.held ≡ false → lacks_rows d.end ≡ false
     → (length (bytes_before d.end address) == 0) ≡ false
     → dump_found (ended d address)
     ≡ cells_found d.layout d.first d.end.order d.end.column (bytes_before d.end address)
-ended-found d address none some =
+ended-found d address alone none some =
     let v : DumpView = record d { end = record d.end { cells = bytes_before d.end address } } in
-    ap dump_found (ended-is d address none) ∙ open-found v (ap not some) none
+    ap dump_found (ended-is d address none) ∙ open-found v alone (ap not some) none
     ∙ ap (λ (cs : List Cell). cells_found d.layout d.first d.end.order d.end.column cs)
     (append-nil (bytes_before d.end address))
 
-found_in_rows : (d : DumpView) (n : ℕ) (rows : List RowView) (end : Option ℕ) (lines : List (List ℕ)) → is_open d ≡ true → lacks_rows d.end ≡ false → AreRows d rows end lines
+found_in_rows : (d : DumpView) (n : ℕ) (rows : List RowView) (end : Option ℕ) (lines : List (List ℕ)) → is_held d.held ≡ false → is_open d ≡ true → lacks_rows d.end ≡ false → AreRows d rows end lines
     → lines_found d n lines ≡ cells_found d.layout d.first d.end.order (rows_column d.end.column rows) (cells_to end (rows_next d.end.next rows) (d.end.cells ++ rows_cells rows))
-found_in_rows d n [] None lines open_now none are = end-found d n lines are ∙ open-found d open_now none
-found_in_rows d n [] (Some address) [] open_now none are = absurd are
-found_in_rows d n [] (Some address) (line ∷ lines) open_now none are =
+found_in_rows d n [] None lines alone open_now none are = end-found d n lines are ∙ open-found d alone open_now none
+found_in_rows d n [] (Some address) [] alone open_now none are = absurd are
+found_in_rows d n [] (Some address) (line ∷ lines) alone open_now none are =
     let e : DumpView = ended d address in
     ap (λ (t : List Finding). t ++ lines_found (dump_after d n line) (n + 1) lines) (end_line-found d n line address are.0)
     ∙ ap (λ (v : DumpView). dump_found e ++ lines_found v (n + 1) lines) (end_line-after d n line address are.0)
     ∙ ap (λ (t : List Finding). dump_found e ++ t) (end-found (closed e) (n + 1) lines are.1 ∙ closed-found e)
-    ∙ append-nil (dump_found e) ∙ ended-found d address none are.0.has_cells
+    ∙ append-nil (dump_found e) ∙ ended-found d address alone none are.0.has_cells
     ∙ ap (λ (cs : List Cell). cells_found d.layout d.first d.end.order d.end.column (take (length cs - (d.end.next - address)) cs)) (sym (append-nil d.end.cells))
-found_in_rows d n (r ∷ rows) end [] open_now none are = absurd are
-found_in_rows d n (r ∷ rows) end (line ∷ lines) open_now none are =
-    let here : step_found d n line ≡ [] = step_found-row d n line r are.0 in
-    let after : dump_after d n line ≡ added d r = dump_after-row d n line r are.0 in
-    let rest = found_in_rows (added d r) (n + 1) rows end lines (added-open d r open_now none) (added-none d r none) are.1 in
+found_in_rows d n (r ∷ rows) end [] alone open_now none are = absurd are
+found_in_rows d n (r ∷ rows) end (line ∷ lines) alone open_now none are =
+    let here : step_found d n line ≡ [] = step_found-row d n line r alone are.0 in
+    let after : dump_after d n line ≡ added d r = dump_after-row d n line r alone are.0 in
+    let rest = found_in_rows (added d r) (n + 1) rows end lines (added-alone d r alone) (added-open d r open_now none) (added-none d r none) are.1 in
     let all : List Cell = (added d r).end.cells ++ rows_cells rows in
     let cells : all ≡ d.end.cells ++ (r.cells ++ rows_cells rows) =
     ap (λ (cs : List Cell). cs ++ rows_cells rows) (added-cells d r none) ∙ append_assoc d.end.cells r.cells (rows_cells rows) in
@@ -160,16 +168,20 @@ found_in_rows d n (r ∷ rows) end (line ∷ lines) open_now none are =
     ∙ ap (λ (cs : List Cell). cells_found d.layout d.first d.end.order (rows_column (column_with d.end.column r) rows) (cells_to end (rows_next (rows_next 0 (r ∷ [])) rows) cs)) cells
 
 first_found : (l : Layout) (line : List ℕ) (r : RowView) → IsRow line r → step_found (no_dump l) 1 line ≡ []
-unfolding step_found is_star end_at goes_on
+unfolding step_found is_star end_at goes_on judged
 first_found l line r is = rw (is.no_remark, is.not_empty, is.row) refl
 
 first_dump : (l : Layout) (line : List ℕ) (r : RowView) → IsRow line r → dump_after (no_dump l) 1 line ≡ begun (no_dump l) 1 r
-unfolding dump_after is_star end_at goes_on closed emptied
+unfolding dump_after is_star end_at goes_on closed emptied judged released
 first_dump l line r is = rw (is.no_remark, is.not_empty, is.row) refl
 
 begun-open : (l : Layout) (r : RowView) → (length r.cells == 0) ≡ false → is_open (begun (no_dump l) 1 r) ≡ true
 unfolding begun end_of
 begun-open l r some = ap not some
+
+begun-alone : (l : Layout) (r : RowView) → is_held (begun (no_dump l) 1 r).held ≡ false
+unfolding begun
+begun-alone l r = refl
 
 begun-cells : (l : Layout) (r : RowView) → (begun (no_dump l) 1 r).end.cells ≡ r.cells
 unfolding begun end_of
@@ -202,7 +214,7 @@ begun-layout l r = refl
 found_in_dump : (l : Layout) (rows : List RowView) (end : Option ℕ) (lines : List (List ℕ)) → IsDumpOf l rows end lines → lines_found (no_dump l) 1 lines ≡ dump_findings l 1 (rows_lack rows) (rows_bytes rows end)
 found_in_dump l (r ∷ rows) end (line ∷ lines) is =
     let d : DumpView = begun (no_dump l) 1 r in
-    let rest = found_in_rows d 2 rows end lines (begun-open l r is.0.has_cells) (begun-none l r) is.1 in
+    let rest = found_in_rows d 2 rows end lines (begun-alone l r) (begun-open l r is.0.has_cells) (begun-none l r) is.1 in
     ap (λ (t : List Finding). t ++ lines_found (dump_after (no_dump l) 1 line) 2 lines) (first_found l line r is.0)
     ∙ ap (λ (v : DumpView). lines_found v 2 lines) (first_dump l line r is.0)
     ∙ rest ∙ ap (λ (k : ℕ). cells_found d.layout k d.end.order (rows_column d.end.column rows) (cells_to end (rows_next d.end.next rows) (d.end.cells ++ rows_cells rows))) (begun-first l r)

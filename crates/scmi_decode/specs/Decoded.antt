@@ -4,12 +4,14 @@ use Rattle.std.specs.List.{slice_split, starts_with}
 use Rattle.scmi_io.specs.Lines.{is_line_feed}
 use Rattle.scmi_decode.specs.Dump.{is_gap}
 use Rattle.scmi_decode.specs.Finding.{any_area, dump_findings}
+use Rattle.scmi_decode.specs.HeldRow.{is_wide_line, lack_behind}
 use Rattle.scmi_decode.specs.MessageLine.{alone_bytes, alone_lack, items_layout}
-use Rattle.scmi_decode.specs.OpenDump.{DumpView, no_dump, dump_found, goes_on, added, begun, beside, closed, ended, repeated, is_star, end_at, seen}
+use Rattle.scmi_decode.specs.OpenDump.{DumpView, no_dump, dump_found, goes_on, added, begun, beside, closed, ended, holding, judged, repeated, is_star, end_at, seen}
 use Rattle.scmi_decode.specs.Reported.{Reported}
 use Rattle.scmi_decode.specs.Row.{RowView, row_of}
 use Rattle.scmi_decode.specs.declared.finding.Finding.{Finding}
 use Rattle.scmi_decode.specs.declared.layout.Layout.{Layout}
+use Rattle.scmi_decode.specs.declared.no_bytes.NoBytes.{NoBytes}
 use Rattle.scmi_decode.specs.declared.step.TheConstants.{MAPPED, OPENED, REMARK}
 
 -- whether a line is neither empty nor begins with `#`
@@ -29,25 +31,33 @@ line_is_area l number line = any_area (line_found l number line)
 abbrev pub is_remark : List ℕ → Bool
 is_remark line = starts_with nat_eq line REMARK.now || starts_with nat_eq line OPENED.now || starts_with nat_eq line MAPPED.now
 
--- what is found at a line by the row that it is, if it is one: a row that goes on with the dump is added to it, and any other line ends it
+-- what is found at a line by the row that it is, if it is one: a row that goes on with the dump is added to it, and any other line ends it; what is found at a wide row depends on the line behind it too
 abbrev pub row_found : DumpView → ℕ → List ℕ → Option RowView → List Finding
-row_found d number line None = dump_found d ++ line_found d.layout number line
+row_found d number line None =
+    if is_wide_line line then dump_found d else dump_found d ++ line_found d.layout number line
 row_found d number line (Some r) = if goes_on d (seen d r) then [] else dump_found d
 
--- the dump after such a line
-abbrev pub dump_after_row : DumpView → ℕ → List ℕ → Option RowView → DumpView
-dump_after_row d number line None = beside (closed d) (line_is_area d.layout number line)
-dump_after_row d number line (Some r) = if goes_on d (seen d r) then added d (seen d r) else begun (closed d) number r
+-- the dump after such a line, which is refused for this if it is a wide row
+abbrev pub dump_after_row : DumpView → ℕ → List ℕ → Option NoBytes → Option RowView → DumpView
+dump_after_row d number line lack None =
+    if is_wide_line line then holding (closed d) number line lack
+    else beside (closed d) (line_is_area d.layout number line)
+dump_after_row d number line lack (Some r) = if goes_on d (seen d r) then added d (seen d r) else begun (closed d) number r
+
+-- a dump whose wide row, if it is one, is refused if the line behind it shows that
+abbrev pub judged_by : DumpView → List ℕ → DumpView
+judged_by d line = judged d (lack_behind d.layout d.held line)
 
 -- what is found at a line that ends the dump at an address, or else by its row
 abbrev pub end_found : DumpView → ℕ → List ℕ → Option ℕ → List Finding
 end_found d number line (Some address) = dump_found (ended d address)
-end_found d number line None = row_found d number line (row_of line)
+end_found d number line None = row_found (judged_by d line) number line (row_of line)
 
 -- the dump after such a line
 abbrev pub dump_after_end : DumpView → ℕ → List ℕ → Option ℕ → DumpView
 dump_after_end d number line (Some address) = closed (ended d address)
-dump_after_end d number line None = dump_after_row d number line (row_of line)
+dump_after_end d number line None =
+    dump_after_row (judged_by d line) number line (lack_behind d.layout d.held line) (row_of line)
 
 -- what is found at a line: nothing at a comment; an empty line ends the dump
 unfoldable pub step_found : DumpView → ℕ → List ℕ → List Finding

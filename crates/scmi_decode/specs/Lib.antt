@@ -18,3 +18,4 @@ pub mod Decoded
 pub mod OneDump
 pub mod DecodeError
 pub mod Traced
+pub mod HeldRow

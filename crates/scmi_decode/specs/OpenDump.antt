@@ -3,6 +3,7 @@ use Rattle.std.specs.Prelude.{ℕ, ◌==◌, ◌&&◌, ◌||◌, not, Bool, true
 use Rattle.scmi_decode.specs.FirstColumn.{bytes_beside, counts, is_hexadecimal_alone, lack_beside}
 use Rattle.scmi_decode.specs.DumpEnd.{EndView, no_end, addressed, made_unclear, end_of, emptied, ended_at, extended_to, is_base_sure, is_even, lacks_rows, line_end, reaches, repeating, row_bare, takes}
 use Rattle.scmi_decode.specs.Finding.{any_area, dump_findings}
+use Rattle.scmi_decode.specs.HeldRow.{HeldView, held_found, is_held, judged_row, no_held, released, repeated_row}
 use Rattle.scmi_decode.specs.Row.{RowView, offset_row}
 use Rattle.scmi_decode.specs.Scan.{first_item, has_one_item}
 use Rattle.scmi_decode.specs.declared.finding.Finding.{Finding}
@@ -12,17 +13,18 @@ use Rattle.scmi_decode.specs.declared.layout.Layout.{Layout}
 use Rattle.scmi_decode.specs.declared.no_bytes.NoBytes.{NoBytes}
 use Rattle.scmi_decode.specs.declared.no_bytes.NoBytes.TheVariants.{Repeats}
 
--- a dump, which has no bytes if none is open: which bytes of it are areas; the number of its first line, its form, its rows so far; and whether an area was found before
+-- a dump, which has no bytes if none is open: which bytes of it are areas; the number of its first line, its form, its rows so far; the wide row that it is, if it is one; and whether an area was found before
 pub record DumpView : Type 0 where
   pub layout : Layout
   pub first : ℕ
   pub form : Form
   pub end : EndView
+  pub held : HeldView
   pub found : Bool
 
 -- no dump, and no area found
 abbrev pub no_dump : Layout → DumpView
-no_dump l = record { layout = l; first = 0; form = Plain; end = no_end; found = false }
+no_dump l = record { layout = l; first = 0; form = Plain; end = no_end; held = no_held; found = false }
 
 -- the bytes of a dump, in the order of its digits; none if its first column may be one of addresses, or if it is unclear how often a row repeats
 abbrev pub dump_bytes : DumpView → Option (List ℕ)
@@ -39,7 +41,9 @@ is_open d = not (length d.end.cells == 0)
 
 -- what is found in a dump once it has ended
 abbrev pub dump_found : DumpView → List Finding
-dump_found d = if is_open d then dump_findings d.layout d.first (dump_lack d) (dump_bytes d) else []
+dump_found d =
+    if is_held d.held then held_found d.layout d.held
+    else if is_open d then dump_findings d.layout d.first (dump_lack d) (dump_bytes d) else []
 
 -- whether two forms are the same
 abbrev pub same_form : Form → Form → Bool
@@ -74,7 +78,7 @@ added d r = record d { end = extended_to d.end r }
 
 -- a dump that begins with a row, at a line of this number
 unfoldable pub begun : DumpView → ℕ → RowView → DumpView
-begun d number r = record { layout = d.layout; first = number; form = r.form; end = end_of r; found = d.found }
+begun d number r = record { layout = d.layout; first = number; form = r.form; end = end_of r; held = d.held; found = d.found }
 
 -- a dump that ends at an address
 unfoldable pub ended : DumpView → ℕ → DumpView
@@ -82,7 +86,20 @@ ended d address = record d { end = ended_at d.end address }
 
 -- a dump that has ended
 unfoldable pub closed : DumpView → DumpView
-closed d = record d { end = emptied d.end; found = d.found || any_area (dump_found d) }
+closed d = record d {
+  end = emptied d.end;
+  held = released d.held;
+  found = d.found || any_area (dump_found d);
+}
+
+-- a dump that is the wide row of a line of this number, and why that is refused, if it is
+unfoldable pub holding : DumpView → ℕ → List ℕ → Option NoBytes → DumpView
+holding d number line lack =
+    record d { held = record { number = number; line = line; lack = lack } }
+
+-- a dump whose wide row, if it is one, is refused for this too
+unfoldable pub judged : DumpView → Option NoBytes → DumpView
+judged d lack = if is_held d.held then record d { held = judged_row d.held lack } else d
 
 -- a dump beside which an area was found or not
 unfoldable pub beside : DumpView → Bool → DumpView
@@ -107,19 +124,23 @@ has_addresses f e = is_base_sure e
 abbrev pub may_repeat : Form → EndView → Bool
 may_repeat f e = not e.unclear && is_even e && has_addresses f e
 
--- a dump whose last row repeats, up to the next address if that will show how often
-unfoldable pub repeated : DumpView → DumpView
-repeated d = record d {
+-- rows of which the last one repeats, up to the next address if that will show how often
+abbrev pub rows_repeated : DumpView → DumpView
+rows_repeated d = record d {
   form = if may_repeat d.form d.end then form_repeated d.form else d.form;
   end =
       if may_repeat d.form d.end then end_repeated d.form d.end d.end.column.hexadecimal
       else made_unclear d.end;
 }
 
+-- a dump whose last row repeats; how often a wide one does is unclear
+unfoldable pub repeated : DumpView → DumpView
+repeated d = if is_held d.held then record d { held = repeated_row d.held } else rows_repeated d
+
 -- whether a line is `*` alone, by which the last row of a dump repeats
 unfoldable pub is_star : DumpView → List ℕ → Bool
 is_star d line =
-    is_open d && (length (first_item line) == 1) && (slice_index (first_item line) 0 == 42) && has_one_item line
+    (is_held d.held || is_open d) && (length (first_item line) == 1) && (slice_index (first_item line) 0 == 42) && has_one_item line
 
 -- the address of a line that ends a dump as `hexdump` and `od` do: it has an address alone, that at which the dump's bytes end, or any if rows are left out
 unfoldable pub end_at : DumpView → List ℕ → Option ℕ

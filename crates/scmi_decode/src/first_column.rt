@@ -80,7 +80,7 @@ fn stepped(column: FirstColumn) -> FirstColumn
 }
 
 /// The addresses of an item in those bases in which it is the expected one.
-fn met_by(slack: usize, column: FirstColumn, item: FirstColumn) -> FirstColumn
+pub(crate) fn met_by(slack: usize, column: FirstColumn, item: FirstColumn) -> FirstColumn
     ensures { result ≡ met_by slack column item }
 {
     FirstColumn {

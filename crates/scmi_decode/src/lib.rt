@@ -23,6 +23,7 @@ mod findings;
 mod first_column;
 mod form;
 mod group_order;
+mod held_row;
 mod layout;
 mod line;
 mod lines;

@@ -1,10 +1,11 @@
 //! What is found at a line, and in a dump.
 ghost use Rattle.std.specs.Prelude.{◌≡◌, ◌⊎◌, OnOk, IfOk, IfErr, IfSome, map};
-ghost use Rattle.std.specs.Option.{is_some};
+ghost use Rattle.std.specs.Option.{is_some, option_map};
 ghost use Rattle.std.specs.List.{slice_split};
 ghost use Rattle.scmi_decode.specs.Decoded.{line_found, line_is_area};
 ghost use Rattle.scmi_decode.specs.Dump.{is_gap};
 ghost use Rattle.scmi_decode.specs.Finding.{any_area};
+ghost use Rattle.scmi_decode.specs.HeldRow.{held_bytes, held_found, held_lack, why_refused};
 ghost use Rattle.scmi_decode.specs.MessageLine.{items_layout};
 ghost use Rattle.scmi_decode.specs.OpenDump.{dump_found};
 ghost use Rattle.scmi_decode.specs.Reading.{alone_reading};
@@ -12,9 +13,11 @@ ghost use Rattle.scmi_decode.specs.Reported.{Reported};
 
 use crate::decode_error::DecodeError;
 use crate::findings::Findings;
+use crate::held_row::HeldRow;
 use crate::layout::Layout;
 use crate::lines::{is_described, items_of};
 use crate::message_line::{alone_bytes, items_lack, items_layout};
+use crate::no_bytes::NoBytes;
 use crate::open_dump::OpenDump;
 use crate::parts_found::report_dump;
 use crate::reading::{Reading, alone_reading};
@@ -52,21 +55,63 @@ pub fn report_line<S: Findings>(
     }
 }
 
-/// Reports what is found in a dump; nothing if none is open. Gives whether it has an area.
+/// Reports what is found in a row that is held. Gives how it is read, if it is an area.
+fn report_held<S: Findings>(
+    alloc: Global,
+    sink: &mut S,
+    layout: Layout,
+    row: &HeldRow,
+) -> Result<Option<Reading>, DecodeError>
+    ensures taken { OnOk result (Reported (S.taken sink.old) (S.taken sink.new) (
+        held_found layout row.now)) }
+    ensures area { IfOk result (λ read. is_some read ≡ any_area (held_found layout row.now)) }
+    ensures errors { IfErr result (λ e. (e ≡ DecodeError.Memory) ⊎ (e ≡ DecodeError.Write)) }
+{
+    let items = items_of(alloc, row.line())?;
+    let own = alone_bytes(alloc, items.as_slice())?;
+    let alone = items_lack(alloc, items.as_slice())?;
+    let lack = why_refused(&own, row.lack(), alone);
+    let found = if row.lack().is_some() { None } else { own };
+    let number = row.number();
+    if report_dump(sink, layout, number, row.line(), lack, &found)? {
+        Ok(Some(alone_reading(items.as_slice())))
+    } else {
+        Ok(None)
+    }
+}
+
+/// Why a row is refused: for what it shows alone, or else for what the lines beside it show.
+fn why_refused(own: &Option<Vec<u8>>, beside: Option<NoBytes>, alone: NoBytes) -> NoBytes
+    ensures { result ≡ why_refused (option_map (λ bytes. bytes.items) own.now) beside alone }
+{
+    match (own, beside) {
+        (Some(_), Some(lack)) => lack,
+        _ => alone,
+    }
+}
+
+/// Reports what is found in a dump; nothing if none is open. Gives how it is read, if it has an area.
 #[tactic(auto, using(crate::proofs::Reported::reported_nil))]
 pub(crate) fn report_open<S: Findings>(
     alloc: Global,
     sink: &mut S,
     dump: &OpenDump,
-) -> Result<bool, DecodeError>
+) -> Result<Option<Reading>, DecodeError>
     ensures taken { OnOk result (Reported (S.taken sink.old) (S.taken sink.new) (
         dump_found dump.now)) }
-    ensures area { IfOk result (λ area. area ≡ any_area (dump_found dump.now)) }
+    ensures area { IfOk result (λ read. is_some read ≡ any_area (dump_found dump.now)) }
     ensures errors { IfErr result (λ e. (e ≡ DecodeError.Memory) ⊎ (e ≡ DecodeError.Write)) }
 {
+    if dump.held().is_held() {
+        return report_held(alloc, sink, dump.layout(), dump.held());
+    }
     if !dump.is_open() {
-        return Ok(false);
+        return Ok(None);
     }
     let found = dump.bytes(alloc)?;
-    report_dump(sink, dump.layout(), dump.first(), &[], dump.lack(), &found)
+    if report_dump(sink, dump.layout(), dump.first(), &[], dump.lack(), &found)? {
+        Ok(Some(dump.reading()))
+    } else {
+        Ok(None)
+    }
 }

@@ -123,7 +123,7 @@ pub(crate) fn items_layout(layout: Layout, items: &[&[u8]]) -> Layout
 }
 
 /// Whether a line reports a message.
-fn is_message(items: &[&[u8]]) -> bool
+pub(crate) fn is_message(items: &[&[u8]]) -> bool
     ensures { result ≡ is_message (map (λ item. item.now) items.now) }
 {
     behind_event(items).is_some() || behind_got(items).is_some()

@@ -13,4 +13,6 @@ pub enum NoBytes {
     Repeats,
     /// It is one line that may be an address and more bytes than a row has.
     WideRow,
+    /// It is one line that may be a part of an area, with the line before or behind it.
+    Part,
 }

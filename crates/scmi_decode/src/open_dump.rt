@@ -2,12 +2,14 @@
 ghost use Rattle.std.specs.Prelude.{◌≡◌, OnOk, IfOk};
 ghost use Rattle.std.specs.Option.{is_some, option_map};
 ghost use Rattle.scmi_decode.specs.Finding.{any_area};
-ghost use Rattle.scmi_decode.specs.OpenDump.{added, begun, beside, closed, dump_bytes, dump_found, dump_lack, end_at, end_repeated, ended, form_repeated, goes_on, has_addresses, is_open, is_star, may_repeat, no_dump, or_row, repeated, row_at, same_form, seen};
+ghost use Rattle.scmi_decode.specs.OpenDump.{added, begun, beside, closed, dump_bytes, dump_found, dump_lack, end_at, end_repeated, ended, form_repeated, goes_on, has_addresses, holding, is_open, is_star, judged, may_repeat, no_dump, or_row, repeated, row_at, rows_repeated, same_form, seen};
+ghost use Rattle.scmi_decode.specs.HeldRow.{lack_behind};
 
 use crate::cell::{order_shown, settled};
 use crate::dump_end::{DumpEnd, row_bare};
 use crate::first_column::{counts, is_hexadecimal_alone, lack_beside};
 use crate::form::Form;
+use crate::held_row::HeldRow;
 use crate::layout::Layout;
 use crate::no_bytes::NoBytes;
 use crate::order::Order;
@@ -26,6 +28,7 @@ pub(crate) struct OpenDump {
     first: usize,
     form: Form,
     end: DumpEnd,
+    held: HeldRow,
     found: bool,
     has_wide_marks: bool,
     unsaid: Unsaid,
@@ -41,6 +44,7 @@ impl Model for OpenDump {
       first = d.first;
       form = d.form;
       end = d.end;
+      held = d.held;
       found = d.found;
     } };
 }
@@ -55,6 +59,7 @@ impl OpenDump {
             first: 0,
             form: Form::Plain,
             end: DumpEnd::new(alloc),
+            held: HeldRow::new(alloc),
             found: false,
             has_wide_marks: false,
             unsaid: Unsaid::new(),
@@ -66,6 +71,13 @@ impl OpenDump {
         ensures { result ≡ is_open self.now }
     {
         !self.end.cells().is_empty()
+    }
+
+    /// The wide row that it is, if it is one.
+    pub(crate) fn held(&self) -> &HeldRow
+        ensures { result.now ≡ self.now.held }
+    {
+        &self.held
     }
 
     /// Which of its bytes are areas.
@@ -163,22 +175,66 @@ impl OpenDump {
         Ok(())
     }
 
-    /// Ends, if it is known whether it has an area.
+    /// Ends, if it is known whether it has an area, and how that is read.
     #[tactic(auto, unfolding(crate::specs::OpenDump::closed))]
-    pub(crate) fn close(&mut self, area: bool)
-        requires area { area ≡ any_area (dump_found self.old) }
+    pub(crate) fn close(&mut self, read: Option<Reading>)
+        requires area { is_some read ≡ any_area (dump_found self.old) }
         ensures { self.new ≡ closed self.old }
     {
-        if area {
-            let reading = self.reading();
-            self.unsaid.take_dump(self.first, reading);
+        if let Some(reading) = read {
+            let number = self.number();
+            self.unsaid.take_dump(number, reading);
             self.found = true;
         }
         self.end.clear();
+        self.held.release();
     }
 
-    /// How it is read.
-    fn reading(&self) -> Reading {
+    /// The number of its first line, or of its wide row.
+    fn number(&self) -> usize {
+        if self.held.is_held() {
+            self.held.number()
+        } else {
+            self.first
+        }
+    }
+
+    /// Becomes the wide row of a line of this number, and why that is refused, if it is.
+    #[tactic(auto, unfolding(crate::specs::OpenDump::holding))]
+    pub(crate) fn hold(
+        &mut self,
+        number: usize,
+        line: &[u8],
+        lack: Option<NoBytes>,
+    ) -> Result<(), AllocError>
+        ensures { OnOk result (self.new ≡ holding self.old number line.now lack) }
+    {
+        self.held.hold(number, line, lack)
+    }
+
+    /// Why its wide row and the line behind that are refused, if they are.
+    pub(crate) fn lack_behind(
+        &self,
+        alloc: Global,
+        line: &[u8],
+    ) -> Result<Option<NoBytes>, AllocError>
+        ensures { IfOk result (λ lack. lack ≡ lack_behind self.now.layout self.now.held line.now) }
+    {
+        self.held.lack_behind(alloc, self.layout, line)
+    }
+
+    /// Notes why its wide row, if it is one, is refused.
+    #[tactic(auto, unfolding(crate::specs::OpenDump::judged))]
+    pub(crate) fn judge(&mut self, lack: Option<NoBytes>)
+        ensures { self.new ≡ judged self.old lack }
+    {
+        if self.held.is_held() {
+            self.held.judge(lack);
+        }
+    }
+
+    /// How its rows are read.
+    pub(crate) fn reading(&self) -> Reading {
         let is_turned = order_shown(self.end.order(), self.end.cells()) == Order::Turned;
         rows_reading(self.form, self.has_wide_marks || is_turned)
     }
@@ -214,13 +270,27 @@ impl OpenDump {
         ensures { result ≡ is_star self.now line.now }
     {
         let item = first_item(line);
-        self.is_open() && item.len() == 1 && item[0] == b'*' && has_one_item(line)
+        (self.held.is_held() || self.is_open())
+            && item.len() == 1
+            && item[0] == b'*'
+            && has_one_item(line)
     }
 
-    /// Repeats the last row up to the next address, if that will show how often.
+    /// Repeats the last row; how often a wide one does is unclear.
     #[tactic(auto, unfolding(crate::specs::OpenDump::repeated))]
     pub(crate) fn repeat(&mut self)
         ensures { self.new ≡ repeated self.old }
+    {
+        if self.held.is_held() {
+            self.held.repeat();
+        } else {
+            self.repeat_rows();
+        }
+    }
+
+    /// Repeats the last row up to the next address, if that will show how often.
+    fn repeat_rows(&mut self)
+        ensures { self.new ≡ rows_repeated self.old }
     {
         if !may_repeat(self.form, &self.end) {
             self.end.make_unclear();

@@ -80,6 +80,11 @@ fn write_finding<W: Write>(writer: &mut W, finding: &Finding, text: &[u8]) -> io
             "no area: its first item may be an address; print at most 32 bytes a row (od -w16), \
             or no addresses (od -A n -v)\n"
         ),
+        Found::NoBytes { why: NoBytes::Part } => write!(
+            writer,
+            "no area: it may be a part of an area; print at most 32 bytes a row (od -w16), put an \
+            empty line between areas, or give --size N\n"
+        ),
     }
 }
 

@@ -249,7 +249,7 @@ fn data_column(form: Form, groups: &[u8]) -> FirstColumn
 }
 
 /// An item as an address in each base that od prints.
-fn item_column(item: &[u8]) -> FirstColumn
+pub(crate) fn item_column(item: &[u8]) -> FirstColumn
     ensures { result ≡ item_column item.now }
 {
     FirstColumn {

@@ -1,13 +1,16 @@
 //! A line of an input, by what comes before it.
-ghost use Rattle.std.specs.Prelude.{◌≡◌, ◌⊎◌, OnOk, IfErr};
+ghost use Rattle.std.specs.Prelude.{◌≡◌, ◌⊎◌, ◌++◌, None, Some, OnOk, IfErr};
+ghost use Rattle.scmi_decode.specs.HeldRow.{is_wide_line};
 ghost use Rattle.scmi_decode.specs.OpenDump.{beside, closed, dump_found};
 ghost use Rattle.scmi_decode.specs.Row.{row_of};
 ghost use Rattle.scmi_decode.specs.Reported.{Reported};
-ghost use Rattle.scmi_decode.specs.Decoded.{dump_after, dump_after_row, is_remark, line_is_area, line_found, row_found, step_found};
+ghost use Rattle.scmi_decode.specs.Decoded.{dump_after, dump_after_end, dump_after_row, end_found, is_remark, line_is_area, line_found, row_found, step_found};
 
 use crate::decode_error::DecodeError;
 use crate::findings::Findings;
+use crate::held_row::is_wide_line;
 use crate::line::{report_line, report_open};
+use crate::no_bytes::NoBytes;
 use crate::open_dump::OpenDump;
 use crate::reading::has_wide_marks;
 use crate::readings::Readings;
@@ -86,11 +89,11 @@ fn take_line<S: Findings>(
         dump.end(alloc, address)?;
         return close(alloc, sink, dump);
     }
-    take_row(alloc, sink, dump, number, line)
+    judge_and_take(alloc, sink, dump, number, line)
 }
 
-/// Takes a line by the row that it is, if it is one.
-fn take_row<S: Findings>(
+/// Takes a line by the row that it is, once a wide row before it is judged.
+fn judge_and_take<S: Findings>(
     alloc: Global,
     sink: &mut S,
     dump: &mut OpenDump,
@@ -98,13 +101,32 @@ fn take_row<S: Findings>(
     line: &[u8],
 ) -> Result<(), DecodeError>
     ensures taken { OnOk result (Reported (S.taken sink.old) (S.taken sink.new) (
+        end_found dump.old number line.now None)) }
+    ensures dump { OnOk result (dump.new ≡ dump_after_end dump.old number line.now None) }
+    ensures errors { IfErr result (λ e. (e ≡ DecodeError.Memory) ⊎ (e ≡ DecodeError.Write)) }
+{
+    let lack = dump.lack_behind(alloc, line)?;
+    dump.judge(lack);
+    take_row(alloc, sink, dump, number, line, lack)
+}
+
+/// Takes a line by the row that it is, if it is one; a wide row is refused for this.
+fn take_row<S: Findings>(
+    alloc: Global,
+    sink: &mut S,
+    dump: &mut OpenDump,
+    number: usize,
+    line: &[u8],
+    lack: Option<NoBytes>,
+) -> Result<(), DecodeError>
+    ensures taken { OnOk result (Reported (S.taken sink.old) (S.taken sink.new) (
         row_found dump.old number line.now (row_of line.now))) }
     ensures dump { OnOk result
-        (dump.new ≡ dump_after_row dump.old number line.now (row_of line.now)) }
+        (dump.new ≡ dump_after_row dump.old number line.now lack (row_of line.now)) }
     ensures errors { IfErr result (λ e. (e ≡ DecodeError.Memory) ⊎ (e ≡ DecodeError.Write)) }
 {
     match row_of(alloc, line)? {
-        None => take_alone(alloc, sink, dump, number, line),
+        None => take_alone(alloc, sink, dump, number, line, lack),
         Some(row) => add_row(alloc, sink, dump, number, line, &row),
     }
 }
@@ -122,7 +144,7 @@ fn add_row<S: Findings>(
     ensures taken { OnOk result (Reported (S.taken sink.old) (S.taken sink.new) (
         row_found dump.old number line.now (Some row.now))) }
     ensures dump { OnOk result
-        (dump.new ≡ dump_after_row dump.old number line.now (Some row.now)) }
+        (dump.new ≡ dump_after_row dump.old number line.now None (Some row.now)) }
     ensures errors { IfErr result (λ e. (e ≡ DecodeError.Memory) ⊎ (e ≡ DecodeError.Write)) }
 {
     let other = dump.see(alloc, row)?;
@@ -140,9 +162,32 @@ fn add_row<S: Findings>(
     Ok(())
 }
 
-/// Takes a line that is a dump of its own.
-#[tactic(auto, using(crate::proofs::Reported::reported_trans))]
+/// Takes a line that is a dump of its own; a wide row waits for the line behind it.
 fn take_alone<S: Findings>(
+    alloc: Global,
+    sink: &mut S,
+    dump: &mut OpenDump,
+    number: usize,
+    line: &[u8],
+    lack: Option<NoBytes>,
+) -> Result<(), DecodeError>
+    ensures taken { OnOk result (Reported (S.taken sink.old) (S.taken sink.new) (
+        row_found dump.old number line.now None)) }
+    ensures dump { OnOk result
+        (dump.new ≡ dump_after_row dump.old number line.now lack None) }
+    ensures errors { IfErr result (λ e. (e ≡ DecodeError.Memory) ⊎ (e ≡ DecodeError.Write)) }
+{
+    if is_wide_line(alloc, line)? {
+        close(alloc, sink, dump)?;
+        dump.hold(number, line, lack)?;
+        return Ok(());
+    }
+    take_line_alone(alloc, sink, dump, number, line)
+}
+
+/// Takes a line that is a dump of its own, and no wide row.
+#[tactic(auto, using(crate::proofs::Reported::reported_trans))]
+fn take_line_alone<S: Findings>(
     alloc: Global,
     sink: &mut S,
     dump: &mut OpenDump,
@@ -150,7 +195,7 @@ fn take_alone<S: Findings>(
     line: &[u8],
 ) -> Result<(), DecodeError>
     ensures taken { OnOk result (Reported (S.taken sink.old) (S.taken sink.new) (
-        row_found dump.old number line.now None)) }
+        dump_found dump.old ++ line_found dump.old.layout number line.now)) }
     ensures dump { OnOk result (dump.new ≡
         beside (closed dump.old) (line_is_area dump.old.layout number line.now)) }
     ensures errors { IfErr result (λ e. (e ≡ DecodeError.Memory) ⊎ (e ≡ DecodeError.Write)) }
@@ -169,8 +214,8 @@ fn close<S: Findings>(alloc: Global, sink: &mut S, dump: &mut OpenDump) -> Resul
     ensures dump { OnOk result (dump.new ≡ closed dump.old) }
     ensures errors { IfErr result (λ e. (e ≡ DecodeError.Memory) ⊎ (e ≡ DecodeError.Write)) }
 {
-    let area = report_open(alloc, sink, dump)?;
-    dump.close(area);
+    let read = report_open(alloc, sink, dump)?;
+    dump.close(read);
     Ok(())
 }
 
