@@ -1,5 +1,5 @@
 -- Rows as programs print them, which the prover reads by the definitions: each has the same sixteen bytes.
-use Rattle.std.proofs.Common.{◌≡◌, ℕ, Bool, List, [], ◌∷◌, Option, None, Some, true, false, codes, refl}
+use Rattle.std.proofs.Common.{◌≡◌, ℕ, Bool, List, [], ◌∷◌, ◌++◌, Option, None, Some, true, false, codes, refl}
 use Rattle.hex.specs.Hex.{decode_pairs}
 use Rattle.std.specs.List.{slice_split}
 use Rattle.std.specs.Option.{option_map}
@@ -8,7 +8,11 @@ use Rattle.scmi_decode.specs.Decoded.{is_remark}
 use Rattle.scmi_decode.specs.Dump.{is_gap}
 use Rattle.scmi_decode.specs.declared.dump_end.repeated.TheConstants.{REPEATED_BYTES, SURE_BYTES}
 use Rattle.scmi_decode.specs.declared.first_column.TheConstants.{SURE_STEPS}
-use Rattle.scmi_decode.specs.declared.layout.Layout.TheVariants.{Whole}
+use Rattle.scmi_decode.specs.HeldRow.{held_row, may_be_parts, pair_lack}
+use Rattle.scmi_decode.specs.declared.layout.Layout.{Layout}
+use Rattle.scmi_decode.specs.declared.layout.Layout.TheVariants.{Whole, From, Each}
+use Rattle.scmi_decode.specs.declared.no_bytes.NoBytes.{NoBytes}
+use Rattle.scmi_decode.specs.declared.no_bytes.NoBytes.TheVariants as lack
 use Rattle.scmi_decode.specs.DumpEnd.{column_begun, column_with, end_of, extended, is_filled_from, line_end}
 use Rattle.scmi_decode.specs.FirstColumn.{counts}
 use Rattle.scmi_decode.specs.OpenDump.{begun, end_at, may_repeat, no_dump}
@@ -293,6 +297,107 @@ od_not_wide = refl
 
 pub words_alone : is_wide (codes "00000000 00000000 00000000 00000000 00000000 00000010 001c4404 00000001 00000000 40000000") ≡ false
 words_alone = refl
+
+-- words, and bytes as xxd -p prints them
+abbrev pub eight_area_words : List ℕ
+eight_area_words = codes " 00000000 00000000 00000000 00000000 00000000 00000010 001c4404 00000001"
+
+abbrev pub eight_zeros : List ℕ
+eight_zeros = codes " 00000000 00000000 00000000 00000000 00000000 00000000 00000000 00000000"
+
+abbrev pub six_longs : List ℕ
+six_longs = codes " 0000000000000000 0000000000000000 0000000000000000" ++ codes
+    " 0000000000000000 0000000000000000 0000000000000000"
+
+abbrev pub thirty_bytes : List ℕ
+thirty_bytes = codes "000000000000000000000000000000000000000010000000010000000000"
+
+abbrev pub sixty_bytes : List ℕ
+sixty_bytes = thirty_bytes ++ thirty_bytes
+
+abbrev pub sixty_four_bytes : List ℕ
+sixty_four_bytes = sixty_bytes ++ codes "00000000"
+
+-- why a wide row and the line behind it are refused
+abbrev pub lack_of_pair : Layout → (row line : List ℕ) → Option NoBytes
+lack_of_pair l row line = pair_lack l (held_row 1 row None) line
+
+-- of od after addresses of eight digits in hexadecimal, octal and
+-- decimal digits, and after one of seven digits
+pub od_wide_rows : lack_of_pair Whole (codes "10000000" ++ eight_zeros) (codes "10000020" ++ eight_area_words)
+    ≡ Some lack.WideRow
+unfolding decode_pairs
+od_wide_rows = refl
+
+pub od_octal_rows : lack_of_pair Whole (codes "10000000" ++ eight_zeros) (codes "10000040" ++ eight_area_words)
+    ≡ Some lack.WideRow
+unfolding decode_pairs
+od_octal_rows = refl
+
+pub od_decimal_rows : lack_of_pair Whole (codes "20000000" ++ eight_zeros) (codes "20000032" ++ eight_area_words)
+    ≡ Some lack.WideRow
+unfolding decode_pairs
+od_decimal_rows = refl
+
+pub od_longer_address : lack_of_pair Whole (codes "fffffe0" ++ eight_zeros) (codes "10000000" ++ eight_area_words)
+    ≡ Some lack.WideRow
+unfolding decode_pairs
+od_longer_address = refl
+
+-- the last line of od, which filled up the last number, also beside a size of areas
+abbrev pub areas_of_60 : Layout
+areas_of_60 = Each (record { offset = 0; words = 8; gap = 0 })
+
+pub od_wide_end : lack_of_pair areas_of_60 (codes "10000000" ++ eight_area_words) (codes "1000001e")
+    ≡ Some lack.WideRow
+unfolding decode_pairs
+od_wide_end = refl
+
+-- words without addresses: two rows, and a row and the rest of an area, unless areas have a size
+pub od_wide_parts : lack_of_pair Whole (eight_area_words ++ eight_zeros) (eight_zeros ++ eight_zeros)
+    ≡ Some lack.Part
+unfolding decode_pairs
+od_wide_parts = refl
+
+pub od_wide_rest : lack_of_pair Whole (eight_area_words ++ eight_zeros) (codes "40000000 00000000")
+    ≡ Some lack.Part
+unfolding decode_pairs
+od_wide_rest = refl
+
+pub od_wide_areas : lack_of_pair areas_of_60 (eight_area_words ++ eight_zeros) (eight_zeros ++ eight_zeros)
+    ≡ None
+unfolding decode_pairs
+od_wide_areas = refl
+
+-- 284 bytes as numbers of 64 bits, of which od fills up the last
+pub od_wide_longs :
+    lack_of_pair Whole (six_longs ++ six_longs ++ six_longs) (six_longs ++ six_longs ++ six_longs)
+    ≡ Some lack.Part
+unfolding decode_pairs
+od_wide_longs = refl
+
+-- 64 and 60 bytes, 60 and 64, and bytes and a blank line
+pub xxd_wide_parts : lack_of_pair Whole sixty_four_bytes sixty_bytes ≡ Some lack.Part
+unfolding decode_pairs
+xxd_wide_parts = refl
+
+pub xxd_wide_areas : lack_of_pair Whole sixty_bytes sixty_four_bytes ≡ None
+unfolding decode_pairs
+xxd_wide_areas = refl
+
+pub xxd_wide_blank : lack_of_pair Whole sixty_four_bytes (codes " ") ≡ None
+unfolding decode_pairs
+xxd_wide_blank = refl
+
+-- sizes whose sum is that of the longest area, and more; and both from an offset on
+pub longest_parts : may_be_parts Whole 0 (Some 142) (Some 142) ≡ true
+longest_parts = refl
+
+pub longer_areas : may_be_parts Whole 3 (Some 144) (Some 144) ≡ false
+longer_areas = refl
+
+pub longest_parts_behind : may_be_parts (From 16) 3 (Some 156) (Some 144) ≡ true
+longest_parts_behind = refl
 
 -- the address at which a line ends a dump of one row
 abbrev pub ends_at : (line end : List ℕ) → Option (Option ℕ)

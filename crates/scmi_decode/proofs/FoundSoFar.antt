@@ -2,10 +2,10 @@
 use Rattle.std.proofs.Common.{◌≡◌, ℕ, ◌+◌, ◌==◌, Bool, true, false, if◌then◌else◌, List, [], ◌∷◌, ◌++◌, length, Option, None, Some, ◌∙◌, sym, ap, refl}
 use Rattle.std.specs.Prelude.{◌||◌}
 use Rattle.scmi_decode.proofs.Reporting.{any_area-both, or_assoc, or_false}
-use Rattle.scmi_decode.specs.Decoded.{dump_after, dump_after_end, dump_after_row, end_found, is_remark, judged_by, line_found, line_is_area, lines_found, row_found, step_found}
+use Rattle.scmi_decode.specs.Decoded.{dump_after, dump_after_end, dump_after_row, end_found, is_remark, line_found, line_is_area, lines_found, row_found, step_found}
 use Rattle.scmi_decode.specs.Finding.{any_area}
 use Rattle.scmi_decode.specs.HeldRow.{is_held, is_wide_line, judged_row, lack_behind, repeated_row}
-use Rattle.scmi_decode.specs.OpenDump.{DumpView, added, begun, beside, closed, dump_found, end_at, ended, goes_on, holding, is_star, judged, repeated, rows_repeated, seen}
+use Rattle.scmi_decode.specs.OpenDump.{DumpView, added, begun, beside, closed, dump_found, end_at, ended, goes_on, holding, is_star, judged, judged_by, repeated, rows_repeated, seen}
 use Rattle.scmi_decode.specs.Row.{RowView, row_of}
 use Rattle.scmi_decode.specs.declared.no_bytes.NoBytes.{NoBytes}
 

@@ -6,7 +6,7 @@ use Rattle.scmi_decode.specs.Dump.{is_gap}
 use Rattle.scmi_decode.specs.Finding.{any_area, dump_findings}
 use Rattle.scmi_decode.specs.HeldRow.{is_wide_line, lack_behind}
 use Rattle.scmi_decode.specs.MessageLine.{alone_bytes, alone_lack, items_layout}
-use Rattle.scmi_decode.specs.OpenDump.{DumpView, no_dump, dump_found, goes_on, added, begun, beside, closed, ended, holding, judged, repeated, is_star, end_at, seen}
+use Rattle.scmi_decode.specs.OpenDump.{DumpView, no_dump, dump_found, goes_on, added, begun, beside, closed, ended, holding, judged_by, repeated, is_star, end_at, seen}
 use Rattle.scmi_decode.specs.Reported.{Reported}
 use Rattle.scmi_decode.specs.Row.{RowView, row_of}
 use Rattle.scmi_decode.specs.declared.finding.Finding.{Finding}
@@ -31,7 +31,8 @@ line_is_area l number line = any_area (line_found l number line)
 abbrev pub is_remark : List ℕ → Bool
 is_remark line = starts_with nat_eq line REMARK.now || starts_with nat_eq line OPENED.now || starts_with nat_eq line MAPPED.now
 
--- what is found at a line by the row that it is, if it is one: a row that goes on with the dump is added to it, and any other line ends it; what is found at a wide row depends on the line behind it too
+-- what is found at a line by the row that it is, if it is one: a row that goes on with the dump is
+-- added to it, and any other line ends it; a wide row is found once the line behind it is known
 abbrev pub row_found : DumpView → ℕ → List ℕ → Option RowView → List Finding
 row_found d number line None =
     if is_wide_line line then dump_found d else dump_found d ++ line_found d.layout number line
@@ -43,10 +44,6 @@ dump_after_row d number line lack None =
     if is_wide_line line then holding (closed d) number line lack
     else beside (closed d) (line_is_area d.layout number line)
 dump_after_row d number line lack (Some r) = if goes_on d (seen d r) then added d (seen d r) else begun (closed d) number r
-
--- a dump whose wide row, if it is one, is refused if the line behind it shows that
-abbrev pub judged_by : DumpView → List ℕ → DumpView
-judged_by d line = judged d (lack_behind d.layout d.held line)
 
 -- what is found at a line that ends the dump at an address, or else by its row
 abbrev pub end_found : DumpView → ℕ → List ℕ → Option ℕ → List Finding

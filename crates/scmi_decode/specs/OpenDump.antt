@@ -3,7 +3,7 @@ use Rattle.std.specs.Prelude.{ℕ, ◌==◌, ◌&&◌, ◌||◌, not, Bool, true
 use Rattle.scmi_decode.specs.FirstColumn.{bytes_beside, counts, is_hexadecimal_alone, lack_beside}
 use Rattle.scmi_decode.specs.DumpEnd.{EndView, no_end, addressed, made_unclear, end_of, emptied, ended_at, extended_to, is_base_sure, is_even, lacks_rows, line_end, reaches, repeating, row_bare, takes}
 use Rattle.scmi_decode.specs.Finding.{any_area, dump_findings}
-use Rattle.scmi_decode.specs.HeldRow.{HeldView, held_found, is_held, judged_row, no_held, released, repeated_row}
+use Rattle.scmi_decode.specs.HeldRow.{HeldView, held_found, held_row, is_held, judged_row, lack_behind, no_held, released, repeated_row}
 use Rattle.scmi_decode.specs.Row.{RowView, offset_row}
 use Rattle.scmi_decode.specs.Scan.{first_item, has_one_item}
 use Rattle.scmi_decode.specs.declared.finding.Finding.{Finding}
@@ -13,7 +13,9 @@ use Rattle.scmi_decode.specs.declared.layout.Layout.{Layout}
 use Rattle.scmi_decode.specs.declared.no_bytes.NoBytes.{NoBytes}
 use Rattle.scmi_decode.specs.declared.no_bytes.NoBytes.TheVariants.{Repeats}
 
--- a dump, which has no bytes if none is open: which bytes of it are areas; the number of its first line, its form, its rows so far; the wide row that it is, if it is one; and whether an area was found before
+-- a dump, which has no bytes if none is open: which bytes of it are areas; the number of its first
+-- line, its form, its rows so far; the wide row that it is, if it is one; and whether an area was
+-- found before
 pub record DumpView : Type 0 where
   pub layout : Layout
   pub first : ℕ
@@ -94,12 +96,15 @@ closed d = record d {
 
 -- a dump that is the wide row of a line of this number, and why that is refused, if it is
 unfoldable pub holding : DumpView → ℕ → List ℕ → Option NoBytes → DumpView
-holding d number line lack =
-    record d { held = record { number = number; line = line; lack = lack } }
+holding d number line lack = record d { held = held_row number line lack }
 
 -- a dump whose wide row, if it is one, is refused for this too
 unfoldable pub judged : DumpView → Option NoBytes → DumpView
 judged d lack = if is_held d.held then record d { held = judged_row d.held lack } else d
+
+-- a dump whose wide row, if it is one, is refused if the line behind it shows that
+abbrev pub judged_by : DumpView → List ℕ → DumpView
+judged_by d line = judged d (lack_behind d.layout d.held line)
 
 -- a dump beside which an area was found or not
 unfoldable pub beside : DumpView → Bool → DumpView
@@ -140,7 +145,8 @@ repeated d = if is_held d.held then record d { held = repeated_row d.held } else
 -- whether a line is `*` alone, by which the last row of a dump repeats
 unfoldable pub is_star : DumpView → List ℕ → Bool
 is_star d line =
-    (is_held d.held || is_open d) && (length (first_item line) == 1) && (slice_index (first_item line) 0 == 42) && has_one_item line
+    (is_held d.held || is_open d) && (length (first_item line) == 1)
+    && (slice_index (first_item line) 0 == 42) && has_one_item line
 
 -- the address of a line that ends a dump as `hexdump` and `od` do: it has an address alone, that at which the dump's bytes end, or any if rows are left out
 unfoldable pub end_at : DumpView → List ℕ → Option ℕ

@@ -1,8 +1,8 @@
-//! A row of more bytes than others have, which waits for the line behind it: both may be of one dump.
-ghost use Rattle.std.specs.Prelude.{◌≡◌, OnOk, IfOk, Some};
-ghost use Rattle.scmi_decode.specs.HeldRow.{address_column, column_behind, counts_on, fit_one_area, is_held, is_more, is_repeated, is_wide_line, judged_row, lack_behind, line_size, may_be_parts, next_column, no_held, pair_lack, released, repeated_row, slack_behind};
+//! A row of more bytes than others have, which waits for the line behind it.
+ghost use Rattle.std.specs.Prelude.{◌≡◌, OnOk, IfOk, map};
+ghost use Rattle.scmi_decode.specs.HeldRow.{address_column, column_behind, are_wide, counts_on, filling, fit_one_area, held_row, is_held, is_more, is_repeated, is_wide_line, items_size, judged_row, lack_behind, line_size, may_be_parts, next_column, no_held, pair_lack, released, repeated_row, slack_behind};
 
-use crate::dump::line_bytes;
+use crate::dump::items_bytes;
 use crate::first_column::{FirstColumn, column_after, has_base, met_by, no_column};
 use crate::layout::Layout;
 use crate::lines::items_of;
@@ -15,12 +15,14 @@ use scmi_codec::AREA_BYTES;
 use std::alloc::{AllocError, Global};
 use std::marker::Model;
 
-/// A row of more bytes than others have: the number of its line, its line, which is empty if no row is
-/// held, and why it is refused, if the lines beside it show that.
+/// A wide row, which is held since it and the line behind it may be of one dump: the number of its
+/// line, its line, which is empty if no row is held, how many bytes it has, and why the lines beside
+/// it refuse it.
 #[derive(Drop)]
 pub(crate) struct HeldRow {
     number: usize,
     line: Vec<u8>,
+    size: Option<usize>,
     lack: Option<NoBytes>,
 }
 
@@ -32,6 +34,7 @@ impl Model for HeldRow {
     ghost view = { λ h. record {
       number = h.number;
       line = h.line.items;
+      size = h.size;
       lack = h.lack;
     } };
 }
@@ -44,6 +47,7 @@ impl HeldRow {
         HeldRow {
             number: 0,
             line: Vec::new(alloc),
+            size: None,
             lack: None,
         }
     }
@@ -73,19 +77,21 @@ impl HeldRow {
         self.lack
     }
 
-    /// Holds the row of a line of this number, which the line before it may show to be refused.
+    /// Holds the row of a line of this number and size, and why the line before refuses it.
     pub(crate) fn hold(
         &mut self,
         number: usize,
         line: &[u8],
+        size: Option<usize>,
         lack: Option<NoBytes>,
     ) -> Result<(), AllocError>
-        ensures { OnOk result
-            (self.new ≡ record { number = number; line = line.now; lack = lack }) }
+        requires size { size ≡ line_size line.now }
+        ensures { OnOk result (self.new ≡ held_row number line.now lack) }
     {
         self.line.clear();
         self.line.extend_from_slice(line)?;
         self.number = number;
+        self.size = size;
         self.lack = lack;
         Ok(())
     }
@@ -115,13 +121,15 @@ impl HeldRow {
         self.lack = Some(NoBytes::Repeats);
     }
 
-    /// Why the row and the line behind it are refused, if they are. The only error is out of memory.
+    /// Why the row and the line behind it, of this size, are refused. The only error is out of memory.
     pub(crate) fn lack_behind(
         &self,
         alloc: Global,
         layout: Layout,
         line: &[u8],
+        size: Option<usize>,
     ) -> Result<Option<NoBytes>, AllocError>
+        requires size { size ≡ line_size line.now }
         ensures { IfOk result (λ lack. lack ≡ lack_behind layout self.now line.now) }
     {
         if !self.is_held() {
@@ -129,7 +137,27 @@ impl HeldRow {
         } else if is_repeated(self.lack) {
             Ok(Some(NoBytes::Repeats))
         } else {
-            pair_lack(alloc, layout, self.line(), line)
+            self.pair_lack(alloc, layout, line, size)
+        }
+    }
+
+    /// Why the row and the line behind it are refused, if it does not repeat.
+    fn pair_lack(
+        &self,
+        alloc: Global,
+        layout: Layout,
+        line: &[u8],
+        size: Option<usize>,
+    ) -> Result<Option<NoBytes>, AllocError>
+        requires size { size ≡ line_size line.now }
+        ensures { IfOk result (λ lack. lack ≡ pair_lack layout self.now line.now) }
+    {
+        if counts_on(alloc, self.line(), line)? {
+            Ok(Some(NoBytes::WideRow))
+        } else if may_be_parts(layout, filling(line), self.size, size) {
+            Ok(Some(NoBytes::Part))
+        } else {
+            Ok(None)
         }
     }
 }
@@ -144,47 +172,28 @@ fn is_repeated(lack: Option<NoBytes>) -> bool
     }
 }
 
-/// Why two lines behind each other are refused, the first of which is a wide row.
-fn pair_lack(
-    alloc: Global,
-    layout: Layout,
-    row: &[u8],
-    line: &[u8],
-) -> Result<Option<NoBytes>, AllocError>
-    ensures { IfOk result (λ lack. lack ≡ pair_lack layout row.now line.now) }
-{
-    if counts_on(alloc, row, line)? {
-        return Ok(Some(NoBytes::WideRow));
-    }
-    let size = line_size(alloc, row)?;
-    if may_be_parts(layout, size, line_size(alloc, line)?) {
-        Ok(Some(NoBytes::Part))
-    } else {
-        Ok(None)
-    }
-}
-
-/// Whether a row and the line behind it may be parts of one area: a size of areas says that they are
-/// not.
-fn may_be_parts(layout: Layout, row: Option<usize>, line: Option<usize>) -> bool
-    ensures { result ≡ may_be_parts layout row line }
+/// Whether a row and the line behind it may be parts of one area: a size of areas says that they
+/// are not.
+fn may_be_parts(layout: Layout, fill: usize, row: Option<usize>, line: Option<usize>) -> bool
+    ensures { result ≡ may_be_parts layout fill row line }
 {
     match (layout, row, line) {
-        (Layout::Whole, Some(row), Some(line)) => fit_one_area(0, row, line),
-        (Layout::From(offset), Some(row), Some(line)) => fit_one_area(offset, row, line),
+        (Layout::Whole, Some(row), Some(line)) => fit_one_area(0, fill, row, line),
+        (Layout::From(offset), Some(row), Some(line)) => fit_one_area(offset, fill, row, line),
         _ => false,
     }
 }
 
-/// Whether the line behind a row has bytes, no more than the row, and both together have no more from
-/// an offset on than an area.
-fn fit_one_area(offset: usize, row: usize, line: usize) -> bool
-    ensures { result ≡ fit_one_area offset row line }
+/// Whether the line behind a row has bytes, no more than the row, and both together have no more
+/// from an offset on than an area, without what fills up the last number.
+fn fit_one_area(offset: usize, fill: usize, row: usize, line: usize) -> bool
+    ensures { result ≡ fit_one_area offset fill row line }
 {
-    line > 0 && line <= row && row.saturating_sub(offset).saturating_add(line) <= AREA_BYTES
+    let both = row.saturating_sub(offset).saturating_add(line.saturating_sub(fill));
+    line > 0 && line <= row && both <= AREA_BYTES
 }
 
-/// Whether the first items of a wide row and of the line behind it count its bytes, as addresses do.
+/// Whether the first items of a wide row and of the line behind it count its bytes.
 fn counts_on(alloc: Global, row: &[u8], line: &[u8]) -> Result<bool, AllocError>
     ensures { IfOk result (λ counts. counts ≡ counts_on row.now line.now) }
 {
@@ -211,16 +220,24 @@ fn column_behind(column: FirstColumn, size: Option<usize>) -> FirstColumn
     }
 }
 
-/// How many bytes the address of a line may be less than the expected one: in its last line, which has
-/// one item, od may have filled up the number before it.
-fn slack_behind(row: &[u8], line: &[u8]) -> usize
-    ensures { result ≡ slack_behind row.now line.now }
+/// With how many bytes od may have filled up the last number of a line, by the digits of its first.
+fn filling(line: &[u8]) -> usize
+    ensures { result ≡ filling line.now }
 {
-    if has_one_item(line) {
-        (first_item(row).len() / 2).saturating_sub(1)
+    let digits = first_item(line).len();
+    if digits < 17 {
+        (digits / 2).saturating_sub(1)
     } else {
         0
     }
+}
+
+/// How many bytes the address of a line may be less than the expected one: in the last line of od,
+/// which has one item, it may be in the number before it.
+fn slack_behind(row: &[u8], line: &[u8]) -> usize
+    ensures { result ≡ slack_behind row.now line.now }
+{
+    if has_one_item(line) { filling(row) } else { 0 }
 }
 
 /// An item as an address, if it has as many digits as an address alone.
@@ -234,17 +251,26 @@ fn address_column(item: &[u8]) -> FirstColumn
     }
 }
 
-/// Whether a line is a wide row: it reports no message, and has more bytes than a row, or may have an
-/// address before them. The only error is out of memory.
-pub(crate) fn is_wide_line(alloc: Global, line: &[u8]) -> Result<bool, AllocError>
-    ensures { IfOk result (λ is_wide. is_wide ≡ is_wide_line line.now) }
+/// How many bytes a line has, if each of its items has some, and whether it is a wide row. The only
+/// error is out of memory.
+pub(crate) fn size_and_width(
+    alloc: Global,
+    line: &[u8],
+) -> Result<(Option<usize>, bool), AllocError>
+    ensures size { IfOk result (λ both. both.0 ≡ line_size line.now) }
+    ensures is_wide { IfOk result (λ both. both.1 ≡ is_wide_line line.now) }
 {
     let items = items_of(alloc, line)?;
-    if is_message(items.as_slice()) {
-        return Ok(false);
-    }
-    let is_more = is_more(line_size(alloc, line)?);
-    Ok(is_wide_row(items.as_slice()) || is_more)
+    let size = items_size(alloc, items.as_slice())?;
+    Ok((size, are_wide(items.as_slice(), size)))
+}
+
+/// Whether items of so many bytes are a wide row: they report no message, and have more bytes than a
+/// row, or may have an address before them.
+fn are_wide(items: &[&[u8]], size: Option<usize>) -> bool
+    ensures { result ≡ are_wide (map (λ item. item.now) items.now) size }
+{
+    !is_message(items) && (is_wide_row(items) || is_more(size))
 }
 
 /// Whether so many bytes are more than a row has.
@@ -258,10 +284,18 @@ fn is_more(size: Option<usize>) -> bool
 }
 
 /// How many bytes a line has, if each of its items has some.
-fn line_size(alloc: Global, line: &[u8]) -> Result<Option<usize>, AllocError>
+pub(crate) fn line_size(alloc: Global, line: &[u8]) -> Result<Option<usize>, AllocError>
     ensures { IfOk result (λ size. size ≡ line_size line.now) }
 {
-    match line_bytes(alloc, false, line)? {
+    let items = items_of(alloc, line)?;
+    items_size(alloc, items.as_slice())
+}
+
+/// How many bytes items have, if each of them has some.
+fn items_size(alloc: Global, items: &[&[u8]]) -> Result<Option<usize>, AllocError>
+    ensures { IfOk result (λ size. size ≡ items_size (map (λ item. item.now) items.now)) }
+{
+    match items_bytes(alloc, false, items)? {
         Some(bytes) => Ok(Some(bytes.len())),
         None => Ok(None),
     }

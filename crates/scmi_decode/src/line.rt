@@ -1,11 +1,11 @@
 //! What is found at a line, and in a dump.
 ghost use Rattle.std.specs.Prelude.{◌≡◌, ◌⊎◌, OnOk, IfOk, IfErr, IfSome, map};
-ghost use Rattle.std.specs.Option.{is_some, option_map};
+ghost use Rattle.std.specs.Option.{is_some};
 ghost use Rattle.std.specs.List.{slice_split};
 ghost use Rattle.scmi_decode.specs.Decoded.{line_found, line_is_area};
 ghost use Rattle.scmi_decode.specs.Dump.{is_gap};
 ghost use Rattle.scmi_decode.specs.Finding.{any_area};
-ghost use Rattle.scmi_decode.specs.HeldRow.{held_bytes, held_found, held_lack, why_refused};
+ghost use Rattle.scmi_decode.specs.HeldRow.{held_found};
 ghost use Rattle.scmi_decode.specs.MessageLine.{items_layout};
 ghost use Rattle.scmi_decode.specs.OpenDump.{dump_found};
 ghost use Rattle.scmi_decode.specs.Reading.{alone_reading};
@@ -17,7 +17,6 @@ use crate::held_row::HeldRow;
 use crate::layout::Layout;
 use crate::lines::{is_described, items_of};
 use crate::message_line::{alone_bytes, items_lack, items_layout};
-use crate::no_bytes::NoBytes;
 use crate::open_dump::OpenDump;
 use crate::parts_found::report_dump;
 use crate::reading::{Reading, alone_reading};
@@ -69,9 +68,10 @@ fn report_held<S: Findings>(
 {
     let items = items_of(alloc, row.line())?;
     let own = alone_bytes(alloc, items.as_slice())?;
-    let alone = items_lack(alloc, items.as_slice())?;
-    let lack = why_refused(&own, row.lack(), alone);
-    let found = if row.lack().is_some() { None } else { own };
+    let (found, lack) = match (own, row.lack()) {
+        (Some(_), Some(lack)) => (None, lack),
+        (own, _) => (own, items_lack(alloc, items.as_slice())?),
+    };
     let number = row.number();
     if report_dump(sink, layout, number, row.line(), lack, &found)? {
         Ok(Some(alone_reading(items.as_slice())))
@@ -80,17 +80,7 @@ fn report_held<S: Findings>(
     }
 }
 
-/// Why a row is refused: for what it shows alone, or else for what the lines beside it show.
-fn why_refused(own: &Option<Vec<u8>>, beside: Option<NoBytes>, alone: NoBytes) -> NoBytes
-    ensures { result ≡ why_refused (option_map (λ bytes. bytes.items) own.now) beside alone }
-{
-    match (own, beside) {
-        (Some(_), Some(lack)) => lack,
-        _ => alone,
-    }
-}
-
-/// Reports what is found in a dump; nothing if none is open. Gives how it is read, if it has an area.
+/// Reports what is found in a dump; nothing if none is open. Gives how it is read, if it is an area.
 #[tactic(auto, using(crate::proofs::Reported::reported_nil))]
 pub(crate) fn report_open<S: Findings>(
     alloc: Global,

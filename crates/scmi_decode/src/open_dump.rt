@@ -2,8 +2,8 @@
 ghost use Rattle.std.specs.Prelude.{◌≡◌, OnOk, IfOk};
 ghost use Rattle.std.specs.Option.{is_some, option_map};
 ghost use Rattle.scmi_decode.specs.Finding.{any_area};
-ghost use Rattle.scmi_decode.specs.OpenDump.{added, begun, beside, closed, dump_bytes, dump_found, dump_lack, end_at, end_repeated, ended, form_repeated, goes_on, has_addresses, holding, is_open, is_star, judged, may_repeat, no_dump, or_row, repeated, row_at, rows_repeated, same_form, seen};
-ghost use Rattle.scmi_decode.specs.HeldRow.{lack_behind};
+ghost use Rattle.scmi_decode.specs.OpenDump.{added, begun, beside, closed, dump_bytes, dump_found, dump_lack, end_at, end_repeated, ended, form_repeated, goes_on, has_addresses, holding, is_open, is_star, judged_by, may_repeat, no_dump, or_row, repeated, row_at, rows_repeated, same_form, seen};
+ghost use Rattle.scmi_decode.specs.HeldRow.{lack_behind, line_size};
 
 use crate::cell::{order_shown, settled};
 use crate::dump_end::{DumpEnd, row_bare};
@@ -199,38 +199,39 @@ impl OpenDump {
         }
     }
 
-    /// Becomes the wide row of a line of this number, and why that is refused, if it is.
+    /// Becomes the wide row of a line of this number and size, and why the line before refuses it.
     #[tactic(auto, unfolding(crate::specs::OpenDump::holding))]
     pub(crate) fn hold(
         &mut self,
         number: usize,
         line: &[u8],
+        size: Option<usize>,
         lack: Option<NoBytes>,
     ) -> Result<(), AllocError>
+        requires size { size ≡ line_size line.now }
         ensures { OnOk result (self.new ≡ holding self.old number line.now lack) }
     {
-        self.held.hold(number, line, lack)
+        self.held.hold(number, line, size, lack)
     }
 
-    /// Why its wide row and the line behind that are refused, if they are.
-    pub(crate) fn lack_behind(
-        &self,
+    /// Notes and gives why its wide row, if it is one, and the line behind it, of this size, are refused.
+    #[tactic(auto, unfolding(crate::specs::OpenDump::judged))]
+    pub(crate) fn judge(
+        &mut self,
         alloc: Global,
         line: &[u8],
+        size: Option<usize>,
     ) -> Result<Option<NoBytes>, AllocError>
-        ensures { IfOk result (λ lack. lack ≡ lack_behind self.now.layout self.now.held line.now) }
+        requires size { size ≡ line_size line.now }
+        ensures lack { IfOk result (λ lack.
+            lack ≡ lack_behind self.old.layout self.old.held line.now) }
+        ensures judged { OnOk result (self.new ≡ judged_by self.old line.now) }
     {
-        self.held.lack_behind(alloc, self.layout, line)
-    }
-
-    /// Notes why its wide row, if it is one, is refused.
-    #[tactic(auto, unfolding(crate::specs::OpenDump::judged))]
-    pub(crate) fn judge(&mut self, lack: Option<NoBytes>)
-        ensures { self.new ≡ judged self.old lack }
-    {
+        let lack = self.held.lack_behind(alloc, self.layout, line, size)?;
         if self.held.is_held() {
             self.held.judge(lack);
         }
+        Ok(lack)
     }
 
     /// How its rows are read.

@@ -1,21 +1,20 @@
 //! A line of an input, by what comes before it.
 ghost use Rattle.std.specs.Prelude.{◌≡◌, ◌⊎◌, ◌++◌, None, Some, OnOk, IfErr};
-ghost use Rattle.scmi_decode.specs.HeldRow.{is_wide_line};
-ghost use Rattle.scmi_decode.specs.OpenDump.{beside, closed, dump_found};
+ghost use Rattle.scmi_decode.specs.HeldRow.{lack_behind};
+ghost use Rattle.scmi_decode.specs.OpenDump.{beside, closed, dump_found, judged_by};
 ghost use Rattle.scmi_decode.specs.Row.{row_of};
 ghost use Rattle.scmi_decode.specs.Reported.{Reported};
 ghost use Rattle.scmi_decode.specs.Decoded.{dump_after, dump_after_end, dump_after_row, end_found, is_remark, line_is_area, line_found, row_found, step_found};
 
 use crate::decode_error::DecodeError;
 use crate::findings::Findings;
-use crate::held_row::is_wide_line;
+use crate::held_row::{line_size, size_and_width};
 use crate::line::{report_line, report_open};
-use crate::no_bytes::NoBytes;
 use crate::open_dump::OpenDump;
 use crate::reading::has_wide_marks;
 use crate::readings::Readings;
 use crate::row::{Row, row_of};
-use std::alloc::Global;
+use std::alloc::{AllocError, Global};
 
 /// How the lines begin that are skipped: a comment, and what `devmem2` prints beside each number.
 pub(crate) const REMARK: &[u8] = b"#";
@@ -89,11 +88,11 @@ fn take_line<S: Findings>(
         dump.end(alloc, address)?;
         return close(alloc, sink, dump);
     }
-    judge_and_take(alloc, sink, dump, number, line)
+    take_row(alloc, sink, dump, number, line)
 }
 
-/// Takes a line by the row that it is, once a wide row before it is judged.
-fn judge_and_take<S: Findings>(
+/// Takes a line by the row that it is, if it is one.
+fn take_row<S: Findings>(
     alloc: Global,
     sink: &mut S,
     dump: &mut OpenDump,
@@ -105,30 +104,26 @@ fn judge_and_take<S: Findings>(
     ensures dump { OnOk result (dump.new ≡ dump_after_end dump.old number line.now None) }
     ensures errors { IfErr result (λ e. (e ≡ DecodeError.Memory) ⊎ (e ≡ DecodeError.Write)) }
 {
-    let lack = dump.lack_behind(alloc, line)?;
-    dump.judge(lack);
-    take_row(alloc, sink, dump, number, line, lack)
+    match row_of(alloc, line)? {
+        None => take_alone(alloc, sink, dump, number, line),
+        Some(row) => {
+            judge_row(alloc, dump, line)?;
+            add_row(alloc, sink, dump, number, line, &row)
+        }
+    }
 }
 
-/// Takes a line by the row that it is, if it is one; a wide row is refused for this.
-fn take_row<S: Findings>(
-    alloc: Global,
-    sink: &mut S,
-    dump: &mut OpenDump,
-    number: usize,
-    line: &[u8],
-    lack: Option<NoBytes>,
-) -> Result<(), DecodeError>
-    ensures taken { OnOk result (Reported (S.taken sink.old) (S.taken sink.new) (
-        row_found dump.old number line.now (row_of line.now))) }
-    ensures dump { OnOk result
-        (dump.new ≡ dump_after_row dump.old number line.now lack (row_of line.now)) }
-    ensures errors { IfErr result (λ e. (e ≡ DecodeError.Memory) ⊎ (e ≡ DecodeError.Write)) }
+/// Notes why the wide row before a line is refused, if there is one.
+#[tactic(auto, unfolding(crate::specs::OpenDump::judged))]
+fn judge_row(alloc: Global, dump: &mut OpenDump, line: &[u8]) -> Result<(), AllocError>
+    ensures { OnOk result (dump.new ≡ judged_by dump.old line.now) }
 {
-    match row_of(alloc, line)? {
-        None => take_alone(alloc, sink, dump, number, line, lack),
-        Some(row) => add_row(alloc, sink, dump, number, line, &row),
+    if !dump.held().is_held() {
+        return Ok(());
     }
+    let size = line_size(alloc, line)?;
+    dump.judge(alloc, line, size)?;
+    Ok(())
 }
 
 /// Adds a row to the dump, or begins another with it.
@@ -169,17 +164,18 @@ fn take_alone<S: Findings>(
     dump: &mut OpenDump,
     number: usize,
     line: &[u8],
-    lack: Option<NoBytes>,
 ) -> Result<(), DecodeError>
     ensures taken { OnOk result (Reported (S.taken sink.old) (S.taken sink.new) (
-        row_found dump.old number line.now None)) }
-    ensures dump { OnOk result
-        (dump.new ≡ dump_after_row dump.old number line.now lack None) }
+        row_found (judged_by dump.old line.now) number line.now None)) }
+    ensures dump { OnOk result (dump.new ≡ dump_after_row (judged_by dump.old line.now) number line.now
+        (lack_behind dump.old.layout dump.old.held line.now) None) }
     ensures errors { IfErr result (λ e. (e ≡ DecodeError.Memory) ⊎ (e ≡ DecodeError.Write)) }
 {
-    if is_wide_line(alloc, line)? {
+    let (size, is_wide) = size_and_width(alloc, line)?;
+    let lack = dump.judge(alloc, line, size)?;
+    if is_wide {
         close(alloc, sink, dump)?;
-        dump.hold(number, line, lack)?;
+        dump.hold(number, line, size, lack)?;
         return Ok(());
     }
     take_line_alone(alloc, sink, dump, number, line)
