@@ -320,4 +320,3 @@ fn bytes_after_group(row: &Row) -> usize
 {
     row.cells().len().saturating_sub(row.group() / 2)
 }
-

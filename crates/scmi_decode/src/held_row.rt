@@ -189,8 +189,9 @@ fn may_be_parts(layout: Layout, fill: usize, row: Option<usize>, line: Option<us
 fn fit_one_area(offset: usize, fill: usize, row: usize, line: usize) -> bool
     ensures { result ≡ fit_one_area offset fill row line }
 {
-    let both = row.saturating_sub(offset).saturating_add(line.saturating_sub(fill));
-    line > 0 && line <= row && both <= AREA_BYTES
+    let first = row.saturating_sub(offset);
+    let rest = line.saturating_sub(fill);
+    line > 0 && line <= row && first.saturating_add(rest) <= AREA_BYTES
 }
 
 /// Whether the first items of a wide row and of the line behind it count its bytes.
