@@ -13,7 +13,7 @@ use Rattle.scmi_decode.specs.WideRow.{is_wide_row}
 use Rattle.scmi_decode.specs.declared.finding.Finding.{Finding}
 use Rattle.scmi_decode.specs.declared.first_column.FirstColumn.{FirstColumn}
 use Rattle.scmi_decode.specs.declared.layout.Layout.{Layout}
-use Rattle.scmi_decode.specs.declared.layout.Layout.TheVariants.{Whole, From, Each}
+use Rattle.scmi_decode.specs.declared.layout.Layout.TheVariants.{Whole, From}
 use Rattle.scmi_decode.specs.declared.no_bytes.NoBytes.{NoBytes}
 use Rattle.scmi_decode.specs.declared.no_bytes.NoBytes.TheVariants.{Part, Repeats, WideRow}
 use Rattle.scmi_decode.specs.declared.row.TheConstants.{ROW_BYTES}
