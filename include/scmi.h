@@ -135,7 +135,8 @@ typedef struct scmi_channel_numbers {
 
 /*
  * Makes a platform of a board's text (docs/SCRIPTS.md, "Boards"), which is `length` bytes; lines `channel` may
- * give the channels of its agents, and if none does, they are whole, SCMI_AREA_BYTES, both ways. It allocates here
+ * give the channels of its agents, and if none does, they are whole, SCMI_AREA_BYTES, both ways; lines `keep` and
+ * `deny` say what no agent may switch off, and what is denied to an agent from the start. It allocates here
  * alone, and nothing after initialisation, so no later call gives SCMI_MEMORY. SCMI_DONE, SCMI_IN_USE, SCMI_MEMORY,
  * SCMI_RULE + N or SCMI_LINE + L; L is the last line if `end` is missing, and 0 if there is no line. Only comments and
  * empty lines may follow `end`; the zero that ends a string in C is such a line of another form. The rules: 1 counts,
@@ -161,19 +162,31 @@ typedef struct scmi_board_heading {
     uint32_t trusted;
 } scmi_board_heading;
 
+/*
+ * The devices that are denied to the agent from the start are masks, bit d for device d: the agent may not change what
+ * only they hold. The trusted agent may allow them again, and a reset of the agent's permissions denies them again.
+ */
 typedef struct scmi_board_agent {
     char name[SCMI_NAME_ROOM];
-    uint32_t bytes;   /* of each area of its channels, 28 + 4k, k from 8 to 64; 0: SCMI_AREA_BYTES */
-    uint32_t one_way; /* not 0: the platform can't send to the agent */
+    uint32_t bytes;         /* of each area of its channels, 28 + 4k, k from 8 to 64; 0: SCMI_AREA_BYTES */
+    uint32_t one_way;       /* not 0: the platform can't send to the agent */
+    uint32_t pending;       /* how many of the platform's 8 pending sets may be the agent's, 1 to 8; 0: all 8 */
+    uint32_t denied;        /* the devices that are denied as a whole; 0: none */
+    uint32_t denied_power;  /* those that are denied for the power protocol, 0x11; 0: none */
+    uint32_t denied_clocks; /* those that are denied for the clock protocol, 0x14; 0: none */
 } scmi_board_agent;
 
-/* What is not 0 is so: ON at the start, and which sets and notifications the domain has. */
+/*
+ * What is not 0 is so: ON at the start, which sets and notifications the domain has, and that no agent, whatever it may
+ * do, may switch it off (DENIED).
+ */
 typedef struct scmi_board_domain {
     char name[SCMI_NAME_ROOM];
     uint32_t on;
     uint32_t synchronous;
     uint32_t asynchronous;
     uint32_t notify;
+    uint32_t kept;
 } scmi_board_domain;
 
 /*
@@ -189,7 +202,7 @@ typedef struct scmi_board_clock {
     uint32_t first;
     uint32_t count;
     uint32_t enabled; /* at the start */
-    uint32_t reserved;
+    uint32_t kept;    /* not 0: no agent, whatever it may do, may disable it (DENIED); its rate may be set */
 } scmi_board_clock;
 
 /* The domains and the clocks that a device holds: bit i is for domain or clock i. */
@@ -224,7 +237,8 @@ uint32_t scmi_platform_new_of_tables(scmi_platform *SCMI_ALONE platform, const s
  * As scmi_platform_new, of a board's tables: a program that calls no other making has no reader of texts in it. A table
  * without rows may be null. Nothing of the tables is needed once it has returned. SCMI_DONE, SCMI_IN_USE, SCMI_TABLE
  * (a name without its zero, with a byte that is not ASCII, or with any but zeros after the first; a list of rates
- * beyond the table; or a size that no channel has), SCMI_MEMORY or SCMI_RULE + N.
+ * beyond the table; a size that no channel has; more than 8 pending sets; or a device denied that is beyond the table),
+ * SCMI_MEMORY or SCMI_RULE + N.
  */
 static inline uint32_t scmi_platform_new_of(scmi_platform *platform, const scmi_board *board)
 {
@@ -415,10 +429,12 @@ SCMI_HOLDS(offsetof(scmi_area, payload) == SCMI_AREA_PAYLOAD, "the place of the 
 SCMI_HOLDS(sizeof(scmi_platform) == sizeof(void *), "the size of a handle");
 SCMI_HOLDS(sizeof(scmi_channel_numbers) == 8, "the size of a channel's numbers");
 SCMI_HOLDS(sizeof(scmi_board_heading) == 40, "the size of a heading");
-SCMI_HOLDS(sizeof(scmi_board_agent) == 24, "the size of an agent's row");
-SCMI_HOLDS(sizeof(scmi_board_domain) == 32, "the size of a domain's row");
+SCMI_HOLDS(sizeof(scmi_board_agent) == 40, "the size of an agent's row");
+SCMI_HOLDS(offsetof(scmi_board_agent, denied_clocks) == 36, "the place of an agent's last mask");
+SCMI_HOLDS(sizeof(scmi_board_domain) == 36, "the size of a domain's row");
 SCMI_HOLDS(sizeof(scmi_board_clock) == 64, "the size of a clock's row");
 SCMI_HOLDS(offsetof(scmi_board_clock, enabled) == 56, "the place of a clock's bit");
+SCMI_HOLDS(offsetof(scmi_board_clock, kept) == 60, "the place of what is kept");
 SCMI_HOLDS(sizeof(scmi_board_device) == 8, "the size of a device's row");
 #undef SCMI_HOLDS
 #endif

@@ -26,14 +26,15 @@ size_t scmi_memory_requests(void);
 
 /*
  * How many bytes are enough for a block with a platform of a valid board's text, by the numbers of its agents, domains,
- * clocks, rates in lists (of all clocks together) and devices: a constant. For a platform of tables SCMI_PLATFORM_BYTES
- * is enough.
+ * clocks, rates in lists (of all clocks together) and devices: a constant. If the text has lines `keep` and `deny`,
+ * SCMI_LINE_BYTES of their number come to it. For a platform of tables SCMI_PLATFORM_BYTES is enough.
  */
 #define SCMI_TEXT_BYTES(agents, domains, clocks, rates, devices) \
-    ((size_t)8192 + 80 * (size_t)(agents) + 48 * (size_t)(domains) + SCMI_LEAST(128 * (size_t)(domains), 1920) + \
+    ((size_t)8448 + 80 * (size_t)(agents) + 48 * (size_t)(domains) + SCMI_LEAST(128 * (size_t)(domains), 1920) + \
      88 * (size_t)(clocks) + SCMI_LEAST(288 * (size_t)(clocks), 4320) + \
      SCMI_LEAST(24 * (size_t)(rates) + 16 * (size_t)(clocks), 1024 * (size_t)(clocks)) + \
      SCMI_LEAST(24 * (size_t)(devices) + 16, 512))
+#define SCMI_LINE_BYTES(lines) (40 * (size_t)(lines))
 #define SCMI_LEAST(one, other) ((one) < (other) ? (one) : (other))
 
 /*

@@ -1,6 +1,7 @@
 /*
- * What a platform tells of its board: each name, channel, domain, clock and rate, and what each device holds. The board
- * is the tables of the file TABLES, or with a word the text in the file of that name: then what is written is the same.
+ * What a platform tells of its board: each name, channel, domain, clock and rate, what each agent may do at the start,
+ * and what each device holds. The board is the tables of the file TABLES, or with a word the text in the file of that
+ * name: then what is written is the same.
  */
 #include <stdio.h>
 
@@ -39,6 +40,16 @@ static void ask(scmi_platform *platform, uint32_t agent, uint32_t header, size_t
     printf("\n");
 }
 
+/* The pending sets that are announced to an agent, and what it may switch off. */
+static void start(scmi_platform *platform, uint32_t agent)
+{
+    ask(platform, agent, 0x5001, 0, 0, 0, 0); /* PROTOCOL_ATTRIBUTES */
+    for (uint32_t i = 0; i < board.domain_count; i++)
+        ask(platform, agent, 0x4404, 3, 0, i, 0x40000000); /* POWER_STATE_SET, off */
+    for (uint32_t i = 0; i < board.clock_count; i++)
+        ask(platform, agent, 0x5007, 2, i, 0, 0); /* CLOCK_CONFIG_SET, off */
+}
+
 /* What an agent may switch while a device is denied to it: this tells what the device holds. */
 static void without(scmi_platform *platform, uint32_t trusted, uint32_t agent, uint32_t device)
 {
@@ -72,6 +83,8 @@ static void tell(scmi_platform *platform, uint32_t trusted)
         for (uint32_t from = 0; from < 64; from += 16)
             ask(platform, trusted, 0x5004, 2, i, from, 0); /* CLOCK_DESCRIBE_RATES */
     }
+    for (uint32_t i = 1; i <= board.agent_count; i++)
+        start(platform, i);
     for (uint32_t i = 0; i <= board.device_count; i++)
         without(platform, trusted, 1, i);
 }

@@ -107,8 +107,12 @@ static void again(void)
     printf(", none %u\n", (unsigned)scmi_platform_new_in(&p, NULL, 0, board(), sizeof(small) - 1));
 }
 
-/* A text of so many rows, with names as long as they may be, and `list` rates a clock, or steps if it is 0. */
-static size_t write_text(unsigned agents, unsigned domains, unsigned clocks, unsigned list, unsigned devices)
+/*
+ * A text of so many rows, with names as long as they may be, and `list` rates a clock, or steps if it is 0; behind them
+ * a line for each agent's channels, and `lines` that keep or deny something of the board.
+ */
+static size_t write_text(unsigned agents, unsigned domains, unsigned clocks, unsigned list, unsigned devices,
+                         unsigned lines)
 {
     const char *name = "nnnnnnnnnnnnn";
     size_t n = (size_t)sprintf(text, "board %s00 %s00 1 1\n", name, name);
@@ -127,7 +131,9 @@ static size_t write_text(unsigned agents, unsigned domains, unsigned clocks, uns
     for (i = 0; i < devices; i++)
         n += (size_t)sprintf(text + n, "device - -\n");
     for (i = 0; i < agents; i++)
-        n += (size_t)sprintf(text + n, "channel %u 156 one-way\n", i + 1);
+        n += (size_t)sprintf(text + n, "channel %u 156 one-way pending 2\n", i + 1);
+    for (i = 0; i < lines; i++)
+        n += (size_t)sprintf(text + n, "%s\n", domains ? "keep domain 0" : clocks ? "keep clock 0" : "deny 1 0 0x11");
     return n + (size_t)sprintf(text + n, "end\n");
 }
 
@@ -135,9 +141,11 @@ static size_t write_text(unsigned agents, unsigned domains, unsigned clocks, uns
 static void sized(void)
 {
     static const unsigned counts[] = { 0, 1, 4, 5, 8, 9, 16, 17, 31, 32 }, lists[] = { 0, 1, 4, 5, 17, 33, 63, 64 };
+    static const unsigned kept[] = { 0, 1, 2, 3, 5, 9, 25, 57, 120 };
     enum { COUNTS = sizeof(counts) / sizeof(*counts), LISTS = sizeof(lists) / sizeof(*lists) };
+    enum { KEPT = sizeof(kept) / sizeof(*kept) };
     scmi_platform p = { 0 };
-    unsigned k, list, agents, made = 0, tried = 0, written = 0;
+    unsigned k, list, agents, lines, made = 0, tried = 0, written = 0;
     size_t bytes, length, i;
 
     for (k = 0; k < COUNTS * COUNTS * COUNTS; k++)
@@ -146,8 +154,9 @@ static void sized(void)
             const unsigned devices = counts[k / COUNTS / COUNTS];
 
             agents = 1 + tried % 8;
-            length = write_text(agents, domains, clocks, lists[list], devices);
-            bytes = SCMI_TEXT_BYTES(agents, domains, clocks, lists[list] * clocks, devices);
+            lines = domains + clocks + devices ? kept[tried % KEPT] : 0;
+            length = write_text(agents, domains, clocks, lists[list], devices, lines);
+            bytes = SCMI_TEXT_BYTES(agents, domains, clocks, lists[list] * clocks, devices) + SCMI_LINE_BYTES(lines);
             memset(one + tried % 16 + bytes, PAINT, GUARD);
             made += scmi_platform_new_in(&p, one + tried % 16, bytes, (const uint8_t *)text, length) == SCMI_DONE;
             for (i = 0; i < GUARD; i++)

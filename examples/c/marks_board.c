@@ -1,21 +1,21 @@
 #include "scmi.h"
 
 static const scmi_board_agent board_agents[] = {
-    { .name = "ap\"1\"", .bytes = 60, .one_way = 0 },
-    { .name = "mo\\dem", .bytes = 284, .one_way = 0 },
-    { .name = "what\?\?/", .bytes = 124, .one_way = 1 },
+    { .name = "ap\"1\"", .bytes = 60, .one_way = 0, .denied = 0x1, .denied_power = 0x4 },
+    { .name = "mo\\dem", .bytes = 284, .one_way = 0, .pending = 3 },
+    { .name = "what\?\?/", .bytes = 124, .one_way = 1, .pending = 1, .denied_clocks = 0x3 },
 };
 
 static const scmi_board_domain board_domains[] = {
     { .name = "c\"pu", .on = 1, .synchronous = 1, .asynchronous = 0, .notify = 0 },
     { .name = "g\\pu\?\?", .on = 0, .synchronous = 1, .asynchronous = 1, .notify = 0 },
-    { .name = "usb", .on = 1, .synchronous = 1, .asynchronous = 0, .notify = 1 },
+    { .name = "usb", .on = 1, .synchronous = 1, .asynchronous = 0, .notify = 1, .kept = 1 },
     { .name = "rtc", .on = 0, .synchronous = 0, .asynchronous = 1, .notify = 1 },
 };
 
 static const scmi_board_clock board_clocks[] = {
     { .name = "u\?\?(art", .enabled = 0, .rate = 3u, .first = 0, .count = 64 },
-    { .name = "bus\\", .enabled = 1, .rate = 40u, .low = 10u, .high = 100u, .step = 30u },
+    { .name = "bus\\", .enabled = 1, .rate = 40u, .low = 10u, .high = 100u, .step = 30u, .kept = 1 },
     { .name = "cam\"", .enabled = 1, .rate = 5u, .first = 64, .count = 2 },
 };
 

@@ -1,10 +1,11 @@
 /*
- * Tables that are refused, each with its number, and nothing changed; and boards in blocks of the bytes that are said to
- * be enough.
+ * Tables that are refused, each with its number, and nothing changed; boards in blocks of the bytes that are said to be
+ * enough; and what tables keep, deny and share, beside the same board without it.
  */
 #include <stdio.h>
 #include <string.h>
 
+#include "area.h"
 #include "scmi_memory.h"
 
 enum { AGENTS = 9, ROWS = 33, LIST = 65 };
@@ -105,6 +106,13 @@ static void malformed(void)
     fill(1, 2, 3), agents[0].bytes = 56, is("areas of 7 words", SCMI_TABLE);
     fill(1, 2, 3), agents[0].bytes = 288, is("areas of 65 words", SCMI_TABLE);
     fill(1, 2, 3), agents[0].bytes = 62, is("areas of half a word more", SCMI_TABLE);
+    fill(1, 2, 3), agents[0].pending = 9, is("nine of the pending sets", SCMI_TABLE);
+    fill(1, 2, 3), agents[0].pending = 8, is("all eight", SCMI_DONE);
+    fill(1, 2, 3), agents[0].denied = 4, is("device 2 of 0 and 1 denied", SCMI_TABLE);
+    fill(1, 2, 3), agents[0].denied_power = 4, is("for the power protocol", SCMI_TABLE);
+    fill(1, 2, 3), agents[0].denied_clocks = 4, is("for the clock protocol", SCMI_TABLE);
+    fill(1, 0, 0), agents[0].denied = 1, is("device 0 where there is none", SCMI_TABLE);
+    fill(1, ROWS - 1, 1), agents[0].denied = 0xffffffff, is("all of 32 devices", SCMI_DONE);
     fill(AGENTS, 2, 3), agents[8].bytes = 1, is("before any rule", SCMI_TABLE);
 }
 
@@ -136,6 +144,79 @@ static void channel(const char *says, uint32_t bytes, uint32_t one_way)
     scmi_platform_free(&platform);
 }
 
+enum { ON = 0, OFF = 0x40000000 };
+/* Headers of the base, the power and the clock protocol. */
+enum { SET_PROTOCOL = 0x400a, RESET = 0x400b, SET_STATE = 0x4404 };
+enum { ATTRIBUTES = 0x5001, SET_RATE = 0x5005, CONFIG = 0x5007 };
+
+/* Of device 0, which has domain 1 and clock 1, agent 2 is denied the clocks, agent 3 the power, and agent 4 all. */
+static const struct {
+    uint32_t agent, header;
+    unsigned count;
+    uint32_t words[4];
+} commands[] = {
+    { 1, SET_STATE, 3, { 0, 0, OFF } },      /* domain 0 is kept, and agent 1 the trusted one */
+    { 1, SET_STATE, 3, { 0, 0, ON } },
+    { 2, SET_STATE, 3, { 0, 1, OFF } },
+    { 1, CONFIG, 2, { 0, 0 } },              /* clock 0 is kept */
+    { 1, CONFIG, 2, { 0, 1 } },
+    { 2, SET_RATE, 4, { 0, 0, 2, 0 } },
+    { 2, CONFIG, 2, { 1, 0 } },
+    { 2, SET_RATE, 4, { 0, 1, 2, 0 } },
+    { 3, SET_STATE, 3, { 0, 1, OFF } },
+    { 3, CONFIG, 2, { 1, 0 } },
+    { 4, SET_STATE, 3, { 0, 1, OFF } },
+    { 4, CONFIG, 2, { 1, 0 } },
+    { 1, ATTRIBUTES, 0, { 0 } },
+    { 2, ATTRIBUTES, 0, { 0 } },             /* one pending set may be agent 2's */
+    { 2, SET_STATE, 3, { 1, 1, ON } },       /* later */
+    { 2, SET_STATE, 3, { 1, 0, ON } },       /* its second */
+    { 1, SET_STATE, 3, { 1, 0, ON } },
+    { 0, 0, 0, { 0 } },                      /* the first pending set completes */
+    { 2, SET_STATE, 3, { 1, 1, OFF } },
+    { 1, SET_PROTOCOL, 4, { 2, 0, 0x14, 1 } }, /* agent 2 is allowed the clocks of device 0 */
+    { 2, CONFIG, 2, { 1, 1 } },
+    { 1, RESET, 2, { 2, 1 } },               /* .. and is denied them again */
+    { 2, CONFIG, 2, { 1, 0 } },
+    { 1, SET_STATE, 3, { 1, 0, OFF } }       /* kept, and pending */
+};
+
+static void fill_said(void)
+{
+    fill(4, 2, 3);
+    domains[0].on = domains[0].synchronous = domains[0].asynchronous = 1;
+    domains[1].on = domains[1].synchronous = domains[1].asynchronous = 1;
+    clocks[0].enabled = clocks[1].enabled = 1;
+    devices[0].domains = devices[0].clocks = 1 << 1;
+}
+
+/* Gives the commands to a platform of the board. */
+static void answer(const char *says)
+{
+    scmi_platform platform = { 0 };
+    size_t i;
+
+    printf("%s: %u\n", says, (unsigned)scmi_platform_new_of_in(&platform, block, sizeof(block), &board));
+    for (i = 0; i < sizeof(commands) / sizeof(commands[0]); i++)
+        if (commands[i].agent == 0)
+            printf("advance %u\n", (unsigned)scmi_advance(&platform));
+        else
+            area_answer(&platform, commands[i].agent, commands[i].header, commands[i].count, commands[i].words);
+    scmi_platform_free(&platform);
+}
+
+static void said(void)
+{
+    fill_said();
+    domains[0].kept = clocks[0].kept = 1;
+    agents[1].pending = agents[1].denied_clocks = 1;
+    agents[2].denied_power = 1;
+    agents[3].denied = 1;
+    answer("kept, denied and shared");
+    fill_said();
+    answer("without it");
+}
+
 /* A board in as many bytes as are said to be enough, and in a block of none. */
 static void sized(const char *says)
 {
@@ -153,6 +234,7 @@ int main(void)
     channel("whole and one-way", 0, 7);
     channel("the smallest", 60, 0);
     channel("of 32 words", 156, 1);
+    said();
     fill(1, 0, 0), sized("an agent alone");
     fill(1, 1, 3), sized("a domain, a clock and a device");
     fill(8, 32, 0), sized("the largest with steps");

@@ -1,4 +1,5 @@
 pub mod Given
 pub mod Program
 pub mod Record
+pub mod LineProps
 pub mod Session

@@ -1,6 +1,6 @@
 -- What a record is checked as whose commands may have names.
 use Rattle.std.specs.Prelude.{◌≡◌, ℕ, List, length, Option, Some}
-use Rattle.scmi_board.specs.Channels.{Described}
+use Rattle.scmi_board.specs.BoardLines.{Described}
 use Rattle.scmi_board.specs.ValidBoard.{IsBoardText}
 use Rattle.scmi_check.specs.Check.{IsChecked}
 use Rattle.scmi_check.specs.declared.options.CheckOptions.{CheckOptions}

@@ -1,6 +1,6 @@
 -- What the program does in a session.
 use Rattle.std.specs.Prelude.{ℕ, List, Option, IfSome}
-use Rattle.scmi_board.specs.Channels.{Described}
+use Rattle.scmi_board.specs.BoardLines.{Described}
 use Rattle.scmi_modes.specs.Runs.{may_be_full}
 use Rattle.scmi_modes.specs.Steps.{shows_close}
 use Rattle.scmi_modes.specs.declared.kind.Kind.TheVariants.{Words}

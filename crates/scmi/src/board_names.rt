@@ -3,7 +3,7 @@ ghost use Rattle.std.specs.Prelude.{◌≡◌, IfErr, IfOk};
 ghost use Rattle.scmi_check.specs.Check.{IsFaultOfBoard};
 ghost use Rattle.scmi.specs.Record.{AreNamesOf};
 
-use scmi_board::{BoardWithChannels, ValidBoard, read_valid_board};
+use scmi_board::{BoardWithLines, ValidBoard, read_valid_board};
 use scmi_check::{CheckError, Names};
 use scmi_live::line_in_numbers;
 use scmi_plan::RawPlan;
@@ -24,7 +24,7 @@ impl BoardNames {
         ensures fault { IfErr result (IsFaultOfBoard text.now) }
     {
         let ValidBoard { described, plan: _ } = read_valid_board(alloc, text)?;
-        let BoardWithChannels { board, channels: _ } = described;
+        let BoardWithLines { board, lines: _ } = described;
         match board.agent_count() {
             Ok(agents) => Ok(BoardNames { board, agents }),
             // A board of 2^32 agents.

@@ -110,8 +110,8 @@ the record, 2 if there is nothing to check.",
         about: "\
 Prints a board as constant tables in C, of which the library for firmware makes a platform.",
         details: "\
-BOARD, or standard input, has the lines of a board, from board to end, and lines for channels
-before end. A program compiles the tables with scmi.h, and passes them to
+BOARD, or standard input, has the lines of a board, from board to end, with lines channel, keep
+and deny before end. A program compiles the tables with scmi.h, and passes them to
 scmi_platform_new_of_tables. docs/C.md has more.",
         example: "scmi table examples/phone.board > phone_board.c",
     },

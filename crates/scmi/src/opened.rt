@@ -1,10 +1,11 @@
 //! The board of a session, from its file.
 ghost use Rattle.std.specs.List.{All};
 ghost use Rattle.std.specs.Prelude.{IfOk};
-ghost use Rattle.scmi_board.specs.Channels.{IsLineOf, described};
+ghost use Rattle.scmi_board.specs.BoardLines.{IsLineOf, described};
+ghost use Rattle.scmi.specs.LineProps.{line_props};
 
 use crate::report_found::report_found;
-use scmi_board::{BoardWithChannels, Lines};
+use scmi_board::{BoardWithLines, Lines};
 use scmi_explain::{Expected, Fault, explain, split_first};
 use scmi_io::{CountedReader, InputError, read_rest};
 use scmi_live::in_hertz;
@@ -17,9 +18,9 @@ use std::io::{Eprint, Error, Read};
 /// `hardware words`, whose boards and steps a session has.
 #[derive(Drop)]
 pub struct Opened {
-    said: BoardWithChannels,
+    said: BoardWithLines,
     text: Vec<u8>,
-    ghost channels: { All (IsLineOf (described said).0) (described said).1 },
+    ghost channels: { All (IsLineOf (described said).0) (described said).1 } by { Prim.hlevel line_props },
 }
 
 /// Why a file is rejected, and its text after the line of a mode.
@@ -40,8 +41,8 @@ enum Why {
 
 impl Opened {
     ghost use Rattle.std.specs.Prelude.{◌≡◌, IfOk};
-    ghost use Rattle.scmi_board.specs.Channels.{described};
-    ghost use Rattle.scmi_board.specs.ValidBoard.{with_its_channels};
+    ghost use Rattle.scmi_board.specs.BoardLines.{described};
+    ghost use Rattle.scmi_board.specs.ValidBoard.{with_its_lines};
 
     /// The board of a file.
     pub fn read<B: Read + Drop>(alloc: Global, file: &mut B) -> Result<Opened, Refused> {
@@ -64,7 +65,7 @@ impl Opened {
     }
 
     /// The board, with the channels that its text gives.
-    pub fn said(&self) -> &BoardWithChannels
+    pub fn said(&self) -> &BoardWithLines
         ensures { result.now ≡ self.now.said }
     {
         &self.said
@@ -77,7 +78,7 @@ impl Opened {
 
     /// The plan of the board, whose agents have these channels.
     pub fn plan(&self, alloc: Global) -> Result<Plan, PlanError>
-        ensures { IfOk result (λ plan. plan ≡ with_its_channels (described self.now.said)) }
+        ensures { IfOk result (λ plan. plan ≡ with_its_lines (described self.now.said)) }
     {
         plan_of(alloc, &self.said)
     }
@@ -169,7 +170,7 @@ fn fill<B: Read>(alloc: Global, text: &mut Vec<u8>, file: &mut B) -> Result<(), 
 }
 
 /// The board of a text, if it keeps every rule and nothing follows it.
-fn board_of(alloc: Global, text: &[u8]) -> Result<BoardWithChannels, Why>
+fn board_of(alloc: Global, text: &[u8]) -> Result<BoardWithLines, Why>
     ensures { IfOk result (λ said. All (IsLineOf (described said).0) (described said).1) }
 {
     let mut lines = Lines::new(split_first(text).1);

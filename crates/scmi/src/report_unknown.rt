@@ -2,7 +2,7 @@
 
 use crate::given::is_hardware;
 use crate::unknown_text::UnknownText;
-use scmi_board::{Lines, read_board_with_channels};
+use scmi_board::{Lines, read_board_with_lines};
 use scmi_explain::{Fault, split_first};
 use scmi_live::unknown_in;
 use scmi_plan::RawPlan;
@@ -26,7 +26,7 @@ pub fn report_unknown(
         return false;
     }
     let mut lines = Lines::new(script);
-    let Ok(said) = read_board_with_channels(alloc, &mut lines) else {
+    let Ok(said) = read_board_with_lines(alloc, &mut lines) else {
         return false;
     };
     while let Some(line) = lines.next_line() {

@@ -1,6 +1,6 @@
 //! A session whose lines are answered one by one.
 ghost use Rattle.std.specs.Prelude.{◌≡◌, OnOk};
-ghost use Rattle.scmi_board.specs.Channels.{described};
+ghost use Rattle.scmi_board.specs.BoardLines.{described};
 ghost use Rattle.scmi.specs.Session.{IsSession};
 
 use crate::opened::Opened;

@@ -4,8 +4,8 @@ use Rattle.std.specs.List.{list_any, range_with_len}
 use Rattle.scmi_plan.specs.Board.{Board, holds, device_at}
 use Rattle.scmi_plan.specs.declared.resource.Resource.{Resource}
 use Rattle.scmi_base.specs.Permission.{may, some_device, allows, protocol_of}
-use Rattle.scmi_base.specs.declared.scope.Scope.{Scope}
-use Rattle.scmi_base.specs.declared.scope.Scope.TheVariants as scope
+use Rattle.scmi_plan.specs.declared.scope.Scope.{Scope}
+use Rattle.scmi_plan.specs.declared.scope.Scope.TheVariants as scope
 
 any_from-same : (f g : ℕ → Bool) (a n : ℕ) → ((k : ℕ) → a ≤ k → k < a + n → f k ≡ g k) → list_any f (range_with_len a n) ≡ list_any g (range_with_len a n)
 any_from-same f g a zero h = refl

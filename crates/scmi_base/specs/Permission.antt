@@ -6,12 +6,13 @@ use Rattle.scmi_codec.specs.declared.base_command.BaseCommand.{BaseCommand}
 use Rattle.scmi_codec.specs.declared.base_command.BaseCommand.TheVariants as base
 use Rattle.scmi_plan.specs.Board.{Board, holds, device_at}
 use Rattle.scmi_codec.specs.Reply.{bit_0}
+use Rattle.scmi_plan.specs.declared.denied.Denied.{Denied}
 use Rattle.scmi_plan.specs.declared.limits.TheConstants.{DEVICES}
 use Rattle.scmi_plan.specs.declared.resource.Resource.{Resource}
 use Rattle.scmi_plan.specs.declared.resource.Resource.TheVariants as resource
 use Rattle.scmi_base.specs.PermissionTable.{entry}
-use Rattle.scmi_base.specs.declared.scope.Scope.{Scope}
-use Rattle.scmi_base.specs.declared.scope.Scope.TheVariants as scope
+use Rattle.scmi_plan.specs.declared.scope.Scope.{Scope}
+use Rattle.scmi_plan.specs.declared.scope.Scope.TheVariants as scope
 
 -- some device of the board passes a test
 abbrev pub some_device : Board → (ℕ → Bool) → Bool
@@ -43,19 +44,10 @@ is_scope _ _ = false
 abbrev pub protocol_named : ℕ → Scope
 protocol_named word = if word % 0x100 == 0x11 then scope.Power else scope.Clock
 
--- what a successful command says about an agent on a device: a permission, or a reset that allows everything (own)
-abbrev pub permission : ℕ → ℕ → Scope → BaseCommand → Option Bool
-permission a d s (base.Permit agent device flags) = if agent == a && device == d && is_scope scope.Device s then Some (bit_0 flags) else None
-permission a d s (base.PermitProtocol agent device protocol flags) =
-    if agent == a && device == d && is_scope (protocol_named protocol) s then Some (bit_0 flags) else None
-permission a d s (base.ResetAgent agent flags) = if agent == a && bit_0 flags then Some true else None
-permission a d s _ = None
-
--- a table for devices as a whole, and one for each protocol; each has a mask for each agent, bit d for device d, which is 1 if the device is denied to the agent
-pub record Permissions : Type 0 where
-  pub devices : List ℕ
-  pub power : List ℕ
-  pub clocks : List ℕ
+-- A table for devices as a whole, and one for each protocol. Each has a mask for each agent, bit d for device d, which is 1 if the device is denied
+-- to the agent.
+abbrev pub Permissions : Type 0
+Permissions = Denied
 
 -- the table of a scope
 abbrev pub table_of : Permissions → Scope → List ℕ
@@ -67,20 +59,28 @@ table_of tables scope.Clock = tables.clocks
 abbrev pub is_allowed : Permissions → ℕ → ℕ → Scope → Bool
 is_allowed tables agent device s = entry (table_of tables s) agent device
 
+-- what a successful command says about an agent on a device: a permission, or a reset to what the board begins with (own)
+abbrev pub permission : Board → ℕ → ℕ → Scope → BaseCommand → Option Bool
+permission board a d s (base.Permit agent device flags) = if agent == a && device == d && is_scope scope.Device s then Some (bit_0 flags) else None
+permission board a d s (base.PermitProtocol agent device protocol flags) =
+    if agent == a && device == d && is_scope (protocol_named protocol) s then Some (bit_0 flags) else None
+permission board a d s (base.ResetAgent agent flags) = if agent == a && bit_0 flags then Some (is_allowed board.denied a d s) else None
+permission board a d s _ = None
+
 -- the agent whose notification requests a successful command ends (own)
 abbrev pub reset_by : BaseCommand → Option ℕ
 reset_by (base.ResetAgent agent flags) = Some agent
 reset_by _ = None
 
 -- what the tables say after a command that got this reply
-abbrev pub is_allowed_after : List ℕ → ℕ → ℕ → Scope → BaseCommand → Permissions → Bool
-is_allowed_after reply a d s command tables =
-    if begins_with_success reply then unwrap_or (permission a d s command) (is_allowed tables a d s) else is_allowed tables a d s
+abbrev pub is_allowed_after : Board → List ℕ → ℕ → ℕ → Scope → BaseCommand → Permissions → Bool
+is_allowed_after board reply a d s command tables =
+    if begins_with_success reply then unwrap_or (permission board a d s command) (is_allowed tables a d s) else is_allowed tables a d s
 
 -- the tables after a command that got this reply
-abbrev pub HasPermitted : List ℕ → BaseCommand → Permissions → Permissions → Type 0
-HasPermitted reply command tables after =
-    (a d : ℕ) (s : Scope) → 1 ≤ a → d < DEVICES → is_allowed after a d s ≡ is_allowed_after reply a d s command tables
+abbrev pub HasPermitted : Board → List ℕ → BaseCommand → Permissions → Permissions → Type 0
+HasPermitted board reply command tables after =
+    (a d : ℕ) (s : Scope) → 1 ≤ a → d < DEVICES → is_allowed after a d s ≡ is_allowed_after board reply a d s command tables
 
 -- the agent whose notification requests end with a command that got this reply
 abbrev pub reset_after : List ℕ → BaseCommand → Option ℕ

@@ -5,7 +5,7 @@ ghost use Rattle.scmi_plan.specs.Agent.{IsAgent};
 ghost use Rattle.scmi_plan.specs.Board.{IsOnBoard};
 ghost use Rattle.scmi_base.specs.BaseReply.{base_reply};
 ghost use Rattle.scmi_base.specs.Permission.{may, allows, protocol_of, is_scope, is_allowed, reset_after, HasPermitted};
-ghost use Rattle.scmi_base.specs.declared.scope.Scope.{Scope};
+ghost use Rattle.scmi_plan.specs.declared.scope.Scope.{Scope};
 ghost use Rattle.scmi_codec.specs.declared.base_command.BaseCommand.TheVariants.{Permit, PermitProtocol, ResetAgent};
 ghost use Rattle.scmi_plan.specs.declared.limits.TheConstants.{AGENTS, DEVICES};
 
@@ -15,9 +15,8 @@ use crate::discovery::{
     agent_of, attributes, implementation, message_attributes, protocols, set_name, version,
 };
 use crate::permission_table::PermissionTable;
-use crate::scope::Scope;
 use scmi_codec::{BaseCommand, Payload, SUCCESS, payload_of, set_payload, set_refusal};
-use scmi_plan::{Plan, Resource};
+use scmi_plan::{Plan, Resource, Scope};
 use std::marker::Model;
 
 /// Which agent is allowed on which device, as a whole and for each protocol: a device permission and
@@ -38,14 +37,16 @@ impl Model for BaseState {
 }
 
 impl BaseState {
-    /// The state of a board at the start: all agents are allowed on all devices (own).
-    pub fn new(_plan: &Plan) -> BaseState
-        ensures { (a d : ℕ) (s : Scope) → is_allowed result a d s ≡ true }
+    /// The state of a board at the start: all agents are allowed on all devices, but for what the
+    /// board denies (own).
+    pub fn new(plan: &Plan) -> BaseState
+        ensures { result ≡ plan.now.denied }
     {
+        let denied = plan.denied();
         BaseState {
-            devices: PermissionTable::new(),
-            power: PermissionTable::new(),
-            clocks: PermissionTable::new(),
+            devices: PermissionTable::of(&denied.devices),
+            power: PermissionTable::of(&denied.power),
+            clocks: PermissionTable::of(&denied.clocks),
         }
     }
 
@@ -75,7 +76,7 @@ impl BaseState {
     /// (own). A command that is refused changes nothing.
     pub fn execute(&mut self, plan: &Plan, caller: u32, command: BaseCommand) -> BaseDone
         ensures reply { result.reply.items ≡ base_reply plan.now caller command }
-        ensures allowed { HasPermitted (base_reply plan.now caller command) command
+        ensures allowed { HasPermitted plan.now (base_reply plan.now caller command) command
             self.old self.new }
         ensures reset { result.reset
             ≡ reset_after (base_reply plan.now caller command) command }
@@ -96,7 +97,7 @@ impl BaseState {
         reply: &mut Payload,
     ) -> Option<u32>
         ensures reply { reply.new.items ≡ base_reply plan.now caller command }
-        ensures allowed { HasPermitted (base_reply plan.now caller command) command
+        ensures allowed { HasPermitted plan.now (base_reply plan.now caller command) command
             self.old self.new }
         ensures reset { result ≡ reset_after (base_reply plan.now caller command) command }
         ensures known { IfSome result (IsAgent AGENTS) }
@@ -140,7 +141,7 @@ impl BaseState {
         holders == 0 || holders & self.allowed(agent, resource) != 0
     }
 
-    /// Allows an agent on every device again, for every protocol.
+    /// Allows an agent on every device, for every protocol.
     pub fn reset(&mut self, agent: u32)
         requires agent { IsAgent AGENTS agent }
         ensures { (a d : ℕ) (s : Scope) → 1 ≤ a → d < DEVICES → is_allowed self.new a d s
@@ -149,6 +150,19 @@ impl BaseState {
         self.devices.allow(agent);
         self.power.allow(agent);
         self.clocks.allow(agent);
+    }
+
+    /// Gives an agent the permissions again that the board begins with.
+    fn begin_again(&mut self, plan: &Plan, agent: u32)
+        requires agent { IsAgent AGENTS agent }
+        ensures { (a d : ℕ) (s : Scope) → 1 ≤ a → d < DEVICES → is_allowed self.new a d s
+            ≡ (if agent == a then is_allowed plan.now.denied a d s
+            else is_allowed self.old a d s) }
+    {
+        let denied = plan.denied();
+        self.devices.begin_again(agent, &denied.devices);
+        self.power.begin_again(agent, &denied.power);
+        self.clocks.begin_again(agent, &denied.clocks);
     }
 
     /// 0x9: allows or denies an agent a device.
@@ -162,7 +176,7 @@ impl BaseState {
         reply: &mut Payload,
     )
         ensures reply { reply.new.items ≡ base_reply plan.now caller (Permit agent device flags) }
-        ensures allowed { HasPermitted (base_reply plan.now caller (Permit agent device flags))
+        ensures allowed { HasPermitted plan.now (base_reply plan.now caller (Permit agent device flags))
             (Permit agent device flags) self.old self.new }
     {
         match check_permit(plan, caller, agent, device, flags) {
@@ -187,7 +201,7 @@ impl BaseState {
     )
         ensures reply { reply.new.items
             ≡ base_reply plan.now caller (PermitProtocol agent device protocol flags) }
-        ensures allowed { HasPermitted
+        ensures allowed { HasPermitted plan.now
             (base_reply plan.now caller (PermitProtocol agent device protocol flags))
             (PermitProtocol agent device protocol flags) self.old self.new }
     {
@@ -210,7 +224,7 @@ impl BaseState {
         reply: &mut Payload,
     ) -> Option<u32>
         ensures reply { reply.new.items ≡ base_reply plan.now caller (ResetAgent agent flags) }
-        ensures allowed { HasPermitted (base_reply plan.now caller (ResetAgent agent flags))
+        ensures allowed { HasPermitted plan.now (base_reply plan.now caller (ResetAgent agent flags))
             (ResetAgent agent flags) self.old self.new }
         ensures reset { result ≡ reset_after (base_reply plan.now caller (ResetAgent agent flags))
             (ResetAgent agent flags) }
@@ -219,7 +233,7 @@ impl BaseState {
         match check_reset(plan, caller, agent, flags) {
             Ok(permissions) => {
                 if permissions {
-                    self.reset(agent);
+                    self.begin_again(plan, agent);
                 }
                 set_payload(reply, &[SUCCESS]);
                 Some(agent)

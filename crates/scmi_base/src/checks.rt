@@ -8,9 +8,8 @@ ghost use Rattle.scmi_base.specs.Permission.{protocol_named};
 ghost use Rattle.scmi_plan.specs.Agent.{IsAgent};
 ghost use Rattle.scmi_plan.specs.declared.limits.TheConstants.{AGENTS, DEVICES};
 
-use crate::scope::Scope;
 use scmi_codec::{CLOCK_PROTOCOL, POWER_PROTOCOL, Status, single_flag};
-use scmi_plan::Plan;
+use scmi_plan::{Plan, Scope};
 
 /// The checks of 0x9 (DEN0056B, base protocol): agent, device, flags, caller. Returns whether the
 /// agent is to be allowed on the device.

@@ -12,8 +12,6 @@ mod base_state;
 mod checks;
 mod discovery;
 mod permission_table;
-mod scope;
 
 pub use base_done::BaseDone;
 pub use base_state::BaseState;
-pub use scope::Scope;

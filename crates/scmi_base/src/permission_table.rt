@@ -26,13 +26,11 @@ impl Model for PermissionTable {
 }
 
 impl PermissionTable {
-    /// A table with yes everywhere.
-    pub(crate) fn new() -> PermissionTable
-        ensures { (a d : ℕ) → entry result a d ≡ true }
+    /// The table of these masks.
+    pub(crate) fn of(denied: &[u32; AGENTS]) -> PermissionTable
+        ensures { result ≡ denied.now }
     {
-        PermissionTable {
-            denied: [0; AGENTS],
-        }
+        PermissionTable { denied: *denied }
     }
 
     /// Becomes the same as another table.
@@ -75,6 +73,16 @@ impl PermissionTable {
             ≡ (if agent == a then true else entry self.old a d) }
     {
         self.denied[agent as usize - 1] = 0;
+    }
+
+    /// Gives an agent the mask that it has in others.
+    pub(crate) fn begin_again(&mut self, agent: u32, denied: &[u32; AGENTS])
+        requires agent { IsAgent AGENTS agent }
+        ensures { (a d : ℕ) → 1 ≤ a → d < DEVICES → entry self.new a d
+            ≡ (if agent == a then entry denied.now a d else entry self.old a d) }
+    {
+        let place = agent as usize - 1;
+        self.denied[place] = denied[place];
     }
 }
 

@@ -1,5 +1,5 @@
 pub mod BoardLemmas
-pub mod ChannelLines
+pub mod BoardLines
 pub mod Digits
 mod Examples
 pub mod ItemLemmas

@@ -3,7 +3,7 @@ use Rattle.std.proofs.Common.{◌≡◌, ◌≢◌, ◌∙◌, ℕ, List, None, 
 use Rattle.scmi_plan.specs.PlanError.{first_fault}
 use Rattle.scmi_plan.specs.declared.plan_error.PlanError.{PlanError}
 use Rattle.scmi_plan.specs.declared.plan_error.PlanError.TheVariants as plan
-use Rattle.scmi_board.specs.Channels.{Described, described_left}
+use Rattle.scmi_board.specs.BoardLines.{Described, described_left}
 use Rattle.scmi_board.specs.Lines.{Line, first_number_in, whole}
 use Rattle.scmi_board.specs.declared.board_error.BoardError.TheVariants as fault
 use Rattle.scmi_board.specs.declared.line_after.LineAfter.{LineAfter}

@@ -1,3 +1,4 @@
+pub mod BoardLines
 pub mod BoardText
 pub mod Items
 pub mod LineError
@@ -5,5 +6,4 @@ pub mod Lines
 pub mod Number
 pub mod Rows
 pub mod TextError
-pub mod Channels
 pub mod ValidBoard

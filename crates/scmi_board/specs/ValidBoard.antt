@@ -4,7 +4,7 @@ use Rattle.scmi_plan.specs.Board.{Board}
 use Rattle.scmi_plan.specs.PlanError.{first_fault}
 use Rattle.scmi_plan.specs.declared.plan_error.PlanError.{PlanError}
 use Rattle.scmi_plan.specs.declared.plan_error.PlanError.TheVariants as plan
-use Rattle.scmi_board.specs.Channels.{Described, described_left, with_channels}
+use Rattle.scmi_board.specs.BoardLines.{Described, described_left, with_lines}
 use Rattle.scmi_board.specs.Lines.{Line, first_number_in, whole}
 use Rattle.scmi_board.specs.declared.board_error.BoardError.{BoardError}
 use Rattle.scmi_board.specs.declared.board_error.BoardError.TheVariants as error
@@ -22,18 +22,18 @@ abbrev pub said_whole : Result (Described × List Line) ℕ → Result Described
 said_whole (Err number) = Err number
 said_whole (Ok found) = said_alone found.0 (first_number_in found.1)
 
--- what a text says: a board and its lines `channel`, and nothing behind them
+-- what a text says: a board and the lines behind its rows, and nothing after them
 abbrev pub said_in : List ℕ → Result Described ℕ
 said_in text = said_whole (described_left (whole text))
 
--- a text is a board that keeps every rule, and these lines `channel`
+-- a text is a board that keeps every rule, and these lines are behind its rows
 pub record IsBoardText (text : List ℕ) (said : Described) : Type 0 where
   pub said_is : said_in text ≡ Ok said
   pub valid : first_fault said.0 ≡ None
 
--- a board whose agents have the channels that its lines give
-abbrev pub with_its_channels : Described → Board
-with_its_channels said = with_channels said.0 said.1
+-- a board with what the lines behind its rows say
+abbrev pub with_its_lines : Described → Board
+with_its_lines said = with_lines said.0 said.1
 
 -- a text is a board, and this is the first rule that the board breaks
 pub record BreaksRule (text : List ℕ) (rule : PlanError) : Type 0 where

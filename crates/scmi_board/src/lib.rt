@@ -3,20 +3,24 @@
 //! The main types are `Lines`, what is left of an input, and `Items`, what is left of a line. The
 //! main theorem is the contract of `read_board`: it gives the board that the lines encode, row by
 //! row, or else the number of the first invalid line, unless memory is refused.
-//! `read_board_with_channels` is the same of a text that contains what channels the agents have, and
-//! `read_valid_board` of one that has a board which keeps every rule, and nothing after it.
+//! `read_board_with_lines` is the same of a text that may have lines behind the rows: what channels
+//! the agents have, what no agent may switch off, and what is denied to agents. `read_valid_board`
+//! is the same of one that has a board which keeps every rule, and nothing after it.
 #![tactic(auto)]
 
 mod board;
 mod board_error;
-mod board_with_channels;
+mod board_line;
+mod board_lines;
+mod board_with_lines;
 mod channel_line;
-mod channel_lines;
 mod clock_line;
+mod deny_line;
 mod device_line;
 mod domain_line;
 mod fields;
 mod items;
+mod keep_line;
 mod line_after;
 mod line_error;
 mod lines;
@@ -29,9 +33,11 @@ mod words;
 
 pub use board::read_board;
 pub use board_error::BoardError;
-pub use board_with_channels::{BoardWithChannels, read_board_with_channels};
+pub use board_line::BoardLine;
+pub use board_lines::{apply_line, apply_lines};
+pub use board_with_lines::{BoardWithLines, read_board_with_lines};
 pub use channel_line::ChannelLine;
-pub use channel_lines::set_channels;
+pub use deny_line::DenyLine;
 pub use items::Items;
 pub use line_after::LineAfter;
 pub use line_error::LineError;

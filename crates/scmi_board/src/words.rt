@@ -19,6 +19,15 @@ pub(crate) const CHANNEL: &[u8] = b"channel";
 /// Written if the platform can't send to the agent.
 pub(crate) const ONE_WAY: &[u8] = b"one-way";
 
+/// Before how many of the pending sets may be the agent's.
+pub(crate) const PENDING: &[u8] = b"pending";
+
+/// The first word of what no agent may switch off.
+pub(crate) const KEEP: &[u8] = b"keep";
+
+/// The first word of what is denied to an agent.
+pub(crate) const DENY: &[u8] = b"deny";
+
 /// The line after the last row.
 pub const END: &[u8] = b"end";
 

@@ -2,7 +2,7 @@
 use Rattle.std.proofs.Common.{◌≡◌, ℕ, ◌-◌, ◌+◌, true, false, List, [], ◌∷◌, ◌++◌, length, replicate, codes, Ok, Err, refl}
 use Rattle.scmi_plan.specs.Board.{whole_channel}
 use Rattle.scmi_plan.specs.Rates as rates
-use Rattle.scmi_c.specs.Tables.{BoardTables, board_of_tables, tables_given}
+use Rattle.scmi_c.specs.Tables.{BoardTables, board_of_tables, is_well_formed, tables_given}
 use Rattle.scmi_c.specs.declared.code.TheConstants.{RULE, TABLE}
 use Rattle.scmi_c.specs.declared.rows.AgentRow.{AgentRow}
 use Rattle.scmi_c.specs.declared.rows.ClockRow.{ClockRow}
@@ -18,29 +18,35 @@ abbrev heading : HeadingRow
 heading = record { vendor = name (codes "Acme"); sub_vendor = name (codes "Phone"); version = 0x10000; trusted = 1 }
 
 abbrev ap : AgentRow
-ap = record { name = name (codes "ap"); bytes = 0; one_way = 0 }
+ap = record { name = name (codes "ap"); bytes = 0; one_way = 0; pending = 0; denied = 0; denied_power = 0; denied_clocks = 0 }
 
--- 8 words of payload, and no way back
+-- 8 words of payload, and no way back; 2 of the pending sets; device 1 is denied as a whole, device 0 for power, both for clocks
 abbrev modem : AgentRow
-modem = record { name = name (codes "modem"); bytes = 60; one_way = 1 }
+modem = record { name = name (codes "modem"); bytes = 60; one_way = 1; pending = 2; denied = 2; denied_power = 1; denied_clocks = 3 }
 
+-- kept
 abbrev cpu : DomainRow
-cpu = record { name = name (codes "cpu"); on = 1; synchronous = 1; asynchronous = 0; notify = 7 }
+cpu = record { name = name (codes "cpu"); on = 1; synchronous = 1; asynchronous = 0; notify = 7; kept = 1 }
 
 -- two rates of the table, from its second on
 abbrev uart : ClockRow
-uart = record { name = name (codes "uart"); rate = 200; low = 0; high = 0; step = 0; first = 1; count = 2; enabled = 1; reserved = 0 }
+uart = record { name = name (codes "uart"); rate = 200; low = 0; high = 0; step = 0; first = 1; count = 2; enabled = 1; kept = 0 }
 
+-- kept
 abbrev bus : ClockRow
-bus = record { name = name (codes "bus"); rate = 1000; low = 1000; high = 5000; step = 1000; first = 9; count = 0; enabled = 0; reserved = 0 }
+bus = record { name = name (codes "bus"); rate = 1000; low = 1000; high = 5000; step = 1000; first = 9; count = 0; enabled = 0; kept = 7 }
 
-abbrev device : DeviceRow
-device = record { domains = 1; clocks = 2 }
+abbrev devices : List DeviceRow
+devices = record { domains = 1; clocks = 2 } ∷ record { domains = 0; clocks = 1 } ∷ []
 
 abbrev phone : List ℕ → BoardTables
-phone table = tables_given heading (ap ∷ modem ∷ []) (cpu ∷ []) (uart ∷ bus ∷ []) table (device ∷ [])
+phone table = tables_given heading (ap ∷ modem ∷ []) (cpu ∷ []) (uart ∷ bus ∷ []) table devices
 
--- the board, with its channels
+-- the board of one agent, which is this one
+abbrev alone : AgentRow → BoardTables
+alone agent = tables_given heading (agent ∷ []) (cpu ∷ []) (bus ∷ []) [] (record { domains = 1; clocks = 1 } ∷ [])
+
+-- the board, with its channels, what is kept, and what is denied
 of-phone : board_of_tables (phone (100 ∷ 200 ∷ 400 ∷ [])) ≡ Ok (record {
   vendor = codes "Acme";
   sub_vendor = codes "Phone";
@@ -49,8 +55,10 @@ of-phone : board_of_tables (phone (100 ∷ 200 ∷ 400 ∷ [])) ≡ Ok (record {
   agents = codes "ap" ∷ codes "modem" ∷ [];
   domains = record { name = codes "cpu"; on = true; synchronous = true; asynchronous = false; notify = true } ∷ [];
   clocks = record { name = codes "uart"; enabled = true; rate = 200; rates = rates.list (200 ∷ 400 ∷ []) } ∷ record { name = codes "bus"; enabled = false; rate = 1000; rates = rates.steps 1000 5000 1000 } ∷ [];
-  devices = record { domains = 1; clocks = 2 } ∷ [];
-  channels = whole_channel ∷ record { words = 8; one_way = true } ∷ replicate 6 whole_channel;
+  devices = record { domains = 1; clocks = 2 } ∷ record { domains = 0; clocks = 1 } ∷ [];
+  channels = whole_channel ∷ record { words = 8; one_way = true; share = 2 } ∷ replicate 6 whole_channel;
+  kept = record { domains = 1; clocks = 2 };
+  denied = record { devices = 0 ∷ 2 ∷ replicate 6 0; power = 0 ∷ 1 ∷ replicate 6 0; clocks = 0 ∷ 3 ∷ replicate 6 0 };
 })
 of-phone = refl
 
@@ -61,3 +69,23 @@ short-table = refl
 -- rates that do not rise
 no-rise : board_of_tables (phone (100 ∷ 200 ∷ 200 ∷ [])) ≡ Err (RULE + 3)
 no-rise = refl
+
+-- an agent that may have all 8 of the pending sets, and one that may have 9
+of-eight : is_well_formed (alone (record ap { pending = 8 })) ≡ true
+of-eight = refl
+
+of-nine : board_of_tables (alone (record ap { pending = 9 })) ≡ Err TABLE
+of-nine = refl
+
+-- a device that is denied, and one behind the last, for each protocol and as a whole
+denied-device : is_well_formed (alone (record ap { denied = 1; denied_power = 1; denied_clocks = 1 })) ≡ true
+denied-device = refl
+
+no-device : board_of_tables (alone (record ap { denied = 2 })) ≡ Err TABLE
+no-device = refl
+
+no-device-for-power : board_of_tables (alone (record ap { denied_power = 2 })) ≡ Err TABLE
+no-device-for-power = refl
+
+no-device-for-clocks : board_of_tables (alone (record ap { denied_clocks = 2 })) ≡ Err TABLE
+no-device-for-clocks = refl

@@ -1,6 +1,5 @@
 -- Tables of a board, row by row.
-use Rattle.std.proofs.Common.{◌≡◌, ◌↔◌, ◌⊎◌, inl, inr, ◌<◌, ◌+◌, ℕ, zero, suc, nat_lt, true, Bool, List, [], ◌∷◌, ◌++◌, length, take, drop, get_or, slice_index, Result, Ok, Err, OnOk, refl, sym, ap, ◌∙◌, arith, ◌&&◌}
-use Rattle.std.specs.Prelude.{⊤}
+use Rattle.std.proofs.Common.{◌≡◌, ◌<◌, ◌+◌, ℕ, zero, suc, nat_lt, true, Bool, List, [], ◌∷◌, ◌++◌, length, take, drop, get_or, slice_index, refl, sym, ap, subst, ◌∙◌, append_assoc, append-nil, arith, ◌&&◌}
 use Rattle.std.specs.List.{All, list_all, list_any, position_or_len}
 use Rattle.std.specs.Str.{IsUtf8}
 use Rattle.std.proofs.Math.Seq.{take-suc}
@@ -9,17 +8,11 @@ use Rattle.std.proofs.lemmas.List.{length-take-le}
 use Rattle.std.proofs.lemmas.List.Elements.{All-take}
 use Rattle.std.proofs.lemmas.List.Sums.{AllPass-from_list_all, fold-append}
 use Rattle.std.proofs.lemmas.Str.{IsUtf8-from_ascii}
-use Rattle.scmi_codec.specs.declared.payload.TheConstants.{PAYLOAD_WORDS}
-use Rattle.scmi_plan.specs.Agent.{IsAgent, IsNoAgent}
-use Rattle.scmi_plan.specs.Board.{Board, IsChannel, with_channel}
-use Rattle.scmi_plan.specs.declared.agent_channel.AgentChannel.{AgentChannel}
-use Rattle.scmi_plan.specs.declared.agent_channel.TheConstants.{LEAST_CHANNEL_WORDS}
-use Rattle.scmi_plan.specs.declared.channel_error.ChannelError.{ChannelError}
-use Rattle.scmi_plan.specs.declared.channel_error.ChannelError.TheVariants.{NoAgent, Words}
-use Rattle.scmi_board.specs.declared.channel_line.ChannelLine.{ChannelLine}
-use Rattle.scmi_board.specs.Channels.{with_channels}
-use Rattle.scmi_c.specs.Tables.{BoardTables, channel_in, channels_from, is_agent_row, is_channel_row, is_clock_row, is_domain_row, is_named, is_well_formed, is_zero}
-use Rattle.scmi_c.specs.declared.rows.AgentRow.{AgentRow}
+use Rattle.scmi_plan.specs.Board.{Board}
+use Rattle.scmi_board.specs.declared.board_line.BoardLine.{BoardLine}
+use Rattle.scmi_board.specs.declared.board_line.BoardLine.TheVariants as said
+use Rattle.scmi_board.specs.BoardLines.{with_board_line, with_lines}
+use Rattle.scmi_c.specs.Tables.{BoardTables, is_agent_row, is_clock_row, is_domain_row, is_named, is_said_row, is_well_formed, is_zero, lines_from}
 
 -- each byte of a list of ASCII, and what follows it
 below : (bytes : List ℕ) (i : ℕ) → All (λ byte. nat_lt byte 128 ≡ true) bytes → slice_index bytes i < 128
@@ -35,15 +28,6 @@ name_utf8 name n is =
     let low : list_all (λ byte. nat_lt byte 128) name ≡ true = (and_parts (list_any is_zero name) (list_all (λ byte. nat_lt byte 128) name) both).1 in
     IsUtf8-from_ascii (take n name) (λ i. below (take n name) i (All-take (λ byte. nat_lt byte 128 ≡ true) n name (AllPass-from_list_all (λ byte. nat_lt byte 128) name low)))
 
--- one more row adds the channels of one more agent
-pub channels_push : (agent : ℕ) (rows : List AgentRow) (row : AgentRow)
-    → channels_from agent (rows ++ row ∷ []) ≡ channels_from agent rows ++ record { agent = agent + length rows; channel = channel_in row } ∷ []
-channels_push agent [] row = ap (λ (n : ℕ). record { agent = n; channel = channel_in row } ∷ []) (omega arith)
-channels_push agent (first ∷ rows) row =
-    let same : suc agent + length rows ≡ agent + suc (length rows) = omega arith in
-    ap (λ lines. record { agent = agent; channel = channel_in first } ∷ lines)
-    (channels_push (suc agent) rows row ∙ ap (λ (n : ℕ). channels_from (suc agent) rows ++ record { agent = n; channel = channel_in row } ∷ []) same)
-
 -- what holds for the rows of well-formed tables
 parts : (a b c d e : Bool) → a && b && c && d && e ≡ true → (c ≡ true) × (d ≡ true) × (e ≡ true)
 parts a b c d e is =
@@ -51,47 +35,78 @@ parts a b c d e is =
     let q = and_parts (a && b && c) d p.0 in
     ((and_parts (a && b) c q.0).1, q.1, p.1)
 
-all_parts : (t : BoardTables) → is_well_formed t ≡ true → (list_all is_agent_row t.agents ≡ true) × (list_all is_domain_row t.domains ≡ true) × (list_all (is_clock_row (length t.rates)) t.clocks ≡ true)
+all_parts : (t : BoardTables) → is_well_formed t ≡ true → (list_all (is_agent_row (length t.devices)) t.agents ≡ true) × (list_all is_domain_row t.domains ≡ true) × (list_all (is_clock_row (length t.rates)) t.clocks ≡ true)
 all_parts t is =
-    parts (is_named t.heading.vendor) (is_named t.heading.sub_vendor) (list_all is_agent_row t.agents) (list_all is_domain_row t.domains) (list_all (is_clock_row (length t.rates)) t.clocks) is
+    parts (is_named t.heading.vendor) (is_named t.heading.sub_vendor) (list_all (is_agent_row (length t.devices)) t.agents) (list_all is_domain_row t.domains) (list_all (is_clock_row (length t.rates)) t.clocks) is
 
-pub agents_formed : (t : BoardTables) → is_well_formed t ≡ true → All (λ row. is_agent_row row ≡ true) t.agents
-agents_formed t is = AllPass-from_list_all is_agent_row t.agents (all_parts t is).0
+agents_formed : (t : BoardTables) → is_well_formed t ≡ true → All (λ row. is_agent_row (length t.devices) row ≡ true) t.agents
+agents_formed t is = AllPass-from_list_all (is_agent_row (length t.devices)) t.agents (all_parts t is).0
 
 pub clocks_formed : (t : BoardTables) → is_well_formed t ≡ true → All (λ row. is_clock_row (length t.rates) row ≡ true) t.clocks
 clocks_formed t is = AllPass-from_list_all (is_clock_row (length t.rates)) t.clocks (all_parts t is).2
 
-pub agents_sized : (t : BoardTables) → is_well_formed t ≡ true → All (λ row. is_channel_row row ≡ true) t.agents
-agents_sized t is = λ k d small. (and_parts (is_named (get_or t.agents k d).name) (is_channel_row (get_or t.agents k d)) (agents_formed t is k d small)).1
+pub agents_named : (t : BoardTables) → is_well_formed t ≡ true → All (λ row. is_named row.name ≡ true) t.agents
+agents_named t is = λ k d small.
+    (and_parts (is_named (get_or t.agents k d).name) (is_said_row (length t.devices) (get_or t.agents k d)) (agents_formed t is k d small)).0
 
--- the channels of an agent of the board are set
-pub channel_set : (r : Result ⊤ ChannelError) (old new : Board) (agent : ℕ) (channel : AgentChannel) → OnOk r (new ≡ with_channel old agent channel)
-    → ((r ≡ Err NoAgent) ↔ IsNoAgent (length old.agents) agent)
-    → ((r ≡ Err Words) ↔ (IsAgent (length old.agents) agent × ((channel.words < LEAST_CHANNEL_WORDS) ⊎ (PAYLOAD_WORDS < channel.words))))
-    → IsAgent (length old.agents) agent → IsChannel channel → new ≡ with_channel old agent channel
-channel_set (Ok done) old new agent channel ok none few is valid = ok
-channel_set (Err NoAgent) old new agent channel ok lacks few is valid = elim (lacks.0 refl) [
-  | inl none ↦ let least = is.0 in absurd (omega (arith, none, least))
-  | inr above ↦ let most = is.1 in absurd (omega (arith, above, most))
-]
-channel_set (Err Words) old new agent channel ok none few is valid = elim (few.0 refl).1 [
-  | inl short ↦ let least = valid.0 in absurd (omega (arith, short, least))
-  | inr above ↦ let most = valid.1 in absurd (omega (arith, above, most))
-]
+-- what the rows of agents say is so of agents beside the devices of the tables
+pub agents_said : (t : BoardTables) → is_well_formed t ≡ true → All (λ row. is_said_row (length t.devices) row ≡ true) t.agents
+agents_said t is = λ k d small.
+    (and_parts (is_named (get_or t.agents k d).name) (is_said_row (length t.devices) (get_or t.agents k d)) (agents_formed t is k d small)).1
 
--- those of one more row
-pub row_set : (start old new : Board) (rows : List AgentRow) (i agent : ℕ) (d : AgentRow) → i < length rows → agent ≡ i → old ≡ with_channels start (channels_from 1 (take i rows))
-    → new ≡ with_channel old (agent + 1) (channel_in (get_or rows i d)) → new ≡ with_channels start (channels_from 1 (take (i + 1) rows))
-row_set start old new rows i agent d small same was is =
+-- one more row adds its lines
+pub lines_push : {Row : Type 0} (lines : ℕ → Row → List BoardLine) (number : ℕ) (rows : List Row) (row : Row)
+    → lines_from lines number (rows ++ row ∷ []) ≡ lines_from lines number rows ++ lines (number + length rows) row
+lines_push lines number [] row =
+    let same : number ≡ number + 0 = omega arith in
+    append-nil (lines number row) ∙ ap (λ (n : ℕ). lines n row) same
+lines_push lines number (first ∷ rows) row =
+    let same : suc number + length rows ≡ number + suc (length rows) = omega arith in
+    let own = lines number first in
+    let behind = lines_from lines (suc number) rows in
+    ap (λ more. own ++ more) (lines_push lines (suc number) rows row ∙ ap (λ (n : ℕ). behind ++ lines n row) same)
+    ∙ sym (append_assoc own behind (lines (number + suc (length rows)) row))
+
+-- a board with the lines of one more row
+pub row_said : {Row : Type 0} (lines : ℕ → Row → List BoardLine) (first : ℕ) (start old new : Board) (rows : List Row) (i number : ℕ) (d : Row)
+    → i < length rows → number ≡ first + i → old ≡ with_lines start (lines_from lines first (take i rows))
+    → new ≡ with_lines old (lines number (get_or rows i d)) → new ≡ with_lines start (lines_from lines first (take (i + 1) rows))
+row_said lines first start old new rows i number d small same was is =
     let row = get_or rows i d in
+    let so_far = take i rows in
     let next : i + 1 ≡ suc i = omega arith in
-    let more : take (i + 1) rows ≡ take i rows ++ row ∷ [] = ap (λ (n : ℕ). take n rows) next ∙ take-suc rows i d small in
-    let count : length (take i rows) ≡ i = length-take-le i rows (omega (arith, small)) in
-    let number : 1 + length (take i rows) ≡ agent + 1 = omega (arith, count, same) in
-    let line : ℕ → ChannelLine = λ (n : ℕ). record { agent = n; channel = channel_in row } in
-    let lines : channels_from 1 (take (i + 1) rows) ≡ channels_from 1 (take i rows) ++ line (agent + 1) ∷ [] =
-    ap (channels_from 1) more ∙ channels_push 1 (take i rows) row ∙ ap (λ (n : ℕ). channels_from 1 (take i rows) ++ line n ∷ []) number in
+    let more : take (i + 1) rows ≡ so_far ++ row ∷ [] = ap (λ (n : ℕ). take n rows) next ∙ take-suc rows i d small in
+    let count : length so_far ≡ i = length-take-le i rows (omega (arith, small)) in
+    let place : first + length so_far ≡ number = omega (arith, count, same) in
+    let all : lines_from lines first (take (i + 1) rows) ≡ lines_from lines first so_far ++ lines number row =
+    ap (lines_from lines first) more ∙ lines_push lines first so_far row ∙ ap (λ (n : ℕ). lines_from lines first so_far ++ lines n row) place in
     is
-    ∙ ap (λ (b : Board). with_channel b (agent + 1) (channel_in row)) was
-    ∙ sym (fold-append (λ so_far l. with_channel so_far l.agent l.channel) start (channels_from 1 (take i rows)) (line (agent + 1) ∷ []))
-    ∙ ap (with_channels start) (sym lines)
+    ∙ ap (λ (b : Board). with_lines b (lines number row)) was
+    ∙ sym (fold-append with_board_line start (lines_from lines first so_far) (lines number row))
+    ∙ ap (with_lines start) (sym all)
+
+-- the rows of two boards are of the same number
+pub record HasRowsOf (old new : Board) : Type 0 where
+  pub agents : length new.agents ≡ length old.agents
+  pub domains : length new.domains ≡ length old.domains
+  pub clocks : length new.clocks ≡ length old.clocks
+  pub devices : length new.devices ≡ length old.devices
+
+rows_alike : (a b c : Board) → HasRowsOf a b → HasRowsOf b c → HasRowsOf a c
+rows_alike a b c ab bc =
+    record { agents = bc.agents ∙ ab.agents; domains = bc.domains ∙ ab.domains; clocks = bc.clocks ∙ ab.clocks; devices = bc.devices ∙ ab.devices }
+
+rows_of_line : (board : Board) (line : BoardLine) → HasRowsOf board (with_board_line board line)
+rows_of_line board (said.Channel line) = record { agents = refl; domains = refl; clocks = refl; devices = refl }
+rows_of_line board (said.Keep kept) = record { agents = refl; domains = refl; clocks = refl; devices = refl }
+rows_of_line board (said.Deny line) = record { agents = refl; domains = refl; clocks = refl; devices = refl }
+
+-- lines add no row
+pub rows_of_lines : (board : Board) (lines : List BoardLine) → HasRowsOf board (with_lines board lines)
+rows_of_lines board [] = record { agents = refl; domains = refl; clocks = refl; devices = refl }
+rows_of_lines board (line ∷ lines) =
+    let next = with_board_line board line in
+    rows_alike board next (with_lines next lines) (rows_of_line board line) (rows_of_lines next lines)
+
+pub rows_said : (old new : Board) (lines : List BoardLine) → new ≡ with_lines old lines → HasRowsOf old new
+rows_said old new lines is = subst (HasRowsOf old) (sym is) (rows_of_lines old lines)

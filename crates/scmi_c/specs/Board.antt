@@ -3,7 +3,7 @@ use Rattle.std.specs.Prelude.{◌≡◌, ℕ, ◌+◌, ◌-◌, ◌^◌, ◌<◌
 use Rattle.scmi_plan.specs.Board.{Board}
 use Rattle.scmi_plan.specs.PlanError.{first_fault, number}
 use Rattle.scmi_plan.specs.declared.plan_error.PlanError.{PlanError}
-use Rattle.scmi_board.specs.Channels.{Described, with_channels}
+use Rattle.scmi_board.specs.BoardLines.{Described, with_lines}
 use Rattle.scmi_board.specs.ValidBoard.{said_in}
 use Rattle.scmi_c.specs.declared.code.TheConstants.{MEMORY, RULE, LINE}
 
@@ -20,11 +20,11 @@ abbrev pub unless_fault : Option PlanError → Board → Result Board ℕ
 unless_fault None board = Ok board
 unless_fault (Some rule) board = Err (RULE + number rule)
 
--- what a text says, as a board with its channels
+-- what a text says, as a board with its lines
 abbrev pub board_said : Result Described ℕ → Result Board ℕ
 board_said (Err line) = Err (line_fault line)
-board_said (Ok said) = unless_fault (first_fault said.0) (with_channels said.0 said.1)
+board_said (Ok said) = unless_fault (first_fault said.0) (with_lines said.0 said.1)
 
--- the board of a text with the channels of its agents, or the number of its first fault
+-- the board of a text with what its lines say, or the number of its first fault
 abbrev pub board_of_text : List ℕ → Result Board ℕ
 board_of_text text = board_said (said_in text)

@@ -1,19 +1,23 @@
 -- The board that a program's tables encode, and the faults of tables as numbers for C.
-use Rattle.std.specs.Prelude.{◌≡◌, ◌<◌, ◌≤◌, ◌⊎◌, ℕ, ◌+◌, ◌==◌, ◌&&◌, ◌||◌, nat_le, nat_lt, suc, Bool, not, if◌then◌else◌, List, [], ◌∷◌, length, map, replicate, take, drop, Result, Ok, Err}
+use Rattle.std.specs.Prelude.{◌≡◌, ◌<◌, ◌≤◌, ◌⊎◌, ℕ, ◌+◌, ◌^◌, ◌==◌, ◌&&◌, ◌||◌, nat_le, nat_lt, suc, Bool, not, if◌then◌else◌, List, [], ◌∷◌, ◌++◌, length, map, replicate, take, drop, Result, Err}
 use Rattle.std.specs.List.{before_first, list_all, list_any, position_or_len}
 use Rattle.scmi_codec.specs.ChannelArea.{channel_words, is_channel_size}
 use Rattle.scmi_codec.specs.declared.payload.TheConstants.{PAYLOAD_WORDS}
-use Rattle.scmi_plan.specs.Board.{Board, whole_channel}
+use Rattle.scmi_plan.specs.Board.{Board, nothing_denied, nothing_held, whole_channel}
 use Rattle.scmi_plan.specs.PlanError.{first_fault}
 use Rattle.scmi_plan.specs.declared.agent_channel.AgentChannel.{AgentChannel}
 use Rattle.scmi_plan.specs.declared.clock.Clock.{Clock}
 use Rattle.scmi_plan.specs.declared.device.Device.{Device}
 use Rattle.scmi_plan.specs.declared.domain.Domain.{Domain}
-use Rattle.scmi_plan.specs.declared.limits.TheConstants.{AGENTS}
+use Rattle.scmi_plan.specs.declared.limits.TheConstants.{AGENTS, PENDING_SETS}
+use Rattle.scmi_plan.specs.declared.resource.Resource.{Resource}
+use Rattle.scmi_plan.specs.declared.resource.Resource.TheVariants as resource
+use Rattle.scmi_plan.specs.declared.scope.Scope.TheVariants as scope
 use Rattle.scmi_plan.specs.Rates.{SupportedRates}
 use Rattle.scmi_plan.specs.Rates as rates
-use Rattle.scmi_board.specs.declared.channel_line.ChannelLine.{ChannelLine}
-use Rattle.scmi_board.specs.Channels.{with_channels}
+use Rattle.scmi_board.specs.declared.board_line.BoardLine.{BoardLine}
+use Rattle.scmi_board.specs.declared.board_line.BoardLine.TheVariants as said
+use Rattle.scmi_board.specs.BoardLines.{with_lines}
 use Rattle.scmi_c.specs.Board.{unless_fault}
 use Rattle.scmi_c.specs.declared.code.TheConstants.{MEMORY, RULE, TABLE}
 use Rattle.scmi_c.specs.declared.rows.AgentRow.{AgentRow}
@@ -61,9 +65,26 @@ is_channel_row row = (row.bytes == 0) || is_channel_size row.bytes
 abbrev pub ends_within : ℕ → ClockRow → Bool
 ends_within rates row = (row.count == 0) || nat_le (row.first + row.count) rates
 
--- whether the row of an agent is well formed
-abbrev pub is_agent_row : AgentRow → Bool
-is_agent_row row = is_named row.name && is_channel_row row
+-- whether no more of the pending sets may be an agent's than there are
+abbrev pub is_share_row : AgentRow → Bool
+is_share_row row = nat_le row.pending PENDING_SETS
+
+-- whether a mask has devices alone of which there are this many: bit d is for device d
+abbrev pub is_mask_of : ℕ → ℕ → Bool
+is_mask_of devices mask = nat_lt mask (2 ^ devices)
+
+-- whether an agent is denied devices alone of which there are this many
+abbrev pub is_denied_row : ℕ → AgentRow → Bool
+is_denied_row devices row =
+    is_mask_of devices row.denied && is_mask_of devices row.denied_power && is_mask_of devices row.denied_clocks
+
+-- whether what a row says of an agent is so of an agent beside this many devices
+abbrev pub is_said_row : ℕ → AgentRow → Bool
+is_said_row devices row = is_channel_row row && is_share_row row && is_denied_row devices row
+
+-- whether the row of an agent is well formed, beside a table of this many devices
+abbrev pub is_agent_row : ℕ → AgentRow → Bool
+is_agent_row devices row = is_named row.name && is_said_row devices row
 
 -- whether the row of a domain is well formed
 abbrev pub is_domain_row : DomainRow → Bool
@@ -76,7 +97,7 @@ is_clock_row rates row = is_named row.name && ends_within rates row
 -- whether tables are well formed in themselves
 abbrev pub is_well_formed : BoardTables → Bool
 is_well_formed t =
-    is_named t.heading.vendor && is_named t.heading.sub_vendor && list_all is_agent_row t.agents && list_all is_domain_row t.domains
+    is_named t.heading.vendor && is_named t.heading.sub_vendor && list_all (is_agent_row (length t.devices)) t.agents && list_all is_domain_row t.domains
     && list_all (is_clock_row (length t.rates)) t.clocks
 
 -- any number but 0
@@ -100,7 +121,7 @@ clock_in table row = record { name = name_in row.name; enabled = is_set row.enab
 abbrev pub device_in : DeviceRow → Device
 device_in row = record { domains = row.domains; clocks = row.clocks }
 
--- the board of well-formed tables, with whole channels
+-- the board of well-formed tables, with whole channels, of which nothing is kept or denied
 abbrev pub board_in : BoardTables → Board
 board_in t =
     record {
@@ -113,21 +134,53 @@ board_in t =
       clocks = map (clock_in t.rates) t.clocks;
       devices = map device_in t.devices;
       channels = replicate AGENTS whole_channel;
+      kept = nothing_held;
+      denied = nothing_denied;
     }
+
+-- how many of the pending sets may be an agent's, all of them if its row says none
+abbrev pub share_in : ℕ → ℕ
+share_in pending = if pending == 0 then PENDING_SETS else pending
 
 -- an agent's channels, which are whole if their bytes are 0
 abbrev pub channel_in : AgentRow → AgentChannel
-channel_in row = record { words = if row.bytes == 0 then PAYLOAD_WORDS else channel_words row.bytes; one_way = is_set row.one_way }
+channel_in row =
+    record { words = if row.bytes == 0 then PAYLOAD_WORDS else channel_words row.bytes; one_way = is_set row.one_way; share = share_in row.pending }
 
--- the channels of the agents, of which the first has this number
-abbrev pub channels_from : ℕ → List AgentRow → List ChannelLine
-channels_from agent [] = []
-channels_from agent (row ∷ rows) = record { agent = agent; channel = channel_in row } ∷ channels_from (suc agent) rows
+-- what the row of an agent says beside its name: its channels, and the devices that are denied to
+-- it as a whole, for the power protocol and for the clock protocol
+abbrev pub agent_lines : ℕ → AgentRow → List BoardLine
+agent_lines agent row =
+    said.Channel (record { agent = agent; channel = channel_in row })
+    ∷ said.Deny (record { agent = agent; devices = row.denied; scope = scope.Device })
+    ∷ said.Deny (record { agent = agent; devices = row.denied_power; scope = scope.Power })
+    ∷ said.Deny (record { agent = agent; devices = row.denied_clocks; scope = scope.Clock }) ∷ []
 
--- the board of tables with the channels of its agents, or the number of its fault
+-- that no agent may switch off a domain or clock, if its row says so
+abbrev pub keep_lines : ℕ → Resource → List BoardLine
+keep_lines kept resource = if is_set kept then said.Keep resource ∷ [] else []
+
+-- what the row of a domain says beside it
+abbrev pub domain_lines : ℕ → DomainRow → List BoardLine
+domain_lines domain row = keep_lines row.kept (resource.Domain domain)
+
+-- what the row of a clock says beside it
+abbrev pub clock_lines : ℕ → ClockRow → List BoardLine
+clock_lines clock row = keep_lines row.kept (resource.Clock clock)
+
+-- the lines of each of these rows, of which the first has this number
+abbrev pub lines_from : {Row : Type 0} → (ℕ → Row → List BoardLine) → ℕ → List Row → List BoardLine
+lines_from lines number [] = []
+lines_from lines number (row ∷ rows) = lines number row ++ lines_from lines (suc number) rows
+
+-- what tables say beside their board: of each agent from 1, then of each domain and clock from 0
+abbrev pub lines_in : BoardTables → List BoardLine
+lines_in t =
+    lines_from agent_lines 1 t.agents ++ lines_from domain_lines 0 t.domains ++ lines_from clock_lines 0 t.clocks
+
+-- the board of tables with what they say beside it, or the number of its fault
 abbrev pub board_of_tables : BoardTables → Result Board ℕ
-board_of_tables t =
-    if is_well_formed t then unless_fault (first_fault (board_in t)) (with_channels (board_in t) (channels_from 1 t.agents)) else Err TABLE
+board_of_tables t = if is_well_formed t then unless_fault (first_fault (board_in t)) (with_lines (board_in t) (lines_in t)) else Err TABLE
 
 -- out of memory, tables that are not well formed, or a rule of boards (1 to 5)
 abbrev pub IsTableFault : ℕ → Type 0

@@ -12,10 +12,10 @@ use scmi_board::{BoardError, ValidBoard, read_valid_board};
 use scmi_plan::{Plan, PlanError};
 use std::alloc::Global;
 
-/// The plan of a board's text, which may give the channels of its agents, or the number of its
-/// fault for C: `LINE` and the number of the first line of another form, from 1 (the last line if
-/// `end` is missing, 0 if there is no line), or of the first after `end`; `RULE` and the number of the first rule that the board
-/// breaks; `MEMORY` when out of memory.
+/// The plan of a board's text with what the lines behind its rows say, or the number of its fault for
+/// C: `LINE` and the number of the first line of another form, from 1 (the last line if `end` is
+/// missing, 0 if there is no line), or of the first after `end`; `RULE` and the number of the first
+/// rule that the board breaks; `MEMORY` when out of memory.
 pub fn read_plan(alloc: Global, text: &[u8]) -> Result<Plan, u32>
     ensures board { IfOk result (λ plan. board_of_text text.now ≡ Ok plan) }
     ensures fault { IfErr result (λ n. n ≢ MEMORY → board_of_text text.now ≡ Err n) }

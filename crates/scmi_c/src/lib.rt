@@ -38,6 +38,7 @@ mod rows;
 mod send;
 mod settle;
 mod settle_words;
+mod table_lines;
 mod tabled;
 mod tables;
 mod values;

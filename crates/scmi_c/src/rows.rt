@@ -10,17 +10,24 @@ pub struct HeadingRow {
     pub trusted: u32,
 }
 
-/// An agent: its name, the bytes of its channels' areas, 0 if they are whole, and whether the
-/// platform can't send to it: any number but 0 means that it can't.
+/// An agent: its name, the bytes of its channels' areas, 0 if they are whole, whether the platform
+/// can't send to it: any number but 0 means that it can't, and how many of the pending sets may be
+/// the agent's, 0 if all of them. The masks are of devices that are denied to it from the start, as
+/// a whole, for the power protocol and for the clock protocol: bit d is for device d.
 #[repr(C)]
 #[derive(Clone, Copy)]
 pub struct AgentRow {
     pub name: [u8; 16],
     pub bytes: u32,
     pub one_way: u32,
+    pub pending: u32,
+    pub denied: u32,
+    pub denied_power: u32,
+    pub denied_clocks: u32,
 }
 
-/// A power domain: its name, whether it is ON at the start, and what it supports.
+/// A power domain: its name, whether it is ON at the start, what it supports, and whether no agent
+/// may switch it off.
 #[repr(C)]
 #[derive(Clone, Copy)]
 pub struct DomainRow {
@@ -29,11 +36,12 @@ pub struct DomainRow {
     pub synchronous: u32,
     pub asynchronous: u32,
     pub notify: u32,
+    pub kept: u32,
 }
 
-/// A clock: its name, its starting rate in Hz, whether it is enabled at the start, and its rates.
-/// If `count` is not 0, they are `count` rows of the table of rates, from the row `first` on; else
-/// every `step` from `low` to `high`.
+/// A clock: its name, its starting rate in Hz, whether it is enabled at the start, whether no agent
+/// may switch it off, and its rates. If `count` is not 0, they are `count` rows of the table of
+/// rates, from the row `first` on; else every `step` from `low` to `high`.
 #[repr(C)]
 #[derive(Clone, Copy)]
 pub struct ClockRow {
@@ -45,7 +53,7 @@ pub struct ClockRow {
     pub first: u32,
     pub count: u32,
     pub enabled: u32,
-    pub reserved: u32,
+    pub kept: u32,
 }
 
 /// A device: the domains and the clocks that it holds, bit i for domain or clock i.
@@ -55,3 +63,14 @@ pub struct DeviceRow {
     pub domains: u32,
     pub clocks: u32,
 }
+
+// The sizes that `include/scmi.h` has.
+const _: () = prove!(size_of::<HeadingRow>() == 40);
+
+const _: () = prove!(size_of::<AgentRow>() == 40);
+
+const _: () = prove!(size_of::<DomainRow>() == 36);
+
+const _: () = prove!(size_of::<ClockRow>() == 64);
+
+const _: () = prove!(size_of::<DeviceRow>() == 8);

@@ -3,7 +3,7 @@ ghost use Rattle.std.specs.Prelude.{◌≡◌, ◌≤◌, IfOk, length, map, str
 ghost use Rattle.std.specs.List.{All, position, position_or_len};
 ghost use Rattle.scmi_plan.specs.Rates.{rates_of};
 ghost use Rattle.scmi_plan.specs.RawPlan.{asked_board, asked_clock, asked_domain};
-ghost use Rattle.scmi_c.specs.Tables.{board_in, clock_in, device_in, domain_in, is_agent_row, is_clock_row, is_domain_row, is_named, is_well_formed, is_zero, name_in, rates_in, tables_of};
+ghost use Rattle.scmi_c.specs.Tables.{board_in, clock_in, device_in, domain_in, is_clock_row, is_domain_row, is_named, is_well_formed, is_zero, name_in, rates_in, tables_of};
 
 use crate::rows::{AgentRow, ClockRow, DeviceRow, DomainRow};
 use crate::tables::Tables;
@@ -11,7 +11,8 @@ use scmi_plan::{Device, Rates, RawClock, RawDomain, RawPlan};
 use std::alloc::{AllocError, Global};
 use std::str::from_utf8_unchecked;
 
-/// The board that the tables encode, with whole channels. The only possible error: out of memory.
+/// The board that the tables encode, with whole channels, of which nothing is kept or denied. The
+/// only possible error: out of memory.
 pub fn write_down(alloc: Global, tables: &Tables<'_>) -> Result<RawPlan, AllocError>
     requires formed { is_well_formed (tables_of tables.now) ≡ true }
     ensures board { IfOk result (λ raw. asked_board raw ≡ board_in (tables_of tables.now)) }
@@ -53,7 +54,7 @@ fn zero_place(name: &[u8]) -> Option<usize>
 }
 
 fn agent_names(alloc: Global, rows: &[AgentRow]) -> Result<Vec<String>, AllocError>
-    requires rows { All (λ row. is_agent_row row ≡ true) rows.now }
+    requires rows { All (λ row. is_named row.name ≡ true) rows.now }
     ensures { IfOk result (λ names.
         map string_bytes names.items ≡ map (λ row. name_in row.name) rows.now) }
 {

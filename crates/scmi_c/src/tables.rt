@@ -1,11 +1,12 @@
 //! The tables of a board, and whether they are well formed in themselves.
 ghost use Rattle.std.specs.Prelude.{◌≡◌, ◌<◌, ◌==◌, ◌&&◌, nat_lt, length};
 ghost use Rattle.std.specs.List.{list_all, list_any};
-ghost use Rattle.scmi_c.specs.Tables.{ends_within, is_agent_row, is_channel_row, is_clock_row, is_domain_row, is_named, is_well_formed, is_zero, tables_of};
+ghost use Rattle.scmi_c.specs.Tables.{ends_within, is_agent_row, is_channel_row, is_clock_row, is_denied_row, is_domain_row, is_mask_of, is_named, is_said_row, is_share_row, is_well_formed, is_zero, tables_of};
 
 use crate::rows::{AgentRow, ClockRow, DeviceRow, DomainRow, HeadingRow};
 use crate::tabled::name_length;
 use scmi_codec::is_channel_size;
+use scmi_plan::{MASK_BITS, PENDING_SETS};
 
 /// The tables of a board, as a program in C gives them.
 #[derive(Clone, Copy)]
@@ -18,24 +19,25 @@ pub struct Tables<'a> {
     pub devices: &'a [DeviceRow],
 }
 
-/// Whether each name is ended by a zero, has bytes of ASCII alone and zeros behind it, each list of rates lies in the
-/// table of rates, and each size is that of a channel.
+/// Whether each name is ended by a zero, has bytes of ASCII alone and zeros behind it, each list of
+/// rates lies in the table of rates, each size is that of a channel, no agent may have more of the
+/// pending sets than there are, and only devices of the table are denied.
 pub fn is_well_formed(tables: &Tables<'_>) -> bool
     ensures { result ≡ is_well_formed (tables_of tables.now) }
 {
     is_named(&tables.heading.vendor)
         && is_named(&tables.heading.sub_vendor)
-        && are_agents(tables.agents)
+        && are_agents(tables.agents, tables.devices.len())
         && are_domains(tables.domains)
         && are_clocks(tables.clocks, tables.rates.len())
 }
 
-fn are_agents(agents: &[AgentRow]) -> bool
-    ensures { result ≡ list_all is_agent_row agents.now }
+fn are_agents(agents: &[AgentRow], devices: usize) -> bool
+    ensures { result ≡ list_all (is_agent_row devices) agents.now }
 {
     agents
         .iter()
-        .all(|row| is_named(&row.name) && is_channel_row(row))
+        .all(|row| is_named(&row.name) && is_said_row(devices, row))
 }
 
 fn are_domains(domains: &[DomainRow]) -> bool
@@ -59,10 +61,38 @@ fn is_within(row: &ClockRow, rates: usize) -> bool
     row.count == 0 || row.first as u64 + row.count as u64 <= rates as u64
 }
 
+/// Whether what a row says of an agent is so of an agent beside this many devices.
+fn is_said_row(devices: usize, row: &AgentRow) -> bool
+    ensures { result ≡ is_said_row devices row.now }
+{
+    is_channel_row(row) && is_share_row(row) && is_denied_row(devices, row)
+}
+
 fn is_channel_row(row: &AgentRow) -> bool
     ensures { result ≡ is_channel_row row.now }
 {
     row.bytes == 0 || is_channel_size(row.bytes as usize)
+}
+
+fn is_share_row(row: &AgentRow) -> bool
+    ensures { result ≡ is_share_row row.now }
+{
+    row.pending as usize <= PENDING_SETS
+}
+
+fn is_denied_row(devices: usize, row: &AgentRow) -> bool
+    ensures { result ≡ is_denied_row devices row.now }
+{
+    is_mask_of(devices, row.denied)
+        && is_mask_of(devices, row.denied_power)
+        && is_mask_of(devices, row.denied_clocks)
+}
+
+/// Whether a mask has devices alone of which there are this many.
+fn is_mask_of(devices: usize, mask: u32) -> bool
+    ensures { result ≡ is_mask_of devices mask }
+{
+    devices >= MASK_BITS as usize || mask >> devices == 0
 }
 
 /// Whether a name is ended by a zero, has bytes of ASCII alone, and zeros behind the first.

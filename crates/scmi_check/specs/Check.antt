@@ -2,9 +2,9 @@
 use Rattle.std.specs.Prelude.{◌≡◌, ◌⊎◌, ℕ, ◌+◌, ◌<◌, ◌++◌, [], ◌∷◌, ⊤, List, length, Option, IfSome, Some, Ok, Err}
 use Rattle.std.specs.Io.KnownBytes.{Appends}
 use Rattle.std.specs.List.{All, list_any}
-use Rattle.scmi_board.specs.Channels.{Described}
+use Rattle.scmi_board.specs.BoardLines.{Described}
 use Rattle.scmi_board.specs.Lines.{Line, first_number_in, last_behind, lines_left, lines_of, whole}
-use Rattle.scmi_board.specs.ValidBoard.{IsBoardFault, IsBoardText, said_in, with_its_channels}
+use Rattle.scmi_board.specs.ValidBoard.{IsBoardFault, IsBoardText, said_in, with_its_lines}
 use Rattle.scmi_board.specs.declared.board_error.BoardError.TheVariants as board
 use Rattle.scmi_io.specs.FaultLine.{fault_line}
 use Rattle.scmi_io.specs.declared.input.TheConstants.{INPUT_BYTES}
@@ -32,7 +32,7 @@ use Rattle.scmi_check.specs.declared.options.CheckOptions.{CheckOptions}
 pub record IsPlanText (text : List ℕ) (board : Board) : Type 0 where
   pub said : Described
   pub of_text : IsBoardText text said
-  pub board_is : board ≡ with_its_channels said
+  pub board_is : board ≡ with_its_lines said
 
 -- a text encodes a record of a platform of a board, if these protocols are judged, with what may be
 -- read in the places of its lines

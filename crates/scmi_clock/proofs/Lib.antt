@@ -6,4 +6,3 @@ pub mod ListRates
 pub mod Flags
 pub mod ReplySame
 pub mod RoundingExamples
-pub mod Numbers

@@ -5,14 +5,14 @@ use Rattle.scmi_codec.specs.Listing.{is_listed}
 use Rattle.scmi_codec.specs.declared.clock_command.ClockCommand.{ClockCommand}
 use Rattle.scmi_codec.specs.declared.clock_command.ClockCommand.TheVariants as clock
 use Rattle.scmi_codec.specs.declared.status.Status.TheVariants.{NotFound, InvalidParameters, NotSupported, OutOfRange, Denied, Busy}
-use Rattle.scmi_plan.specs.Board.{Board, clock_at}
+use Rattle.scmi_plan.specs.Board.{Board, clock_at, is_kept}
 use Rattle.scmi_plan.specs.declared.agent_channel.AgentChannel.{AgentChannel}
+use Rattle.scmi_plan.specs.declared.resource.Resource.TheVariants as resource
 use Rattle.scmi_plan.specs.Rates.{SupportedRates}
 use Rattle.scmi_plan.specs.Rates as rates
 use Rattle.scmi_codec.specs.Name.{name_words}
 use Rattle.scmi_codec.specs.Rate.{rate_words}
-use Rattle.scmi_codec.specs.Reply.{Check, reply_unless, other_bits}
-use Rattle.scmi_clock.specs.declared.discovery.TheConstants.{PENDING_SETS}
+use Rattle.scmi_codec.specs.Reply.{Check, bit_0, reply_unless, other_bits}
 use Rattle.scmi_clock.specs.Rounding.{round_to}
 use Rattle.scmi_clock.specs.SetFlags.{rounding_of, is_asynchronous, has_unknown_flags}
 
@@ -61,9 +61,9 @@ rates_words channel (rates.list list) index =
     rates_word (left - count) count ∷ flat_map rate_words (take count (drop index list))
 rates_words channel (rates.steps low high step) index = triplet_word ∷ flat_map rate_words (low ∷ high ∷ step ∷ [])
 
--- the most pending sets that an agent learns of: none where the platform can't send to it (own)
+-- the most pending sets that an agent learns of: its share, none where the platform can't send to it (own)
 abbrev pub pending_announced : AgentChannel → ℕ
-pending_announced channel = if channel.one_way then 0 else PENDING_SETS
+pending_announced channel = if channel.one_way then 0 else channel.share
 
 -- the reply to 0x1: in bits 23 to 16 the most pending sets, in bits 15 to 0 the number of clocks
 abbrev pub attributes_reply : Board → AgentChannel → List ℕ
@@ -99,7 +99,11 @@ set_checks board channel may busy room flags c rate =
 abbrev pub rate_reply : Board → ℕ → ℕ → List ℕ
 rate_reply board rate c = reply_unless ((no_clock board c, NotFound) ∷ []) (0 ∷ rate_words rate)
 
--- the checks of 0x7, in order (own): clock, attributes, permission
+-- whether a configuration would disable a clock that its board keeps (own)
+abbrev pub disables_kept : Board → (c attributes : ℕ) → Bool
+disables_kept board c attributes = is_kept board (resource.Clock c) && not (bit_0 attributes)
+
+-- the checks of 0x7, in order (own): clock, attributes, whether the caller may make the change
 abbrev pub config_checks : Board → Bool → ℕ → ℕ → List Check
 config_checks board may c attributes = (no_clock board c, NotFound) ∷ (other_bits attributes, InvalidParameters) ∷ (not may, Denied) ∷ []
 
@@ -112,4 +116,4 @@ clock_reply board v (clock.ClockAttributes c) = clock_attributes_reply board (v.
 clock_reply board v (clock.Describe c index) = describe_reply board v.channel c index
 clock_reply board v (clock.SetRate flags c rate) = reply_unless (set_checks board v.channel (v.may c) (v.busy c) v.room flags c rate) (0 ∷ [])
 clock_reply board v (clock.GetRate c) = rate_reply board (v.rate c) c
-clock_reply board v (clock.Config c attributes) = reply_unless (config_checks board (v.may c) c attributes) (0 ∷ [])
+clock_reply board v (clock.Config c attributes) = reply_unless (config_checks board (v.may c && not (disables_kept board c attributes)) c attributes) (0 ∷ [])

@@ -1,5 +1,5 @@
 -- The tables of clocks, and what a command leaves of them.
-use Rattle.std.specs.Prelude.{◌≡◌, ℕ, ◌<◌, ◌==◌, Bool, true, false, if◌then◌else◌, List, [], ◌∷◌, length, get_or, Option, Some, None, unwrap_or, IfSome}
+use Rattle.std.specs.Prelude.{◌≡◌, ℕ, ◌<◌, ◌==◌, ◌&&◌, not, Bool, true, false, if◌then◌else◌, List, [], ◌∷◌, length, get_or, Option, Some, None, unwrap_or, IfSome}
 use Rattle.std.specs.Int.{bit_at}
 use Rattle.scmi_codec.specs.declared.clock_command.ClockCommand.{ClockCommand}
 use Rattle.scmi_codec.specs.declared.clock_command.ClockCommand.TheVariants as clock
@@ -9,7 +9,7 @@ use Rattle.scmi_plan.specs.declared.limits.TheConstants.{CLOCKS}
 use Rattle.scmi_plan.specs.declared.load.Load.{Load}
 use Rattle.scmi_plan.specs.declared.resource.Resource.TheVariants as resource
 use Rattle.scmi_base.specs.Permission.{Permissions, may, is_allowed}
-use Rattle.scmi_clock.specs.ClockReply.{ClockView, clock_reply, rounded_rate, set_checks, config_checks}
+use Rattle.scmi_clock.specs.ClockReply.{ClockView, clock_reply, rounded_rate, set_checks, config_checks, disables_kept}
 use Rattle.scmi_clock.specs.SetFlags.{is_asynchronous, is_response_wanted}
 
 -- the rate of each clock in Hz, and whether it is enabled
@@ -95,10 +95,14 @@ abbrev pub set_words : Board → Permissions → ℕ → Load → (flags c rate 
 set_words board permissions caller load flags c rate =
     reply_unless (set_checks board (channel_of board caller) (may_change board permissions caller c) (is_pending load c) load.room flags c rate) (0 ∷ [])
 
+-- whether a caller may configure a clock so: it may change the clock, and the board does not keep it from that
+abbrev pub may_configure : Board → Permissions → (caller c attributes : ℕ) → Bool
+may_configure board permissions caller c attributes = may_change board permissions caller c && not (disables_kept board c attributes)
+
 -- the reply to a caller's configuration, by the permissions
 abbrev pub config_words : Board → Permissions → ℕ → (c attributes : ℕ) → List ℕ
 config_words board permissions caller c attributes =
-    reply_unless (config_checks board (may_change board permissions caller c) c attributes) (0 ∷ [])
+    reply_unless (config_checks board (may_configure board permissions caller c attributes) c attributes) (0 ∷ [])
 
 -- the rates of a table after one was set, if one was
 abbrev pub HasSet : Option (ℕ × ℕ) → ClockTables → ClockTables → Type 0

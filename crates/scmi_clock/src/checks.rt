@@ -3,7 +3,8 @@ ghost use Rattle.std.specs.Prelude.{◌≡◌, ◌<◌, ◌&&◌, ◌||◌, not,
 ghost use Rattle.scmi_codec.specs.Reply.{bit_0, AreDecided};
 ghost use Rattle.scmi_codec.specs.declared.status.Status.TheVariants.{NotFound, InvalidParameters, NotSupported, Denied, Busy, OutOfRange};
 ghost use Rattle.scmi_plan.specs.Agent.{IsAgent};
-ghost use Rattle.scmi_plan.specs.Board.{channel_of};
+ghost use Rattle.scmi_plan.specs.Board.{channel_of, is_kept};
+ghost use Rattle.scmi_plan.specs.declared.resource.Resource.TheVariants as resource;
 ghost use Rattle.scmi_plan.specs.Rates.{HasValidRates, rates_of};
 ghost use Rattle.scmi_plan.specs.declared.limits.TheConstants.{CLOCKS};
 ghost use Rattle.scmi_clock.specs.ClockReply.{no_clock, past_end, rounded_rate};
@@ -94,8 +95,29 @@ pub(crate) fn check_config(
 {
     check_clock(plan, clock)?;
     let enable = single_flag(attributes)?;
-    check_permitted(plan, base, caller, clock)?;
+    check_may_configure(plan, base, caller, clock, enable)?;
     Ok(enable)
+}
+
+/// DENIED if the caller may not change a clock, or would disable one that the board keeps (own).
+fn check_may_configure(
+    plan: &Plan,
+    base: &BaseState,
+    caller: u32,
+    clock: u32,
+    enable: bool,
+) -> Result<(), Status>
+    requires caller { IsAgent (length plan.now.agents) caller }
+    requires clock { clock < length plan.now.clocks }
+    ensures { result ≡ (if may_change plan.now base.now caller clock
+        && not (is_kept plan.now (resource.Clock clock) && not enable)
+        then Ok tt else Err Denied) }
+{
+    check_permitted(plan, base, caller, clock)?;
+    if !enable && plan.is_kept(Resource::Clock(clock)) {
+        return Err(Status::Denied);
+    }
+    Ok(())
 }
 
 /// NOT_FOUND if the board has no such clock.

@@ -19,9 +19,6 @@ use scmi_plan::{AgentChannel, Plan, Rates};
 /// The version of the clock protocol: major 1, minor 0 (own).
 const VERSION: u32 = 0x0001_0000;
 
-/// The most sets that are pending in all, of clocks and of domains (own).
-pub const PENDING_SETS: usize = 8;
-
 /// The flags word of a triplet: bit 12, and three rates.
 const TRIPLET: u32 = 0x1003;
 
@@ -32,17 +29,14 @@ pub(crate) fn version(reply: &mut Payload)
     set_payload(reply, &[SUCCESS, VERSION]);
 }
 
-/// 0x1: the most pending sets in bits [23:16], none for an agent that the platform can't send to
+/// 0x1: the most pending sets of the caller in bits [23:16], none if the platform can't send to it
 /// (own), and the number of clocks in [15:0].
 pub(crate) fn attributes(plan: &Plan, channel: AgentChannel, reply: &mut Payload)
+    requires { IsChannel channel }
     ensures { reply.new.items ≡ attributes_reply plan.now channel }
 {
-    let announced = if channel.one_way {
-        0
-    } else {
-        PENDING_SETS as u32
-    };
-    set_payload(reply, &[SUCCESS, announced << 16 | plan.clocks()]);
+    let announced = if channel.one_way { 0 } else { channel.share };
+    set_payload(reply, &[SUCCESS, announced * 0x1_0000 + plan.clocks()]);
 }
 
 /// 0x2: no attributes; NOT_FOUND for an id that the protocol lacks.

@@ -16,5 +16,4 @@ mod set_flags;
 
 pub use clock_done::ClockDone;
 pub use clock_state::ClockState;
-pub use discovery::PENDING_SETS;
 pub use rounding::{Rounding, round};

@@ -2,7 +2,7 @@
 use Rattle.std.proofs.Common.{◌≡◌, List, [], ◌∷◌, refl}
 use Rattle.scmi_codec.specs.Listing.{rows_of}
 use Rattle.scmi_base.specs.BaseReply.{base_reply}
-use Rattle.scmi_power.specs.PowerReply.{power_reply}
+use Rattle.scmi_power.specs.PowerReply.{may_set, power_reply}
 use Rattle.scmi_clock.specs.ClockReply.{clock_reply}
 use Rattle.scmi_core.specs.declared.event.Event.{Event}
 use Rattle.scmi_core.specs.Deed.{fold_with_prefix}
@@ -18,15 +18,15 @@ highest_token =
 
 highest_token-replies : replies board_b highest_token
     ≡ (0x0ffc4000 ∷ 0 ∷ 0x20000 ∷ []) ∷ []
-unfolding highest_token deeds reply_words base_reply power_reply clock_reply fold_with_prefix
+unfolding highest_token deeds reply_words base_reply may_set power_reply clock_reply fold_with_prefix
 highest_token-replies = refl
 
 highest_token-told_ap : words_told board_b 1 highest_token ≡ []
-unfolding highest_token deeds reply_words base_reply power_reply clock_reply fold_with_prefix
+unfolding highest_token deeds reply_words base_reply may_set power_reply clock_reply fold_with_prefix
 highest_token-told_ap = refl
 
 highest_token-told_modem : words_told board_b 2 highest_token ≡ []
-unfolding highest_token deeds reply_words base_reply power_reply clock_reply fold_with_prefix
+unfolding highest_token deeds reply_words base_reply may_set power_reply clock_reply fold_with_prefix
 highest_token-told_modem = refl
 
 -- the ids of the other protocols, after the first that are skipped
@@ -36,15 +36,15 @@ protocol_list =
 
 protocol_list-replies : replies board_b protocol_list
     ≡ (0x00004006 ∷ 0 ∷ 2 ∷ 0x1411 ∷ []) ∷ (0x00044006 ∷ 0 ∷ 0 ∷ []) ∷ (0x00084006 ∷ 0xfffffffe ∷ []) ∷ (0x000c4006 ∷ 0 ∷ 1 ∷ 20 ∷ []) ∷ []
-unfolding protocol_list deeds reply_words base_reply power_reply clock_reply fold_with_prefix
+unfolding protocol_list deeds reply_words base_reply may_set power_reply clock_reply fold_with_prefix
 protocol_list-replies = refl
 
 protocol_list-told_ap : words_told board_b 1 protocol_list ≡ []
-unfolding protocol_list deeds reply_words base_reply power_reply clock_reply fold_with_prefix
+unfolding protocol_list deeds reply_words base_reply may_set power_reply clock_reply fold_with_prefix
 protocol_list-told_ap = refl
 
 protocol_list-told_modem : words_told board_b 2 protocol_list ≡ []
-unfolding protocol_list deeds reply_words base_reply power_reply clock_reply fold_with_prefix
+unfolding protocol_list deeds reply_words base_reply may_set power_reply clock_reply fold_with_prefix
 protocol_list-told_modem = refl
 
 -- numbers and names of the board
@@ -56,15 +56,15 @@ discovery =
 discovery-replies : replies board_b discovery
     ≡ (0x00004001 ∷ 0 ∷ 0x202 ∷ []) ∷ (0x00044007 ∷ 0 ∷ 1 ∷ 0x7061 ∷ 0 ∷ 0 ∷ 0 ∷ []) ∷ (0x00084003 ∷ 0 ∷ 0x656d6341 ∷ 0 ∷ 0 ∷ 0 ∷ [])
     ∷ (0x000c4007 ∷ 0 ∷ 0 ∷ 0x74616c70 ∷ 0x6d726f66 ∷ 0 ∷ 0 ∷ []) ∷ (0x00104007 ∷ 0xfffffffc ∷ []) ∷ []
-unfolding discovery deeds reply_words base_reply power_reply clock_reply fold_with_prefix
+unfolding discovery deeds reply_words base_reply may_set power_reply clock_reply fold_with_prefix
 discovery-replies = refl
 
 discovery-told_ap : words_told board_b 1 discovery ≡ []
-unfolding discovery deeds reply_words base_reply power_reply clock_reply fold_with_prefix
+unfolding discovery deeds reply_words base_reply may_set power_reply clock_reply fold_with_prefix
 discovery-told_ap = refl
 
 discovery-told_modem : words_told board_b 2 discovery ≡ []
-unfolding discovery deeds reply_words base_reply power_reply clock_reply fold_with_prefix
+unfolding discovery deeds reply_words base_reply may_set power_reply clock_reply fold_with_prefix
 discovery-told_modem = refl
 
 -- commands that are unknown, and a message that is no command
@@ -76,15 +76,15 @@ unknown_commands =
 unknown_commands-replies : replies board_b unknown_commands
     ≡ (0x00005400 ∷ 0xffffffff ∷ []) ∷ (0x00044008 ∷ 0xffffffff ∷ []) ∷ (0x00084002 ∷ 0xfffffffc ∷ []) ∷ (0x000c4002 ∷ 0 ∷ 0 ∷ [])
     ∷ (0x00004100 ∷ 0xfffffff6 ∷ []) ∷ []
-unfolding unknown_commands rows_of deeds reply_words base_reply power_reply clock_reply fold_with_prefix
+unfolding unknown_commands rows_of deeds reply_words base_reply may_set power_reply clock_reply fold_with_prefix
 unknown_commands-replies = refl
 
 unknown_commands-told_ap : words_told board_b 1 unknown_commands ≡ []
-unfolding unknown_commands rows_of deeds reply_words base_reply power_reply clock_reply fold_with_prefix
+unfolding unknown_commands rows_of deeds reply_words base_reply may_set power_reply clock_reply fold_with_prefix
 unknown_commands-told_ap = refl
 
 unknown_commands-told_modem : words_told board_b 2 unknown_commands ≡ []
-unfolding unknown_commands rows_of deeds reply_words base_reply power_reply clock_reply fold_with_prefix
+unfolding unknown_commands rows_of deeds reply_words base_reply may_set power_reply clock_reply fold_with_prefix
 unknown_commands-told_modem = refl
 
 -- a denied agent, and a reset that allows it again
@@ -97,15 +97,15 @@ permissions =
 permissions-replies : replies board_b permissions
     ≡ (0x00004009 ∷ 0 ∷ []) ∷ (0x00004404 ∷ 0xfffffffd ∷ []) ∷ (0x00044405 ∷ 0 ∷ 0x40000000 ∷ []) ∷ (0x00084009 ∷ 0xfffffffd ∷ [])
     ∷ (0x000c4406 ∷ 0 ∷ []) ∷ (0x0004400b ∷ 0 ∷ []) ∷ (0x00104404 ∷ 0 ∷ []) ∷ (0x00084009 ∷ 0xfffffffc ∷ []) ∷ []
-unfolding permissions deeds reply_words base_reply power_reply clock_reply fold_with_prefix
+unfolding permissions deeds reply_words base_reply may_set power_reply clock_reply fold_with_prefix
 permissions-replies = refl
 
 permissions-told_ap : words_told board_b 1 permissions ≡ []
-unfolding permissions deeds reply_words base_reply power_reply clock_reply fold_with_prefix
+unfolding permissions deeds reply_words base_reply may_set power_reply clock_reply fold_with_prefix
 permissions-told_ap = refl
 
 permissions-told_modem : words_told board_b 2 permissions ≡ []
-unfolding permissions deeds reply_words base_reply power_reply clock_reply fold_with_prefix
+unfolding permissions deeds reply_words base_reply may_set power_reply clock_reply fold_with_prefix
 permissions-told_modem = refl
 
 -- permissions of a device, and resets without and with them
@@ -122,15 +122,15 @@ permission_of_device-replies : replies board_b permission_of_device
     ∷ (0x00044009 ∷ 0 ∷ []) ∷ (0x00084404 ∷ 0xfffffffd ∷ []) ∷ (0x000c400b ∷ 0 ∷ []) ∷ (0x00104404 ∷ 0xfffffffd ∷ [])
     ∷ (0x0010400b ∷ 0 ∷ []) ∷ (0x00144404 ∷ 0 ∷ []) ∷ (0x0014400b ∷ 0xfffffffc ∷ []) ∷ (0x00184009 ∷ 0xfffffffc ∷ [])
     ∷ (0x001c4009 ∷ 0xfffffffc ∷ []) ∷ (0x00184009 ∷ 0xfffffffe ∷ []) ∷ []
-unfolding permission_of_device deeds reply_words base_reply power_reply clock_reply fold_with_prefix
+unfolding permission_of_device deeds reply_words base_reply may_set power_reply clock_reply fold_with_prefix
 permission_of_device-replies = refl
 
 permission_of_device-told_ap : words_told board_b 1 permission_of_device ≡ []
-unfolding permission_of_device deeds reply_words base_reply power_reply clock_reply fold_with_prefix
+unfolding permission_of_device deeds reply_words base_reply may_set power_reply clock_reply fold_with_prefix
 permission_of_device-told_ap = refl
 
 permission_of_device-told_modem : words_told board_b 2 permission_of_device ≡ []
-unfolding permission_of_device deeds reply_words base_reply power_reply clock_reply fold_with_prefix
+unfolding permission_of_device deeds reply_words base_reply may_set power_reply clock_reply fold_with_prefix
 permission_of_device-told_modem = refl
 
 -- one device that holds a domain is enough
@@ -141,15 +141,15 @@ two_devices =
 
 two_devices-replies : replies board_of_two_holders two_devices
     ≡ (0x00004009 ∷ 0 ∷ []) ∷ (0x00004404 ∷ 0 ∷ []) ∷ (0x00044009 ∷ 0 ∷ []) ∷ (0x00044404 ∷ 0xfffffffd ∷ []) ∷ []
-unfolding two_devices deeds reply_words base_reply power_reply clock_reply fold_with_prefix
+unfolding two_devices deeds reply_words base_reply may_set power_reply clock_reply fold_with_prefix
 two_devices-replies = refl
 
 two_devices-told_ap : words_told board_of_two_holders 1 two_devices ≡ []
-unfolding two_devices deeds reply_words base_reply power_reply clock_reply fold_with_prefix
+unfolding two_devices deeds reply_words base_reply may_set power_reply clock_reply fold_with_prefix
 two_devices-told_ap = refl
 
 two_devices-told_modem : words_told board_of_two_holders 2 two_devices ≡ []
-unfolding two_devices deeds reply_words base_reply power_reply clock_reply fold_with_prefix
+unfolding two_devices deeds reply_words base_reply may_set power_reply clock_reply fold_with_prefix
 two_devices-told_modem = refl
 
 -- permissions for each protocol, beside those for a device as a whole
@@ -165,13 +165,13 @@ protocol_permissions-replies : replies board_b protocol_permissions
     ≡ (0x0000400a ∷ 0 ∷ []) ∷ (0x00005005 ∷ 0xfffffffd ∷ []) ∷ (0x00044404 ∷ 0 ∷ []) ∷ (0x00044009 ∷ 0 ∷ []) ∷ (0x00084404 ∷ 0xfffffffd ∷ [])
     ∷ (0x00084009 ∷ 0 ∷ []) ∷ (0x000c5005 ∷ 0xfffffffd ∷ []) ∷ (0x000c400b ∷ 0 ∷ []) ∷ (0x00105005 ∷ 0 ∷ [])
     ∷ (0x0010400a ∷ 0xfffffffc ∷ []) ∷ (0x0014400a ∷ 0xfffffffe ∷ []) ∷ (0x0014400a ∷ 0xfffffffd ∷ []) ∷ (0x00184002 ∷ 0 ∷ 0 ∷ []) ∷ []
-unfolding protocol_permissions rows_of deeds reply_words base_reply power_reply clock_reply fold_with_prefix
+unfolding protocol_permissions rows_of deeds reply_words base_reply may_set power_reply clock_reply fold_with_prefix
 protocol_permissions-replies = refl
 
 protocol_permissions-told_ap : words_told board_b 1 protocol_permissions ≡ []
-unfolding protocol_permissions rows_of deeds reply_words base_reply power_reply clock_reply fold_with_prefix
+unfolding protocol_permissions rows_of deeds reply_words base_reply may_set power_reply clock_reply fold_with_prefix
 protocol_permissions-told_ap = refl
 
 protocol_permissions-told_modem : words_told board_b 2 protocol_permissions ≡ []
-unfolding protocol_permissions rows_of deeds reply_words base_reply power_reply clock_reply fold_with_prefix
+unfolding protocol_permissions rows_of deeds reply_words base_reply may_set power_reply clock_reply fold_with_prefix
 protocol_permissions-told_modem = refl

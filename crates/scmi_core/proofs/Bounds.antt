@@ -90,7 +90,7 @@ then_some true o f y e = (refl, e)
 then_some false o f y e = absurd (cc)
 
 accept-room : (board : Board) (b : ℕ) (h : List Deed) (header : HeaderFields) (r : Result codec.Command Status) (p : PendingSet)
-    → option_and_then (acceptance board) (if begins_with_success (reply_words board b (situation_after board b h) r) then success_with b header r else None) ≡ Some p → (p.agent ≡ b) × (has_room b (situation_after board b h) ≡ true)
+    → option_and_then (acceptance board) (if begins_with_success (reply_words board b (situation_after board b h) r) then success_with b header r else None) ≡ Some p → (p.agent ≡ b) × (has_room board b (situation_after board b h) ≡ true)
 unfolding reply_words
 accept-room board b h header (Err s) p e = let two = then_some (begins_with_success (reply_words board b (situation_after board b h) (Err s))) (success_with b header (Err s)) (acceptance board) p e in let no = two.1 in absurd (cc)
 accept-room board b h header (Ok (Base c)) p e = let two = then_some (begins_with_success (reply_words board b (situation_after board b h) (Ok (Base c)))) (success_with b header (Ok (Base c))) (acceptance board) p e in let no = two.1 in absurd (cc)
@@ -109,10 +109,11 @@ both_true true false e = absurd (cc)
 both_true false b e = absurd (cc)
 
 -- what room says
-room_says : (board : Board) (a : ℕ) (h : List Deed) → has_room a (situation_after board a h) ≡ true → (length (pending_sets board h) < 8) × (length (outbox_after board a h) + length (pending_of board a h) < 16)
+room_says : (board : Board) (a : ℕ) (h : List Deed) → has_room board a (situation_after board a h) ≡ true → (length (pending_sets board h) < 8) × (length (outbox_after board a h) + length (pending_of board a h) < 16)
 room_says board a h e =
     let two = both_true _ _ e in
-    (leb-true (suc (length (pending_sets board h))) 8 two.0, leb-true (suc (length (outbox_after board a h) + length (pending_of board a h))) 16 two.1)
+    let rest = both_true _ _ two.1 in
+    (leb-true (suc (length (pending_sets board h))) 8 two.0, leb-true (suc (length (outbox_after board a h) + length (pending_of board a h))) 16 rest.1)
 
 -- at most one notification
 one_notice : (s : Situation) (change : Option Change) → length (option_map_or (notice_in s) change []) ≤ 1
@@ -160,7 +161,7 @@ fits-none board h had = record {
   loads = λ a. rw (append-nil (pending_sets board h)) (had.loads a);
 }
 
-fits-some : (board : Board) (h : List Deed) (b : ℕ) (p : PendingSet) → HasBounds board h → p.agent ≡ b → has_room b (situation_after board b h) ≡ true → Fits board h (Some p)
+fits-some : (board : Board) (h : List Deed) (b : ℕ) (p : PendingSet) → HasBounds board h → p.agent ≡ b → has_room board b (situation_after board b h) ≡ true → Fits board h (Some p)
 fits-some board h b p had by room =
     let says = room_says board b h room in
     let less = says.0 in

@@ -1,5 +1,5 @@
 -- Each change of a legal history came of a command of its causer, who might make it there.
-use Rattle.std.proofs.Common.{◌≡◌, ℕ, Bool, true, false, not, List, [], ◌∷◌, ◌++◌, length, map, slice_get, Option, Some, None, Result, Ok, Err, option_map, unwrap_or, refl, sym, ap, ◌∙◌, subst, if◌then◌else◌}
+use Rattle.std.proofs.Common.{◌≡◌, ℕ, ◌==◌, ◌&&◌, Bool, true, false, not, List, [], ◌∷◌, ◌++◌, length, map, slice_get, Option, Some, None, Result, Ok, Err, option_map, unwrap_or, refl, sym, ap, ◌∙◌, subst, if◌then◌else◌}
 use Rattle.std.specs.List.{All}
 use Rattle.std.specs.Option.{option_and_then, option_or, option_to_list}
 use Rattle.std.proofs.lemmas.List.{append_assoc, append-nil}
@@ -19,9 +19,10 @@ use Rattle.scmi_codec.specs.declared.power_command.PowerCommand.TheVariants as p
 use Rattle.scmi_codec.specs.declared.clock_command.ClockCommand.{ClockCommand}
 use Rattle.scmi_codec.specs.declared.clock_command.ClockCommand.TheVariants as clock
 use Rattle.scmi_plan.specs.Agent.{IsAgent}
-use Rattle.scmi_plan.specs.Board.{Board}
+use Rattle.scmi_plan.specs.Board.{Board, is_kept}
+use Rattle.scmi_plan.specs.declared.resource.Resource.TheVariants as resource
 use Rattle.scmi_base.specs.Permission.{may}
-use Rattle.scmi_power.specs.PowerReply.{power_reply}
+use Rattle.scmi_power.specs.PowerReply.{may_set, power_reply}
 use Rattle.scmi_clock.specs.ClockReply.{clock_reply}
 use Rattle.scmi_clock.specs.ClockTable.{set_rate}
 use Rattle.scmi_clock.specs.SetFlags.{is_asynchronous, is_response_wanted}
@@ -30,7 +31,7 @@ use Rattle.scmi_core.specs.declared.event.Event.TheVariants.{Command, Advance, S
 use Rattle.scmi_core.specs.declared.pending_set.PendingSet.{PendingSet}
 use Rattle.scmi_core.specs.Deed.{Success, fold_with_prefix, success_at, success_of, success_with}
 use Rattle.scmi_core.specs.History.{deed_after, deeds}
-use Rattle.scmi_core.specs.Laws.{HasCause, HasIntegrity, change_asked, may_after, resource_of}
+use Rattle.scmi_core.specs.Laws.{HasCause, HasIntegrity, IsKeptOn, KeepsOn, change_asked, is_off, may_after, resource_of}
 use Rattle.scmi_core.specs.Legal.{CanFollow, IsLegal}
 use Rattle.scmi_core.specs.Outbox.{situation_after}
 use Rattle.scmi_core.specs.Pending.{acceptance, pending_sets, rate_set, state_set, unwanted}
@@ -51,6 +52,25 @@ set-allowed true c2 c3 false busy ok = absurd (cc)
 set-allowed false true c3 false busy ok = absurd (cc)
 set-allowed false false true false busy ok = absurd (cc)
 set-allowed false false false false busy ok = absurd (cc)
+
+-- a change that its agent may make where no rule of the board forbids it
+may_alone : (may forbidden : Bool) → (may && not forbidden) ≡ true → may ≡ true
+may_alone true forbidden e = refl
+may_alone false forbidden e = absurd (cc)
+
+-- no rule of the board forbids a change that may be made
+not_forbidden : (may forbidden : Bool) → (may && not forbidden) ≡ true → forbidden ≡ false
+not_forbidden true false e = refl
+not_forbidden true true e = absurd (cc)
+not_forbidden false forbidden e = absurd (cc)
+
+off_bit : (b : Bool) → (bit_value b == 0) ≡ not b
+off_bit true = refl
+off_bit false = refl
+
+and_false : (b : Bool) → (b && false) ≡ false
+and_false true = refl
+and_false false = refl
 
 config-allowed : (c1 c2 may : Bool) → begins_with_success (reply_unless ((c1, NotFound) ∷ (c2, InvalidParameters) ∷ (not may, Denied) ∷ []) (0 ∷ [])) ≡ true → may ≡ true
 config-allowed c1 c2 true ok = refl
@@ -73,25 +93,26 @@ rate_given a set = record { thing = Rate set.0; value = set.1; causer = a }
 pub record IsOwn (board : Board) (a : ℕ) (s : Situation) (change : Change) : Type 0 where
   pub causer : change.causer ≡ a
   pub allowed : may board s.allowed (resource_of change.thing) ≡ true
+  pub kept : IsKeptOn board change
 
 module _ (board : Board) (a : ℕ) (header : HeaderFields) (s : Situation) (change : Change) where
   abbrev asks : codec.Command → Option Change
   asks command = change_asked board (record { caller = a; header = header; command = command })
 
-  own : (it : Change) → it.causer ≡ a → may board s.allowed (resource_of it.thing) ≡ true → Some it ≡ Some change → IsOwn board a s change
-  own it causer allowed is =
+  own : (it : Change) → it.causer ≡ a → may board s.allowed (resource_of it.thing) ≡ true → IsKeptOn board it → Some it ≡ Some change → IsOwn board a s change
+  own it causer allowed kept is =
       let same : it ≡ change = ap (λ o. unwrap_or o change) is in
-      record { causer = subst (λ c. c.causer ≡ a) same causer; allowed = subst (λ c. may board s.allowed (resource_of c.thing) ≡ true) same allowed }
+      record { causer = subst (λ c. c.causer ≡ a) same causer; allowed = subst (λ c. may board s.allowed (resource_of c.thing) ≡ true) same allowed; kept = subst (IsKeptOn board) same kept }
 
   power-own : (c : PowerCommand) → begins_with_success (power_reply board (power_view board a s) c) ≡ true → asks (Power c) ≡ Some change → IsOwn board a s change
-  unfolding power_reply
+  unfolding power_reply may_set
   power-own power.Version ok is = absurd (cc)
   power-own power.Attributes ok is = absurd (cc)
   power-own (power.MessageAttributes message) ok is = absurd (cc)
   power-own (power.DomainAttributes d) ok is = absurd (cc)
   power-own (power.Get d) ok is = absurd (cc)
   power-own (power.Notify d enable) ok is = absurd (cc)
-  power-own (power.Set flags d state) ok is = own (state_given a (d, state)) refl (set-allowed _ _ _ _ _ ok) (by (bit_0 flags) is) where
+  power-own (power.Set flags d state) ok is = own (state_given a (d, state)) refl (may_alone _ _ (set-allowed _ _ _ _ _ ok)) (not_forbidden _ _ (set-allowed _ _ _ _ _ ok)) (by (bit_0 flags) is) where
     by : (later : Bool)
         → option_or (option_map (state_given a) (if later then None else Some (d, state)))
         (option_map completion (option_map (state_set a header) (if later then Some (d, state) else None))) ≡ Some change
@@ -107,8 +128,9 @@ module _ (board : Board) (a : ℕ) (header : HeaderFields) (s : Situation) (chan
   clock-own (clock.ClockAttributes c) ok is = absurd (cc)
   clock-own (clock.Describe c index) ok is = absurd (cc)
   clock-own (clock.GetRate c) ok is = absurd (cc)
-  clock-own (clock.Config c attributes) ok is = own (record { thing = Enabled c; value = bit_value (bit_0 attributes); causer = a }) refl (config-allowed _ _ _ ok) is
-  clock-own (clock.SetRate flags c rate) ok is = own (rate_given a (c, set_rate board flags c rate)) refl (set-allowed _ _ _ _ _ ok) (by (is_asynchronous flags) is) where
+  clock-own (clock.Config c attributes) ok is = own (record { thing = Enabled c; value = bit_value (bit_0 attributes); causer = a }) refl (may_alone _ _ (config-allowed _ _ _ ok))
+      (ap (λ b. is_kept board (resource.Clock c) && b) (off_bit (bit_0 attributes)) ∙ not_forbidden _ _ (config-allowed _ _ _ ok)) is
+  clock-own (clock.SetRate flags c rate) ok is = own (rate_given a (c, set_rate board flags c rate)) refl (set-allowed _ _ _ _ _ ok) (and_false (is_kept board (resource.Clock c))) (by (is_asynchronous flags) is) where
     by : (later : Bool)
         → option_or (option_or (option_map (rate_given a) (if later then None else Some (c, set_rate board flags c rate))) None)
         (option_map completion (option_map (rate_set a header) (if later then Some (c, set_rate board flags c rate, is_response_wanted flags) else None))) ≡ Some change
@@ -184,6 +206,7 @@ cause-kept board h e change had = record {
   agent = had.agent;
   asked = had.asked;
   allowed = had.allowed;
+  kept = had.kept;
 }
 
 -- a command is the cause of what it asked for
@@ -200,6 +223,7 @@ cause board h a m change agent asked =
       agent = subst (IsAgent (length board.agents)) back agent;
       asked = subst (λ x. option_and_then (change_asked board) (success_at (Command x (Good m)) (deed_after board (deeds board h) (Command x (Good m))).reply) ≡ Some change) back asked;
       allowed = subst (λ x. may_after board h x change.thing ≡ true) back is.allowed;
+      kept = is.kept;
     } where
       given : (short : Bool)
           → option_and_then (change_asked board) (success_of a m.header (command_of m) (if short then reply_words board a (situation_after board a (deeds board h)) (command_of m) else [])) ≡ Some change
@@ -284,3 +308,8 @@ causes_of board (grow {xs} g e) legal =
 
 pub integrity : (board : Board) (h : List Event) → IsLegal board h → HasIntegrity board h
 integrity board h legal = (causes_of board (grown h) legal).changed
+
+-- no change switches off what the board keeps
+pub kept_on : (board : Board) (h : List Event) → IsLegal board h → KeepsOn board h
+kept_on board h legal =
+    All-weaker (HasCause board h) (IsKeptOn board) (λ change had. had.kept) (changes board (deeds board h)) (integrity board h legal)

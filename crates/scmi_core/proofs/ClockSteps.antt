@@ -13,7 +13,7 @@ use Rattle.scmi_codec.specs.declared.clock_command.ClockCommand.{ClockCommand}
 use Rattle.scmi_codec.specs.declared.clock_command.ClockCommand.TheVariants as clock
 use Rattle.scmi_plan.specs.Board.{Board}
 use Rattle.scmi_base.specs.Permission.{Permissions, is_allowed, is_allowed_after, permission, reset_after, reset_by}
-use Rattle.scmi_base.specs.declared.scope.Scope.{Scope}
+use Rattle.scmi_plan.specs.declared.scope.Scope.{Scope}
 use Rattle.scmi_power.specs.PowerTable.{state_at, is_subscribed}
 use Rattle.scmi_clock.specs.ClockTable.{ClockTables, rate_at, enabled_at, rate_now, rate_later, enabled_now, enabled_to, set_to}
 use Rattle.scmi_codec.specs.Payload.{if_success}
@@ -136,7 +136,7 @@ pub clock-stepped : (board : Board) (t new : Tables) (clocks' : ClockTables) (a 
 clock-stepped board t new clocks' a header c reply later few lo hi is_later rates enabled known_later known kept pend =
     let change : change_of board (success_of a header (Ok (Clock c)) reply) None ≡ either a (if_success reply (rate_now board c)) (if_success reply (enabled_now c)) = change-clock board a header c reply in
     record {
-      permissions = λ x d scope lo' small. ap (λ b. is_allowed b x d scope) kept.base ∙ sym (says_nothing a header (Ok (Clock c)) reply (λ s. permission_in x d scope s.command) (is_allowed t.base x d scope) refl);
+      permissions = λ x d scope lo' small. ap (λ b. is_allowed b x d scope) kept.base ∙ sym (says_nothing a header (Ok (Clock c)) reply (λ s. permission_in board x d scope s.command) (is_allowed t.base x d scope) refl);
       subscriptions = λ x d lo' hi' small. ap (λ p. is_subscribed p x d) kept.power ∙ sym (says_nothing a header (Ok (Clock c)) reply (subscription x d) (is_subscribed t.power x d) refl);
       values = λ x within. values x within ∙ ap (λ o. unwrap_or (option_and_then (value_in x) o) (value_at t x)) (sym change);
       known = subst (λ o. IfSome o (λ ch. IsThing board ch.thing)) (sym change) (either-known board a (if_success reply (rate_now board c)) (if_success reply (enabled_now c)) known.0 known.1);
@@ -170,7 +170,7 @@ pending_sets-base board a header c reply = by (begins_with_success reply) where
   by false = refl
 
 pub base-stepped : (board : Board) (t new : Tables) (base' : Permissions) (a : ℕ) (header : HeaderFields) (c : BaseCommand) (reply : List ℕ)
-    → ((x d : ℕ) (scope : Scope) → 1 ≤ x → d < 32 → is_allowed base' x d scope ≡ is_allowed_after reply x d scope c t.base)
+    → ((x d : ℕ) (scope : Scope) → 1 ≤ x → d < 32 → is_allowed base' x d scope ≡ is_allowed_after board reply x d scope c t.base)
     → ((x d : ℕ) → 1 ≤ x → x ≤ 8 → d < 32 → is_subscribed new.power x d ≡ unwrap_or (subscription_after_reset x (reset_after reply c)) (is_subscribed t.power x d))
     → new.power.states ≡ t.power.states → new.base ≡ base' → new.clocks ≡ t.clocks → new.pending ≡ t.pending → new.outboxes ≡ t.outboxes
     → HasStepped board t (success_of a header (Ok (Base c)) reply) None new
@@ -190,7 +190,7 @@ base-stepped board t new base' a header c reply permits ends states bases clocks
           (sym (nothing-made x (situation_in x t) new.pending)
           ∙ ap (λ o. made_in x (situation_in x t) new.pending None o) (sym change));
     } where
-      permitted : (b : Bool) (x d : ℕ) (scope : Scope) (old : Bool) → (if b then unwrap_or (permission x d scope c) old else old) ≡ unwrap_or (option_and_then (λ s. permission_in x d scope s.command) (if b then success_with a header (Ok (Base c)) else None)) old
+      permitted : (b : Bool) (x d : ℕ) (scope : Scope) (old : Bool) → (if b then unwrap_or (permission board x d scope c) old else old) ≡ unwrap_or (option_and_then (λ s. permission_in board x d scope s.command) (if b then success_with a header (Ok (Base c)) else None)) old
       permitted true x d scope old = refl
       permitted false x d scope old = refl
 

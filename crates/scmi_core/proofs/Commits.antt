@@ -21,10 +21,10 @@ use Rattle.scmi_codec.specs.declared.clock_command.ClockCommand.{ClockCommand}
 use Rattle.scmi_codec.specs.declared.clock_command.ClockCommand.TheVariants as clock
 use Rattle.scmi_plan.specs.Board.{Board, domain_at}
 use Rattle.scmi_plan.specs.Plan.{IsValid}
-use Rattle.scmi_power.specs.PowerReply.{has_kind, is_state, no_domain, power_reply}
+use Rattle.scmi_power.specs.PowerReply.{has_kind, is_state, may_set, no_domain, power_reply}
 use Rattle.scmi_power.specs.PowerTable as power_table
 use Rattle.scmi_power.specs.PowerTable.{PowerTables, is_subscribed, set_later, set_now, state_at}
-use Rattle.scmi_clock.specs.ClockReply.{clock_reply, config_checks, set_checks}
+use Rattle.scmi_clock.specs.ClockReply.{clock_reply, config_checks, disables_kept, set_checks}
 use Rattle.scmi_clock.specs.ClockTable as clock_table
 use Rattle.scmi_clock.specs.ClockTable.{ClockTables, enabled_now, rate_later, rate_now}
 use Rattle.scmi_clock.specs.SetFlags.{is_asynchronous, is_response_wanted}
@@ -166,7 +166,7 @@ module _ (board : Board) (a : ℕ) (header : HeaderFields) (s : Situation) where
       (no_domain board domain, status.NotFound)
       ∷ (other_bits flags || not (is_state state), status.InvalidParameters)
       ∷ (not (has_kind v.channel (domain_at board domain) flags), status.NotSupported)
-      ∷ (not (v.may domain), status.Denied)
+      ∷ (not (may_set board (v.may domain) domain state), status.Denied)
       ∷ (v.busy domain || (bit_0 flags && not v.room), status.Busy)
       ∷ []
 
@@ -175,7 +175,7 @@ module _ (board : Board) (a : ℕ) (header : HeaderFields) (s : Situation) where
   rate_checks flags k asked = let v = clock_view board a s in set_checks board v.channel (v.may k) (v.busy k) v.room flags k asked
 
   abbrev clock_checks : (k attributes : ℕ) → List Check
-  clock_checks k attributes = config_checks board ((clock_view board a s).may k) k attributes
+  clock_checks k attributes = config_checks board ((clock_view board a s).may k && not (disables_kept board k attributes)) k attributes
 
   power-passed : (command : PowerCommand) (d state : ℕ) → set_now command ≡ Some (d, state) → begins_with_success (reply_words board a s (Ok (Power command))) ≡ true → IsStateSet (Ok (Power command)) d state
   unfolding reply_words power_reply

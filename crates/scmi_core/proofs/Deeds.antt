@@ -6,13 +6,14 @@ use Rattle.std.proofs.lemmas.List.Elements.{filter_map-append}
 use Rattle.std.proofs.lemmas.Grind.{fold-append}
 use Rattle.scmi_codec.specs.declared.message.Message.{Message}
 use Rattle.scmi_plan.specs.Board.{Board}
+use Rattle.scmi_base.specs.Permission.{is_allowed}
 use Rattle.scmi_core.specs.declared.event.Event.{Event}
 use Rattle.scmi_core.specs.declared.pending_set.PendingSet.{PendingSet}
 use Rattle.scmi_core.specs.declared.event.Event.TheVariants.{Command, Advance, Sent, CommandFailed, AdvanceFailed, Restarted}
 use Rattle.std.specs.Option.{option_to_list, option_and_then, option_map_or}
 use Rattle.scmi_core.specs.Deed.{Deed, Success, fold_with_prefix, latest, restarted_by, successes, success_at}
 use Rattle.scmi_core.specs.Value.{Thing, changes, change_by, completed_set, failed_set, value, value_at_start, value_in}
-use Rattle.scmi_base.specs.declared.scope.Scope.{Scope}
+use Rattle.scmi_plan.specs.declared.scope.Scope.{Scope}
 use Rattle.scmi_core.specs.Permissions.{has_permission, permission_in}
 use Rattle.scmi_core.specs.Subscriptions.{subscription_at, is_subscriber}
 use Rattle.scmi_core.specs.Pending.{acceptance, accepted_sets, advances, is_advance, pending_sets, sets_left, unwanted}
@@ -55,11 +56,11 @@ successes-push h deed =
     filter_map-append (λ e. success_at e.event e.reply) h (deed ∷ [])
     ∙ ap (λ ys. successes h ++ ys) (cons-to_list (added_success deed))
 
-pub has_permission-push : (a d : ℕ) (scope : Scope) (h : List Deed) (deed : Deed)
-    → has_permission a d scope (h ++ deed ∷ []) ≡ unwrap_or (option_and_then (λ s. permission_in a d scope s.command) (added_success deed)) (has_permission a d scope h)
-has_permission-push a d scope h deed =
-    ap (λ ss. latest true (filter_map (λ s. permission_in a d scope s.command) ss)) (successes-push h deed)
-    ∙ latest-filter_map (λ s. permission_in a d scope s.command) true (successes h) (added_success deed)
+pub has_permission-push : (board : Board) (a d : ℕ) (scope : Scope) (h : List Deed) (deed : Deed)
+    → has_permission board a d scope (h ++ deed ∷ []) ≡ unwrap_or (option_and_then (λ s. permission_in board a d scope s.command) (added_success deed)) (has_permission board a d scope h)
+has_permission-push board a d scope h deed =
+    ap (λ ss. latest (is_allowed board.denied a d scope) (filter_map (λ s. permission_in board a d scope s.command) ss)) (successes-push h deed)
+    ∙ latest-filter_map (λ s. permission_in board a d scope s.command) (is_allowed board.denied a d scope) (successes h) (added_success deed)
 
 pub changes-push : (board : Board) (h : List Deed) (deed : Deed) → changes board (h ++ deed ∷ []) ≡ changes board h ++ option_to_list (change_by board h deed)
 changes-push board h deed = fold_with_prefix-push (λ before so_far x. so_far ++ option_to_list (change_by board before x)) [] [] h deed

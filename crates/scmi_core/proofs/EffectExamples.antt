@@ -1,7 +1,7 @@
 -- Changes of hardware, made and refused, computed.
 use Rattle.std.proofs.Common.{◌≡◌, true, List, [], ◌∷◌, refl}
 use Rattle.scmi_base.specs.BaseReply.{base_reply}
-use Rattle.scmi_power.specs.PowerReply.{power_reply}
+use Rattle.scmi_power.specs.PowerReply.{may_set, power_reply}
 use Rattle.scmi_clock.specs.ClockReply.{clock_reply}
 use Rattle.scmi_core.specs.declared.effect.Effect.TheVariants.{State, Rate, Enabled}
 use Rattle.scmi_core.specs.declared.event.Event.{Event}
@@ -25,14 +25,14 @@ refused_changes-replies : replies board_b refused_changes
     ≡ (0x00004406 ∷ 0 ∷ []) ∷ (0x00044404 ∷ 0xfffffff7 ∷ []) ∷ (0x00084405 ∷ 0 ∷ 0x40000000 ∷ []) ∷ (0x000c4404 ∷ 0 ∷ [])
     ∷ (0x00104404 ∷ 0 ∷ []) ∷ [] ∷ (0x00144405 ∷ 0 ∷ 0x40000000 ∷ []) ∷ (0x00184404 ∷ 0 ∷ []) ∷ [] ∷ (0x001c5005 ∷ 0 ∷ [])
     ∷ (0x00205007 ∷ 0 ∷ []) ∷ []
-unfolding refused_changes deeds reply_words base_reply power_reply clock_reply fold_with_prefix
+unfolding refused_changes deeds reply_words base_reply may_set power_reply clock_reply fold_with_prefix
 refused_changes-replies = refl
 
 refused_changes-told_ap : words_told board_b 1 refused_changes
     ≡ (0x00104604 ∷ 0xfffffff7 ∷ []) ∷ (0x00184604 ∷ 0 ∷ 0 ∷ 0 ∷ []) ∷ (0x00004700 ∷ 1 ∷ 0 ∷ 0 ∷ []) ∷ []
-unfolding refused_changes deeds reply_words base_reply power_reply clock_reply fold_with_prefix
+unfolding refused_changes deeds reply_words base_reply may_set power_reply clock_reply fold_with_prefix
 refused_changes-told_ap = refl
 
 refused_changes-effects : effects board_b refused_changes ≡ State 1 0x40000000 ∷ State 0 0 ∷ Rate 0 200 ∷ Enabled 1 true ∷ []
-unfolding refused_changes effects deeds reply_words base_reply power_reply clock_reply fold_with_prefix
+unfolding refused_changes effects deeds reply_words base_reply may_set power_reply clock_reply fold_with_prefix
 refused_changes-effects = refl

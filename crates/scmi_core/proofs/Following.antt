@@ -45,7 +45,7 @@ abbrev pub next : Board → ℕ → Situation → Deed → Situation
 next board b s deed =
     record {
       value = λ x. unwrap_or (option_and_then (value_in x) (change_in board s.pending deed)) (s.value x);
-      allowed = λ d scope. unwrap_or (option_and_then (λ it. permission_in b d scope it.command) (added_success deed)) (s.allowed d scope);
+      allowed = λ d scope. unwrap_or (option_and_then (λ it. permission_in board b d scope it.command) (added_success deed)) (s.allowed d scope);
       subscribed = λ d. unwrap_or (subscription_at b d deed) (s.subscribed d);
       pending = pending_next board s.pending deed;
       outbox = if is_sent_by b deed.event then drop 1 s.outbox else (if is_restart_of b deed.event then [] else s.outbox) ++ made_next board b s deed;
@@ -138,7 +138,7 @@ module _ (board : Board) (b : ℕ) (h : List Deed) where
       λ i.
       record {
         value = λ x. (value-push board x h deed ∙ ap (λ change. unwrap_or (option_and_then (value_in x) change) (stood.value x)) (change-is board h deed)) i;
-        allowed = λ d scope. has_permission-push b d scope h deed i;
+        allowed = λ d scope. has_permission-push board b d scope h deed i;
         subscribed = λ d. is_subscriber-push b d h deed i;
         pending = pending-next board h e enough i;
         outbox = outbox-next e enough enough_sent i;

@@ -73,7 +73,7 @@ module _ (board : Board) (b : ℕ) (s : Situation) (deed : Deed) (idle : IsIdleD
   next-same = λ i.
       record {
         value = λ x. ap (λ change. unwrap_or (option_and_then (value_in x) change) (s.value x)) no-change i;
-        allowed = λ d scope. ap (λ success. unwrap_or (option_and_then (λ it. permission_in b d scope it.command) success) (s.allowed d scope)) idle.no_success i;
+        allowed = λ d scope. ap (λ success. unwrap_or (option_and_then (λ it. permission_in board b d scope it.command) success) (s.allowed d scope)) idle.no_success i;
         subscribed = λ d.
             (ap (λ restarted. unwrap_or (option_or (subscription_after_reset b restarted) (option_and_then (subscription b d) (added_success deed))) (s.subscribed d)) idle.unrestarted
             ∙ ap (λ success. unwrap_or (option_and_then (subscription b d) success) (s.subscribed d)) idle.no_success) i;

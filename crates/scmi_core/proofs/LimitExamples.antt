@@ -1,7 +1,7 @@
 -- Full outboxes and a full table of pending sets, computed.
 use Rattle.std.proofs.Common.{◌≡◌, List, [], ◌∷◌, refl}
 use Rattle.scmi_base.specs.BaseReply.{base_reply}
-use Rattle.scmi_power.specs.PowerReply.{power_reply}
+use Rattle.scmi_power.specs.PowerReply.{may_set, power_reply}
 use Rattle.scmi_clock.specs.ClockReply.{clock_reply}
 use Rattle.scmi_core.specs.declared.event.Event.{Event}
 use Rattle.scmi_core.specs.declared.event.Event.TheVariants.{Advance, Sent}
@@ -31,7 +31,7 @@ flood-replies : replies board_b flood
     ∷ (0x00244404 ∷ 0 ∷ []) ∷ (0x00284404 ∷ 0 ∷ []) ∷ (0x002c4404 ∷ 0 ∷ []) ∷ (0x00304404 ∷ 0 ∷ []) ∷ (0x00344404 ∷ 0 ∷ [])
     ∷ (0x00384404 ∷ 0 ∷ []) ∷ (0x00045005 ∷ 0 ∷ []) ∷ (0x003c4404 ∷ 0 ∷ []) ∷ (0x00085005 ∷ 0xfffffffa ∷ []) ∷ [] ∷ [] ∷ [] ∷ [] ∷ [] ∷ []
     ∷ [] ∷ [] ∷ [] ∷ [] ∷ [] ∷ [] ∷ [] ∷ [] ∷ [] ∷ [] ∷ [] ∷ []
-unfolding flood deeds reply_words base_reply power_reply clock_reply fold_with_prefix
+unfolding flood deeds reply_words base_reply may_set power_reply clock_reply fold_with_prefix
 flood-replies = refl
 
 flood-told_ap : words_told board_b 1 flood
@@ -41,11 +41,11 @@ flood-told_ap : words_told board_b 1 flood
     ∷ (0x00004700 ∷ 2 ∷ 0 ∷ 0x40000000 ∷ []) ∷ (0x00004700 ∷ 2 ∷ 0 ∷ 0 ∷ []) ∷ (0x00004700 ∷ 2 ∷ 0 ∷ 0x40000000 ∷ [])
     ∷ (0x00004700 ∷ 2 ∷ 0 ∷ 0 ∷ []) ∷ (0x00004700 ∷ 2 ∷ 0 ∷ 0x40000000 ∷ []) ∷ (0x00004700 ∷ 2 ∷ 0 ∷ 0 ∷ [])
     ∷ (0x00045205 ∷ 0 ∷ 0 ∷ 200 ∷ 0 ∷ []) ∷ []
-unfolding flood deeds reply_words base_reply power_reply clock_reply fold_with_prefix
+unfolding flood deeds reply_words base_reply may_set power_reply clock_reply fold_with_prefix
 flood-told_ap = refl
 
 flood-told_modem : words_told board_b 2 flood ≡ []
-unfolding flood deeds reply_words base_reply power_reply clock_reply fold_with_prefix
+unfolding flood deeds reply_words base_reply may_set power_reply clock_reply fold_with_prefix
 flood-told_modem = refl
 
 -- eight sets are pending and a ninth is refused
@@ -61,12 +61,12 @@ full_table-replies : replies board_c full_table
     ≡ (0x00005005 ∷ 0 ∷ []) ∷ (0x00045005 ∷ 0 ∷ []) ∷ (0x00085005 ∷ 0 ∷ []) ∷ (0x000c5005 ∷ 0 ∷ []) ∷ (0x00105005 ∷ 0 ∷ [])
     ∷ (0x00145005 ∷ 0 ∷ []) ∷ (0x00185005 ∷ 0 ∷ []) ∷ (0x001c5005 ∷ 0 ∷ []) ∷ (0x00205005 ∷ 0xfffffffa ∷ []) ∷ [] ∷ [] ∷ [] ∷ [] ∷ [] ∷ []
     ∷ [] ∷ [] ∷ [] ∷ [] ∷ [] ∷ [] ∷ [] ∷ [] ∷ [] ∷ [] ∷ []
-unfolding full_table deeds reply_words base_reply power_reply clock_reply fold_with_prefix
+unfolding full_table deeds reply_words base_reply may_set power_reply clock_reply fold_with_prefix
 full_table-replies = refl
 
 full_table-told_agent : words_told board_c 1 full_table
     ≡ (0x00005205 ∷ 0 ∷ 0 ∷ 2 ∷ 0 ∷ []) ∷ (0x00045205 ∷ 0 ∷ 1 ∷ 2 ∷ 0 ∷ []) ∷ (0x00085205 ∷ 0 ∷ 2 ∷ 2 ∷ 0 ∷ [])
     ∷ (0x000c5205 ∷ 0 ∷ 3 ∷ 2 ∷ 0 ∷ []) ∷ (0x00105205 ∷ 0 ∷ 4 ∷ 2 ∷ 0 ∷ []) ∷ (0x00145205 ∷ 0 ∷ 5 ∷ 2 ∷ 0 ∷ [])
     ∷ (0x00185205 ∷ 0 ∷ 6 ∷ 2 ∷ 0 ∷ []) ∷ (0x001c5205 ∷ 0 ∷ 7 ∷ 2 ∷ 0 ∷ []) ∷ []
-unfolding full_table deeds reply_words base_reply power_reply clock_reply fold_with_prefix
+unfolding full_table deeds reply_words base_reply may_set power_reply clock_reply fold_with_prefix
 full_table-told_agent = refl

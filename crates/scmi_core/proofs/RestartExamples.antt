@@ -1,7 +1,7 @@
 -- An agent that restarts without the platform, computed.
 use Rattle.std.proofs.Common.{◌≡◌, List, [], ◌∷◌, refl}
 use Rattle.scmi_base.specs.BaseReply.{base_reply}
-use Rattle.scmi_power.specs.PowerReply.{power_reply}
+use Rattle.scmi_power.specs.PowerReply.{may_set, power_reply}
 use Rattle.scmi_clock.specs.ClockReply.{clock_reply}
 use Rattle.scmi_core.specs.declared.event.Event.{Event}
 use Rattle.scmi_core.specs.declared.event.Event.TheVariants.{Advance, Restarted, Sent}
@@ -21,19 +21,19 @@ restart =
 restart-replies : replies board_b restart
     ≡ (0x00004406 ∷ 0 ∷ []) ∷ (0x00004406 ∷ 0 ∷ []) ∷ (0x00044404 ∷ 0 ∷ []) ∷ (0x00044404 ∷ 0 ∷ []) ∷ [] ∷ []
     ∷ (0x00084405 ∷ 0 ∷ 0x40000000 ∷ []) ∷ []
-unfolding restart deeds reply_words base_reply power_reply clock_reply fold_with_prefix
+unfolding restart deeds reply_words base_reply may_set power_reply clock_reply fold_with_prefix
 restart-replies = refl
 
 restart-told_ap : words_told board_b 1 restart ≡ []
-unfolding restart deeds reply_words base_reply power_reply clock_reply fold_with_prefix
+unfolding restart deeds reply_words base_reply may_set power_reply clock_reply fold_with_prefix
 restart-told_ap = refl
 
 restart-outbox_ap : outbox board_b 1 restart ≡ []
-unfolding restart outbox deeds reply_words base_reply power_reply clock_reply fold_with_prefix
+unfolding restart outbox deeds reply_words base_reply may_set power_reply clock_reply fold_with_prefix
 restart-outbox_ap = refl
 
 restart-told_modem : words_told board_b 2 restart ≡ (0x00004700 ∷ 2 ∷ 0 ∷ 0 ∷ []) ∷ (0x00004700 ∷ 1 ∷ 0 ∷ 0x40000000 ∷ []) ∷ []
-unfolding restart deeds reply_words base_reply power_reply clock_reply fold_with_prefix
+unfolding restart deeds reply_words base_reply may_set power_reply clock_reply fold_with_prefix
 restart-told_modem = refl
 
 -- what was posted before stays, and a request after the restart counts
@@ -43,5 +43,5 @@ restart_after_a_message =
     ∷ Sent 1 ∷ Restarted 1 ∷ request 1 0 0x11 0x6 (0 ∷ 1 ∷ []) ∷ request 2 2 0x11 0x4 (0 ∷ 0 ∷ 0 ∷ []) ∷ []
 
 restart_after_a_message-told_ap : words_told board_b 1 restart_after_a_message ≡ (0x00004700 ∷ 2 ∷ 0 ∷ 0 ∷ []) ∷ (0x00004700 ∷ 2 ∷ 0 ∷ 0 ∷ []) ∷ []
-unfolding restart_after_a_message deeds reply_words base_reply power_reply clock_reply fold_with_prefix
+unfolding restart_after_a_message deeds reply_words base_reply may_set power_reply clock_reply fold_with_prefix
 restart_after_a_message-told_ap = refl

@@ -24,14 +24,14 @@ use Rattle.scmi_plan.specs.declared.agent_channel.AgentChannel.{AgentChannel}
 use Rattle.scmi_plan.specs.Rates.{SupportedRates}
 use Rattle.scmi_plan.specs.Rates as rates
 use Rattle.scmi_base.specs.BaseReply.{agent_name, asked_for, base_reply, packed_words, permit_checks, permit_protocol_checks, protocols, reset_checks}
-use Rattle.scmi_power.specs.PowerReply.{PowerView, attributes, has_kind, has_notifications, is_state, no_domain, power_reply}
-use Rattle.scmi_clock.specs.ClockReply.{ClockView, clock_reply, config_checks, most_rates, no_clock, past_end, rates_words, set_checks}
+use Rattle.scmi_power.specs.PowerReply.{PowerView, attributes, has_kind, has_notifications, is_state, may_set, no_domain, power_reply}
+use Rattle.scmi_clock.specs.ClockReply.{ClockView, clock_reply, config_checks, disables_kept, most_rates, no_clock, past_end, rates_words, set_checks}
 use Rattle.scmi_core.specs.Reply.{reply_words}
 use Rattle.scmi_core.specs.Situation.{Situation, clock_view, power_view}
 
 -- the channels of each agent of a valid board are valid
 valid_at : (xs : List AgentChannel) (k : ℕ) → All IsChannel xs → IsChannel (get_or xs k whole_channel)
-valid_at [] k all = (omega arith, omega arith)
+valid_at [] k all = (omega arith, omega arith, omega arith, omega arith)
 valid_at (x ∷ xs) zero all = All-head IsChannel x xs all
 valid_at (x ∷ xs) (suc k) all = valid_at xs k (All-tail IsChannel x xs all)
 
@@ -88,7 +88,7 @@ module _ (n : ℕ) (eight : 8 ≤ n) where
       (no_domain board d, NotFound)
       ∷ (other_bits flags || not (is_state state), InvalidParameters)
       ∷ (not (has_kind v.channel (domain_at board d) flags), NotSupported)
-      ∷ (not (v.may d), Denied)
+      ∷ (not (may_set board (v.may d) d state), Denied)
       ∷ (v.busy d || (bit_0 flags && not v.room), Busy)
       ∷ [])
       (0 ∷ []) one
@@ -134,7 +134,7 @@ clock-within board v law (clock.Describe c index) =
 clock-within board v law (clock.SetRate flags c rate) =
     by_checks v.channel.words law.0 (set_checks board v.channel (v.may c) (v.busy c) v.room flags c rate) (0 ∷ []) (one v.channel.words law.0)
 clock-within board v law (clock.GetRate c) = let least = law.0 in checked v.channel.words law.0 _ _ (0 ∷ rate_words (v.rate c)) (omega (arith, least))
-clock-within board v law (clock.Config c attributes) = by_checks v.channel.words law.0 (config_checks board (v.may c) c attributes) (0 ∷ []) (one v.channel.words law.0)
+clock-within board v law (clock.Config c attributes) = by_checks v.channel.words law.0 (config_checks board (v.may c && not (disables_kept board c attributes)) c attributes) (0 ∷ []) (one v.channel.words law.0)
 
 -- a reply has room in its agent's channel
 pub reply-within : (board : Board) (a : ℕ) (s : Situation) (r : Result codec.Command Status) → IsValid board → length (reply_words board a s r) ≤ (channel_of board a).words

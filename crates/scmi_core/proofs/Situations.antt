@@ -11,9 +11,9 @@ use Rattle.scmi_codec.specs.declared.frame.Frame.TheVariants.{Good, Malformed}
 use Rattle.scmi_codec.specs.Command.{command_of}
 use Rattle.scmi_codec.specs.declared.command.Command as codec
 use Rattle.scmi_codec.specs.declared.command.Command.TheVariants.{Base, Power, Clock}
-use Rattle.scmi_plan.specs.Board.{Board}
+use Rattle.scmi_plan.specs.Board.{Board, channel_of}
 use Rattle.scmi_plan.specs.declared.resource.Resource.TheVariants as resource
-use Rattle.scmi_base.specs.declared.scope.Scope.{Scope}
+use Rattle.scmi_plan.specs.declared.scope.Scope.{Scope}
 use Rattle.scmi_base.proofs.MaySame.{may-same}
 use Rattle.scmi_power.proofs.ReplySame as power_same
 use Rattle.scmi_clock.proofs.ReplySame as clock_same
@@ -31,7 +31,7 @@ use Rattle.scmi_core.specs.declared.pending_set.PendingSet.{PendingSet}
 use Rattle.scmi_core.specs.declared.event.Event.TheVariants.{Restarted, Sent}
 use Rattle.scmi_core.specs.Deed.{Deed}
 use Rattle.scmi_core.specs.Value.{Change, Thing, State, Rate, Enabled, bit_value}
-use Rattle.scmi_core.specs.Pending.{has_set_of, pending_sets, sets_by}
+use Rattle.scmi_core.specs.Pending.{has_room_beside, has_set_of, pending_sets, sets_by}
 use Rattle.scmi_core.specs.Situation.{Situation, has_room, power_view, clock_view}
 use Rattle.scmi_core.specs.Outbox.{messages_left, messages_made, made_in, notice_in, outbox_after, response_for, sent_count, situation_after, state_changed}
 use Rattle.scmi_core.specs.Reply.{answer_in, fits_channel, reply_words, words_given}
@@ -83,10 +83,10 @@ outbox-restarted board a h b enough =
     ∙ append-nil left
 
 module _ (board : Board) (a : ℕ) (s u : Situation) (same : SameSituation board s u) where
-  room-same : has_room a s ≡ has_room a u
+  room-same : has_room board a s ≡ has_room board a u
   room-same =
-      ap (λ p. nat_lt (length p) 8 && nat_lt (length s.outbox + length (sets_by a p)) 16) same.pending
-      ∙ ap (λ b. nat_lt (length u.pending) 8 && nat_lt (length b + length (sets_by a u.pending)) 16) same.outbox
+      ap (λ p. has_room_beside (channel_of board a).share (length s.outbox) a p) same.pending
+      ∙ ap (λ b. has_room_beside (channel_of board a).share (length b) a u.pending) same.outbox
 
   -- one reply to each command
   pub reply-same : (r : Result codec.Command Status) → reply_words board a s r ≡ reply_words board a u r
@@ -146,7 +146,7 @@ module _ (board : Board) (a : ℕ) (s u : Situation) (same : SameSituation board
 -- what the protocols of power domains and clocks reply by tables and a load, which only a set reads, is the reply in the situation of the tables
 pub power-reply : (board : Board) (t : Tables) (a : ℕ) (load : Load) (c : PowerCommand) → length board.domains ≤ 32
     → IfSome (set_domain c) (λ set. (d : ℕ) → d < 32 → (bit_at load.busy d == 1) ≡ has_set_of (resource.Domain d) t.pending)
-    → IfSome (set_domain c) (λ set. load.room ≡ has_room a (situation_in a t))
+    → IfSome (set_domain c) (λ set. load.room ≡ has_room board a (situation_in a t))
     → power_reply board (power_table.view_of board t.base t.power load a) c ≡ reply_words board a (situation_in a t) (Ok (Power c))
 unfolding reply_words power_reply
 power-reply board t a load power.Version few busy room = refl
@@ -165,7 +165,7 @@ bit_said false = refl
 
 pub clock-reply : (board : Board) (t : Tables) (a : ℕ) (load : Load) (c : ClockCommand) → length board.clocks ≤ 32
     → IfSome (set_clock c) (λ set. (d : ℕ) → d < 32 → (bit_at load.busy d == 1) ≡ has_set_of (resource.Clock d) t.pending)
-    → IfSome (set_clock c) (λ set. load.room ≡ has_room a (situation_in a t))
+    → IfSome (set_clock c) (λ set. load.room ≡ has_room board a (situation_in a t))
     → clock_reply board (clock_table.view_of board t.base t.clocks load a) c ≡ reply_words board a (situation_in a t) (Ok (Clock c))
 unfolding reply_words clock_reply
 clock-reply board t a load clock.Version few busy room = refl

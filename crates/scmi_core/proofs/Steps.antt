@@ -12,7 +12,7 @@ use Rattle.scmi_codec.specs.declared.power_command.PowerCommand.{PowerCommand}
 use Rattle.scmi_codec.specs.declared.power_command.PowerCommand.TheVariants as power
 use Rattle.scmi_plan.specs.Board.{Board}
 use Rattle.scmi_base.specs.Permission.{is_allowed}
-use Rattle.scmi_base.specs.declared.scope.Scope.{Scope}
+use Rattle.scmi_plan.specs.declared.scope.Scope.{Scope}
 use Rattle.scmi_power.specs.PowerTable.{PowerTables, state_at, is_subscribed, set_to, set_now, set_later, notification}
 use Rattle.scmi_codec.specs.Payload.{if_success}
 use Rattle.scmi_clock.specs.ClockTable.{ClockTables, rate_at, enabled_at}
@@ -83,10 +83,10 @@ subscription-power a header c reply x d old = by (begins_with_success reply) whe
   by true = refl
   by false = refl
 
-permission-power : (a : ℕ) (header : HeaderFields) (c : PowerCommand) (reply : List ℕ) (x d : ℕ) (scope : Scope) (old : Bool)
-    → unwrap_or (option_and_then (λ s. permission_in x d scope s.command) (success_of a header (Ok (Power c)) reply)) old ≡ old
-permission-power a header c reply x d scope old = by (begins_with_success reply) where
-  by : (b : Bool) → unwrap_or (option_and_then (λ s. permission_in x d scope s.command) (if b then success_with a header (Ok (Power c)) else None)) old ≡ old
+permission-power : (board : Board) (a : ℕ) (header : HeaderFields) (c : PowerCommand) (reply : List ℕ) (x d : ℕ) (scope : Scope) (old : Bool)
+    → unwrap_or (option_and_then (λ s. permission_in board x d scope s.command) (success_of a header (Ok (Power c)) reply)) old ≡ old
+permission-power board a header c reply x d scope old = by (begins_with_success reply) where
+  by : (b : Bool) → unwrap_or (option_and_then (λ s. permission_in board x d scope s.command) (if b then success_with a header (Ok (Power c)) else None)) old ≡ old
   by true = refl
   by false = refl
 
@@ -171,7 +171,7 @@ power-stepped board t n new power' a header c reply changed later differs few fe
     let change : change_of board (success_of a header (Ok (Power c)) reply) None ≡ option_map (state_change a) changed = change-power board a header c reply ∙ ap (option_map (state_change a)) (sym is_changed) in
     let pend : new.pending ≡ t.pending ++ option_to_list (option_map (state_set a header) later) = kept2.pending ∙ pend1 in
     record {
-      permissions = λ x d scope lo' small. ap (λ b. is_allowed b x d scope) (kept2.base ∙ kept1.base) ∙ sym (permission-power a header c reply x d scope (is_allowed t.base x d scope));
+      permissions = λ x d scope lo' small. ap (λ b. is_allowed b x d scope) (kept2.base ∙ kept1.base) ∙ sym (permission-power board a header c reply x d scope (is_allowed t.base x d scope));
       subscriptions = λ x d lo' hi' small. ap (λ p. is_subscribed p x d) (kept2.power ∙ kept1.power) ∙ subs x d lo' hi' small ∙ sym (subscription-power a header c reply x d (is_subscribed t.power x d));
       values = λ x within. values x within ∙ ap (λ o. unwrap_or (option_and_then (value_in x) o) (value_at t x)) (sym change);
       known = subst (λ o. IfSome o (λ ch. IsThing board ch.thing)) (sym change) (changed-known board a changed known);

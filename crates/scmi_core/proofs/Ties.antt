@@ -16,7 +16,7 @@ use Rattle.scmi_codec.specs.declared.frame.Frame.TheVariants.{Good, Malformed}
 use Rattle.scmi_plan.specs.Board.{Board}
 use Rattle.scmi_plan.specs.Plan.{IsValid}
 use Rattle.scmi_base.specs.Permission.{is_allowed}
-use Rattle.scmi_base.specs.declared.scope.Scope.{Scope}
+use Rattle.scmi_plan.specs.declared.scope.Scope.{Scope}
 use Rattle.scmi_power.specs.PowerTable.{state_at, is_subscribed}
 use Rattle.scmi_clock.specs.ClockTable.{rate_at, enabled_at}
 use Rattle.scmi_core.specs.declared.pending_set.PendingSet.{PendingSet}
@@ -79,8 +79,8 @@ module _ (board : Board) (t new : Tables) (h : List Event) (deed : Deed) (agrees
     legal = IsLegal-push board h e agrees.legal follows;
     permissions = λ a d scope lo hi small.
         stepped.permissions a d scope lo small
-        ∙ ap (unwrap_or (option_and_then (λ s. permission_in a d scope s.command) (added_success deed))) (agrees.permissions a d scope lo hi small)
-        ∙ sym (ap (has_permission a d scope) more ∙ has_permission-push a d scope (deeds board h) deed);
+        ∙ ap (unwrap_or (option_and_then (λ s. permission_in board a d scope s.command) (added_success deed))) (agrees.permissions a d scope lo hi small)
+        ∙ sym (ap (has_permission board a d scope) more ∙ has_permission-push board a d scope (deeds board h) deed);
     subscriptions = λ a d lo hi small.
         stepped.subscriptions a d lo hi small
         ∙ ap (unwrap_or (option_and_then (subscription a d) (added_success deed))) (agrees.subscriptions a d lo hi small)
@@ -223,7 +223,7 @@ Agrees-advance_failed board t new h agrees law waiting failed =
     let follows : 0 < length (pending_sets board (deeds board h)) = subst (λ p. 0 < length p) agrees.pending waiting in
     record {
       legal = IsLegal-push board h AdvanceFailed agrees.legal follows;
-      permissions = λ x d scope lo hi small. ap (λ b. is_allowed b x d scope) failed.base ∙ agrees.permissions x d scope lo hi small ∙ sym (ap (has_permission x d scope) more ∙ has_permission-push x d scope (deeds board h) deed);
+      permissions = λ x d scope lo hi small. ap (λ b. is_allowed b x d scope) failed.base ∙ agrees.permissions x d scope lo hi small ∙ sym (ap (has_permission board x d scope) more ∙ has_permission-push board x d scope (deeds board h) deed);
       subscriptions = λ x d lo hi small. ap (λ p. is_subscribed p x d) failed.power ∙ agrees.subscriptions x d lo hi small ∙ sym (ap (is_subscriber x d) more ∙ is_subscriber-push x d (deeds board h) deed);
       values = λ x within. same_value x ∙ agrees.values x within ∙ sym (ap (value board x) more ∙ value-push board x (deeds board h) deed);
       pending = failed.pending ∙ ap (drop 1) agrees.pending ∙ sym (ap (pending_sets board) more ∙ pending_sets-failed board (deeds board h));
@@ -254,7 +254,7 @@ Agrees-sent board t new h a agrees law lo hi waiting bases powers clocks pends f
     let follows : 0 < length (outbox board a h) = subst (λ b. 0 < length b) (agrees.outboxes a lo hi) waiting in
     record {
       legal = IsLegal-push board h (Sent a) agrees.legal (lo, hi, follows);
-      permissions = λ x d scope lo' hi' small. ap (λ b. is_allowed b x d scope) bases ∙ agrees.permissions x d scope lo' hi' small ∙ sym (ap (has_permission x d scope) more ∙ has_permission-push x d scope (deeds board h) deed);
+      permissions = λ x d scope lo' hi' small. ap (λ b. is_allowed b x d scope) bases ∙ agrees.permissions x d scope lo' hi' small ∙ sym (ap (has_permission board x d scope) more ∙ has_permission-push board x d scope (deeds board h) deed);
       subscriptions = λ x d lo' hi' small. ap (λ p. is_subscribed p x d) powers ∙ agrees.subscriptions x d lo' hi' small ∙ sym (ap (is_subscriber x d) more ∙ is_subscriber-push x d (deeds board h) deed);
       values = λ x within. same_value x ∙ agrees.values x within ∙ sym (ap (value board x) more ∙ value-push board x (deeds board h) deed);
       pending = pends ∙ agrees.pending ∙ sym (append-nil (pending_sets board (deeds board h)))
@@ -299,7 +299,7 @@ Agrees-restarted board t new h a agrees lo hi it =
     let more = deeds-push board h (Restarted a) in
     record {
       legal = IsLegal-push board h (Restarted a) agrees.legal (lo, hi);
-      permissions = λ x d scope lo' hi' small. ap (λ b. is_allowed b x d scope) it.base ∙ agrees.permissions x d scope lo' hi' small ∙ sym (ap (has_permission x d scope) more ∙ has_permission-push x d scope (deeds board h) deed);
+      permissions = λ x d scope lo' hi' small. ap (λ b. is_allowed b x d scope) it.base ∙ agrees.permissions x d scope lo' hi' small ∙ sym (ap (has_permission board x d scope) more ∙ has_permission-push board x d scope (deeds board h) deed);
       subscriptions = λ x d lo' hi' small.
           it.subscriptions x d lo' hi' small
           ∙ ap (unwrap_or (subscription_after_reset x (Some a))) (agrees.subscriptions x d lo' hi' small)
@@ -327,12 +327,12 @@ Agrees-restarted board t new h a agrees lo hi it =
           ∙ ap (λ own. if own then [] else outbox board x h) other.0)
 
 -- the tables of a new controller
-pub Agrees-new : (board : Board) (t : Tables) → ((a d : ℕ) (scope : Scope) → is_allowed t.base a d scope ≡ true) → ((a d : ℕ) → is_subscribed t.power a d ≡ false)
+pub Agrees-new : (board : Board) (t : Tables) → t.base ≡ board.denied → ((a d : ℕ) → is_subscribed t.power a d ≡ false)
     → ((x : Thing) → IsThing board x → value_at t x ≡ value_at_start board x) → t.pending ≡ [] → ((a : ℕ) → outbox_at t a ≡ []) → Agrees board t []
 unfolding deeds fold_with_prefix outbox
 Agrees-new board t all none values pends boxes = record {
   legal = IsLegal-nil board;
-  permissions = λ a d scope lo hi small. all a d scope;
+  permissions = λ a d scope lo hi small. ap (λ b. is_allowed b a d scope) all;
   subscriptions = λ a d lo hi small. none a d;
   values = values;
   pending = pends;

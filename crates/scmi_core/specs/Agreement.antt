@@ -4,7 +4,7 @@ use Rattle.std.specs.List.{All}
 use Rattle.scmi_plan.specs.Board.{Board}
 use Rattle.scmi_plan.specs.declared.limits.TheConstants.{AGENTS, DEVICES, DOMAINS}
 use Rattle.scmi_base.specs.Permission.{is_allowed}
-use Rattle.scmi_base.specs.declared.scope.Scope.{Scope}
+use Rattle.scmi_plan.specs.declared.scope.Scope.{Scope}
 use Rattle.scmi_power.specs.PowerTable.{is_subscribed}
 use Rattle.scmi_core.specs.declared.event.Event.{Event}
 use Rattle.scmi_core.specs.declared.tables.Tables.{Tables}
@@ -20,7 +20,7 @@ use Rattle.scmi_core.specs.Tables.{outbox_at, value_at, IsThing, IsOfBoard}
 -- value, the pending sets and the outboxes
 pub record Agrees (board : Board) (t : Tables) (h : List Event) : Type 0 where
   pub legal : IsLegal board h
-  pub permissions : (a d : ℕ) (scope : Scope) → 1 ≤ a → a ≤ AGENTS → d < DEVICES → is_allowed t.base a d scope ≡ has_permission a d scope (deeds board h)
+  pub permissions : (a d : ℕ) (scope : Scope) → 1 ≤ a → a ≤ AGENTS → d < DEVICES → is_allowed t.base a d scope ≡ has_permission board a d scope (deeds board h)
   pub subscriptions : (a d : ℕ) → 1 ≤ a → a ≤ AGENTS → d < DOMAINS → is_subscribed t.power a d ≡ is_subscriber a d (deeds board h)
   pub values : (x : Thing) → IsThing board x → value_at t x ≡ value board x (deeds board h)
   pub pending : t.pending ≡ pending_sets board (deeds board h)

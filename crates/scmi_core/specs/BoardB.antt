@@ -1,6 +1,6 @@
 -- A board of two agents, three domains, three clocks and two devices, for worked examples.
 use Rattle.std.specs.Prelude.{true, false, [], ◌∷◌, codes, replicate}
-use Rattle.scmi_plan.specs.Board.{Board, whole_channel}
+use Rattle.scmi_plan.specs.Board.{Board, nothing_denied, nothing_held, whole_channel}
 use Rattle.scmi_plan.specs.declared.limits.TheConstants.{AGENTS}
 use Rattle.scmi_plan.specs.Rates as rates
 
@@ -23,6 +23,8 @@ board_b =
           ∷ record { name = codes "pix"; enabled = true; rate = 1; rates = rates.list (1 ∷ 2 ∷ 3 ∷ 4 ∷ 5 ∷ 6 ∷ 7 ∷ 8 ∷ 9 ∷ 10 ∷ 11 ∷ 12 ∷ 13 ∷ 14 ∷ 15 ∷ 16 ∷ 17 ∷ 18 ∷ 19 ∷ 20 ∷ []) } ∷ [];
       devices = record { domains = 1; clocks = 1 } ∷ record { domains = 2; clocks = 0 } ∷ [];
       channels = replicate AGENTS whole_channel;
+      kept = nothing_held;
+      denied = nothing_denied;
     }
 
 -- the same board with two devices that both hold the first domain

@@ -1,6 +1,6 @@
 -- Boards of one agent and its clocks, for worked examples.
 use Rattle.std.specs.Prelude.{true, [], ◌∷◌, codes, replicate}
-use Rattle.scmi_plan.specs.Board.{Board, whole_channel}
+use Rattle.scmi_plan.specs.Board.{Board, nothing_denied, nothing_held, whole_channel}
 use Rattle.scmi_plan.specs.declared.limits.TheConstants.{AGENTS}
 use Rattle.scmi_plan.specs.Rates as rates
 
@@ -17,6 +17,8 @@ board_c =
       clocks = replicate 9 (record { name = codes "c"; enabled = true; rate = 1; rates = rates.list (1 ∷ 2 ∷ []) });
       devices = [];
       channels = replicate AGENTS whole_channel;
+      kept = nothing_held;
+      denied = nothing_denied;
     }
 
 -- the same board with one clock, of the rates 1 to 64

@@ -11,5 +11,5 @@ board_d =
     record board_b {
       clocks =
           record { name = codes "core"; enabled = true; rate = 100; rates = rates.list (100 ∷ 200 ∷ 300 ∷ 400 ∷ 500 ∷ 600 ∷ 700 ∷ 800 ∷ 900 ∷ 1000 ∷ 1100 ∷ 1200 ∷ 1300 ∷ 1400 ∷ 1500 ∷ 1600 ∷ []) } ∷ [];
-      channels = record { words = 32; one_way = false } ∷ record { words = 8; one_way = true } ∷ replicate 6 whole_channel;
+      channels = record { words = 32; one_way = false; share = 8 } ∷ record { words = 8; one_way = true; share = 8 } ∷ replicate 6 whole_channel;
     }

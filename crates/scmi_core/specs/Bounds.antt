@@ -11,7 +11,7 @@ use Rattle.scmi_core.specs.Deed.{Deed, flat_map_with_prefix, fold_with_prefix}
 use Rattle.scmi_core.specs.Value.{completed_set, failed_set}
 use Rattle.scmi_core.specs.Pending.{accepted_sets, advances, pending_sets, pending_of}
 use Rattle.scmi_core.specs.Outbox.{failed_response_to, is_restart_of, outbox_after, messages_made, response_to, restart_count, sent_count}
-use Rattle.scmi_clock.specs.declared.discovery.TheConstants.{PENDING_SETS}
+use Rattle.scmi_plan.specs.declared.limits.TheConstants.{PENDING_SETS}
 use Rattle.scmi_core.specs.declared.outboxes.TheConstants.{OUTBOX_ROOM}
 
 -- the sets that have ended, in order

@@ -1,16 +1,17 @@
 -- What every legal history keeps between its agents: who changed what, and what a refused command is to the others.
-use Rattle.std.specs.Prelude.{◌≡◌, ◌≢◌, ℕ, ◌&&◌, Bool, true, not, if◌then◌else◌, List, [], ◌∷◌, ◌++◌, length, Option, Some, None, option_map}
+use Rattle.std.specs.Prelude.{◌≡◌, ◌≢◌, ℕ, ◌==◌, ◌&&◌, Bool, true, false, not, if◌then◌else◌, List, [], ◌∷◌, ◌++◌, length, Option, Some, None, option_map}
 use Rattle.std.specs.List.{All}
 use Rattle.std.specs.Option.{is_some, option_and_then, option_or}
 use Rattle.scmi_codec.specs.Payload.{begins_with_success}
 use Rattle.scmi_codec.specs.declared.message.Message.{Message}
 use Rattle.scmi_codec.specs.declared.frame.Frame.TheVariants.{Good}
 use Rattle.scmi_plan.specs.Agent.{IsAgent}
-use Rattle.scmi_plan.specs.Board.{Board}
+use Rattle.scmi_plan.specs.Board.{Board, is_kept}
 use Rattle.scmi_plan.specs.declared.resource.Resource.{Resource}
 use Rattle.scmi_plan.specs.declared.resource.Resource.TheVariants as resource
 use Rattle.scmi_base.specs.Permission.{may}
-use Rattle.scmi_base.specs.declared.scope.Scope.{Scope}
+use Rattle.scmi_power.specs.PowerReply.{state_off}
+use Rattle.scmi_plan.specs.declared.scope.Scope.{Scope}
 use Rattle.scmi_core.specs.declared.event.Event.{Event}
 use Rattle.scmi_core.specs.declared.event.Event.TheVariants.{Command}
 use Rattle.scmi_core.specs.Agents.{answers_to, frame_from, frames_of}
@@ -53,13 +54,27 @@ resource_of (Enabled c) = resource.Clock c
 
 -- whether agent a may change a thing after a history
 abbrev pub may_after : Board → List Event → ℕ → Thing → Bool
-may_after board h a x = may board (λ device scope. has_permission a device scope (deeds board h)) (resource_of x)
+may_after board h a x = may board (λ device scope. has_permission board a device scope (deeds board h)) (resource_of x)
+
+-- whether a value switches a thing off: a domain's state OFF, or a clock's enabled bit 0
+abbrev pub is_off : Thing → ℕ → Bool
+is_off (State d) value = value == state_off
+is_off (Rate c) value = false
+is_off (Enabled c) value = value == 0
+
+-- a change does not switch off what the board keeps
+abbrev pub IsKeptOn : Board → Change → Type 0
+IsKeptOn board change = (is_kept board (resource_of change.thing) && is_off change.thing change.value) ≡ false
+
+-- no change of a history switches off what the board keeps
+abbrev pub KeepsOn : Board → List Event → Type 0
+KeepsOn board h = All (IsKeptOn board) (changes board (deeds board h))
 
 -- the change that a success asks for: at once, or when its set completes
 abbrev pub change_asked : Board → Success → Option Change
 change_asked board s = option_or (change_now board s) (option_map completion (acceptance board s))
 
--- the command that a change came of: it is in the history, was its causer's, asked for this change and succeeded, and its agent might change that thing there
+-- the command that a change came of: it is in the history, was its causer's, asked for this change and succeeded, its agent might change that thing there, and the board did not keep it from that
 pub record HasCause (board : Board) (h : List Event) (change : Change) : Type 0 where
   pub before : List Event
   pub message : Message
@@ -68,6 +83,7 @@ pub record HasCause (board : Board) (h : List Event) (change : Change) : Type 0 
   pub agent : IsAgent (length board.agents) change.causer
   pub asked : option_and_then (change_asked board) (success_at (Command change.causer (Good message)) (deed_after board (deeds board before) (Command change.causer (Good message))).reply) ≡ Some change
   pub allowed : may_after board before change.causer change.thing ≡ true
+  pub kept : IsKeptOn board change
 
 -- each change came of such a command
 abbrev pub HasIntegrity : Board → List Event → Type 0
@@ -75,7 +91,7 @@ HasIntegrity board h = All (HasCause board h) (changes board (deeds board h))
 
 -- a success that sets what an agent may do is one of the trusted agent
 abbrev pub IsTrusted : Board → Success → Type 0
-IsTrusted board s = (a d : ℕ) (scope : Scope) → permission_in a d scope s.command ≢ None → s.caller ≡ board.trusted
+IsTrusted board s = (a d : ℕ) (scope : Scope) → permission_in board a d scope s.command ≢ None → s.caller ≡ board.trusted
 
 -- what agents may do is said by the trusted agent alone
 abbrev pub HasTrustedPermissions : Board → List Event → Type 0

@@ -17,6 +17,7 @@ pub mod Bounds
 pub mod Laws
 pub mod Channels
 pub mod WholeChannels
+pub mod PlainBoards
 pub mod Mark
 pub mod Trace
 pub mod Platform
@@ -29,3 +30,4 @@ pub mod Plain
 pub mod BoardB
 pub mod BoardC
 pub mod BoardD
+pub mod BoardE

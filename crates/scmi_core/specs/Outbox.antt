@@ -96,7 +96,7 @@ abbrev pub situation_with : Board → ℕ → List Message → List Deed → Sit
 situation_with board a so_far h =
     record {
       value = λ x. value board x h;
-      allowed = λ device scope. has_permission a device scope h;
+      allowed = λ device scope. has_permission board a device scope h;
       subscribed = λ d. is_subscriber a d h;
       pending = pending_sets board h;
       outbox = drop (sent_count a h) so_far;

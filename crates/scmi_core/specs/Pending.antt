@@ -10,7 +10,7 @@ use Rattle.scmi_plan.specs.declared.resource.Resource.{Resource}
 use Rattle.scmi_plan.specs.declared.resource.Resource.TheVariants as resource
 use Rattle.scmi_power.specs.PowerTable.{set_later}
 use Rattle.scmi_clock.specs.ClockTable.{rate_later}
-use Rattle.scmi_clock.specs.declared.discovery.TheConstants.{PENDING_SETS}
+use Rattle.scmi_plan.specs.declared.limits.TheConstants.{PENDING_SETS}
 use Rattle.scmi_core.specs.declared.outboxes.TheConstants.{OUTBOX_ROOM}
 use Rattle.scmi_core.specs.declared.pending_set.PendingSet.{PendingSet}
 use Rattle.scmi_core.specs.declared.pending_set.Setting.{Setting}
@@ -91,6 +91,8 @@ is_pending board r h = has_set_of r (pending_sets board h)
 abbrev pub load_beside : ℕ → ℕ → List PendingSet → ℕ
 load_beside waiting a sets = waiting + length (sets_by a sets)
 
--- another set of agent a has room if fewer than 8 are pending in all, and its sets and its outbox are fewer than 16 together (own)
-abbrev pub has_room_beside : ℕ → ℕ → List PendingSet → Bool
-has_room_beside waiting a sets = nat_lt (length sets) PENDING_SETS && nat_lt (load_beside waiting a sets) OUTBOX_ROOM
+-- another set of agent a has room if fewer than 8 are pending in all, fewer of its own than its share, and its sets and its outbox are fewer than 16
+-- together (own)
+abbrev pub has_room_beside : (share waiting a : ℕ) → List PendingSet → Bool
+has_room_beside share waiting a sets =
+    nat_lt (length sets) PENDING_SETS && (nat_lt (length (sets_by a sets)) share && nat_lt (load_beside waiting a sets) OUTBOX_ROOM)

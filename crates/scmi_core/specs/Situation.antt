@@ -4,7 +4,7 @@ use Rattle.scmi_codec.specs.declared.message.Message.{Message}
 use Rattle.scmi_plan.specs.Board.{Board, channel_of}
 use Rattle.scmi_plan.specs.declared.resource.Resource.TheVariants as resource
 use Rattle.scmi_base.specs.Permission.{may}
-use Rattle.scmi_base.specs.declared.scope.Scope.{Scope}
+use Rattle.scmi_plan.specs.declared.scope.Scope.{Scope}
 use Rattle.scmi_power.specs.PowerReply.{PowerView}
 use Rattle.scmi_clock.specs.ClockReply.{ClockView}
 use Rattle.scmi_core.specs.declared.pending_set.PendingSet.{PendingSet}
@@ -25,8 +25,8 @@ pub record Situation : Type 0 where
   pub outbox : List Message
 
 -- an asynchronous set of agent a has room beside the pending sets and what waits in its outbox
-abbrev pub has_room : ℕ → Situation → Bool
-has_room a s = has_room_beside (length s.outbox) a s.pending
+abbrev pub has_room : Board → ℕ → Situation → Bool
+has_room board a s = has_room_beside (channel_of board a).share (length s.outbox) a s.pending
 
 -- what the replies of the power domain protocol to agent a read
 abbrev pub power_view : Board → ℕ → Situation → PowerView
@@ -35,7 +35,7 @@ power_view board a s =
       state = λ d. s.value (State d);
       may = λ d. may board s.allowed (resource.Domain d);
       busy = λ d. has_set_of (resource.Domain d) s.pending;
-      room = has_room a s;
+      room = has_room board a s;
       channel = channel_of board a;
     }
 
@@ -47,6 +47,6 @@ clock_view board a s =
       enabled = λ c. s.value (Enabled c) == 1;
       may = λ c. may board s.allowed (resource.Clock c);
       busy = λ c. has_set_of (resource.Clock c) s.pending;
-      room = has_room a s;
+      room = has_room board a s;
       channel = channel_of board a;
     }

@@ -16,7 +16,7 @@ use Rattle.scmi_codec.specs.declared.clock_command.ClockCommand.TheVariants as c
 use Rattle.scmi_plan.specs.Board.{Board}
 use Rattle.scmi_plan.specs.declared.limits.TheConstants.{AGENTS, DEVICES, DOMAINS}
 use Rattle.scmi_base.specs.Permission.{is_allowed}
-use Rattle.scmi_base.specs.declared.scope.Scope.{Scope}
+use Rattle.scmi_plan.specs.declared.scope.Scope.{Scope}
 use Rattle.scmi_power.specs.PowerTable.{is_subscribed}
 use Rattle.scmi_core.specs.declared.pending_set.PendingSet.{PendingSet}
 use Rattle.scmi_core.specs.declared.tables.Tables.{Tables}
@@ -38,7 +38,7 @@ rest_of t (Some p) = drop 1 t.pending
 
 -- what an event leaves that was a success, or completed a set
 pub record HasStepped (board : Board) (t : Tables) (success : Option Success) (done : Option PendingSet) (new : Tables) : Type 0 where
-  pub permissions : (a d : ℕ) (scope : Scope) → 1 ≤ a → d < DEVICES → is_allowed new.base a d scope ≡ unwrap_or (option_and_then (λ s. permission_in a d scope s.command) success) (is_allowed t.base a d scope)
+  pub permissions : (a d : ℕ) (scope : Scope) → 1 ≤ a → d < DEVICES → is_allowed new.base a d scope ≡ unwrap_or (option_and_then (λ s. permission_in board a d scope s.command) success) (is_allowed t.base a d scope)
   pub subscriptions : (a d : ℕ) → 1 ≤ a → a ≤ AGENTS → d < DOMAINS → is_subscribed new.power a d ≡ unwrap_or (option_and_then (subscription a d) success) (is_subscribed t.power a d)
   pub values : (x : Thing) → IsThing board x → value_at new x ≡ unwrap_or (option_and_then (value_in x) (change_of board success done)) (value_at t x)
   pub known : IfSome (change_of board success done) (λ change. IsThing board change.thing)

@@ -77,7 +77,7 @@ impl Tables {
             (reply_words plan.now agent (situation_in agent self.now) (Ok (Power command)))
             (set_now command)) }
     {
-        let load = self.power_load(agent, command);
+        let load = self.power_load(plan, agent, command);
         match self.power.change_of(plan, &self.base, agent, command, load) {
             Some((domain, state)) => Some(Effect::State { domain, state }),
             None => None,
@@ -96,7 +96,7 @@ impl Tables {
             (reply_words plan.now agent (situation_in agent self.now) (Ok (Clock command)))
             (enabled_now command)) }
     {
-        let load = self.clock_load(agent, command);
+        let load = self.clock_load(plan, agent, command);
         match self
             .clocks
             .rate_change_of(plan, &self.base, agent, command, load)

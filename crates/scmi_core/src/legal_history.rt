@@ -9,7 +9,7 @@ ghost use Rattle.scmi_core.specs.Channels.{KeepsChannels};
 ghost use Rattle.scmi_core.specs.Driven.{asks};
 ghost use Rattle.scmi_core.specs.Effect.{effect_after, effects};
 ghost use Rattle.scmi_core.specs.History.{deeds};
-ghost use Rattle.scmi_core.specs.Laws.{AreAlikeBut, HasIntegrity, HasIsolation, HasTrustedPermissions, is_refused};
+ghost use Rattle.scmi_core.specs.Laws.{AreAlikeBut, HasIntegrity, HasIsolation, HasTrustedPermissions, KeepsOn, is_refused};
 ghost use Rattle.scmi_core.specs.Legal.{IsLegal};
 ghost use Rattle.scmi_core.specs.declared.event.Event.{Event};
 
@@ -29,6 +29,8 @@ impl Trace {
             → HasIntegrity board self.now.events }
         ensures permissions { (board : Board) → IsLegal board self.now.events
             → HasTrustedPermissions board self.now.events }
+        ensures kept { (board : Board) → IsLegal board self.now.events
+            → KeepsOn board self.now.events }
         ensures channels { (board : Board) → IsValid board → IsLegal board self.now.events
             → KeepsChannels board self.now.events }
     {
@@ -43,7 +45,7 @@ impl Trace {
 /// no delayed response is lost unless its agent restarts. A command that is refused moves nobody.
 /// Without all the commands that an agent had refused, a history is as legal, and the same to every
 /// other agent. Each change came of a command whose agent might make that change there, and only
-/// the trusted agent decides what agents may do. Each answer and each message has room in its
+/// the trusted agent decides what agents may do. What the board keeps is never switched off. Each answer and each message has room in its
 /// agent's channels, and for an agent that the platform can't send to none is made. What a history
 /// changes of the hardware is what each event changes, in order.
 pub fn every_legal_history()
@@ -59,6 +61,7 @@ pub fn every_legal_history()
         → HasIntegrity board h }
     ensures permissions { (board : Board) (h : List Event) → IsLegal board h
         → HasTrustedPermissions board h }
+    ensures kept { (board : Board) (h : List Event) → IsLegal board h → KeepsOn board h }
     ensures channels { (board : Board) (h : List Event) → IsValid board → IsLegal board h
         → KeepsChannels board h }
     ensures made { (board : Board) (h : List Event) → made_of (asks board h) ≡ effects board h }

@@ -1,7 +1,7 @@
 //! The sets that are pending.
-ghost use Rattle.std.specs.Prelude.{◌≡◌, ◌≤◌, ◌<◌, ◌==◌, ◌||◌, ◌++◌, ◌∷◌, [], ◌↔◌, ℕ, Some, true, false, length, drop, map, nat_lt, slice_get};
+ghost use Rattle.std.specs.Prelude.{◌&&◌, ◌≡◌, ◌≤◌, ◌<◌, ◌==◌, ◌||◌, ◌++◌, ◌∷◌, [], ◌↔◌, ℕ, Some, true, false, length, drop, map, nat_lt, slice_get};
 ghost use Rattle.std.specs.Int.{bit_at};
-ghost use Rattle.scmi_clock.specs.declared.discovery.TheConstants.{PENDING_SETS};
+ghost use Rattle.scmi_plan.specs.declared.limits.TheConstants.{PENDING_SETS};
 ghost use Rattle.scmi_plan.specs.declared.resource.Resource.TheVariants as resource;
 ghost use Rattle.scmi_plan.specs.declared.limits.TheConstants.{CLOCKS, DOMAINS};
 ghost use Rattle.scmi_plan.specs.declared.mask.TheConstants.{MASK_BITS};
@@ -11,8 +11,7 @@ ghost use Rattle.scmi_core.specs.declared.outboxes.TheConstants.{OUTBOX_ROOM};
 use crate::outboxes::OUTBOX_ROOM;
 use crate::pending_set::{PendingSet, Setting};
 use arrayvec::ArrayVec;
-use scmi_clock::PENDING_SETS;
-use scmi_plan::{Load, MASK_BITS, Resource, with_bit};
+use scmi_plan::{Load, MASK_BITS, PENDING_SETS, Resource, with_bit};
 use std::marker::Model;
 
 /// The sets that were accepted for later and are not complete, at most `PENDING_SETS`, in order of
@@ -24,7 +23,7 @@ pub struct Pending {
 
 impl Model for Pending {
     ghost use Rattle.std.specs.Prelude.{List, length, ◌≤◌};
-    ghost use Rattle.scmi_clock.specs.declared.discovery.TheConstants.{PENDING_SETS};
+    ghost use Rattle.scmi_plan.specs.declared.limits.TheConstants.{PENDING_SETS};
     ghost use Rattle.scmi_core.specs.declared.pending_set.PendingSet.{PendingSet};
 
     ghost Value = { List PendingSet };
@@ -133,57 +132,59 @@ impl Pending {
             .any(|set| set.setting.is_of(resource))
     }
 
-    /// The load that a power command of an agent meets whose outbox has `waiting` messages.
-    pub fn domain_load(&self, agent: u32, waiting: usize) -> Load
+    /// The load that a power command of an agent meets whose outbox has `waiting` messages, and of
+    /// whose sets `share` may be pending.
+    pub fn domain_load(&self, share: u32, agent: u32, waiting: usize) -> Load
         requires { waiting ≤ OUTBOX_ROOM }
         ensures busy { (d : ℕ) → d < DOMAINS
             → (bit_at result.busy d == 1) ≡ has_set_of (resource.Domain d) self.now }
-        ensures room { result.room ≡ has_room_beside waiting agent self.now }
+        ensures room { result.room ≡ has_room_beside share waiting agent self.now }
     {
         if self.is_empty() {
-            return idle_load(waiting);
+            return idle_load(share, waiting);
         }
-        self.busy_domain_load(agent, waiting)
+        self.busy_domain_load(share, agent, waiting)
     }
 
-    /// The load that a clock command of an agent meets whose outbox has `waiting` messages.
-    pub fn clock_load(&self, agent: u32, waiting: usize) -> Load
+    /// The load that a clock command of an agent meets whose outbox has `waiting` messages, and of
+    /// whose sets `share` may be pending.
+    pub fn clock_load(&self, share: u32, agent: u32, waiting: usize) -> Load
         requires { waiting ≤ OUTBOX_ROOM }
         ensures busy { (c : ℕ) → c < CLOCKS
             → (bit_at result.busy c == 1) ≡ has_set_of (resource.Clock c) self.now }
-        ensures room { result.room ≡ has_room_beside waiting agent self.now }
+        ensures room { result.room ≡ has_room_beside share waiting agent self.now }
     {
         if self.is_empty() {
-            return idle_load(waiting);
+            return idle_load(share, waiting);
         }
-        self.busy_clock_load(agent, waiting)
+        self.busy_clock_load(share, agent, waiting)
     }
 
     /// As `domain_load`, where some set is pending.
     #[inline(never)]
-    fn busy_domain_load(&self, agent: u32, waiting: usize) -> Load
+    fn busy_domain_load(&self, share: u32, agent: u32, waiting: usize) -> Load
         requires { waiting ≤ OUTBOX_ROOM }
         ensures busy { (d : ℕ) → d < DOMAINS
             → (bit_at result.busy d == 1) ≡ has_set_of (resource.Domain d) self.now }
-        ensures room { result.room ≡ has_room_beside waiting agent self.now }
+        ensures room { result.room ≡ has_room_beside share waiting agent self.now }
     {
         Load {
             busy: self.busy_domains(),
-            room: self.has_room(agent, waiting),
+            room: self.has_room(share, agent, waiting),
         }
     }
 
     /// As `clock_load`, where some set is pending.
     #[inline(never)]
-    fn busy_clock_load(&self, agent: u32, waiting: usize) -> Load
+    fn busy_clock_load(&self, share: u32, agent: u32, waiting: usize) -> Load
         requires { waiting ≤ OUTBOX_ROOM }
         ensures busy { (c : ℕ) → c < CLOCKS
             → (bit_at result.busy c == 1) ≡ has_set_of (resource.Clock c) self.now }
-        ensures room { result.room ≡ has_room_beside waiting agent self.now }
+        ensures room { result.room ≡ has_room_beside share waiting agent self.now }
     {
         Load {
             busy: self.busy_clocks(),
-            room: self.has_room(agent, waiting),
+            room: self.has_room(share, agent, waiting),
         }
     }
 
@@ -196,11 +197,12 @@ impl Pending {
     }
 
     /// Whether another set of an agent has room.
-    fn has_room(&self, agent: u32, waiting: usize) -> bool
+    fn has_room(&self, share: u32, agent: u32, waiting: usize) -> bool
         requires { waiting ≤ OUTBOX_ROOM }
-        ensures { result ≡ has_room_beside waiting agent self.now }
+        ensures { result ≡ has_room_beside share waiting agent self.now }
     {
-        self.sets.len() < PENDING_SETS && self.load(agent, waiting) < OUTBOX_ROOM
+        let own = self.count_of(agent);
+        self.sets.len() < PENDING_SETS && own < share as usize && waiting + own < OUTBOX_ROOM
     }
 
     /// How many of the sets are an agent's.
@@ -251,14 +253,15 @@ impl Pending {
     }
 }
 
-/// The load of an agent whose outbox has `waiting` messages, if no set is pending.
-fn idle_load(waiting: usize) -> Load
+/// The load of an agent whose outbox has `waiting` messages, and of whose sets `share` may be
+/// pending, if no set is pending.
+fn idle_load(share: u32, waiting: usize) -> Load
     ensures busy { result.busy ≡ 0 }
-    ensures room { result.room ≡ nat_lt waiting OUTBOX_ROOM }
+    ensures room { result.room ≡ (nat_lt 0 share && nat_lt waiting OUTBOX_ROOM) }
 {
     Load {
         busy: 0,
-        room: waiting < OUTBOX_ROOM,
+        room: 0 < share && waiting < OUTBOX_ROOM,
     }
 }
 

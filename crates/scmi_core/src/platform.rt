@@ -1,5 +1,5 @@
 //! The platform without its history.
-ghost use Rattle.std.specs.Prelude.{◌≡◌, ◌≢◌, ◌≤◌, ◌<◌, [], ◌↔◌, List, length, true, false, slice_get, IfOk, OnOk, OnErr, IfErr, Err};
+ghost use Rattle.std.specs.Prelude.{◌≡◌, ◌≢◌, ◌≤◌, ◌<◌, [], ◌↔◌, List, length, true, false, slice_get, IfOk, OnOk, OnErr, IfErr, Ok, Err};
 ghost use Rattle.scmi_plan.specs.Plan.{IsValid};
 ghost use Rattle.std.specs.Option.{option_copied};
 ghost use Rattle.scmi_plan.specs.Agent.{IsAgent, IsNoAgent};
@@ -86,6 +86,7 @@ impl Platform {
         ensures answer { (h : List Event) → StandsAfter self.old h
             → IfOk result (λ x.
             answer_with x reply.new ≡ answer_to self.old.board agent frame.now h) }
+        ensures unwritten { result ≡ Ok Answered.ChannelError → reply.new ≡ reply.old }
         ensures event { OnOk result (MovesOn self.old (Called agent frame.now) self.new) }
         ensures board { self.new.board ≡ self.old.board }
         ensures no_agent { (result ≡ Err CoreError.NoAgent)
@@ -187,6 +188,7 @@ impl Platform {
         ensures valid { IsValid self.old.board }
         ensures answer { (h : List Event) → StandsAfter self.old h
             → answer_with result reply.new ≡ answer_to self.old.board agent frame.now h }
+        ensures unwritten { result ≡ Answered.ChannelError → reply.new ≡ reply.old }
         ensures event { MovesOn self.old (Called agent frame.now) self.new }
         ensures board { self.new.board ≡ self.old.board }
     {

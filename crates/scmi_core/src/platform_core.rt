@@ -98,7 +98,7 @@ impl Core {
     }
 
     /// As `command`, with the reply written into `reply`. It is written only if a message was
-    /// executed.
+    /// executed: beside a channel error, and an error, it is as it was.
     pub fn command_into(
         &mut self,
         agent: u32,
@@ -107,6 +107,7 @@ impl Core {
     ) -> Result<Answered, CoreError>
         ensures answer { IfOk result (λ x.
             answer_with x reply.new ≡ answer_to self.old.board agent frame.now self.old.history) }
+        ensures unwritten { result ≡ Ok Answered.ChannelError → reply.new ≡ reply.old }
         ensures event { OnOk result
             (self.new.history ≡ self.old.history ++ Called agent frame.now ∷ []) }
         ensures board { self.new.board ≡ self.old.board }
@@ -130,6 +131,7 @@ impl Core {
         requires room { 0 < self.old.room }
         ensures answer { answer_with result reply.new
             ≡ answer_to self.old.board agent frame.now self.old.history }
+        ensures unwritten { result ≡ Answered.ChannelError → reply.new ≡ reply.old }
         ensures event { self.new.history ≡ self.old.history ++ Called agent frame.now ∷ [] }
         ensures board { self.new.board ≡ self.old.board }
         ensures legal { IsLegal self.new.board self.new.history }

@@ -3,7 +3,7 @@ ghost use Rattle.std.specs.Prelude.{◌≡◌, ◌≤◌, ◌<◌, ◌-◌, ◌=
 ghost use Rattle.std.specs.List.{All};
 ghost use Rattle.std.specs.Int.{bit_at};
 ghost use Rattle.scmi_base.specs.Permission.{is_allowed};
-ghost use Rattle.scmi_base.specs.declared.scope.Scope.{Scope};
+ghost use Rattle.scmi_plan.specs.declared.scope.Scope.{Scope};
 ghost use Rattle.scmi_codec.specs.declared.frame.Frame.TheVariants.{Good};
 ghost use Rattle.scmi_codec.specs.declared.command.Command.TheVariants.{Base, Power, Clock};
 ghost use Rattle.scmi_power.specs.PowerTable.{is_subscribed};
@@ -20,7 +20,7 @@ ghost use Rattle.scmi_core.specs.Reply.{answer_in, reply_words};
 ghost use Rattle.scmi_core.specs.Tables.{outbox_at, load_at, value_at, situation_in, IsThing, IsOfBoard};
 ghost use Rattle.scmi_core.specs.Step.{Accepts, HasFailed, HasStepped, HasExecuted, HasAnswered, set_clock, set_domain, SameButPending};
 ghost use Rattle.scmi_core.specs.declared.outboxes.TheConstants.{OUTBOX_ROOM};
-ghost use Rattle.scmi_clock.specs.declared.discovery.TheConstants.{PENDING_SETS};
+ghost use Rattle.scmi_plan.specs.declared.limits.TheConstants.{PENDING_SETS};
 
 use crate::answered::Answered;
 use crate::channel::fits_channel;
@@ -55,7 +55,7 @@ pub struct Tables {
 impl Tables {
     /// The tables at the start.
     pub fn new(plan: &Plan) -> Tables
-        ensures base { (a d : ℕ) (scope : Scope) → is_allowed result.base a d scope ≡ true }
+        ensures base { result.base ≡ plan.now.denied }
         ensures subscriptions { (a d : ℕ) → is_subscribed result.power a d ≡ false }
         ensures values { (x : Thing) → IsThing plan.now x
             → value_at result x ≡ value_at_start plan.now x }
@@ -105,6 +105,7 @@ impl Tables {
         requires valid { IsValid plan.now }
         ensures answer { answer_with result reply.new
             ≡ answer_in plan.now agent frame.now (situation_in agent self.old) }
+        ensures unwritten { result ≡ Answered.ChannelError → reply.new ≡ reply.old }
         ensures stepped { HasAnswered plan.now agent frame.now self.old self.new }
     {
         match frame {
@@ -125,6 +126,7 @@ impl Tables {
         requires valid { IsValid plan.now }
         ensures answer { answer_with result reply.new
             ≡ answer_in plan.now agent (Good message.now) (situation_in agent self.old) }
+        ensures unwritten { result ≡ Answered.ChannelError → reply.new ≡ reply.old }
         ensures stepped { HasAnswered plan.now agent (Good message.now) self.old self.new }
     {
         if fits_channel(plan, agent, message) {
@@ -201,7 +203,7 @@ impl Tables {
             reply.new.items self.old self.new }
     {
         let agents = plan.agents();
-        let load = self.power_load(agent, command);
+        let load = self.power_load(plan, agent, command);
         let done = self
             .power
             .execute_into(plan, &self.base, agent, command, load, reply);
@@ -225,7 +227,7 @@ impl Tables {
         ensures stepped { HasExecuted plan.now agent header (Ok (Clock command))
             reply.new.items self.old self.new }
     {
-        let load = self.clock_load(agent, command);
+        let load = self.clock_load(plan, agent, command);
         let later = self
             .clocks
             .execute_into(plan, &self.base, agent, command, load, reply);
@@ -234,18 +236,20 @@ impl Tables {
 
     /// The load that a power command of an agent meets. Only a set meets one; for the others none is
     /// reckoned.
-    pub(crate) fn power_load(&self, agent: u32, command: PowerCommand) -> Load
-        requires agent { IsAgent AGENTS agent }
+    pub(crate) fn power_load(&self, plan: &Plan, agent: u32, command: PowerCommand) -> Load
+        requires agent { IsAgent (length plan.now.agents) agent }
+        requires valid { IsValid plan.now }
         ensures busy { IfSome (set_domain command) (λ set. (d : ℕ) → d < DOMAINS
             → (bit_at result.busy d == 1) ≡ has_set_of (resource.Domain d) self.now.pending) }
         ensures room { IfSome (set_domain command) (λ set.
-            result.room ≡ has_room agent (situation_in agent self.now)) }
+            result.room ≡ has_room plan.now agent (situation_in agent self.now)) }
         ensures free { result.room ≡ true → length self.now.pending < PENDING_SETS }
     {
         match command {
             PowerCommand::Set { .. } => {
                 let waiting = self.outboxes.waiting(agent);
-                self.pending.domain_load(agent, waiting)
+                let share = plan.channel(agent).share;
+                self.pending.domain_load(share, agent, waiting)
             }
             _ => NO_LOAD,
         }
@@ -253,18 +257,20 @@ impl Tables {
 
     /// The load that a clock command of an agent meets. Only a set of a rate meets one; for the others
     /// none is reckoned.
-    pub(crate) fn clock_load(&self, agent: u32, command: ClockCommand) -> Load
-        requires agent { IsAgent AGENTS agent }
+    pub(crate) fn clock_load(&self, plan: &Plan, agent: u32, command: ClockCommand) -> Load
+        requires agent { IsAgent (length plan.now.agents) agent }
+        requires valid { IsValid plan.now }
         ensures busy { IfSome (set_clock command) (λ set. (c : ℕ) → c < CLOCKS
             → (bit_at result.busy c == 1) ≡ has_set_of (resource.Clock c) self.now.pending) }
         ensures room { IfSome (set_clock command) (λ set.
-            result.room ≡ has_room agent (situation_in agent self.now)) }
+            result.room ≡ has_room plan.now agent (situation_in agent self.now)) }
         ensures free { result.room ≡ true → length self.now.pending < PENDING_SETS }
     {
         match command {
             ClockCommand::SetRate { .. } => {
                 let waiting = self.outboxes.waiting(agent);
-                self.pending.clock_load(agent, waiting)
+                let share = plan.channel(agent).share;
+                self.pending.clock_load(share, agent, waiting)
             }
             _ => NO_LOAD,
         }

@@ -2,9 +2,9 @@
 use Rattle.std.proofs.Common.{◌≡◌, ℕ, ◌≤◌, ◌<◌, List, take, length, Option, None, Some, IfSome, sym, ap, ◌∙◌, subst, arith}
 use Rattle.std.proofs.lemmas.List.{length-take, take_all}
 use Rattle.std.specs.List.{All}
-use Rattle.scmi_board.specs.Channels.{Described}
+use Rattle.scmi_board.specs.BoardLines.{Described}
 use Rattle.scmi_board.specs.Lines.{LinesView}
-use Rattle.scmi_board.specs.ValidBoard.{with_its_channels}
+use Rattle.scmi_board.specs.ValidBoard.{with_its_lines}
 use Rattle.scmi_modes.proofs.Inputs.{agents_kept}
 use Rattle.scmi_plan.specs.Board.{Board}
 use Rattle.scmi_text.specs.Step.{IsStepOf}
@@ -51,5 +51,5 @@ behind_line None left all is read = tt
 behind_line (Some input) left all is read = sym (subst (λ (l : Option (List ℕ)). IfSome l (λ rest. all ≡ rest)) is read)
 
 -- steps of a board's agents are of the same board with its channels
-pub steps_of_plan : (said : Described) (plan : Board) (steps : List Step) → plan ≡ with_its_channels said → All (IsStepOf (length said.0.agents)) steps → All (IsStepOf (length plan.agents)) steps
+pub steps_of_plan : (said : Described) (plan : Board) (steps : List Step) → plan ≡ with_its_lines said → All (IsStepOf (length said.0.agents)) steps → All (IsStepOf (length plan.agents)) steps
 steps_of_plan said plan steps is all = subst (λ (n : ℕ). All (IsStepOf n) steps) (sym (ap (λ (b : Board). length b.agents) is ∙ ap length (agents_kept said.0 said.1))) all

@@ -7,9 +7,9 @@ use Rattle.scmi_link.specs.declared.closing.Closing.{Closing}
 use Rattle.scmi_link.specs.declared.close_error.CloseError.{CloseError}
 use Rattle.scmi_words.specs.WordCaller.{word_caller_view, CloseShows}
 use Rattle.scmi_plan.specs.Board.{Board}
-use Rattle.scmi_board.specs.Channels.{Described}
+use Rattle.scmi_board.specs.BoardLines.{Described}
 use Rattle.scmi_board.specs.Lines.{Line}
-use Rattle.scmi_board.specs.ValidBoard.{with_its_channels}
+use Rattle.scmi_board.specs.ValidBoard.{with_its_lines}
 use Rattle.scmi_ends.specs.Shut.{ShowsClose}
 use Rattle.scmi_text.specs.Step.{IsWithoutHardware}
 use Rattle.scmi_text.specs.StepText.{hardware_steps_of_lines, steps_of_lines}
@@ -77,4 +77,4 @@ pub record ShowsScript (mode : Mode) (input : List ℕ) (chart : Chart) : Type 0
   pub of_input : StandsFor mode input said steps
   pub few : length steps ≤ 2000
   pub allowed : All (MayHave mode) steps
-  pub shown : ShowsRun (may_be_full (kind_of mode)) (shows_close (kind_of mode)) (with_its_channels said) said.0 steps chart
+  pub shown : ShowsRun (may_be_full (kind_of mode)) (shows_close (kind_of mode)) (with_its_lines said) said.0 steps chart

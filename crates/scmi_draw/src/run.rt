@@ -3,7 +3,7 @@ ghost use Rattle.std.specs.Prelude.{◌≡◌, length, IfOk};
 ghost use Rattle.std.specs.List.{All};
 ghost use Rattle.scmi_ends.specs.Shut.{ShowsClose};
 ghost use Rattle.scmi_plan.specs.RawPlan.{asked_board};
-ghost use Rattle.scmi_board.specs.Channels.{IsLineOf, described};
+ghost use Rattle.scmi_board.specs.BoardLines.{IsLineOf, described};
 ghost use Rattle.scmi_board.specs.Lines.{lines_left};
 ghost use Rattle.scmi_text.specs.Step.{IsStepOf};
 ghost use Rattle.scmi_text.specs.TextLines.{GivesScript};
@@ -12,7 +12,7 @@ ghost use Rattle.scmi_draw.specs.Run.{MayHave, ShowsRun, ShowsScript, StandsFor,
 
 use crate::mode::Mode;
 use crate::record_step::record_step;
-use scmi_board::{BoardWithChannels, END, Lines, TextError, TextLine};
+use scmi_board::{BoardWithLines, END, Lines, TextError, TextLine};
 use scmi_chart::Recorder;
 use scmi_link::{Channel, RingChannel};
 use scmi_modes::{Kind, RunError, plan_of, read_described};
@@ -59,7 +59,7 @@ fn read_input(
     alloc: Global,
     mode: Mode,
     bytes: &[u8],
-) -> Result<(BoardWithChannels, StepList), RunError>
+) -> Result<(BoardWithLines, StepList), RunError>
     ensures agents { IfOk result (λ read.
         All (IsStepOf (length (described read.0).0.agents)) read.1) }
     ensures channels { IfOk result (λ read.

@@ -1,8 +1,12 @@
 //! What an item of a line has to be.
 
 use crate::number_fault::{NumberFault, Width};
+use crate::plan_fault::Kind;
+use crate::rows::count_of;
 use crate::wrong::Wrong;
 use scmi_board::{byte, word};
+use scmi_codec::{CLOCK_PROTOCOL, POWER_PROTOCOL, is_channel_size};
+use scmi_plan::{DEVICES, PENDING_SETS};
 use std::str::from_utf8;
 
 /// What an item of a line has to be.
@@ -22,13 +26,23 @@ pub(crate) enum Field {
     Number(Width),
     /// The number of an agent.
     Agent,
+    /// The number of a domain, clock or device.
+    Numbered(Kind),
+    /// The size of the areas of a channel.
+    Bytes,
+    /// How many of the pending sets may be an agent's.
+    Share,
+    /// The number of a protocol that permissions are for.
+    Protocol,
     /// This word.
     Word(&'static str),
+    /// The first of these words, in place of which another form has the second.
+    Either(&'static str, &'static str),
 }
 
 impl Field {
-    /// What is wrong with an item that is here, of a board of this many agents.
-    pub(crate) fn wrong(self, item: &[u8], agents: u32) -> Option<Wrong> {
+    /// What is wrong with an item that is here, on this board or in a script of it.
+    pub(crate) fn wrong(self, item: &[u8], board: &[u8]) -> Option<Wrong> {
         match self {
             Field::Name => from_utf8(item).is_err().then_some(Wrong::NotUtf8),
             Field::Switch => (!is_switch(item)).then_some(Wrong::NotSwitch),
@@ -36,8 +50,26 @@ impl Field {
             Field::Rates => rates_wrong(item),
             Field::Places => places_wrong(item),
             Field::Number(width) => NumberFault::of(item, width).map(Wrong::Number),
-            Field::Agent => agent_wrong(item, agents),
             Field::Word(text) => (item != text.as_bytes()).then_some(Wrong::NotWord(text)),
+            Field::Either(text, other) => {
+                (item != text.as_bytes()).then_some(Wrong::NotEither(text, other))
+            }
+            of_value => match word(item) {
+                Some(value) => of_value.value_wrong(value, board),
+                None => NumberFault::of(item, Width::Bits32).map(Wrong::Number),
+            },
+        }
+    }
+
+    /// What is wrong with the value of a number that is here.
+    fn value_wrong(self, value: u32, board: &[u8]) -> Option<Wrong> {
+        match self {
+            Field::Agent => agent_wrong(value, board),
+            Field::Numbered(kind) => number_wrong(value, kind, board),
+            Field::Bytes => (!is_channel_size(value as usize)).then_some(Wrong::NotBytes),
+            Field::Share => (!is_share(value)).then_some(Wrong::NotShare),
+            Field::Protocol => (!is_protocol(value)).then_some(Wrong::NotProtocol),
+            _ => None,
         }
     }
 }
@@ -95,13 +127,24 @@ fn places_wrong(item: &[u8]) -> Option<Wrong> {
     None
 }
 
-fn agent_wrong(item: &[u8], agents: u32) -> Option<Wrong> {
-    if let Some(fault) = NumberFault::of(item, Width::Bits32) {
-        return Some(Wrong::Number(fault));
+fn agent_wrong(agent: u32, board: &[u8]) -> Option<Wrong> {
+    if agent == 0 {
+        return Some(Wrong::AgentZero);
     }
-    match word(item) {
-        Some(0) => Some(Wrong::AgentZero),
-        Some(agent) => (agent > agents).then_some(Wrong::NoAgent(agents)),
-        None => None,
-    }
+    let agents = count_of(board, Kind::Agents);
+    (agent > agents).then_some(Wrong::NoAgent(agents))
+}
+
+fn number_wrong(number: u32, kind: Kind, board: &[u8]) -> Option<Wrong> {
+    // A line that denies can't name more devices than a board may have.
+    let count = count_of(board, kind).min(DEVICES as u32);
+    (number >= count).then_some(Wrong::NoneOf(kind, count))
+}
+
+fn is_share(sets: u32) -> bool {
+    sets != 0 && sets <= PENDING_SETS as u32
+}
+
+fn is_protocol(number: u32) -> bool {
+    number == u32::from(POWER_PROTOCOL) || number == u32::from(CLOCK_PROTOCOL)
 }

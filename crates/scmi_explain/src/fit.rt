@@ -15,14 +15,14 @@ pub(crate) enum Fit<'a> {
     Unknown,
 }
 
-/// How a line fits forms, of a board of this many agents.
-pub(crate) fn fit_of<'a>(forms: &[Form], line: &'a [u8], agents: u32) -> Fit<'a> {
+/// How a line fits forms, on this board or in a script of it.
+pub(crate) fn fit_of<'a>(forms: &[Form], line: &'a [u8], board: &[u8]) -> Fit<'a> {
     let mut best = Fit::Unknown;
     for form in forms {
         if form.word.as_bytes() != first_word(line) {
             continue;
         }
-        let Some(fault) = form.fault_in(line, agents) else {
+        let Some(fault) = form.fault_in(line, board) else {
             return Fit::Well;
         };
         best = farther(best, fault);
@@ -45,6 +45,6 @@ pub(crate) fn begins_as(forms: &[Form], line: &[u8]) -> bool {
 }
 
 /// Whether a line has one of the forms.
-pub(crate) fn fits_well(forms: &[Form], line: &[u8], agents: u32) -> bool {
-    matches!(&fit_of(forms, line, agents), Fit::Well)
+pub(crate) fn fits_well(forms: &[Form], line: &[u8], board: &[u8]) -> bool {
+    matches!(&fit_of(forms, line, board), Fit::Well)
 }

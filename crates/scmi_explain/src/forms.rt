@@ -3,6 +3,7 @@
 use crate::field::Field;
 use crate::item_fault::ItemFault;
 use crate::number_fault::{NumberFault, Width};
+use crate::plan_fault::Kind;
 use crate::wrong::Wrong;
 use scmi_board::Items;
 use scmi_codec::PAYLOAD_WORDS;
@@ -25,7 +26,7 @@ const WORD: Field = Field::Number(Width::Bits32);
 const RATE: Field = Field::Number(Width::Bits64);
 
 macro_rules! forms {
-    ($($word:literal [$($field:expr),*] $has_payload:literal $text:literal;)*) => {
+    ($($word:literal [$($field:expr),*] $has_payload:literal $text:expr;)*) => {
         [$(Form {
             word: $word,
             fields: &[$($field),*],
@@ -52,9 +53,24 @@ pub(crate) const ROWS: [Form; 6] = forms![
     "end" [] false "end";
 ];
 
-/// The lines of a board after these, where agents' channels have sizes.
-pub(crate) const CHANNELS: [Form; 1] = forms![
-    "channel" [Field::Agent, WORD] false "channel AGENT BYTES";
+const CHANNEL: &str = "channel AGENT BYTES [one-way] [pending N]";
+
+const KEEP: &str = "keep domain|clock N";
+
+const DENY: &str = "deny AGENT DEVICE [PROTOCOL]";
+
+/// The lines behind these rows, in the modes that take them. Of the forms of a line the longest is
+/// first: its fault says which word may come next, where a shorter one says that none may.
+pub(crate) const LINES_BEHIND: [Form; 8] = forms![
+    "channel" [Field::Agent, Field::Bytes, Field::Either("one-way", "pending"),
+        Field::Word("pending"), Field::Share] false CHANNEL;
+    "channel" [Field::Agent, Field::Bytes, Field::Word("pending"), Field::Share] false CHANNEL;
+    "channel" [Field::Agent, Field::Bytes, Field::Word("one-way")] false CHANNEL;
+    "channel" [Field::Agent, Field::Bytes] false CHANNEL;
+    "keep" [Field::Either("domain", "clock"), Field::Numbered(Kind::Domains)] false KEEP;
+    "keep" [Field::Either("clock", "domain"), Field::Numbered(Kind::Clocks)] false KEEP;
+    "deny" [Field::Agent, Field::Numbered(Kind::Devices), Field::Protocol] false DENY;
+    "deny" [Field::Agent, Field::Numbered(Kind::Devices)] false DENY;
 ];
 
 /// The lines of a script on one thread.
@@ -89,9 +105,9 @@ pub(crate) const ORDERS: [Form; 5] = forms![
 ];
 
 impl Form {
-    /// The first item that is wrong in a line that begins with the word of this form, of a board of
-    /// this many agents.
-    pub(crate) fn fault_in<'a>(&self, line: &'a [u8], agents: u32) -> Option<ItemFault<'a>> {
+    /// The first item that is wrong in a line that begins with the word of this form, on this board
+    /// or in a script of it.
+    pub(crate) fn fault_in<'a>(&self, line: &'a [u8], board: &[u8]) -> Option<ItemFault<'a>> {
         let mut items = Items::new(line);
         let mut number = 1u32;
         let fault = |number, item, wrong| Some(ItemFault {
@@ -108,7 +124,7 @@ impl Form {
             let Ok(item) = items.next_item() else {
                 return fault(number, b"", Wrong::Missing);
             };
-            if let Some(wrong) = field.wrong(item, agents) {
+            if let Some(wrong) = field.wrong(item, board) {
                 return fault(number, item, wrong);
             }
         }

@@ -3,7 +3,7 @@
 use crate::explanation::Explanation;
 use crate::plan_fault::{Kind, PlanFault};
 use crate::rates_fault::RatesFault;
-use crate::rows::Rows;
+use crate::rows::{Rows, count_of};
 use crate::slip::{Slip, slip_of_other_bytes};
 use crate::text::{behind_first, first_word};
 use crate::what::What;
@@ -39,17 +39,6 @@ fn slip_of(fault: PlanFault<'_>) -> Option<Slip> {
         PlanFault::Name(name) => slip_of_other_bytes(name),
         _ => None,
     }
-}
-
-/// How many rows of a kind a board has.
-fn count_of(board: &[u8], kind: Kind) -> u32 {
-    let mut count = 0u32;
-    for row in Rows::of_board(board) {
-        if first_word(row.text) == kind.word() {
-            count = count.saturating_add(1);
-        }
-    }
-    count
 }
 
 fn count_fault(board: &[u8]) -> Option<Found<'_>> {

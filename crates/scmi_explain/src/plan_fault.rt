@@ -16,11 +16,16 @@ pub enum Kind {
 impl Kind {
     /// The first word of its lines.
     pub(crate) fn word(self) -> &'static [u8] {
+        self.singular().as_bytes()
+    }
+
+    /// What one of them is called.
+    pub(crate) fn singular(self) -> &'static str {
         match self {
-            Kind::Agents => b"agent",
-            Kind::Domains => b"domain",
-            Kind::Clocks => b"clock",
-            Kind::Devices => b"device",
+            Kind::Agents => "agent",
+            Kind::Domains => "domain",
+            Kind::Clocks => "clock",
+            Kind::Devices => "device",
         }
     }
 
@@ -105,11 +110,19 @@ fn fmt_holds<W: fmt::Write>(
     number: u8,
     count: u32,
 ) -> fmt::Result {
-    let word = match kind {
-        Kind::Clocks => "clock",
-        _ => "domain",
-    };
-    write!(f, "device {device} holds {word} {number}; the board has ")?;
+    let word = kind.singular();
+    write!(f, "device {device} holds {word} {number}; ")?;
+    fmt_count(f, kind, count)
+}
+
+/// How many of a kind the board has, which are numbered from 0.
+pub(crate) fn fmt_count<W: fmt::Write>(
+    f: &mut fmt::Formatter<W>,
+    kind: Kind,
+    count: u32,
+) -> fmt::Result {
+    let word = kind.singular();
+    f.write_str("the board has ")?;
     match count {
         0 => write!(f, "no {word}"),
         1 => write!(f, "1 {word}, numbered 0"),

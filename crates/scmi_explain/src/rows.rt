@@ -2,6 +2,8 @@
 ghost use Rattle.std.specs.Prelude.{length};
 ghost use Rattle.std.specs.Iterator.{at_most};
 
+use crate::plan_fault::Kind;
+use crate::text::first_word;
 use scmi_board::{Lines, TextLine};
 
 /// The lines that are left of an input after its first one, but for comments and empty ones: all,
@@ -42,4 +44,15 @@ impl<'a> Iterator for Rows<'a> {
         }
         Some(row)
     }
+}
+
+/// How many rows of a kind a board has, which follows the first line.
+pub(crate) fn count_of(board: &[u8], kind: Kind) -> u32 {
+    let mut count = 0u32;
+    for row in Rows::of_board(board) {
+        if first_word(row.text) == kind.word() {
+            count = count.saturating_add(1);
+        }
+    }
+    count
 }

@@ -6,10 +6,9 @@ use crate::fit::{Fit, begins_as, fit_of, fits_well};
 use crate::forms::{Form, HARDWARE_STEPS, HEADINGS, ORDERS, ROWS, STEPS};
 use crate::rows::Rows;
 use crate::slip::{Slip, slip_of_bytes, slip_of_other_bytes};
-use crate::text::{behind_first, first_line, first_word, line_at};
+use crate::text::{behind_first, first_line, first_word, line_at, second_number};
 use crate::what::What;
 use crate::wrong::Wrong;
-use scmi_board::Items;
 use std::alloc::Global;
 
 /// The scripts that a mode has.
@@ -33,14 +32,14 @@ impl Script {
         }
     }
 
-    /// How a line fits the forms of such a script, of a board of this many agents.
-    fn fits<'a>(self, line: &'a [u8], agents: u32) -> Fit<'a> {
+    /// How a line fits the forms of such a script, which follows this board.
+    fn fits<'a>(self, line: &'a [u8], board: &[u8]) -> Fit<'a> {
         match self {
-            Script::Steps => fit_of(&STEPS, line, agents),
-            Script::Orders => fit_of(&ORDERS, line, agents),
-            Script::Hardware => match fit_of(&STEPS, line, agents) {
+            Script::Steps => fit_of(&STEPS, line, board),
+            Script::Orders => fit_of(&ORDERS, line, board),
+            Script::Hardware => match fit_of(&STEPS, line, board) {
                 Fit::Well => Fit::Well,
-                plain => match fit_of(&HARDWARE_STEPS, line, agents) {
+                plain => match fit_of(&HARDWARE_STEPS, line, board) {
                     Fit::Unknown => plain,
                     found => found,
                 },
@@ -78,10 +77,10 @@ pub(crate) fn script_cause(alloc: Global, input: &[u8], number: u32) -> (What<'_
     if let Some(slip) = slip_of_bytes(line) {
         return (no_step, Some(slip));
     }
-    let agents = agents_of(input);
-    match script.fits(line, agents) {
+    let board = behind_first(input);
+    match script.fits(line, board) {
         Fit::Until(fault) => {
-            let slip = slip_of_items(script, line, agents, fault.wrong);
+            let slip = slip_of_items(script, line, board, fault.wrong);
             (What::Item(fault), slip.or(slip_of_other_bytes(line)))
         }
         Fit::Unknown => (no_step, slip_of_unknown(alloc, script, line)),
@@ -91,7 +90,7 @@ pub(crate) fn script_cause(alloc: Global, input: &[u8], number: u32) -> (What<'_
 
 /// The slip of a line with an item that is not a number, or too few or too many for these scripts: it
 /// may be one of other modes.
-fn slip_of_items(script: Script, line: &[u8], agents: u32, wrong: Wrong) -> Option<Slip> {
+fn slip_of_items(script: Script, line: &[u8], board: &[u8], wrong: Wrong) -> Option<Slip> {
     match wrong {
         Wrong::Number(fault) if script == Script::Steps && fault.is_form() => {
             return Some(Slip::Names);
@@ -100,7 +99,7 @@ fn slip_of_items(script: Script, line: &[u8], agents: u32, wrong: Wrong) -> Opti
         _ => return None,
     }
     for (other, forms, modes) in OTHERS {
-        if other != script && fits_well(forms, line, agents) {
+        if other != script && fits_well(forms, line, board) {
             return Some(Slip::OtherMode(modes));
         }
     }
@@ -120,24 +119,13 @@ fn slip_of_unknown(alloc: Global, script: Script, line: &[u8]) -> Option<Slip> {
     slip_of_word(alloc, script.words(), line)
 }
 
-/// How many agents the board has.
-fn agents_of(input: &[u8]) -> u32 {
-    let mut agents = 0u32;
-    for row in Rows::of_board(behind_first(input)) {
-        if first_word(row.text) == b"agent".as_slice() {
-            agents = agents.saturating_add(1);
-        }
-    }
-    agents
-}
-
 /// What is wrong with the line of a number that has a form of an agent's script.
 fn order_fault<'a>(input: &'a [u8], line: &'a [u8], number: u32) -> Option<What<'a>> {
     if first_word(line) != b"script".as_slice() {
         return Some(What::NoScript(line));
     }
     for begun in Rows::all(behind_first(input)) {
-        if begun.number < number && begins_script_of(begun.text, agent_of(line)) {
+        if begun.number < number && begins_script_of(begun.text, second_number(line)) {
             return Some(What::SecondScript(begun.number));
         }
     }
@@ -145,12 +133,5 @@ fn order_fault<'a>(input: &'a [u8], line: &'a [u8], number: u32) -> Option<What<
 }
 
 fn begins_script_of(line: &[u8], agent: Option<u32>) -> bool {
-    first_word(line) == b"script".as_slice() && agent_of(line) == agent
-}
-
-/// The agent of a line `script A`.
-fn agent_of(line: &[u8]) -> Option<u32> {
-    let mut items = Items::new(line);
-    let _ = items.next_item().ok()?;
-    items.next_word().ok()
+    first_word(line) == b"script".as_slice() && second_number(line) == agent
 }

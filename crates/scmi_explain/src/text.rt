@@ -2,6 +2,8 @@
 ghost use Rattle.std.specs.Prelude.{◌≡◌};
 ghost use Rattle.scmi_io.specs.Lines.{after_line, first_line};
 
+use scmi_board::Items;
+
 /// The first line, without its line feed.
 pub(crate) fn first_line(input: &[u8]) -> &[u8] {
     split_first(input).0
@@ -30,6 +32,13 @@ pub(crate) fn first_word(line: &[u8]) -> &[u8] {
         return item;
     }
     line
+}
+
+/// The number that is the second item of a line.
+pub(crate) fn second_number(line: &[u8]) -> Option<u32> {
+    let mut items = Items::new(line);
+    let _ = items.next_item().ok()?;
+    items.next_word().ok()
 }
 
 /// The first line, without its line feed, and what follows it: all and nothing if no line feed is in

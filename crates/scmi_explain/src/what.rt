@@ -21,10 +21,10 @@ pub enum What<'a> {
     NoHeading(&'a [u8]),
     /// This line is not a row of a board, which begin with these words.
     NoRow(&'a [u8], FirstWords),
-    /// It is no line for the channels of an agent that the board has.
-    NoChannel,
-    /// It comes after a line for channels.
-    AfterChannels,
+    /// A line before it is for the channels of the same agent, or of a later one.
+    ChannelOrder,
+    /// It is a row after a line that belongs behind all rows, or such a line before a row.
+    RowBehind,
     /// The last line of the input comes before the line `end`.
     NoEnd,
     /// This line is not one of a script, whose lines begin with these words.
@@ -150,11 +150,10 @@ impl What<'_> {
         match self {
             What::NoBoard =>
                 "the board is missing: after the mode comes \"board VENDOR SUBVENDOR VERSION TRUSTED\", and its lines",
-            What::NoChannel => {
-                "a line for channels is channel AGENT BYTES or channel AGENT BYTES one-way, after all other lines and once for an agent; BYTES is 60 to 284, in steps of 4"
-            }
-            What::AfterChannels =>
-                "lines for channels come after all other lines, right before end",
+            What::ChannelOrder =>
+                "lines for channels come in rising order of agents, once for an agent",
+            What::RowBehind =>
+                "lines channel, keep and deny come after all other lines, right before end",
             What::NoEnd => "the last line of the board, end, is missing",
             What::NoArea =>
                 "the area is missing: after the mode comes a line of 568 hexadecimal digits",

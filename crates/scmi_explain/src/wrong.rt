@@ -1,6 +1,7 @@
 //! What is wrong with an item.
 
 use crate::number_fault::NumberFault;
+use crate::plan_fault::{Kind, fmt_count};
 use std::fmt;
 
 /// What is wrong with an item of a line.
@@ -18,6 +19,14 @@ pub enum Wrong {
     AgentZero,
     /// It is the number of no agent of a board that has this many.
     NoAgent(u32),
+    /// It is the number of none of a kind, of which the board has this many.
+    NoneOf(Kind, u32),
+    /// No area of a channel has this size.
+    NotBytes,
+    /// Not so many pending sets may be an agent's.
+    NotShare,
+    /// There are no permissions for this protocol.
+    NotProtocol,
     /// It is no UTF-8.
     NotUtf8,
     /// It is neither `on` nor `off`.
@@ -32,6 +41,8 @@ pub enum Wrong {
     PlaceTwice,
     /// It is not this word.
     NotWord(&'static str),
+    /// It is neither of these words.
+    NotEither(&'static str, &'static str),
 }
 
 impl fmt::Display for Wrong {
@@ -41,7 +52,12 @@ impl fmt::Display for Wrong {
             Wrong::NotRates(fault) => write!(f, "has a rate that {}", fault.text()),
             Wrong::NoAgent(1) => f.write_str("is not an agent: the board has 1 agent"),
             Wrong::NoAgent(agents) => write!(f, "is not an agent: the board has {agents} agents"),
+            Wrong::NoneOf(kind, count) => {
+                write!(f, "is not a {}: ", kind.singular())?;
+                fmt_count(f, *kind, *count)
+            }
             Wrong::NotWord(word) => write!(f, "is not \"{word}\""),
+            Wrong::NotEither(word, other) => write!(f, "is not \"{word}\" or \"{other}\""),
             plain => f.write_str(plain.text()),
         }
     }
@@ -55,6 +71,9 @@ impl Wrong {
             Wrong::Extra => "is one too many",
             Wrong::TooManyWords => "is a 65th payload word; a message has at most 64",
             Wrong::AgentZero => "is not an agent: they are numbered from 1",
+            Wrong::NotBytes => "is not from 60 to 284, in steps of 4",
+            Wrong::NotShare => "is not from 1 to 8",
+            Wrong::NotProtocol => "is not 0x11 (power domains) or 0x14 (clocks)",
             Wrong::NotUtf8 => "is not UTF-8",
             Wrong::NotSwitch => "is not \"on\" or \"off\"",
             Wrong::NotKinds => "is not \"-\" or some of s, a and n, each at most once",

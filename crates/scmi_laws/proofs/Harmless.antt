@@ -11,8 +11,8 @@ use Rattle.scmi_codec.specs.declared.power_command.PowerCommand.TheVariants as p
 use Rattle.scmi_codec.specs.declared.clock_command.ClockCommand.TheVariants as clock
 use Rattle.scmi_plan.specs.Board.{Board}
 use Rattle.scmi_base.specs.Permission.{is_scope, protocol_named}
-use Rattle.scmi_base.specs.declared.scope.Scope.{Scope}
-use Rattle.scmi_base.specs.declared.scope.Scope.TheVariants as scope
+use Rattle.scmi_plan.specs.declared.scope.Scope.{Scope}
+use Rattle.scmi_plan.specs.declared.scope.Scope.TheVariants as scope
 use Rattle.scmi_clock.specs.ClockTable.{set_rate}
 use Rattle.scmi_clock.specs.SetFlags.{is_asynchronous, is_response_wanted}
 use Rattle.scmi_core.specs.Deed.{Success}

@@ -15,7 +15,7 @@ use Rattle.scmi_codec.specs.declared.command.Command as codec
 use Rattle.scmi_codec.specs.declared.frame.Frame.{Frame}
 use Rattle.scmi_codec.specs.declared.frame.Frame.TheVariants.{Good, Malformed}
 use Rattle.scmi_plan.specs.Board.{Board}
-use Rattle.scmi_base.specs.declared.scope.Scope.{Scope}
+use Rattle.scmi_plan.specs.declared.scope.Scope.{Scope}
 use Rattle.scmi_core.specs.declared.event.Event.{Event}
 use Rattle.scmi_core.specs.declared.event.Event.TheVariants.{Command, Advance, Sent, CommandFailed, AdvanceFailed, Restarted}
 use Rattle.scmi_core.specs.declared.pending_set.PendingSet.{PendingSet}
@@ -85,9 +85,9 @@ module _ (board : Board) (b : ℕ) (s : Situation)
   no-set = unsaid board (acceptance board) (λ it nothing. nothing.set) success quiet.nothing
 
   no-permission : (d : ℕ) (scope : Scope)
-      → option_and_then (λ it. permission_in b d scope it.command) success ≡ None
+      → option_and_then (λ it. permission_in board b d scope it.command) success ≡ None
   no-permission d scope =
-      unsaid board (λ it. permission_in b d scope it.command)
+      unsaid board (λ it. permission_in board b d scope it.command)
       (λ it nothing. nothing.permission b d scope) success quiet.nothing
 
   no-request : (d : ℕ) → option_and_then (subscription b d) success ≡ None

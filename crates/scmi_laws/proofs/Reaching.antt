@@ -21,7 +21,7 @@ use Rattle.scmi_codec.specs.declared.frame.Frame.{Frame}
 use Rattle.scmi_codec.specs.declared.frame.Frame.TheVariants.{Good, Malformed}
 use Rattle.scmi_plan.specs.Board.{Board}
 use Rattle.scmi_base.specs.BaseReply.{base_reply, no_agent}
-use Rattle.scmi_base.specs.declared.scope.Scope.{Scope}
+use Rattle.scmi_plan.specs.declared.scope.Scope.{Scope}
 use Rattle.scmi_power.specs.PowerTable.{set_later}
 use Rattle.scmi_clock.specs.ClockTable.{rate_later}
 use Rattle.scmi_core.specs.declared.event.Event.{Event}
@@ -58,7 +58,7 @@ record IsOwnSuccess (board : Board) (h : List Event) (a : ℕ)
       → (change.causer ≡ a) × (may_after board h a change.thing ≡ true)
   pub set : (p : PendingSet) → option_and_then (acceptance board) success ≡ Some p → p.agent ≡ a
   pub permission : a ≢ board.trusted → (b d : ℕ) (scope : Scope)
-      → option_and_then (λ it. permission_in b d scope it.command) success ≡ None
+      → option_and_then (λ it. permission_in board b d scope it.command) success ≡ None
   pub subscription : a ≢ board.trusted → (b d : ℕ) → a ≢ b
       → option_and_then (subscription b d) success ≡ None
 
@@ -160,7 +160,7 @@ module _ (board : Board) (h : List Event) (a : ℕ) (header : HeaderFields) wher
     change = λ change is. change-own c change ok is;
     set = λ p is. accepted-own c p is;
     permission = λ other b d scope.
-        is_none (permission_in b d scope c) (λ some. other (trusted b d scope some));
+        is_none (permission_in board b d scope c) (λ some. other (trusted b d scope some));
     subscription = λ other b d differ. subscription-silent b d other differ c ok;
   }
 
@@ -270,7 +270,7 @@ module _ (board : Board) (h : List Event) (a b : ℕ) (s : Situation) (differ : 
   left = s.pending ++ option_to_list set
 
   abbrev permitted : ℕ → Scope → Option Bool
-  permitted d scope = option_and_then (λ it. permission_in b d scope it.command) o
+  permitted d scope = option_and_then (λ it. permission_in board b d scope it.command) o
 
   abbrev moved : Situation
   moved =

@@ -21,7 +21,7 @@ use Rattle.scmi_core.specs.Situation.{Situation, clock_view, power_view}
 use Rattle.scmi_core.specs.Value.{Enabled, Rate, State}
 use Rattle.scmi_laws.specs.Others.{AreSeenAlike, SeesTheSame, situation_of}
 
-module _ (board : Board) (b : ℕ) (s u : Situation) (alike : AreSeenAlike b s u) where
+module _ (board : Board) (b : ℕ) (s u : Situation) (alike : AreSeenAlike board b s u) where
   power-same : power_view board b s ≡ power_view board b u
   power-same = λ i.
       record {

@@ -3,7 +3,7 @@ use Rattle.std.specs.Prelude.{◌≡◌, ◌≢◌, ◌⊎◌, ℕ, true, List, 
 use Rattle.std.specs.Option.{option_and_then, option_to_list}
 use Rattle.scmi_plan.specs.Board.{Board}
 use Rattle.scmi_plan.specs.declared.resource.Resource.{Resource}
-use Rattle.scmi_base.specs.declared.scope.Scope.{Scope}
+use Rattle.scmi_plan.specs.declared.scope.Scope.{Scope}
 use Rattle.scmi_core.specs.declared.event.Event.{Event}
 use Rattle.scmi_core.specs.declared.pending_set.PendingSet.{PendingSet}
 use Rattle.scmi_core.specs.History.{deeds}
@@ -18,19 +18,20 @@ abbrev pub situation_of : Board → ℕ → List Event → Situation
 situation_of board b h = situation_after board b (deeds board h)
 
 -- two situations of agent b are alike in all that its answers depend on, besides the board
-pub record AreSeenAlike (b : ℕ) (s u : Situation) : Type 0 where
+pub record AreSeenAlike (board : Board) (b : ℕ) (s u : Situation) : Type 0 where
   -- the value of each domain and clock
   pub value : (x : Thing) → s.value x ≡ u.value x
   -- what the agent may do
   pub allowed : (device : ℕ) (scope : Scope) → s.allowed device scope ≡ u.allowed device scope
   -- whether a domain or clock has a pending set, whoever asked for it
   pub busy : (r : Resource) → has_set_of r s.pending ≡ has_set_of r u.pending
-  -- whether a set of its own has room, by the 8 of all agents and the 16 of its own with its outbox
-  pub room : has_room b s ≡ has_room b u
+  -- whether a set of its own has room, by the 8 of all agents, its share of them, and the 16 of its
+  -- own with its outbox
+  pub room : has_room board b s ≡ has_room board b u
 
 -- agent b sees the same after two histories
 abbrev pub SeesTheSame : Board → ℕ → (h k : List Event) → Type 0
-SeesTheSame board b h k = AreSeenAlike b (situation_of board b h) (situation_of board b k)
+SeesTheSame board b h k = AreSeenAlike board b (situation_of board b h) (situation_of board b k)
 
 -- an agent that asked for notifications of domain d is notified of the new state that agent a gave
 -- it

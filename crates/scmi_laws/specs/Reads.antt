@@ -11,7 +11,7 @@ use Rattle.scmi_codec.specs.declared.base_command.BaseCommand.TheVariants as bas
 use Rattle.scmi_codec.specs.declared.power_command.PowerCommand.TheVariants as power
 use Rattle.scmi_codec.specs.declared.clock_command.ClockCommand.TheVariants as clock
 use Rattle.scmi_plan.specs.Board.{Board}
-use Rattle.scmi_base.specs.declared.scope.Scope.{Scope}
+use Rattle.scmi_plan.specs.declared.scope.Scope.{Scope}
 use Rattle.scmi_core.specs.declared.event.Event.{Event}
 use Rattle.scmi_core.specs.Agents.{frame_from}
 use Rattle.scmi_core.specs.Deed.{Success, flat_map_with_prefix}
@@ -39,7 +39,7 @@ is_read _ = true
 pub record DoesNothing (board : Board) (s : Success) : Type 0 where
   pub change : change_now board s ≡ None
   pub set : acceptance board s ≡ None
-  pub permission : (a d : ℕ) (scope : Scope) → permission_in a d scope s.command ≡ None
+  pub permission : (a d : ℕ) (scope : Scope) → permission_in board a d scope s.command ≡ None
   pub subscription : (a d : ℕ) → subscription a d s ≡ None
 
 -- whether a message was read as a command that only reads

@@ -3,7 +3,7 @@ use Rattle.std.proofs.Common.{◌≡◌, ℕ, ◌<◌, Bool, true, false, List, 
 use Rattle.std.specs.List.{join_with_byte, slice_split}
 use Rattle.std.proofs.lemmas.List.{map-append}
 use Rattle.std.proofs.lemmas.List.Splits.{join_with_byte-slice_split}
-use Rattle.scmi_board.specs.Channels.{Described, described_left}
+use Rattle.scmi_board.specs.BoardLines.{Described, described_left}
 use Rattle.scmi_board.specs.Lines.{Line, LinesView}
 use Rattle.scmi_io.specs.Lines.{is_line_feed}
 use Rattle.scmi_plan.specs.Board.{Board}

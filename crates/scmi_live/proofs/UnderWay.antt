@@ -9,10 +9,12 @@ use Rattle.scmi_io.specs.Lines.{is_line_feed, first_line, after_line, has_line_f
 use Rattle.scmi_link.specs.View.{CallerView}
 use Rattle.scmi_link.specs.declared.closing.Closing.{Closing}
 use Rattle.scmi_link.specs.declared.close_error.CloseError.{CloseError}
-use Rattle.scmi_board.specs.Channels.{Described, with_channels}
-use Rattle.scmi_board.specs.ValidBoard.{with_its_channels}
-use Rattle.scmi_board.specs.declared.channel_line.ChannelLine.{ChannelLine}
-use Rattle.scmi_plan.specs.Board.{Board, with_channel}
+use Rattle.scmi_board.specs.BoardLines.{Described, with_board_line}
+use Rattle.scmi_board.specs.BoardLines as board_lines
+use Rattle.scmi_board.specs.ValidBoard.{with_its_lines}
+use Rattle.scmi_board.specs.declared.board_line.BoardLine.{BoardLine}
+use Rattle.scmi_board.specs.declared.board_line.BoardLine.TheVariants as said_line
+use Rattle.scmi_plan.specs.Board.{Board}
 use Rattle.scmi_session.specs.Run.{AllSteps, IsGathered, IsNewSession}
 use Rattle.scmi_session.specs.SessionView.{SessionView}
 use Rattle.scmi_text.specs.declared.step.Step.{Step}
@@ -96,12 +98,17 @@ module _ (full : Bool) (Shows : CallerView → Result Closing CloseError → Typ
   IsUnderWay said (Some input) None live old now = ⊥
   IsUnderWay said (Some input) (Some rest) live old now = IsOnItsWay said input rest live old now
 
-  -- channels leave a board's agents as they are
-  agents_kept : (board : Board) (lines : List ChannelLine) → (with_channels board lines).agents ≡ board.agents
-  agents_kept board [] = refl
-  agents_kept board (line ∷ lines) = agents_kept (with_channel board line.agent line.channel) lines
+  -- what lines say leaves a board's agents as they are
+  line_agents : (board : Board) (line : BoardLine) → (with_board_line board line).agents ≡ board.agents
+  line_agents board (said_line.Channel line) = refl
+  line_agents board (said_line.Keep resource) = refl
+  line_agents board (said_line.Deny line) = refl
 
-  begun : (said : Described) (b : Board) (agents : ℕ) (session : SessionView) (input : List ℕ) (old end : Option (List Heard)) → b ≡ said.0 → agents ≡ length said.0.agents → IsNewSession (with_its_channels said) session
+  agents_kept : (board : Board) (lines : List BoardLine) → (board_lines.with_lines board lines).agents ≡ board.agents
+  agents_kept board [] = refl
+  agents_kept board (line ∷ lines) = agents_kept (with_board_line board line) lines ∙ line_agents board line
+
+  begun : (said : Described) (b : Board) (agents : ℕ) (session : SessionView) (input : List ℕ) (old end : Option (List Heard)) → b ≡ said.0 → agents ≡ length said.0.agents → IsNewSession (with_its_lines said) session
       → IsRest (steps_of b agents (slice_split is_line_feed input)) session old end → IsSession full Shows said input old end
   begun said b agents session input old end b_is agents_is new rest =
       let texts = slice_split is_line_feed input in
@@ -115,7 +122,7 @@ module _ (full : Bool) (Shows : CallerView → Result Closing CloseError → Typ
         heard = all.heard;
       }
 
-  pub at_begin : (said : Described) (plan : Board) (whole : Option (List ℕ)) (live : LiveView) (old : Option (List Heard)) → plan ≡ with_its_channels said → live.board ≡ said.0 → live.agents ≡ length plan.agents → IsNewSession plan live.session
+  pub at_begin : (said : Described) (plan : Board) (whole : Option (List ℕ)) (live : LiveView) (old : Option (List Heard)) → plan ≡ with_its_lines said → live.board ≡ said.0 → live.agents ≡ length plan.agents → IsNewSession plan live.session
       → IsUnderWay said whole whole live old old
   at_begin said plan None live old plan_is board_is agents_is new = tt
   at_begin said plan (Some input) live old plan_is board_is agents_is new = λ end rest.

@@ -3,7 +3,7 @@ use Rattle.std.specs.Prelude.{ℕ, ◌==◌, Bool, if◌then◌else◌, List, []
 use Rattle.std.specs.List.{join_with_byte, slice_split}
 use Rattle.std.specs.Str.{bytes_eq}
 use Rattle.scmi_io.specs.Lines.{is_line_feed}
-use Rattle.scmi_board.specs.Channels.{described_left}
+use Rattle.scmi_board.specs.BoardLines.{described_left}
 use Rattle.scmi_board.specs.Items.{items_of}
 use Rattle.scmi_board.specs.declared.words.TheConstants.{CLOCK}
 use Rattle.scmi_live.specs.Rates.{rate_in_unit}

@@ -5,8 +5,8 @@ use Rattle.scmi_link.specs.View.{CallerView}
 use Rattle.scmi_link.specs.declared.closing.Closing.{Closing}
 use Rattle.scmi_link.specs.declared.close_error.CloseError.{CloseError}
 use Rattle.scmi_io.specs.Lines.{is_line_feed}
-use Rattle.scmi_board.specs.Channels.{Described}
-use Rattle.scmi_board.specs.ValidBoard.{with_its_channels}
+use Rattle.scmi_board.specs.BoardLines.{Described}
+use Rattle.scmi_board.specs.ValidBoard.{with_its_lines}
 use Rattle.scmi_plan.specs.Board.{Board}
 use Rattle.scmi_session.specs.Run.{IsGathered, Runs}
 use Rattle.scmi_session.specs.SessionView.{SessionView}
@@ -76,6 +76,6 @@ module _ (full : Bool) (Shows : CallerView → Result Closing CloseError → Typ
   pub record IsSession (said : Described) (input : List ℕ) (old new : Option (List Heard)) : Type 0 where
     pub lines : List StepLine
     pub last : SessionView
-    pub made : Runs full Shows (with_its_channels said) (steps_of_input said.0 input) lines last
+    pub made : Runs full Shows (with_its_lines said) (steps_of_input said.0 input) lines last
     pub gathered : IsGathered last
     pub heard : Gives old new (with_lines (steps_of_input said.0 input) lines ++ at_end last)

@@ -1,7 +1,7 @@
 -- Scripts with numbers in place of names.
 use Rattle.std.specs.Prelude.{◌≡◌, ℕ, List, [], ◌∷◌, ◌++◌, length, Option, Some, None, Result, Ok, Err}
 use Rattle.std.specs.List.{join_with_byte, slice_split}
-use Rattle.scmi_board.specs.Channels.{Described, described_left}
+use Rattle.scmi_board.specs.BoardLines.{Described, described_left}
 use Rattle.scmi_board.specs.Lines.{Line}
 use Rattle.scmi_io.specs.Lines.{is_line_feed}
 use Rattle.scmi_plan.specs.Board.{Board}

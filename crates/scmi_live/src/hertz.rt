@@ -5,7 +5,7 @@ ghost use Rattle.scmi_live.specs.Hertz.{clock_line, in_hertz, is_board, item_in_
 use crate::items::items_of;
 use crate::pieces::{add_byte, copy_of};
 use crate::rate::rate_in_unit;
-use scmi_board::{CLOCK, LineError, Lines, TextError, read_board_with_channels};
+use scmi_board::{CLOCK, LineError, Lines, TextError, read_board_with_lines};
 use std::alloc::{AllocError, Global};
 
 /// The text of a board with its rates in Hz: in a line `clock` each rate with a unit, behind the name
@@ -16,7 +16,7 @@ pub fn in_hertz(alloc: Global, text: &[u8]) -> Result<Vec<u8>, AllocError>
     ensures hertz { IfOk result (λ made. made.items ≡ in_hertz text.now) }
 {
     let mut lines = Lines::new(text);
-    match read_board_with_channels(alloc, &mut lines) {
+    match read_board_with_lines(alloc, &mut lines) {
         Ok(_) => copy_of(alloc, text),
         Err(TextError::Memory) => Err(AllocError),
         Err(_) => lines_in_hertz(alloc, text),

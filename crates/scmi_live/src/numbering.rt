@@ -7,7 +7,7 @@ ghost use Rattle.scmi_live.specs.Numbered.{AddsNumbered, HasNoNames, IsInNumbers
 use crate::meant::{hardware_step, step_by_names};
 use crate::pieces::{add_byte, copy_of};
 use crate::plain_step::PlainStep;
-use scmi_board::{Lines, TextError, read_board_with_channels};
+use scmi_board::{Lines, TextError, read_board_with_lines};
 use scmi_plan::RawPlan;
 use scmi_text::Step;
 use std::alloc::{AllocError, Global};
@@ -21,7 +21,7 @@ pub fn numbered(alloc: Global, text: &[u8]) -> Result<Vec<u8>, AllocError>
     ensures numbers { IfOk result (λ made. IsInNumbers text.now made.items) }
 {
     let mut lines = Lines::new(text);
-    match read_board_with_channels(alloc, &mut lines) {
+    match read_board_with_lines(alloc, &mut lines) {
         Ok(said) => match said.board.agent_count() {
             Ok(agents) => numbered_lines(alloc, &said.board, agents, text),
             // A board of 2^32 agents.

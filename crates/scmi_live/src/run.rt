@@ -1,15 +1,15 @@
 //! A session from its input to its end.
 ghost use Rattle.std.specs.Prelude.{◌≡◌, OnOk, IfSome};
 ghost use Rattle.scmi_io.specs.Reads.{StopsWith};
-ghost use Rattle.scmi_board.specs.Channels.{described};
-ghost use Rattle.scmi_board.specs.ValidBoard.{with_its_channels};
+ghost use Rattle.scmi_board.specs.BoardLines.{described};
+ghost use Rattle.scmi_board.specs.ValidBoard.{with_its_lines};
 ghost use Rattle.scmi_ends.specs.Shut.{ShowsClose};
 ghost use Rattle.scmi_live.specs.Live.{IsSession};
 
 use crate::listener::Listener;
 use crate::live::Live;
 use crate::live_error::LiveError;
-use scmi_board::BoardWithChannels;
+use scmi_board::BoardWithLines;
 use scmi_io::{CountedRead, Input};
 use scmi_link::Channel;
 use scmi_plan::Plan;
@@ -24,12 +24,12 @@ use std::alloc::Global;
 /// memory, and what the listener gives: the lines before are then answered.
 pub fn run_live<C: Channel, R: CountedRead + Drop, L: Listener>(
     alloc: Global,
-    board: &BoardWithChannels,
+    board: &BoardWithLines,
     plan: Plan,
     input: &mut Input<R>,
     listener: &mut L,
 ) -> Result<(), LiveError>
-    requires { plan ≡ with_its_channels (described board.now) }
+    requires { plan ≡ with_its_lines (described board.now) }
     ensures session { OnOk result (IfSome input.old.left (λ bytes.
         IsSession C.FULL (ShowsClose C.caller_view C.close_shows) (described board.now) bytes
         (L.heard listener.old) (L.heard listener.new))) }

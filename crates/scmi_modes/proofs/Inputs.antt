@@ -2,20 +2,21 @@
 use Rattle.std.proofs.Common.{ℕ, ◌^◌, ◌<◌, ◌≤◌, ◌≡◌, ◌≢◌, nat_le, Bool, true, false, cond, List, [], ◌∷◌, length, Option, Some, None, IfSome, IfErr, Result, Ok, Err, refl, sym, ap, ◌∙◌, ◌⊎◌, inl, inr, subst, arith}
 use Rattle.std.proofs.lemmas.Bool.Decides.{nat_tests}
 use Rattle.scmi_board.specs.BoardText.{FailsBoard}
-use Rattle.scmi_board.specs.Channels.{Described, with_channels}
+use Rattle.scmi_board.specs.BoardLines.{Described, with_board_line, with_lines}
 use Rattle.scmi_board.specs.Lines.{Line, LinesView}
-use Rattle.scmi_board.specs.declared.channel_line.ChannelLine.{ChannelLine}
+use Rattle.scmi_board.specs.declared.board_line.BoardLine.{BoardLine}
+use Rattle.scmi_board.specs.declared.board_line.BoardLine.TheVariants as said_line
 use Rattle.scmi_board.specs.declared.text_error.TextError.{TextError}
 use Rattle.scmi_board.specs.declared.text_error.TextError.TheVariants as text
 use Rattle.scmi_io.specs.declared.input.TheConstants.{INPUT_BYTES}
 use Rattle.scmi_io.specs.declared.input_error.InputError.{InputError}
 use Rattle.scmi_io.specs.declared.input_error.InputError.TheVariants as input
-use Rattle.scmi_plan.specs.Board.{Board, with_channel}
+use Rattle.scmi_plan.specs.Board.{Board}
 use Rattle.scmi_plan.specs.PlanError.{first_fault, number}
 use Rattle.scmi_plan.specs.declared.plan_error.PlanError.{PlanError}
 use Rattle.scmi_plan.specs.declared.plan_error.PlanError.TheVariants as plan
 use Rattle.scmi_text.specs.TextLines.{FailsScript}
-use Rattle.scmi_modes.specs.Input.{FailsInput, IsFaultOf, IsFaultOrLimit, behind_mode, input_of, valid, with_scripts, without_channels}
+use Rattle.scmi_modes.specs.Input.{FailsInput, IsFaultOf, IsFaultOrLimit, behind_mode, input_of, valid, with_scripts, without_lines}
 use Rattle.scmi_modes.specs.RunError.{fault_of_input, fault_of_plan, fault_of_text, status_of}
 use Rattle.scmi_modes.specs.declared.run_error.RunError.{RunError}
 use Rattle.scmi_modes.specs.declared.run_error.RunError.TheVariants.{Mode, Size, Read, Area, Board as BoardFault, Script as ScriptFault, Plan as PlanFault, Limit, Memory, Write}
@@ -33,14 +34,19 @@ known_so (Some bytes) holds then = then bytes holds
 pub few_agents : (n m : ℕ) → (2 ^ 32 ≤ n → ⊥) → m ≡ n → m < 2 ^ 32
 few_agents n m not_many same = omega (arith, not_many, same)
 
--- channels leave a board's agents as they are
-pub agents_kept : (board : Board) (lines : List ChannelLine) → (with_channels board lines).agents ≡ board.agents
+-- what lines say leaves a board's agents as they are
+line_agents : (board : Board) (line : BoardLine) → (with_board_line board line).agents ≡ board.agents
+line_agents board (said_line.Channel line) = refl
+line_agents board (said_line.Keep resource) = refl
+line_agents board (said_line.Deny line) = refl
+
+pub agents_kept : (board : Board) (lines : List BoardLine) → (with_lines board lines).agents ≡ board.agents
 agents_kept board [] = refl
-agents_kept board (line ∷ lines) = agents_kept (with_channel board line.agent line.channel) lines
+agents_kept board (line ∷ lines) = agents_kept (with_board_line board line) lines ∙ line_agents board line
 
 -- a board without channels fails as its lines do
-pub plain_fails : (error : TextError) (there : Result (Board × List Line) ℕ) → FailsBoard error there → FailsBoard error (without_channels there)
-plain_fails (text.Board line) there is = ap without_channels is
+pub plain_fails : (error : TextError) (there : Result (Board × List Line) ℕ) → FailsBoard error there → FailsBoard error (without_lines there)
+plain_fails (text.Board line) there is = ap without_lines is
 plain_fails (text.Script line) there is = absurd is
 plain_fails text.Memory there is = tt
 
@@ -91,9 +97,9 @@ module _ {A : Type 0} (boards : LinesView → Result (Described × List Line) �
       script_fails (text.Script line) is = reads (Err line) is
       script_fails text.Memory is = tt
 
-      broken : (script : A) (rule : Option PlanError) → first_fault said.0 ≡ rule → valid said script ≡ elim rule [ None ↦ Ok (with_channels said.0 said.1, script) | Some rule ↦ Err (PlanFault (number rule)) ]
+      broken : (script : A) (rule : Option PlanError) → first_fault said.0 ≡ rule → valid said script ≡ elim rule [ None ↦ Ok (with_lines said.0 said.1, script) | Some rule ↦ Err (PlanFault (number rule)) ]
       unfolding valid
-      broken script rule is = ap (λ (o : Option PlanError). elim o as (λ o. Result (Board × A) RunError) [ None ↦ Ok (with_channels said.0 said.1, script) | Some rule ↦ Err (PlanFault (number rule)) ]) is
+      broken script rule is = ap (λ (o : Option PlanError). elim o as (λ o. Result (Board × A) RunError) [ None ↦ Ok (with_lines said.0 said.1, script) | Some rule ↦ Err (PlanFault (number rule)) ]) is
 
       breaks : (script : A) (rule : PlanError) → scripts (length said.0.agents) lines ≡ Ok script → first_fault said.0 ≡ Some rule → input_of boards scripts bytes ≡ Err (PlanFault (number rule))
       breaks script rule is first = reads (Ok script) is ∙ broken script (Some rule) first
@@ -108,7 +114,7 @@ module _ {A : Type 0} (boards : LinesView → Result (Described × List Line) �
       rule_fails script plan.Memory is first = tt
 
       -- a board that keeps every rule
-      pub stands : (script : A) → scripts (length said.0.agents) lines ≡ Ok script → first_fault said.0 ≡ None → input_of boards scripts bytes ≡ Ok (with_channels said.0 said.1, script)
+      pub stands : (script : A) → scripts (length said.0.agents) lines ≡ Ok script → first_fault said.0 ≡ None → input_of boards scripts bytes ≡ Ok (with_lines said.0 said.1, script)
       stands script is none = reads (Ok script) is ∙ broken script None none
 
 module _ {A : Type 0} (bytes : List ℕ) (there : Result A RunError) where

@@ -1,7 +1,7 @@
 -- What follows the first line of an input: a board and its scripts.
 use Rattle.std.specs.Prelude.{◌≡◌, ℕ, ◌^◌, ◌<◌, nat_le, ⊤, if◌then◌else◌, List, [], length, Some, None, Result, Ok, Err}
 use Rattle.scmi_board.specs.BoardText.{board_left}
-use Rattle.scmi_board.specs.Channels.{Described, described_left, with_channels}
+use Rattle.scmi_board.specs.BoardLines.{Described, described_left, with_lines}
 use Rattle.scmi_board.specs.Lines.{Line, LinesView}
 use Rattle.scmi_io.specs.declared.input.TheConstants.{INPUT_BYTES}
 use Rattle.scmi_plan.specs.Board.{Board}
@@ -20,18 +20,18 @@ abbrev pub behind_mode : List ℕ → LinesView
 behind_mode input = record { rest = input; number = 1 }
 
 -- a board whose text says nothing of channels, and the lines after it
-abbrev pub without_channels : Result (Board × List Line) ℕ → Result (Described × List Line) ℕ
-without_channels (Err line) = Err line
-without_channels (Ok found) = Ok ((found.0, []), found.1)
+abbrev pub without_lines : Result (Board × List Line) ℕ → Result (Described × List Line) ℕ
+without_lines (Err line) = Err line
+without_lines (Ok found) = Ok ((found.0, []), found.1)
 
 -- the board that the lines describe, and the lines after it
 abbrev pub plain_board : LinesView → Result (Described × List Line) ℕ
-plain_board lines = without_channels (board_left lines)
+plain_board lines = without_lines (board_left lines)
 
 module _ {A : Type 0} where
   -- a board, with the channels that its text gives, and what follows it, if it keeps every rule; else the first rule that it breaks
   unfoldable pub valid : Described → A → Result (Board × A) RunError
-  valid said script = elim (first_fault said.0) [ None ↦ Ok (with_channels said.0 said.1, script) | Some rule ↦ Err (PlanFault (number rule)) ]
+  valid said script = elim (first_fault said.0) [ None ↦ Ok (with_lines said.0 said.1, script) | Some rule ↦ Err (PlanFault (number rule)) ]
 
   -- a board with its scripts, as the lines say for its number of agents; else the first line that is part of no script. A board of 2 ^ 32 agents, which no input has, breaks rule 1 before its scripts are read
   unfoldable pub with_scripts : (ℕ → List Line → Result A ℕ) → Described → List Line → Result (Board × A) RunError

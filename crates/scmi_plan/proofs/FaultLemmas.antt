@@ -231,7 +231,7 @@ valid_but board each channels =
 
 -- whole channels are valid
 whole_channels : All IsChannel (replicate AGENTS whole_channel)
-whole_channels = All-replicate IsChannel AGENTS whole_channel (omega arith, omega arith)
+whole_channels = All-replicate IsChannel AGENTS whole_channel (omega arith, omega arith, omega arith, omega arith)
 
 -- a board that was written down breaks no rule if and only if it is valid
 pub valid : (raw : RawPlan) → (first_fault (asked_board raw) ≡ None) ↔ IsValid (asked_board raw)

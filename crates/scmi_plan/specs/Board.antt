@@ -1,16 +1,19 @@
 -- The board that a platform controller serves, and what a device holds.
-use Rattle.std.specs.Prelude.{ℕ, ◌≡◌, ◌<◌, ◌≤◌, ◌-◌, ◌==◌, ◌&&◌, nat_lt, Bool, false, List, [], length, get_or, set}
+use Rattle.std.specs.Prelude.{ℕ, ◌≡◌, ◌<◌, ◌≤◌, ◌-◌, ◌==◌, ◌&&◌, ◌*◌, ◌%◌, ◌^◌, nat_lt, Bool, false, List, [], length, get_or, set, replicate, bit_or}
 use Rattle.std.specs.Int.{bit_at}
 use Rattle.scmi_codec.specs.declared.payload.TheConstants.{PAYLOAD_WORDS}
 use Rattle.scmi_plan.specs.declared.agent_channel.AgentChannel.{AgentChannel}
 use Rattle.scmi_plan.specs.declared.agent_channel.TheConstants.{LEAST_CHANNEL_WORDS}
 use Rattle.scmi_plan.specs.declared.domain.Domain.{Domain}
 use Rattle.scmi_plan.specs.declared.clock.Clock.{Clock}
+use Rattle.scmi_plan.specs.declared.denied.Denied.{Denied}
 use Rattle.scmi_plan.specs.declared.device.Device.{Device}
-use Rattle.scmi_plan.specs.declared.limits.TheConstants.{DOMAINS, CLOCKS, DEVICES}
+use Rattle.scmi_plan.specs.declared.limits.TheConstants.{AGENTS, DOMAINS, CLOCKS, DEVICES, PENDING_SETS}
 use Rattle.scmi_plan.specs.Rates as rates
 use Rattle.scmi_plan.specs.declared.resource.Resource.{Resource}
 use Rattle.scmi_plan.specs.declared.resource.Resource.TheVariants as resource
+use Rattle.scmi_plan.specs.declared.scope.Scope.{Scope}
+use Rattle.scmi_plan.specs.declared.scope.Scope.TheVariants as scope
 
 -- the whole table of a board; agents are numbered from 1, all else from 0
 pub record Board : Type 0 where
@@ -24,14 +27,21 @@ pub record Board : Type 0 where
   pub devices : List Device
   -- of each agent that a board may have, from agent 1 on
   pub channels : List AgentChannel
+  -- what no agent may switch off
+  pub kept : Device
+  -- what is denied to each agent from the start
+  pub denied : Denied
 
--- the channels of an agent of whom nothing else is said: 64 words of payload, both ways (own)
+-- the channels of an agent of whom nothing else is said: 64 words of payload, both ways, and all
+-- pending sets may be the agent's (own)
 abbrev pub whole_channel : AgentChannel
-whole_channel = record { words = PAYLOAD_WORDS; one_way = false }
+whole_channel = record { words = PAYLOAD_WORDS; one_way = false; share = PENDING_SETS }
 
--- a channel has room for 8 to 64 words of payload (own)
+-- a channel has room for 8 to 64 words of payload, and its agent 1 to 8 of the pending sets (own)
 abbrev pub IsChannel : AgentChannel → Type 0
-IsChannel channel = (LEAST_CHANNEL_WORDS ≤ channel.words) × (channel.words ≤ PAYLOAD_WORDS)
+IsChannel channel =
+    (LEAST_CHANNEL_WORDS ≤ channel.words) × (channel.words ≤ PAYLOAD_WORDS)
+    × (1 ≤ channel.share) × (channel.share ≤ PENDING_SETS)
 
 -- an agent's channels
 abbrev pub channel_of : Board → ℕ → AgentChannel
@@ -75,3 +85,44 @@ IsPossible (resource.Clock c) = c < CLOCKS
 -- a mask has the devices that hold a resource, and no others: bit d is for device d
 abbrev pub AreHolders : List Device → Resource → ℕ → Type 0
 AreHolders devices r mask = (d : ℕ) → d < DEVICES → (bit_at mask d == 1) ≡ (nat_lt d (length devices) && holds (device_in devices d) r)
+
+-- a mask with one more bit
+abbrev pub mask_with : ℕ → ℕ → ℕ
+mask_with mask b = bit_or mask (1 * 2 ^ b % 2 ^ 32)
+
+-- a device that holds nothing
+abbrev pub nothing_held : Device
+nothing_held = record { domains = 0; clocks = 0 }
+
+-- what a device holds, and one domain or clock more
+abbrev pub held_also : Device → Resource → Device
+held_also held (resource.Domain d) = record held { domains = mask_with held.domains d }
+held_also held (resource.Clock c) = record held { clocks = mask_with held.clocks c }
+
+-- whether no agent may switch a domain or clock off (own)
+abbrev pub is_kept : Board → Resource → Bool
+is_kept board r = holds board.kept r
+
+-- the same board, and no agent may switch this domain or clock off
+abbrev pub with_kept : Board → Resource → Board
+with_kept board r = record board { kept = held_also board.kept r }
+
+-- no device is denied to any agent
+abbrev pub nothing_denied : Denied
+nothing_denied =
+    record { devices = replicate AGENTS 0; power = replicate AGENTS 0; clocks = replicate AGENTS 0 }
+
+-- masks of agents from 1 on, with more devices in the mask of agent a
+abbrev pub masks_with : List ℕ → (a devices : ℕ) → List ℕ
+masks_with masks a devices = set masks (a - 1) (bit_or (get_or masks (a - 1) 0) devices)
+
+-- what is denied, and to agent a more devices, as a whole or for a protocol
+abbrev pub denied_also : Denied → (a devices : ℕ) → Scope → Denied
+denied_also denied a devices scope.Device = record denied { devices = masks_with denied.devices a devices }
+denied_also denied a devices scope.Power = record denied { power = masks_with denied.power a devices }
+denied_also denied a devices scope.Clock = record denied { clocks = masks_with denied.clocks a devices }
+
+-- the same board, with devices denied to agent a from the start, as a whole or for a protocol:
+-- bit d is for device d
+abbrev pub with_denied : Board → (a devices : ℕ) → Scope → Board
+with_denied board a devices s = record board { denied = denied_also board.denied a devices s }

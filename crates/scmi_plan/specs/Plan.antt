@@ -23,6 +23,8 @@ board_of p =
       clocks = p.clocks.items;
       devices = p.devices.items;
       channels = p.channels;
+      kept = p.kept;
+      denied = p.denied;
     }
 
 -- a board that keeps the limits and rules of the profile (own)

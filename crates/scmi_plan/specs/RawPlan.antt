@@ -1,6 +1,6 @@
 -- The board that a raw plan writes down.
 use Rattle.std.specs.Prelude.{map, replicate, string_bytes}
-use Rattle.scmi_plan.specs.Board.{Board, whole_channel}
+use Rattle.scmi_plan.specs.Board.{Board, nothing_denied, nothing_held, whole_channel}
 use Rattle.scmi_plan.specs.Rates.{rates_of}
 use Rattle.scmi_plan.specs.declared.limits.TheConstants.{AGENTS}
 use Rattle.scmi_plan.specs.declared.domain.Domain.{Domain}
@@ -24,7 +24,7 @@ asked_domain raw =
 abbrev pub asked_clock : RawClock → Clock
 asked_clock raw = record { name = string_bytes raw.name; enabled = raw.enabled; rate = raw.rate; rates = rates_of raw.rates }
 
--- the board with its names as bytes, and whole channels
+-- the board with its names as bytes: channels are whole, nothing is kept, and nothing denied
 abbrev pub asked_board : RawPlan → Board
 asked_board raw =
     record {
@@ -37,4 +37,6 @@ asked_board raw =
       clocks = map asked_clock raw.clocks.items;
       devices = raw.devices.items;
       channels = replicate AGENTS whole_channel;
+      kept = nothing_held;
+      denied = nothing_denied;
     }

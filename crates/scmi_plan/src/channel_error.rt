@@ -11,4 +11,7 @@ pub enum ChannelError {
     /// Fewer than 8 words of payload, or more than 64.
     #[error("a channel has room for 8 to 64 words of payload")]
     Words,
+    /// No pending set may be the agent's, or more than 8.
+    #[error("1 to 8 pending sets may be an agent's")]
+    Share,
 }

@@ -131,7 +131,7 @@ fn has_valid_devices(raw: &RawPlan) -> bool
 }
 
 /// Whether a set has only members below a count.
-fn is_within(set: u32, count: usize) -> bool
+pub(crate) fn is_within(set: u32, count: usize) -> bool
     ensures { result ≡ nat_lt set (2 ^ count) }
 {
     count >= 32 || set >> count == 0

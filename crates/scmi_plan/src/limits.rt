@@ -14,3 +14,6 @@ pub const DEVICES: usize = 32;
 
 /// The most rates of a list (own).
 pub const RATES: usize = 64;
+
+/// The most sets that are pending in all, of clocks and of domains (own).
+pub const PENDING_SETS: usize = 8;

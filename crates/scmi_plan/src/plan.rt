@@ -1,9 +1,10 @@
 //! A valid board.
-ghost use Rattle.std.specs.Prelude.{◌≡◌, ◌≢◌, ◌↔◌, ◌<◌, ◌-◌, ◌⊎◌, length, get_or, [], None, Some, Err, IfOk, IfErr, OnOk, OnErr, IsOkUnless, IsErrOf};
+ghost use Rattle.std.specs.Prelude.{◌≡◌, ◌≢◌, ◌↔◌, ◌<◌, ◌≤◌, ◌-◌, ◌^◌, ◌⊎◌, length, get_or, [], None, Some, Ok, Err, IfOk, IfErr, OnOk, OnErr, IsOkUnless, IsErrOf};
 ghost use Rattle.scmi_codec.specs.declared.payload.TheConstants.{PAYLOAD_WORDS};
 ghost use Rattle.scmi_plan.specs.Agent.{IsAgent, IsNoAgent};
 ghost use Rattle.scmi_plan.specs.declared.agent_channel.TheConstants.{LEAST_CHANNEL_WORDS};
-ghost use Rattle.scmi_plan.specs.Board.{AreHolders, IsChannel, channel_of, with_channel, holds, IsOnBoard, domain_at, clock_at, device_at};
+ghost use Rattle.scmi_plan.specs.declared.limits.TheConstants.{PENDING_SETS};
+ghost use Rattle.scmi_plan.specs.Board.{AreHolders, IsChannel, channel_of, with_channel, holds, is_kept, IsOnBoard, domain_at, clock_at, device_at, with_denied, with_kept};
 ghost use Rattle.scmi_plan.specs.Plan.{IsValid};
 ghost use Rattle.scmi_plan.specs.PlanError.{first_fault};
 ghost use Rattle.scmi_plan.specs.RawPlan.{asked_board};
@@ -14,14 +15,18 @@ use crate::agent_channel::{AgentChannel, LEAST_CHANNEL_WORDS, WHOLE_CHANNEL};
 use crate::build::{build_agents, build_clocks, build_devices, build_domains, build_name};
 use crate::channel_error::ChannelError;
 use crate::clock::Clock;
+use crate::denied::Denied;
 use crate::device::Device;
 use crate::domain::Domain;
-use crate::fault::first_fault;
+use crate::fault::{first_fault, is_within};
 use crate::holders::{fill_clock_holders, fill_domain_holders};
-use crate::limits::{AGENTS, CLOCKS, DOMAINS};
+use crate::limits::{AGENTS, CLOCKS, DOMAINS, PENDING_SETS};
+use crate::mask::with_bit;
+use crate::not_on_board::NotOnBoard;
 use crate::plan_error::PlanError;
 use crate::raw_plan::RawPlan;
 use crate::resource::Resource;
+use crate::scope::Scope;
 use scmi_codec::{Name, PAYLOAD_WORDS};
 use std::alloc::Global;
 use std::marker::Model;
@@ -38,6 +43,8 @@ pub struct Plan {
     clocks: Vec<Clock>,
     devices: Vec<Device>,
     channels: [AgentChannel; AGENTS],
+    kept: Device,
+    denied: Denied,
     domain_holders: [u32; DOMAINS],
     clock_holders: [u32; CLOCKS],
 }
@@ -96,6 +103,11 @@ impl Plan {
             // Last of those that take memory: no error drops the clocks and their rates.
             clocks: build_clocks(alloc, &raw.clocks)?,
             channels: [WHOLE_CHANNEL; AGENTS],
+            kept: Device {
+                domains: 0,
+                clocks: 0,
+            },
+            denied: Denied::nothing(),
             domain_holders,
             clock_holders,
         })
@@ -146,7 +158,7 @@ impl Plan {
     }
 
     /// What an agent's channels are. `Plan::check` gives each agent whole ones: 64 words of payload,
-    /// both ways.
+    /// both ways, and all 8 pending sets may be the agent's.
     #[inline(always)]
     pub fn channel(&self, agent: u32) -> AgentChannel
         requires agent { IsAgent (length self.now.agents) agent }
@@ -156,9 +168,9 @@ impl Plan {
         self.channels[agent as usize - 1]
     }
 
-    /// Sets what an agent's channels are (own). `NoAgent` if the board lacks the agent, and then
-    /// `Words` if they have fewer than 8 words of payload or more than 64; nothing changed then. It
-    /// takes no memory.
+    /// Sets what an agent's channels are (own). `NoAgent` if the board lacks the agent, then `Words`
+    /// if they have fewer than 8 words of payload or more than 64, then `Share` if fewer than 1 of
+    /// the pending sets may be the agent's or more than 8; nothing changed then. It takes no memory.
     pub fn set_channel(&mut self, agent: u32, channel: AgentChannel) -> Result<(), ChannelError>
         ensures ok { OnOk result (self.new ≡ with_channel self.old agent channel) }
         ensures no_agent { (result ≡ Err ChannelError.NoAgent)
@@ -166,6 +178,10 @@ impl Plan {
         ensures words { (result ≡ Err ChannelError.Words)
             ↔ (IsAgent (length self.old.agents) agent
             × ((channel.words < LEAST_CHANNEL_WORDS) ⊎ (PAYLOAD_WORDS < channel.words))) }
+        ensures share { (result ≡ Err ChannelError.Share)
+            ↔ (IsAgent (length self.old.agents) agent × (LEAST_CHANNEL_WORDS ≤ channel.words)
+            × (channel.words ≤ PAYLOAD_WORDS)
+            × ((channel.share < 1) ⊎ (PENDING_SETS < channel.share))) }
         ensures err { OnErr result (self.new ≡ self.old) }
     {
         if agent == 0 || agent > self.agents() {
@@ -174,9 +190,71 @@ impl Plan {
         if channel.words < LEAST_CHANNEL_WORDS || channel.words > PAYLOAD_WORDS as u32 {
             return Err(ChannelError::Words);
         }
+        if channel.share == 0 || channel.share > PENDING_SETS as u32 {
+            return Err(ChannelError::Share);
+        }
         let place = agent as usize - 1;
         self.channels[place] = channel;
         Ok(())
+    }
+
+    /// Keeps a power domain or clock (own): no agent may switch it off. `Resource`, the only error,
+    /// if the board lacks it; nothing changed then. It takes no memory.
+    pub fn keep(&mut self, resource: Resource) -> Result<(), NotOnBoard>
+        ensures ok { OnOk result (self.new ≡ with_kept self.old resource) }
+        ensures on_board { (result ≡ Ok tt) ↔ IsOnBoard self.old resource }
+        ensures error { IfErr result (λ e. e ≡ NotOnBoard.Resource) }
+        ensures err { OnErr result (self.new ≡ self.old) }
+    {
+        match resource {
+            Resource::Domain(domain) if domain < self.domains() => {
+                self.kept.domains = with_bit(self.kept.domains, domain);
+                Ok(())
+            }
+            Resource::Clock(clock) if clock < self.clocks() => {
+                self.kept.clocks = with_bit(self.kept.clocks, clock);
+                Ok(())
+            }
+            _ => Err(NotOnBoard::Resource),
+        }
+    }
+
+    /// Whether no agent may switch a domain or clock of the board off.
+    pub fn is_kept(&self, resource: Resource) -> bool
+        requires { IsOnBoard self.now resource }
+        ensures { result ≡ is_kept self.now resource }
+    {
+        self.kept.holds(resource)
+    }
+
+    /// Denies an agent devices from the start, or a protocol on them (own): bit d of `devices` is for
+    /// device d. `Agent` if the board lacks the agent, then `Device` if it lacks one of the devices;
+    /// nothing changed then. It takes no memory.
+    pub fn deny(&mut self, agent: u32, devices: u32, scope: Scope) -> Result<(), NotOnBoard>
+        ensures ok { OnOk result (self.new ≡ with_denied self.old agent devices scope) }
+        ensures no_agent { (result ≡ Err NotOnBoard.Agent)
+            ↔ IsNoAgent (length self.old.agents) agent }
+        ensures no_device { (result ≡ Err NotOnBoard.Device)
+            ↔ (IsAgent (length self.old.agents) agent
+            × (2 ^ length self.old.devices ≤ devices)) }
+        ensures error { IfErr result (λ e. e ≢ NotOnBoard.Resource) }
+        ensures err { OnErr result (self.new ≡ self.old) }
+    {
+        if agent == 0 || agent > self.agents() {
+            return Err(NotOnBoard::Agent);
+        }
+        if !is_within(devices, self.devices.len()) {
+            return Err(NotOnBoard::Device);
+        }
+        self.denied.deny(agent, devices, scope);
+        Ok(())
+    }
+
+    /// What is denied to each agent from the start.
+    pub fn denied(&self) -> &Denied
+        ensures { result.now ≡ self.now.denied }
+    {
+        &self.denied
     }
 
     /// The number of power domains, at most 32. They are numbered from 0.

@@ -4,9 +4,10 @@ use Rattle.scmi_codec.specs.Listing.{is_listed}
 use Rattle.scmi_codec.specs.declared.power_command.PowerCommand.{PowerCommand}
 use Rattle.scmi_codec.specs.declared.power_command.PowerCommand.TheVariants as power
 use Rattle.scmi_codec.specs.declared.status.Status.TheVariants.{NotFound, InvalidParameters, NotSupported, Denied, Busy}
-use Rattle.scmi_plan.specs.Board.{Board, domain_at}
+use Rattle.scmi_plan.specs.Board.{Board, domain_at, is_kept}
 use Rattle.scmi_plan.specs.declared.agent_channel.AgentChannel.{AgentChannel}
 use Rattle.scmi_plan.specs.declared.domain.Domain.{Domain}
+use Rattle.scmi_plan.specs.declared.resource.Resource.TheVariants as resource
 use Rattle.scmi_codec.specs.Name.{name_words}
 use Rattle.scmi_codec.specs.Reply.{reply_unless, bit_0, other_bits}
 
@@ -73,7 +74,15 @@ abbrev pub domain_reply : Board → AgentChannel → ℕ → List ℕ
 domain_reply board channel d =
     reply_unless ((no_domain board d, NotFound) ∷ []) (0 ∷ attributes channel (domain_at board d) ∷ name_words (domain_at board d).name)
 
--- the reply to 0x4 (own order of checks), by what the caller's channels are, whether the caller may change the domain, whether the domain has a pending
+-- whether a set would switch off a domain that its board keeps (own)
+abbrev pub switches_kept_off : Board → (d state : ℕ) → Bool
+switches_kept_off board d state = is_kept board (resource.Domain d) && state == state_off
+
+-- whether a set to a state may be made, by whether its caller may change the domain
+unfoldable pub may_set : Board → (may : Bool) → (d state : ℕ) → Bool
+may_set board may d state = may && not (switches_kept_off board d state)
+
+-- the reply to 0x4 (own order of checks), by what the caller's channels are, whether the caller may make the change, whether the domain has a pending
 -- set, and whether an asynchronous set has room
 abbrev pub set_reply : Board → AgentChannel → (may busy room : Bool) → (flags d state : ℕ) → List ℕ
 set_reply board channel may busy room flags d state =
@@ -108,6 +117,6 @@ power_reply board v power.Version = 0 ∷ 0x00020000 ∷ []
 power_reply board v power.Attributes = 0 ∷ length board.domains ∷ 0 ∷ 0 ∷ 0 ∷ []
 power_reply board v (power.MessageAttributes message) = message_reply message
 power_reply board v (power.DomainAttributes d) = domain_reply board v.channel d
-power_reply board v (power.Set flags d state) = set_reply board v.channel (v.may d) (v.busy d) v.room flags d state
+power_reply board v (power.Set flags d state) = set_reply board v.channel (may_set board (v.may d) d state) (v.busy d) v.room flags d state
 power_reply board v (power.Get d) = get_reply board d (v.state d)
 power_reply board v (power.Notify d enable) = notify_reply board v.channel (v.may d) d enable

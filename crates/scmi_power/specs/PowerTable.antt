@@ -6,7 +6,7 @@ use Rattle.scmi_codec.specs.declared.power_command.PowerCommand.{PowerCommand}
 use Rattle.scmi_codec.specs.declared.power_command.PowerCommand.TheVariants as power
 use Rattle.scmi_plan.specs.Board.{Board, channel_of, domain_at}
 use Rattle.scmi_plan.specs.declared.domain.Domain.{Domain}
-use Rattle.scmi_power.specs.PowerReply.{PowerView, power_reply, state_on, state_off, set_reply, notify_reply}
+use Rattle.scmi_power.specs.PowerReply.{PowerView, power_reply, state_on, state_off, set_reply, may_set, notify_reply}
 use Rattle.scmi_codec.specs.Reply.{bit_0}
 use Rattle.scmi_plan.specs.declared.limits.TheConstants.{AGENTS, DOMAINS}
 use Rattle.scmi_plan.specs.declared.load.Load.{Load}
@@ -91,7 +91,7 @@ only_reads _ = true
 -- the reply to a caller's set, by the permissions and by what pending sets leave free
 abbrev pub set_words : Board → Permissions → ℕ → Load → (flags d state : ℕ) → List ℕ
 set_words board permissions caller load flags d state =
-    set_reply board (channel_of board caller) (may_change board permissions caller d) (is_busy load d) load.room flags d state
+    set_reply board (channel_of board caller) (may_set board (may_change board permissions caller d) d state) (is_busy load d) load.room flags d state
 
 -- the reply to a caller's request for notifications, by the permissions
 abbrev pub notify_words : Board → Permissions → ℕ → (d enable : ℕ) → List ℕ

@@ -5,11 +5,11 @@ ghost use Rattle.scmi_codec.specs.declared.status.Status.TheVariants.{NotFound, 
 ghost use Rattle.scmi_plan.specs.Agent.{IsAgent};
 ghost use Rattle.scmi_plan.specs.Plan.{IsValid};
 ghost use Rattle.scmi_plan.specs.declared.limits.TheConstants.{AGENTS, DOMAINS};
-ghost use Rattle.scmi_power.specs.PowerReply.{has_notifications, no_domain, supports};
+ghost use Rattle.scmi_power.specs.PowerReply.{has_notifications, may_set, no_domain, supports};
 ghost use Rattle.scmi_power.specs.PowerTable.{may_change, is_busy, set_words, notify_words};
 
 use crate::domain_attributes::{has_asynchronous, has_notifications};
-use crate::domain_state::check_state;
+use crate::domain_state::{OFF, check_state};
 use scmi_base::BaseState;
 use scmi_codec::{Status, single_flag};
 use scmi_plan::{AgentChannel, Domain, Load, Plan, Resource};
@@ -37,7 +37,7 @@ pub(crate) fn check_set(
     let asynchronous = single_flag(flags)?;
     check_state(state)?;
     check_kind(plan.channel(caller), plan.domain(domain), asynchronous)?;
-    check_permission(plan, base, caller, domain)?;
+    check_may_set(plan, base, caller, domain, state)?;
     check_free(domain, asynchronous, load)?;
     Ok(asynchronous)
 }
@@ -110,6 +110,29 @@ fn check_permission(plan: &Plan, base: &BaseState, caller: u32, domain: u32) -> 
     ensures { result ≡ (if may_change plan.now base.now caller domain then Ok tt else Err Denied) }
 {
     if !base.may_change(plan, caller, Resource::Domain(domain)) {
+        return Err(Status::Denied);
+    }
+    Ok(())
+}
+
+/// DENIED if the caller may not change a domain, or a set would switch off one that the board keeps
+/// (own).
+#[tactic(auto, unfolding(crate::specs::PowerReply::may_set))]
+fn check_may_set(
+    plan: &Plan,
+    base: &BaseState,
+    caller: u32,
+    domain: u32,
+    state: u32,
+) -> Result<(), Status>
+    requires caller { IsAgent (length plan.now.agents) caller }
+    requires domain { domain < length plan.now.domains }
+    ensures { result
+        ≡ (if may_set plan.now (may_change plan.now base.now caller domain) domain state
+        then Ok tt else Err Denied) }
+{
+    check_permission(plan, base, caller, domain)?;
+    if state == OFF && plan.is_kept(Resource::Domain(domain)) {
         return Err(Status::Denied);
     }
     Ok(())

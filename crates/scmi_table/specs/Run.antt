@@ -1,7 +1,7 @@
 -- A board's tables, from the input to the status.
 use Rattle.std.specs.Prelude.{◌≡◌, ℕ, ◌<◌, ⊤, List, length, Option, IfSome, Err}
 use Rattle.std.specs.Io.KnownBytes.{Appends}
-use Rattle.scmi_board.specs.Channels.{Described}
+use Rattle.scmi_board.specs.BoardLines.{Described}
 use Rattle.scmi_board.specs.ValidBoard.{IsBoardFault, IsBoardText, said_in}
 use Rattle.scmi_board.specs.declared.board_error.BoardError.TheVariants as board
 use Rattle.scmi_io.specs.FaultLine.{fault_line}

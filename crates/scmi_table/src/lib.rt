@@ -8,6 +8,7 @@ mod in_string;
 mod read;
 mod rows;
 mod run;
+mod said;
 mod table;
 mod table_error;
 

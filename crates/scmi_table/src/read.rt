@@ -1,20 +1,20 @@
 //! The board that is to be written.
 ghost use Rattle.std.specs.Prelude.{IfOk, IfErr, IfSome};
-ghost use Rattle.scmi_board.specs.Channels.{described};
+ghost use Rattle.scmi_board.specs.BoardLines.{described};
 ghost use Rattle.scmi_board.specs.ValidBoard.{IsBoardText};
 ghost use Rattle.scmi_table.specs.Run.{IsFaultOf};
 
 use crate::table_error::TableError;
-use scmi_board::{BoardWithChannels, read_valid_board};
+use scmi_board::{BoardWithLines, read_valid_board};
 use scmi_io::{CountedReader, read_rest};
 use std::alloc::Global;
 use std::io::Read;
 
-/// The board of a text, which keeps every rule, and the channels of its agents.
+/// The board of a text, which keeps every rule, and the lines behind its rows.
 pub(crate) fn read_board<R: Read>(
     alloc: Global,
     reader: &mut R,
-) -> Result<BoardWithChannels, TableError>
+) -> Result<BoardWithLines, TableError>
     ensures board { IfOk result (λ said. IfSome (R.remaining reader.old)
         (λ text. IsBoardText text (described said))) }
     ensures faults { IfErr result (λ e. IfSome (R.remaining reader.old)
@@ -24,7 +24,7 @@ pub(crate) fn read_board<R: Read>(
     board_of(alloc, &text)
 }
 
-fn board_of(alloc: Global, text: &[u8]) -> Result<BoardWithChannels, TableError>
+fn board_of(alloc: Global, text: &[u8]) -> Result<BoardWithLines, TableError>
     ensures board { IfOk result (λ said. IsBoardText text.now (described said)) }
     ensures faults { IfErr result (IsFaultOf text.now) }
 {

@@ -1,78 +1,122 @@
 //! The tables of a board, a row a line. A table without rows is left out.
 
 use crate::in_string::InString;
-use scmi_board::{BoardWithChannels, ChannelLine};
+use crate::said::{channel_of, denied_to, is_kept};
+use scmi_board::{BoardLine, BoardWithLines};
 use scmi_codec::{AREA_BYTES, PAYLOAD_WORDS};
-use scmi_plan::{AgentChannel, Device, Rates, RawClock, RawDomain, WHOLE_CHANNEL};
+use scmi_plan::{Device, PENDING_SETS, Rates, RawClock, RawDomain, Resource, Scope};
 use std::io;
 use std::io::Write;
 
 /// The bytes of an area before its payload.
 const HEAD_BYTES: u64 = (AREA_BYTES - 4 * PAYLOAD_WORDS) as u64;
 
-pub(crate) fn write_agents<W: Write>(writer: &mut W, said: &BoardWithChannels) -> io::Result<()> {
+pub(crate) fn write_agents<W: Write>(writer: &mut W, said: &BoardWithLines) -> io::Result<()> {
     if said.board.agents.is_empty() {
         return Ok(());
     }
     writeln!(writer, "static const scmi_board_agent board_agents[] = {{")?;
     for (agent, name) in (1..u32::MAX).zip(said.board.agents.iter()) {
-        let name = InString(name);
-        let channel = channel_of(&said.channels, agent);
-        let bytes = HEAD_BYTES + 4 * u64::from(channel.words);
-        let one_way = u8::from(channel.one_way);
-        writeln!(
-            writer,
-            "    {{ .name = \"{name}\", .bytes = {bytes}, .one_way = {one_way} }},"
-        )?;
+        write_agent(writer, agent, name, &said.lines)?;
     }
     write_end(writer)
 }
 
-/// The channels of an agent, by the lines that contain them; whole if none does.
-fn channel_of(lines: &[ChannelLine], agent: u32) -> AgentChannel {
-    lines
-        .iter()
-        .find(|line: &&ChannelLine| line.agent == agent)
-        .map_or(WHOLE_CHANNEL, |line: &ChannelLine| line.channel)
+fn write_agent<W: Write>(
+    writer: &mut W,
+    agent: u32,
+    name: &str,
+    lines: &[BoardLine],
+) -> io::Result<()> {
+    let name = InString(name);
+    let channel = channel_of(lines, agent);
+    let bytes = HEAD_BYTES + 4 * u64::from(channel.words);
+    let one_way = u8::from(channel.one_way);
+    let devices = denied_to(lines, agent, Scope::Device);
+    let power = denied_to(lines, agent, Scope::Power);
+    let clocks = denied_to(lines, agent, Scope::Clock);
+    write!(
+        writer,
+        "    {{ .name = \"{name}\", .bytes = {bytes}, .one_way = {one_way}"
+    )?;
+    write_share(writer, channel.share)?;
+    write_mask(writer, "denied", devices)?;
+    write_mask(writer, "denied_power", power)?;
+    write_mask(writer, "denied_clocks", clocks)?;
+    writeln!(writer, " }},")
 }
 
-pub(crate) fn write_domains<W: Write>(writer: &mut W, domains: &[RawDomain]) -> io::Result<()> {
-    if domains.is_empty() {
+/// Writes how many of the pending sets may be an agent's, if they are not all of them.
+fn write_share<W: Write>(writer: &mut W, share: u32) -> io::Result<()> {
+    if share as usize == PENDING_SETS {
+        return Ok(());
+    }
+    write!(writer, ", .pending = {share}")
+}
+
+/// Writes the devices of a mask, if it has any.
+fn write_mask<W: Write>(writer: &mut W, field: &str, devices: u32) -> io::Result<()> {
+    if devices == 0 {
+        return Ok(());
+    }
+    write!(writer, ", .{field} = 0x{devices:x}")
+}
+
+/// Writes that no agent may switch a domain or clock off, if it is so.
+fn write_kept<W: Write>(writer: &mut W, lines: &[BoardLine], resource: Resource) -> io::Result<()> {
+    if !is_kept(lines, resource) {
+        return Ok(());
+    }
+    write!(writer, ", .kept = 1")
+}
+
+pub(crate) fn write_domains<W: Write>(writer: &mut W, said: &BoardWithLines) -> io::Result<()> {
+    if said.board.domains.is_empty() {
         return Ok(());
     }
     writeln!(
         writer,
         "static const scmi_board_domain board_domains[] = {{"
     )?;
-    for domain in domains {
-        let name = InString(&domain.name);
-        let on = u8::from(domain.on);
-        let synchronous = u8::from(domain.synchronous);
-        let asynchronous = u8::from(domain.asynchronous);
-        let notify = u8::from(domain.notify);
-        writeln!(
-            writer,
-            "    {{ .name = \"{name}\", .on = {on}, .synchronous = {synchronous}, \
-             .asynchronous = {asynchronous}, .notify = {notify} }},"
-        )?;
+    for (number, domain) in (0..u32::MAX).zip(said.board.domains.iter()) {
+        write_domain(writer, domain)?;
+        write_kept(writer, &said.lines, Resource::Domain(number))?;
+        writeln!(writer, " }},")?;
     }
     write_end(writer)
 }
 
+/// Writes the beginning of a domain's row.
+fn write_domain<W: Write>(writer: &mut W, domain: &RawDomain) -> io::Result<()> {
+    let name = InString(&domain.name);
+    let on = u8::from(domain.on);
+    let synchronous = u8::from(domain.synchronous);
+    let asynchronous = u8::from(domain.asynchronous);
+    let notify = u8::from(domain.notify);
+    write!(
+        writer,
+        "    {{ .name = \"{name}\", .on = {on}, .synchronous = {synchronous}, \
+         .asynchronous = {asynchronous}, .notify = {notify}"
+    )
+}
+
 /// Writes clocks, each with the place of its list in the table of rates.
-pub(crate) fn write_clocks<W: Write>(writer: &mut W, clocks: &[RawClock]) -> io::Result<()> {
-    if clocks.is_empty() {
+pub(crate) fn write_clocks<W: Write>(writer: &mut W, said: &BoardWithLines) -> io::Result<()> {
+    if said.board.clocks.is_empty() {
         return Ok(());
     }
     writeln!(writer, "static const scmi_board_clock board_clocks[] = {{")?;
     let mut first = 0usize;
-    for clock in clocks {
+    for (number, clock) in (0..u32::MAX).zip(said.board.clocks.iter()) {
         write_clock(writer, first, clock)?;
+        write_kept(writer, &said.lines, Resource::Clock(number))?;
+        writeln!(writer, " }},")?;
         first = first.saturating_add(list_of(clock).len());
     }
     write_end(writer)
 }
 
+/// Writes the beginning of a clock's row.
 fn write_clock<W: Write>(writer: &mut W, first: usize, clock: &RawClock) -> io::Result<()> {
     let name = InString(&clock.name);
     let enabled = u8::from(clock.enabled);
@@ -84,13 +128,10 @@ fn write_clock<W: Write>(writer: &mut W, first: usize, clock: &RawClock) -> io::
     match &clock.rates {
         Rates::List(list) => {
             let count = list.len();
-            writeln!(writer, ".first = {first}, .count = {count} }},")
+            write!(writer, ".first = {first}, .count = {count}")
         }
         Rates::Steps { low, high, step } => {
-            writeln!(
-                writer,
-                ".low = {low}u, .high = {high}u, .step = {step}u }},"
-            )
+            write!(writer, ".low = {low}u, .high = {high}u, .step = {step}u")
         }
     }
 }

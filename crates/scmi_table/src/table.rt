@@ -4,18 +4,18 @@ use crate::in_string::InString;
 use crate::rows::{
     rate_count, write_agents, write_clocks, write_devices, write_domains, write_rates,
 };
-use scmi_board::BoardWithChannels;
+use scmi_board::BoardWithLines;
 use scmi_plan::RawPlan;
 use std::io;
 use std::io::Write;
 
 /// Writes a board as a file in C: its tables with one row a line, and the board over them. The
 /// error is the writer's; some parts may then be written.
-pub(crate) fn write_table<W: Write>(writer: &mut W, said: &BoardWithChannels) -> io::Result<()> {
+pub(crate) fn write_table<W: Write>(writer: &mut W, said: &BoardWithLines) -> io::Result<()> {
     writeln!(writer, "#include \"scmi.h\"\n")?;
     write_agents(writer, said)?;
-    write_domains(writer, &said.board.domains)?;
-    write_clocks(writer, &said.board.clocks)?;
+    write_domains(writer, said)?;
+    write_clocks(writer, said)?;
     write_rates(writer, &said.board.clocks)?;
     write_devices(writer, &said.board.devices)?;
     write_board(writer, &said.board)

@@ -19,7 +19,8 @@
 enum { STATUS = 1, FLAGS = 4, LENGTH = 5, HEADER = 6, PAYLOAD = 7, AREA_BYTES = 128 };
 /* Headers without a token. */
 enum { VERSION = 0x4000, STATE_SET = 0x4404, STATE_NOTIFY = 0x4406, RATE_SET = 0x5005, RATE_GET = 0x5006,
-       DISCOVER_AGENT = 0x4007, SET_DEVICE_PERMISSIONS = 0x4009, RATE_SET_COMPLETE = 0x5205, STATE_CHANGED = 0x4700 };
+       CONFIG_SET = 0x5007, DISCOVER_AGENT = 0x4007, SET_DEVICE_PERMISSIONS = 0x4009, RATE_SET_COMPLETE = 0x5205,
+       STATE_CHANGED = 0x4700 };
 /* The first word of the second agent's name. */
 enum { REMOTE_NAME = 0x6f6d6572 };
 enum { ON = 0, OFF = 0x40000000, ASYNCHRONOUS = 1, BUSY = 0, FREE = 1, CHANNEL_ERROR = 3, NO_ANSWER = 2 };
@@ -33,7 +34,9 @@ static scmi_board_agent agents[] = {
 };
 static const scmi_board_domain domains[] = { { .name = "gpu", .synchronous = 1, .notify = 1 },
                                              { .name = "dsp", .on = 1, .synchronous = 1 } };
-static const scmi_board_clock clocks[] = { { .name = "bus", .rate = 200, .first = 0, .count = 3, .enabled = 1 } };
+static const scmi_board_clock clocks[] = {
+    { .name = "bus", .rate = 200, .first = 0, .count = 3, .enabled = 1, .kept = 1 },
+};
 static const uint64_t rates[] = { 100, 200, 300 };
 static const scmi_board_device devices[] = { { .domains = 1 << 1 } };
 static const scmi_board board = {
@@ -256,6 +259,15 @@ static void agents_share_the_platform(void)
                                           areas[REMOTE][PAYLOAD + 2] == REMOTE_NAME);
 }
 
+static void what_the_board_keeps_is_not_switched_off(void)
+{
+    init();
+    check("by no agent", ask(LOCAL, CONFIG_SET, 2, (uint32_t[]){ 0, 0 }) == SCMI_DENIED &&
+                             ask(REMOTE, CONFIG_SET, 2, (uint32_t[]){ 0, 0 }) == SCMI_DENIED);
+    check("which the hardware is not asked for", drives == 4 && enabled == 1);
+    check("its rate is set", set_rate(LOCAL, 0, 300) == 0 && rate == 300 && drives == 5);
+}
+
 static void an_interrupt_is_wanted_or_not(void)
 {
     init();
@@ -346,6 +358,7 @@ static const struct test tests[] = {
     { "a board without its channel back is not served", a_board_without_its_channel_back_is_not_served, 0 },
     { "a channel back that is none is not served", a_channel_back_that_is_none_is_not_served, 0 },
     { "agents share the platform", agents_share_the_platform, 0 },
+    { "what the board keeps is not switched off", what_the_board_keeps_is_not_switched_off, 0 },
     { "an interrupt is wanted or not", an_interrupt_is_wanted_or_not, 0 },
     { "sets complete when the service polls", sets_complete_when_the_service_polls, 0 },
     { "a set that the hardware refuses is told so", a_set_that_the_hardware_refuses_is_told_so, 0 },

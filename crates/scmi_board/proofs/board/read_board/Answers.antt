@@ -1,11 +1,10 @@
-use Rattle.std.proofs.Common.{ℕ, List, Result, ap, subst, sym, ◌∙◌, ◌≡◌}
+use Rattle.std.proofs.Common.{ℕ, List, Result, subst, sym, ◌∙◌}
 use Rattle.std.proofs.lemmas.Result.{err_from_is_err_and}
 use Rattle.scmi_plan.specs.Board.{Board}
-use Rattle.scmi_plan.specs.RawPlan.{asked_board}
-use Rattle.scmi_board.specs.BoardText.{FailsBoard, behind_heading, board_left, heading_left, rows_of}
+use Rattle.scmi_board.specs.BoardText.{FailsBoard, heading_left}
 use Rattle.scmi_board.specs.Lines.{Line, last_number, lines_left}
 use Rattle.scmi_board.specs.Rows.{with_row}
-use Rattle.scmi_board.proofs.BoardLemmas.{behind_is, heading_fails}
+use Rattle.scmi_board.proofs.BoardLemmas.{behind_is}
 use Rattle.scmi_board.proofs.board.read_board.Goals as goal
 
 pub returns-in_err-read_rows-clause-board : goal.returns-in_err-read_rows-clause-board

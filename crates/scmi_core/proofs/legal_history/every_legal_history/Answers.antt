@@ -1,5 +1,5 @@
 use Rattle.scmi_core.proofs.Bounds.{bounds}
-use Rattle.scmi_core.proofs.Causes.{integrity}
+use Rattle.scmi_core.proofs.Causes.{integrity, kept_on}
 use Rattle.scmi_core.proofs.Channels.{channels}
 use Rattle.scmi_core.proofs.EffectsMade.{effects-push, made-effects}
 use Rattle.scmi_core.proofs.Isolation.{isolation, refused}
@@ -15,6 +15,7 @@ returns c = record {
   isolation = isolation;
   integrity = integrity;
   permissions = λ board h legal. permissions board h;
+  kept = kept_on;
   channels = channels;
   made = made-effects;
   effects = effects-push;

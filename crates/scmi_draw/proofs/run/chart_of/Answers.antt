@@ -1,4 +1,4 @@
-use Rattle.scmi_board.specs.Channels.{described}
+use Rattle.scmi_board.specs.BoardLines.{described}
 use Rattle.scmi_draw.proofs.Inputs.{steps_of_plan}
 use Rattle.scmi_draw.proofs.run.chart_of.Goals as goal
 

@@ -1,7 +1,7 @@
 use Rattle.std.proofs.Common.{◌≡◌, ℕ, Ok, length, string_bytes, ap, sym, ◌∙◌, subst}
 use Rattle.std.specs.List.{All}
 use Rattle.std.proofs.lemmas.List.{length-map}
-use Rattle.scmi_board.specs.Channels.{described}
+use Rattle.scmi_board.specs.BoardLines.{described}
 use Rattle.scmi_board.specs.Lines.{lines_left}
 use Rattle.scmi_text.specs.Step.{IsStepOf}
 use Rattle.scmi_modes.specs.Input.{board_of_lines}

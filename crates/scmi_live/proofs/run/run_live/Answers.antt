@@ -9,7 +9,7 @@ use Rattle.scmi_live.specs.Live.{Answers, LiveView, goes_on}
 use Rattle.scmi_live.specs.Meant.{line_meant}
 use Rattle.std.proofs.lemmas.Bool.Decides.{nat_tests}
 use Rattle.scmi_io.specs.Lines.{first_line}
-use Rattle.scmi_board.specs.Channels.{described}
+use Rattle.scmi_board.specs.BoardLines.{described}
 use Rattle.scmi_ends.specs.Shut.{ShowsClose}
 use Rattle.scmi_live.proofs.UnderWay.{at_begin, at_last, at_quit, one_more}
 use Rattle.scmi_live.proofs.run.run_live.Goals as goal

@@ -1,6 +1,6 @@
 use Rattle.std.proofs.Common.{◌≡◌}
 use Rattle.scmi_ends.specs.Shut.{ShowsClose}
-use Rattle.scmi_board.specs.Channels.{described}
+use Rattle.scmi_board.specs.BoardLines.{described}
 use Rattle.scmi_live.proofs.UnderWay.{IsUnderWay}
 use Rattle.scmi_live.proofs.run.run_live.Given as goal
 

@@ -3,7 +3,7 @@ use Rattle.std.proofs.lemmas.List.{length-map}
 use Rattle.std.proofs.lemmas.Result.{err_from_is_err_and}
 use Rattle.std.specs.Prelude.{string_bytes}
 use Rattle.scmi_board.specs.BoardText.{FailsBoard}
-use Rattle.scmi_board.specs.Channels.{described}
+use Rattle.scmi_board.specs.BoardLines.{described}
 use Rattle.scmi_board.specs.Lines.{LinesView, lines_left}
 use Rattle.scmi_plan.specs.Board.{Board}
 use Rattle.scmi_text.specs.TextLines.{FailsScript}

@@ -11,7 +11,7 @@ use Rattle.scmi_plan.specs.declared.plan_error.PlanError.{PlanError}
 use Rattle.scmi_modes.proofs.Scripts.{scripts_of_agents}
 use Rattle.scmi_text.specs.ScriptText.{scripts_of}
 use Rattle.scmi_modes.proofs.Inputs.{board_fails, count_fails, few_agents, lines_same, plain_fails, rule_fails, script_fails, stands}
-use Rattle.scmi_modes.specs.Input.{behind_mode, plain_board, scripts_of_lines, without_channels}
+use Rattle.scmi_modes.specs.Input.{behind_mode, plain_board, scripts_of_lines, without_lines}
 use Rattle.scmi_modes.proofs.threads.read_input.Goals as goal
 
 pub returns-in_err-board-clause-input : goal.returns-in_err-board-clause-input
@@ -27,7 +27,7 @@ returns-in_err-agent_count-clause-input c =
     let same = lines_same c.new-lines.result bytes c.new-lines.ensures.rest c.new-lines.ensures.number in
     let board = asked_board c.in_ok-board.board in
     let lines = lines_left c.read_board.new.lines in
-    let found : plain_board (behind_mode bytes) ≡ Ok ((board, []), lines) = ap without_channels (ap board_left (sym same) ∙ c.in_ok-board.ensures.board) in
+    let found : plain_board (behind_mode bytes) ≡ Ok ((board, []), lines) = ap without_lines (ap board_left (sym same) ∙ c.in_ok-board.ensures.board) in
     let many = c.in_err-agent_count.ensures.count.0 (ap (λ (e : PlanError). Err e) c.in_err-agent_count.ensures.errors) in
     let all : 2 ^ 32 ≤ length board.agents = subst (λ (n : ℕ). 2 ^ 32 ≤ n) (sym (length-map c.in_ok-board.board.agents.items string_bytes)) many in
     let p = err_from_is_err_and c.from_residual-in_err-agent_count.result c.from_residual-in_err-agent_count.ensures.1 in
@@ -39,7 +39,7 @@ returns-in_err-scripts-clause-input c =
     let same = lines_same c.new-lines.result bytes c.new-lines.ensures.rest c.new-lines.ensures.number in
     let board = asked_board c.in_ok-board.board in
     let lines = lines_left c.read_board.new.lines in
-    let found : plain_board (behind_mode bytes) ≡ Ok ((board, []), lines) = ap without_channels (ap board_left (sym same) ∙ c.in_ok-board.ensures.board) in
+    let found : plain_board (behind_mode bytes) ≡ Ok ((board, []), lines) = ap without_lines (ap board_left (sym same) ∙ c.in_ok-board.ensures.board) in
     let counted : c.in_ok-agent_count.field-0 ≡ length board.agents = c.in_ok-agent_count.ensures.agents ∙ sym (length-map c.in_ok-board.board.agents.items string_bytes) in
     let few : length board.agents < 2 ^ 32 = few_agents (length c.in_ok-board.board.agents.items) (length board.agents) (λ many. let is = c.in_ok-agent_count.ensures.count.1 many in absurd cc) (length-map c.in_ok-board.board.agents.items string_bytes) in
     let fails = subst (λ (n : ℕ). FailsScript c.in_err-scripts.field-0.0 (scripts_of_lines n lines)) counted c.in_err-scripts.ensures.scripts in
@@ -52,7 +52,7 @@ returns-in_err-plan-clause-input c =
     let same = lines_same c.new-lines.result bytes c.new-lines.ensures.rest c.new-lines.ensures.number in
     let board = asked_board c.in_ok-board.board in
     let lines = lines_left c.read_board.new.lines in
-    let found : plain_board (behind_mode bytes) ≡ Ok ((board, []), lines) = ap without_channels (ap board_left (sym same) ∙ c.in_ok-board.ensures.board) in
+    let found : plain_board (behind_mode bytes) ≡ Ok ((board, []), lines) = ap without_lines (ap board_left (sym same) ∙ c.in_ok-board.ensures.board) in
     let counted : c.in_ok-agent_count.field-0 ≡ length board.agents = c.in_ok-agent_count.ensures.agents ∙ sym (length-map c.in_ok-board.board.agents.items string_bytes) in
     let few : length board.agents < 2 ^ 32 = few_agents (length c.in_ok-board.board.agents.items) (length board.agents) (λ many. let is = c.in_ok-agent_count.ensures.count.1 many in absurd cc) (length-map c.in_ok-board.board.agents.items string_bytes) in
     let is : scripts_of_lines (length board.agents) lines ≡ Ok (scripts_of c.in_ok-scripts.scripts.items) = subst (λ (n : ℕ). scripts_of_lines n lines ≡ Ok (scripts_of c.in_ok-scripts.scripts.items)) counted c.in_ok-scripts.ensures.scripts in
@@ -65,7 +65,7 @@ returns-clause-input c =
     let same = lines_same c.new-lines.result bytes c.new-lines.ensures.rest c.new-lines.ensures.number in
     let board = asked_board c.in_ok-board.board in
     let lines = lines_left c.read_board.new.lines in
-    let found : plain_board (behind_mode bytes) ≡ Ok ((board, []), lines) = ap without_channels (ap board_left (sym same) ∙ c.in_ok-board.ensures.board) in
+    let found : plain_board (behind_mode bytes) ≡ Ok ((board, []), lines) = ap without_lines (ap board_left (sym same) ∙ c.in_ok-board.ensures.board) in
     let counted : c.in_ok-agent_count.field-0 ≡ length board.agents = c.in_ok-agent_count.ensures.agents ∙ sym (length-map c.in_ok-board.board.agents.items string_bytes) in
     let few : length board.agents < 2 ^ 32 = few_agents (length c.in_ok-board.board.agents.items) (length board.agents) (λ many. let is = c.in_ok-agent_count.ensures.count.1 many in absurd cc) (length-map c.in_ok-board.board.agents.items string_bytes) in
     let is : scripts_of_lines (length board.agents) lines ≡ Ok (scripts_of c.in_ok-scripts.scripts.items) = subst (λ (n : ℕ). scripts_of_lines n lines ≡ Ok (scripts_of c.in_ok-scripts.scripts.items)) counted c.in_ok-scripts.ensures.scripts in

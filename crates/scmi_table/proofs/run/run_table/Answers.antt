@@ -1,4 +1,4 @@
-use Rattle.scmi_board.specs.Channels.{described}
+use Rattle.scmi_board.specs.BoardLines.{described}
 use Rattle.scmi_table.proofs.run.run_table.Goals as goal
 
 -- the board that was read

@@ -9,5 +9,6 @@ returns c =
       isolation = λ board legal. laws.isolation board _ legal;
       integrity = λ board legal. laws.integrity board _ legal;
       permissions = λ board legal. laws.permissions board _ legal;
+      kept = λ board legal. laws.kept board _ legal;
       channels = λ board law legal. laws.channels board _ law legal;
     }

@@ -1,0 +1,16 @@
+//! The lines behind a board's rows.
+
+use crate::channel_line::ChannelLine;
+use crate::deny_line::DenyLine;
+use scmi_plan::Resource;
+
+/// A line that a board may have behind its rows (own).
+#[derive(Clone, Copy, Debug, PartialEq, Eq, Drop)]
+pub enum BoardLine {
+    /// What an agent's channels are.
+    Channel(ChannelLine),
+    /// No agent may switch this off.
+    Keep(Resource),
+    /// What is denied to an agent from the start.
+    Deny(DenyLine),
+}

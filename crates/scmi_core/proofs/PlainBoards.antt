@@ -1,0 +1,73 @@
+-- A board that keeps nothing, denies nothing and shares nothing out gives what it gives if no board says such things.
+use Rattle.std.proofs.Common.{◌≡◌, ◌⊎◌, inl, inr, ℕ, suc, ◌+◌, ◌-◌, ◌<◌, ◌==◌, ◌&&◌, ◌≤◌, nat_lt, Bool, true, false, not, if◌then◌else◌, List, [], ◌∷◌, length, get_or, Option, Some, None, refl, sym, ap, ◌∙◌, arith}
+use Rattle.std.specs.Int.{bit_at}
+use Rattle.std.specs.List.{filter}
+use Rattle.std.proofs.lemmas.Bool.Decides.{leb_tells, nat_tests}
+use Rattle.std.proofs.lemmas.List.Filters.{length-filter_both}
+use Rattle.std.proofs.lemmas.Nat.Bits.{bit_at-zero}
+use Rattle.scmi_codec.specs.Reply.{bit_0, reply_unless}
+use Rattle.scmi_plan.specs.Board.{Board, holds, nothing_denied}
+use Rattle.scmi_plan.specs.declared.resource.Resource.TheVariants as resource
+use Rattle.scmi_plan.specs.declared.scope.Scope.{Scope}
+use Rattle.scmi_plan.specs.declared.scope.Scope.TheVariants as scope
+use Rattle.scmi_base.proofs.Masks.{no_bits}
+use Rattle.scmi_base.specs.Permission.{is_allowed, permission}
+use Rattle.scmi_power.specs.PowerReply.{PowerView, may_set, power_reply, set_reply, state_off}
+use Rattle.scmi_clock.specs.ClockReply.{ClockView, clock_reply, config_checks}
+use Rattle.scmi_core.specs.Deed.{fold_with_prefix}
+use Rattle.scmi_core.specs.Pending.{load_beside, sets_by}
+use Rattle.scmi_core.specs.PlainBoards.{AllowsAll, ConfiguresByPermission, ResetsToAll, SetsByPermission, SharesAll}
+use Rattle.scmi_core.specs.declared.pending_set.PendingSet.{PendingSet}
+
+-- where nothing is denied each agent is allowed everything
+allowed-all : (a d : ℕ) (s : Scope) → is_allowed nothing_denied a d s ≡ true
+allowed-all a d scope.Device = no_bits 8 (a - 1) d
+allowed-all a d scope.Power = no_bits 8 (a - 1) d
+allowed-all a d scope.Clock = no_bits 8 (a - 1) d
+
+pub allows : (board : Board) (a d : ℕ) (s : Scope) → AllowsAll board a d s
+unfolding fold_with_prefix
+allows board a d s = λ none. ap (λ denied. is_allowed denied a d s) none ∙ allowed-all a d s
+
+pub resets : (board : Board) (a d : ℕ) (s : Scope) (agent flags : ℕ) → ResetsToAll board a d s agent flags
+resets board a d s agent flags = λ none.
+    ap (λ b. if agent == a && bit_0 flags then Some b else None) (ap (λ denied. is_allowed denied a d s) none ∙ allowed-all a d s)
+
+-- what is said of no domain and of no clock forbids nothing
+alone : (may : Bool) (bit : ℕ → Bool) (other : Bool) → bit 0 ≡ false → (may && not (bit 0 && other)) ≡ may
+alone may bit other none = ap (λ b. may && not (b && other)) none ∙ kept may where
+  kept : (b : Bool) → (b && true) ≡ b
+  kept true = refl
+  kept false = refl
+
+no_bit : (d : ℕ) → (bit_at 0 d == 1) ≡ false
+no_bit d = ap (λ b. b == 1) (bit_at-zero d)
+
+pub sets : (board : Board) (v : PowerView) (flags d state : ℕ) → SetsByPermission board v flags d state
+unfolding power_reply may_set
+sets board v flags d state = λ none.
+    ap (λ may. set_reply board v.channel may (v.busy d) v.room flags d state)
+    (ap (λ kept. v.may d && not (holds kept (resource.Domain d) && (state == state_off))) none
+    ∙ alone (v.may d) (λ mask. bit_at mask d == 1) (state == state_off) (no_bit d))
+
+pub configures : (board : Board) (v : ClockView) (c attributes : ℕ) → ConfiguresByPermission board v c attributes
+unfolding clock_reply
+configures board v c attributes = λ none.
+    ap (λ may. reply_unless (config_checks board may c attributes) (0 ∷ []))
+    (ap (λ kept. v.may c && not (holds kept (resource.Clock c) && not (bit_0 attributes))) none
+    ∙ alone (v.may c) (λ mask. bit_at mask c == 1) (not (bit_0 attributes)) (no_bit c))
+
+-- of fewer than 8 sets an agent has fewer than 8
+pub shares : (waiting a : ℕ) (sets : List PendingSet) → SharesAll waiting a sets
+shares waiting a sets = by (leb_tells (suc (length sets)) 8) where
+  own : length (sets_by a sets) + length (filter (λ p. not (p.agent == a)) sets) ≡ length sets
+  own = length-filter_both (λ p. p.agent == a) (λ p. not (p.agent == a)) (λ p. refl) sets
+
+  by : ((nat_lt (length sets) 8 ≡ true) × (suc (length sets) ≤ 8)) ⊎ ((nat_lt (length sets) 8 ≡ false) × (8 < suc (length sets))) → SharesAll waiting a sets
+  by (inl few) =
+      let less = few.1 in
+      let all = own in
+      let fewer : length (sets_by a sets) < 8 = omega arith in
+      let yes : nat_lt (length (sets_by a sets)) 8 ≡ true = grind (arith, nat_tests) in
+      rw (few.0, yes) refl
+  by (inr many) = rw many.0 refl

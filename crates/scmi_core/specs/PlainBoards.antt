@@ -1,0 +1,43 @@
+-- What the definitions give of a board that keeps nothing, denies nothing and shares nothing out: what they give if no board says such things.
+use Rattle.std.specs.Prelude.{◌≡◌, ◌==◌, ◌&&◌, ℕ, nat_lt, Bool, true, if◌then◌else◌, List, [], ◌∷◌, length, Option, Some, None}
+use Rattle.scmi_codec.specs.Reply.{bit_0, reply_unless}
+use Rattle.scmi_codec.specs.declared.base_command.BaseCommand.TheVariants.{ResetAgent}
+use Rattle.scmi_codec.specs.declared.power_command.PowerCommand.TheVariants as power
+use Rattle.scmi_codec.specs.declared.clock_command.ClockCommand.TheVariants as clock
+use Rattle.scmi_plan.specs.Board.{Board, nothing_denied, nothing_held}
+use Rattle.scmi_plan.specs.declared.limits.TheConstants.{PENDING_SETS}
+use Rattle.scmi_plan.specs.declared.scope.Scope.{Scope}
+use Rattle.scmi_base.specs.Permission.{permission}
+use Rattle.scmi_power.specs.PowerReply.{PowerView, power_reply, set_reply}
+use Rattle.scmi_clock.specs.ClockReply.{ClockView, clock_reply, config_checks}
+use Rattle.scmi_core.specs.Pending.{has_room_beside, load_beside}
+use Rattle.scmi_core.specs.Permissions.{has_permission}
+use Rattle.scmi_core.specs.declared.outboxes.TheConstants.{OUTBOX_ROOM}
+use Rattle.scmi_core.specs.declared.pending_set.PendingSet.{PendingSet}
+
+-- each agent is allowed on each device and every protocol on it at the start
+abbrev pub AllowsAll : Board → (a d : ℕ) → Scope → Type 0
+AllowsAll board a d s = board.denied ≡ nothing_denied → has_permission board a d s [] ≡ true
+
+-- a reset of an agent's permissions allows it everything
+abbrev pub ResetsToAll : Board → (a d : ℕ) → Scope → (agent flags : ℕ) → Type 0
+ResetsToAll board a d s agent flags =
+    board.denied ≡ nothing_denied
+    → permission board a d s (ResetAgent agent flags) ≡ (if agent == a && bit_0 flags then Some true else None)
+
+-- a set of a state is denied for its caller's permission alone
+abbrev pub SetsByPermission : Board → PowerView → (flags d state : ℕ) → Type 0
+SetsByPermission board v flags d state =
+    board.kept ≡ nothing_held
+    → power_reply board v (power.Set flags d state) ≡ set_reply board v.channel (v.may d) (v.busy d) v.room flags d state
+
+-- and so is a clock's configuration
+abbrev pub ConfiguresByPermission : Board → ClockView → (c attributes : ℕ) → Type 0
+ConfiguresByPermission board v c attributes =
+    board.kept ≡ nothing_held
+    → clock_reply board v (clock.Config c attributes) ≡ reply_unless (config_checks board (v.may c) c attributes) (0 ∷ [])
+
+-- an agent that all pending sets may be of has room for what is left of them and of its outbox
+abbrev pub SharesAll : (waiting a : ℕ) → List PendingSet → Type 0
+SharesAll waiting a sets =
+    has_room_beside PENDING_SETS waiting a sets ≡ (nat_lt (length sets) PENDING_SETS && nat_lt (load_beside waiting a sets) OUTBOX_ROOM)

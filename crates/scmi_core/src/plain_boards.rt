@@ -1,0 +1,28 @@
+//! What a board's own rules leave as it was.
+ghost use Rattle.std.specs.Prelude.{ℕ, List};
+ghost use Rattle.scmi_core.specs.PlainBoards.{AllowsAll, ConfiguresByPermission, ResetsToAll, SetsByPermission, SharesAll};
+ghost use Rattle.scmi_core.specs.declared.pending_set.PendingSet.{PendingSet};
+ghost use Rattle.scmi_clock.specs.ClockReply.{ClockView};
+ghost use Rattle.scmi_plan.specs.Board.{Board};
+ghost use Rattle.scmi_plan.specs.declared.scope.Scope.{Scope};
+ghost use Rattle.scmi_power.specs.PowerReply.{PowerView};
+
+/// What the definitions give of a board that keeps nothing (`Plan::keep`), denies nothing
+/// (`Plan::deny`) and gives each agent all 8 pending sets: what they give if no board says such
+/// things. It does nothing: its clauses are the laws.
+///
+/// Each agent is allowed everywhere at the start, and by a reset of its permissions. A set of a state
+/// and a clock's configuration are denied for the caller's permission alone. An agent has room for
+/// what is left of the pending sets and of its outbox.
+pub fn every_plain_board()
+    ensures allows { (board : Board) (a d : ℕ) (s : Scope) → AllowsAll board a d s }
+    ensures resets { (board : Board) (a d : ℕ) (s : Scope) (agent flags : ℕ)
+        → ResetsToAll board a d s agent flags }
+    ensures sets { (board : Board) (v : PowerView) (flags d state : ℕ)
+        → SetsByPermission board v flags d state }
+    ensures configures { (board : Board) (v : ClockView) (c attributes : ℕ)
+        → ConfiguresByPermission board v c attributes }
+    ensures shares { (waiting a : ℕ) (sets : List PendingSet) → SharesAll waiting a sets }
+{
+    // Nothing to do: the clauses hold of every board.
+}
