@@ -117,7 +117,15 @@ def some_domain(rng, size):
 def some_channel(rng):
     if rng.random() < 0.8:
         return Channel(DEFAULT_WORDS, True)
-    return Channel(rng.choice((8, 9, 16, rng.randint(8, 64))), rng.random() < 0.7)
+    return Channel(rng.choice((8, 9, 16, rng.randint(8, 64))), rng.random() < 0.7, rng.choice((1, 2, 8)))
+
+
+def some_rules(rng, agents, domains, clocks, devices):
+    """What a board keeps, and what it denies from the start."""
+    kept = {(POWER, one) for one in some_of(rng, domains)} | {(CLOCK, one) for one in some_of(rng, clocks)}
+    denied = {(agent, device, rng.choice((0, POWER, CLOCK)))
+              for agent in range(1, agents + 1) for device in some_of(rng, devices)}
+    return frozenset(kept), frozenset(denied)
 
 
 def some_board(rng, name):
@@ -128,7 +136,8 @@ def some_board(rng, name):
                  tuple(some_name(rng) for _ in range(agents)), tuple(some_domain(rng, name) for _ in range(domains)),
                  tuple(some_clock(rng) for _ in range(clocks)),
                  tuple(Device(some_of(rng, domains), some_of(rng, clocks)) for _ in range(devices)),
-                 tuple(Channel(DEFAULT_WORDS, True) if plain else some_channel(rng) for _ in range(agents)))
+                 tuple(Channel(DEFAULT_WORDS, True) if plain else some_channel(rng) for _ in range(agents)),
+                 *(() if plain else some_rules(rng, agents, domains, clocks, devices)))
 
 
 # Commands: each gives a protocol, a message and its words

@@ -40,6 +40,7 @@ class Device(NamedTuple):
 class Channel(NamedTuple):
     words: int
     two_way: bool
+    share: int = MOST_PENDING  # how many of the pending sets may be the agent's
 
 
 class Board(NamedTuple):
@@ -52,6 +53,8 @@ class Board(NamedTuple):
     clocks: tuple
     devices: tuple
     channels: tuple  # one for each agent
+    kept: frozenset = frozenset()  # of (protocol, number): domains and clocks that no agent may switch off
+    denied: frozenset = frozenset()  # what is denied from the start, as in State
 
 
 class Pending(NamedTuple):
@@ -88,7 +91,7 @@ class Refused(Exception):
 def first_state(board):
     none = ((),) * len(board.agents)
     return State(tuple(d.state for d in board.domains), tuple(c.rate for c in board.clocks),
-                 tuple(c.enabled for c in board.clocks), frozenset(), frozenset(), (), none, (None,) * len(none))
+                 tuple(c.enabled for c in board.clocks), board.denied, frozenset(), (), none, (None,) * len(none))
 
 
 def with_item(items, place, item):
@@ -195,10 +198,11 @@ def may_change(board, state, agent, protocol, place):
                               for number in holders)
 
 
-def check_free(state, agent, protocol, place, later):
+def check_free(board, state, agent, protocol, place, later):
     check(all((one.protocol, one.place) != (protocol, place) for one in state.pending), BUSY)
     if later:
         check(len(state.pending) < MOST_PENDING and load_of(state, agent) < MOST_WAITING, BUSY)
+        check(sum(one.agent == agent for one in state.pending) < board.channels[agent - 1].share, BUSY)
 
 
 # The commands: each gets the board, the state, its agent, its header and its words, and gives the words of its reply
@@ -267,7 +271,8 @@ def reset_agent(board, state, agent, header, other, flags):
     check(agent == board.trusted, DENIED)
     state = state._replace(asked=frozenset(one for one in state.asked if one[0] != other))
     if flags:
-        state = state._replace(denied=frozenset(one for one in state.denied if one[0] != other))
+        others = {one for one in state.denied if one[0] != other}
+        state = state._replace(denied=frozenset(others | {one for one in board.denied if one[0] == other}))
     return [], state, False
 
 
@@ -292,7 +297,8 @@ def set_state(board, state, agent, header, flags, domain, value):
     check(flags <= 1 and value in (ON, OFF), INVALID_PARAMETERS)
     check("sa"[flags] in board.domains[domain].kinds & kinds_for(board, agent), NOT_SUPPORTED)
     check(may_change(board, state, agent, POWER, domain), DENIED)
-    check_free(state, agent, POWER, domain, flags)
+    check(value == ON or (POWER, domain) not in board.kept, DENIED)
+    check_free(board, state, agent, POWER, domain, flags)
     if flags:
         return [], with_pending(state, agent, header, domain, value, True), False
     return [], with_domain(board, state, agent, domain, value), True
@@ -320,7 +326,7 @@ def notify(board, state, agent, header, domain, enable):
 
 
 def clock_attributes(board, state, agent, header):
-    pending = MOST_PENDING if board.channels[agent - 1].two_way else 0
+    pending = board.channels[agent - 1].share if board.channels[agent - 1].two_way else 0
     return [pending << 16 | len(board.clocks)], state, False
 
 
@@ -368,7 +374,7 @@ def set_rate(board, state, agent, header, flags, clock, low, high):
     later = flags & 1
     check(not later or board.channels[agent - 1].two_way, NOT_SUPPORTED)
     check(may_change(board, state, agent, CLOCK, clock), DENIED)
-    check_free(state, agent, CLOCK, clock, later)
+    check_free(board, state, agent, CLOCK, clock, later)
     if later:
         return [], with_pending(state, agent, header, clock, rate, not flags & 2), False
     return [], state._replace(rates=with_item(state.rates, clock, rate)), True
@@ -383,6 +389,7 @@ def configure(board, state, agent, header, clock, attributes):
     check(clock < len(board.clocks), NOT_FOUND)
     check(attributes <= 1, INVALID_PARAMETERS)
     check(may_change(board, state, agent, CLOCK, clock), DENIED)
+    check(attributes or (CLOCK, clock) not in board.kept, DENIED)
     return [], state._replace(enabled=with_item(state.enabled, clock, attributes)), True
 
 

@@ -1,7 +1,8 @@
 """The texts of boards and records, read and written: docs/SCRIPTS.md and docs/CHECK.md have their forms."""
 from typing import NamedTuple
 
-from model import OFF, ON, PROTOCOLS, TOKENS, Board, Channel, Clock, Device, Domain, header_of, protocol_of
+from model import (CLOCK, MOST_PENDING, OFF, ON, POWER, PROTOCOLS, TOKENS, Board, Channel, Clock, Device, Domain,
+                   header_of, protocol_of)
 
 DEFAULT_WORDS = 64
 HEADER_BYTES = 28
@@ -59,13 +60,23 @@ def device_of(domains, clocks):
     return Device(frozenset(numbers_in(domains)), frozenset(numbers_in(clocks)))
 
 
-def channel_of(size, *one_way):
-    return Channel((int(size, 0) - HEADER_BYTES) // 4, not one_way)
+def channel_of(size, *more):
+    share = {"share": int(more[-1], 0)} if "pending" in more else {}
+    return Channel((int(size, 0) - HEADER_BYTES) // 4, "one-way" not in more, **share)
+
+
+def kept_by(row):
+    return {"domain": POWER, "clock": CLOCK}[row[0]], int(row[1], 0)
+
+
+def denied_by(row):
+    agent, device, protocol = (int(one, 0) for one in (*row, "0")[:3])
+    return agent, device, protocol
 
 
 def read_board(text):
     """The board of a text, from its line `board` to `end`."""
-    rows = {"agent": [], "domain": [], "clock": [], "device": [], "channel": []}
+    rows = {"agent": [], "domain": [], "clock": [], "device": [], "channel": [], "keep": [], "deny": []}
     for line in text.splitlines():
         word, *items = line.split() or ["#"]
         if word == "board":
@@ -78,7 +89,8 @@ def read_board(text):
     agents = tuple(name for name, in rows["agent"])
     return Board(*names, *numbers, agents, tuple(domain_of(*row) for row in rows["domain"]),
                  tuple(clock_of(*row) for row in rows["clock"]), tuple(device_of(*row) for row in rows["device"]),
-                 tuple(channels.get(agent + 1, Channel(DEFAULT_WORDS, True)) for agent in range(len(agents))))
+                 tuple(channels.get(agent + 1, Channel(DEFAULT_WORDS, True)) for agent in range(len(agents))),
+                 frozenset(map(kept_by, rows["keep"])), frozenset(map(denied_by, rows["deny"])))
 
 
 def listed(numbers):
@@ -98,7 +110,15 @@ def domain_line(domain):
 def channel_lines(board):
     for agent, channel in enumerate(board.channels, 1):
         if channel != Channel(DEFAULT_WORDS, True):
-            yield f"channel {agent} {HEADER_BYTES + 4 * channel.words}" + " one-way" * (not channel.two_way)
+            yield (f"channel {agent} {HEADER_BYTES + 4 * channel.words}" + " one-way" * (not channel.two_way)
+                   + f" pending {channel.share}" * (channel.share != MOST_PENDING))
+
+
+def rule_lines(board):
+    for protocol, number in sorted(board.kept):
+        yield f"keep {'domain' if protocol == POWER else 'clock'} {number}"
+    for agent, device, protocol in sorted(board.denied):
+        yield f"deny {agent} {device}" + f" {protocol:#04x}" * (protocol != 0)
 
 
 def board_text(board):
@@ -107,7 +127,7 @@ def board_text(board):
     lines += map(domain_line, board.domains)
     lines += map(clock_line, board.clocks)
     lines += [f"device {listed(one.domains)} {listed(one.clocks)}" for one in board.devices]
-    return "".join(line + "\n" for line in [*lines, *channel_lines(board), "end"])
+    return "".join(line + "\n" for line in [*lines, *channel_lines(board), *rule_lines(board), "end"])
 
 
 # Records
