@@ -18,6 +18,7 @@ class Edit:
     is_wide: bool = False
     has_copy: bool = False
     is_unedited: bool = False
+    is_kept: bool = False
     faults: list = field(default_factory=list)
 
 

@@ -66,6 +66,14 @@ asks-push board before h e =
     ∙ append_assoc before (asks_from board [] h) (option_to_list (ask_after board h e))
     ∙ ap (λ ys. before ++ ys) (sym (asks_from-push board [] h e))
 
+-- one more event at which hardware is asked for nothing
+pub asks-stay : (board : Board) (h : List Event) (e : Event) → ask_after board h e ≡ None → asks board (h ++ e ∷ []) ≡ asks board h
+unfolding asks
+asks-stay board h e none =
+    asks_from-push board [] h e
+    ∙ ap (λ ask. asks_from board [] h ++ option_to_list ask) none
+    ∙ append-nil (asks_from board [] h)
+
 -- so hardware that was asked for what belongs to a history goes on having been asked for it
 pub made-on : (board : Board) (IsOne : Event → Type 0) (h h' : List Event) (asked asked' : List Asked → Type 0) (before : List Asked) → HappensOn board IsOne h asked h' asked'
     → HasMade before board h asked → HasMade before board h' asked'

@@ -33,6 +33,7 @@ impl Tables {
             ≡ Some effect }
         ensures answer { answer_with result reply.new
             ≡ answer_in plan.now agent frame.now (situation_in agent self.old) }
+        ensures unwritten { result ≡ Answered.ChannelError → reply.new ≡ reply.old }
         ensures stepped { HasAnswered plan.now agent frame.now self.old self.new }
     {
         match frame {

@@ -1,5 +1,5 @@
 //! A platform that keeps its history, beside the hardware that it switches.
-ghost use Rattle.std.specs.Prelude.{◌≡◌, ◌≢◌, ◌<◌, ◌++◌, ◌∷◌, [], ◌↔◌, List, length, true, false, None, Some, IfOk, OnErr, IfErr, Err};
+ghost use Rattle.std.specs.Prelude.{◌≡◌, ◌≢◌, ◌<◌, ◌++◌, ◌∷◌, [], ◌↔◌, List, length, true, false, None, Some, Ok, IfOk, OnErr, IfErr, Err};
 ghost use Rattle.scmi_codec.specs.declared.frame.Answer.TheVariants.{Reply};
 ghost use Rattle.scmi_plan.specs.Agent.{IsAgent, IsNoAgent};
 ghost use Rattle.scmi_core.specs.Asked.{Asked, IsAsked};
@@ -38,6 +38,7 @@ impl Core {
         ensures made { (before : List Asked)
             → HasMade before self.old.board self.old.history (H.asked hardware.old)
             → HasMade before self.new.board self.new.history (H.asked hardware.new) }
+        ensures unwritten { result ≡ Ok Answered.ChannelError → reply.new ≡ reply.old }
         ensures board { self.new.board ≡ self.old.board }
         ensures legal { IsLegal self.new.board self.new.history }
         ensures no_agent { (result ≡ Err CoreError.NoAgent)
@@ -73,6 +74,7 @@ impl Core {
         ensures made { (before : List Asked)
             → HasMade before self.old.board self.old.history (H.asked hardware.old)
             → HasMade before self.new.board self.new.history (H.asked hardware.new) }
+        ensures unwritten { result ≡ Answered.ChannelError → reply.new ≡ reply.old }
         ensures board { self.new.board ≡ self.old.board }
         ensures legal { IsLegal self.new.board self.new.history }
     {
@@ -149,6 +151,7 @@ impl Core {
             ≡ Some effect }
         ensures answer { answer_with result reply.new
             ≡ answer_to self.old.board agent frame.now self.old.history }
+        ensures unwritten { result ≡ Answered.ChannelError → reply.new ≡ reply.old }
         ensures event { self.new.history ≡ self.old.history ++ Called agent frame.now ∷ [] }
         ensures board { self.new.board ≡ self.old.board }
         ensures legal { IsLegal self.new.board self.new.history }

@@ -1,5 +1,5 @@
 //! A platform beside the hardware that it switches.
-ghost use Rattle.std.specs.Prelude.{◌≡◌, ◌≢◌, ◌<◌, ◌↔◌, List, length, true, false, None, Some, IfOk, OnErr, IfErr, Err};
+ghost use Rattle.std.specs.Prelude.{◌≡◌, ◌≢◌, ◌<◌, ◌↔◌, List, length, true, false, None, Some, Ok, IfOk, OnErr, IfErr, Err};
 ghost use Rattle.scmi_codec.specs.declared.frame.Answer.TheVariants.{Reply};
 ghost use Rattle.scmi_plan.specs.Agent.{IsAgent, IsNoAgent};
 ghost use Rattle.scmi_plan.specs.Plan.{IsValid};
@@ -38,6 +38,7 @@ impl Platform {
             IsExecutedThere agent frame.now (answer_with x reply.new) self.old self.new) }
         ensures driven { IsDriven self.old (H.asked hardware.old)
             → IsDriven self.new (H.asked hardware.new) }
+        ensures unwritten { result ≡ Ok Answered.ChannelError → reply.new ≡ reply.old }
         ensures board { self.new.board ≡ self.old.board }
         ensures no_agent { (result ≡ Err CoreError.NoAgent)
             ↔ IsNoAgent (length self.old.board.agents) agent }
@@ -86,6 +87,7 @@ impl Platform {
             self.old (H.asked hardware.old) self.new (H.asked hardware.new) }
         ensures obeyed { H.REFUSES ≡ false
             → IsExecutedThere agent frame.now (answer_with result reply.new) self.old self.new }
+        ensures unwritten { result ≡ Answered.ChannelError → reply.new ≡ reply.old }
         ensures board { self.new.board ≡ self.old.board }
     {
         let Some(effect) = self.effect_in(agent, frame) else {
@@ -130,6 +132,7 @@ impl Platform {
         ensures valid { IsValid self.old.board }
         ensures answer { (h : List Event) → StandsAfter self.old h
             → answer_with result reply.new ≡ answer_to self.old.board agent frame.now h }
+        ensures unwritten { result ≡ Answered.ChannelError → reply.new ≡ reply.old }
         ensures event { MovesOn self.old (Called agent frame.now) self.new }
         ensures board { self.new.board ≡ self.old.board }
     {

@@ -1,7 +1,9 @@
 -- What serving an agent and flushing its outbox add to a history of plain events.
-use Rattle.std.proofs.Common.{◌≡◌, ℕ, Bool, List, [], ◌∷◌, ◌++◌, sym, subst}
+use Rattle.std.proofs.Common.{◌≡◌, ℕ, Bool, List, [], ◌∷◌, ◌++◌, refl, sym, ap, subst, ◌∙◌}
 use Rattle.std.specs.List.{All}
 use Rattle.std.proofs.lemmas.List.Elements.{All-push}
+use Rattle.scmi_core.proofs.EffectsMade.{asks-stay}
+use Rattle.scmi_core.specs.Driven.{asks}
 use Rattle.scmi_core.specs.Plain.{IsPlain}
 use Rattle.scmi_core.specs.declared.event.Event.{Event}
 use Rattle.scmi_core.specs.declared.event.Event.TheVariants.{Command, Sent}
@@ -36,3 +38,10 @@ flushed_all P full a c r c' p s all = one_flushed P full c.board a c.history c'.
 
 pub flushed_plain : (full : Bool) (a : ℕ) (c : ControllerView) (r : Flushed) (c' : ControllerView) → Flushes full a c r c' → All IsPlain c.history → All IsPlain c'.history
 flushed_plain full a c r c' s all = flushed_all IsPlain full a c r c' tt s all
+
+-- hardware is asked for nothing by the flushing of an outbox
+pub flushed_asks : (full : Bool) (board : Board) (a : ℕ) (h h' : List Event) (v w : CallerView) (r : Flushed) → FlushesOne full board a h v r h' w → asks board h' ≡ asks board h
+flushed_asks full board a h h' v w flushed.Waiting s = ap (asks board) s.0
+flushed_asks full board a h h' v w flushed.Nothing s = ap (asks board) s.0
+flushed_asks full board a h h' v w flushed.Closed s = ap (asks board) s.0
+flushed_asks full board a h h' v w flushed.Posted s = ap (asks board) s.event ∙ asks-stay board h (Sent a) refl

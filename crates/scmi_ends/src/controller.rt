@@ -3,7 +3,7 @@ ghost use Rattle.std.specs.Prelude.{◌≡◌, ◌≢◌, ◌<◌, ◌++◌, ◌
 ghost use Rattle.scmi_plan.specs.Agent.{IsAgent, IsNoAgent};
 ghost use Rattle.scmi_core.specs.History.{deeds};
 ghost use Rattle.scmi_core.specs.Asked.{Asked, IsAsked};
-ghost use Rattle.scmi_core.specs.Driven.{HappensOn, HasMade, IsEnd};
+ghost use Rattle.scmi_core.specs.Driven.{HappensOn, HasMade, IsEnd, asks};
 ghost use Rattle.scmi_core.specs.Pending.{pending_sets};
 ghost use Rattle.scmi_core.specs.declared.event.Event.TheVariants as event;
 
@@ -225,6 +225,8 @@ impl<C: Channel> Controller<C> {
         ensures agrees { IsInStep self.new }
         ensures board { self.new.board ≡ self.old.board }
         ensures flushes { IfOk result (λ flushed. Flushes C.FULL agent self.old flushed self.new) }
+        ensures made { asks self.new.board self.new.history
+            ≡ asks self.old.board self.old.history }
         ensures no_agent { (result ≡ Err ServeError.NoAgent) ↔
             IsNoAgent (length self.old.board.agents) agent }
         ensures memory { result ≡ Err ServeError.Memory → self.old.room ≡ 0 }
@@ -254,6 +256,8 @@ impl<C: Channel> Controller<C> {
         ensures board { self.new.board ≡ self.old.board }
         ensures shuts { result ≢ Err ShutError.NoAgent →
             Shuts (ShowsClose C.caller_view C.close_shows) agent self.old result self.new }
+        ensures made { asks self.new.board self.new.history
+            ≡ asks self.old.board self.old.history }
         ensures no_agent { (result ≡ Err ShutError.NoAgent) ↔
             IsNoAgent (length self.old.board.agents) agent }
         ensures unchanged { result ≡ Err ShutError.NoAgent → self.new ≡ self.old }

@@ -1,6 +1,7 @@
 //! An agent that restarts.
 ghost use Rattle.std.specs.Prelude.{◌≡◌, ◌++◌, ◌∷◌, ◌↔◌, [], length, Err, OnOk, OnErr};
 ghost use Rattle.scmi_plan.specs.Agent.{IsNoAgent};
+ghost use Rattle.scmi_core.specs.Driven.{asks};
 ghost use Rattle.scmi_core.specs.declared.event.Event.TheVariants.{Restarted};
 
 use crate::controller::Controller;
@@ -26,6 +27,8 @@ impl<C: Channel> Controller<C> {
           history = self.old.history ++ Restarted agent ∷ [];
           room = self.new.room;
         }) }
+        ensures made { asks self.new.board self.new.history
+            ≡ asks self.old.board self.old.history }
         ensures memory { result ≡ Err ServeError.Memory → self.old.room ≡ 0 }
         ensures no_agent { (result ≡ Err ServeError.NoAgent) ↔
             IsNoAgent (length self.old.board.agents) agent }

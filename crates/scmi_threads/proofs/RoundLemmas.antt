@@ -1,7 +1,6 @@
 -- A round, call by call.
 use Rattle.std.proofs.Common.{◌≡◌, ℕ, Bool, false, List, [], ◌∷◌, ◌++◌, refl, sym, ap, subst, ◌∙◌}
 use Rattle.std.specs.Prelude.{IsTrue}
-use Rattle.scmi_core.proofs.EffectsMade.{made-on}
 use Rattle.scmi_core.specs.Driven.{HappensOn, HasMade, IsEnd}
 use Rattle.scmi_core.specs.Asked.{Asked}
 use Rattle.scmi_core.specs.declared.event.Event.{Event}
@@ -9,7 +8,7 @@ use Rattle.scmi_core.specs.declared.event.Event.TheVariants.{Advance, Sent}
 use Rattle.scmi_script.specs.declared.flushed.Flushed.{Flushed}
 use Rattle.scmi_script.specs.declared.flushed.Flushed.TheVariants as flushed
 use Rattle.scmi_script.specs.declared.served.Served.{Served}
-use Rattle.scmi_ends.proofs.PlainCalls.{flushed_all, served_plain}
+use Rattle.scmi_ends.proofs.PlainCalls.{flushed_all, flushed_asks, served_plain}
 use Rattle.scmi_ends.specs.ControllerView.{ControllerView}
 use Rattle.scmi_ends.specs.Flush.{Flushes, FlushesOne}
 use Rattle.scmi_ends.specs.Links.{HasLinks}
@@ -23,15 +22,10 @@ use Rattle.scmi_threads.specs.Rounds.{GoesOn}
 use Rattle.scmi_threads.proofs.Opened.{flushes_open, serves_on_open}
 use Rattle.scmi_threads.proofs.PlainLemmas.{advanced_no_restart, advanced_plain, served_no_restart}
 
--- that a message was sent changes nothing of the hardware
-sent_made : (board : Board) (a : ℕ) (h : List Event) (asked : List Asked → Type 0) (before : List Asked) → HasMade before board h asked → HasMade before board (h ++ Sent a ∷ []) asked
-sent_made board a h asked before made = made-on board (λ event. event ≡ Sent a) h (h ++ Sent a ∷ []) asked asked before (record { event = Sent a; is_one = refl; history = refl; hardware = λ asks asked. asked }) made
-
+-- what an outbox is flushed of changes nothing of the hardware
 flushed_made : (full : Bool) (board : Board) (a : ℕ) (h h' : List Event) (v w : CallerView) (r : Flushed) (asked : List Asked → Type 0) (before : List Asked) → FlushesOne full board a h v r h' w → HasMade before board h asked → HasMade before board h' asked
-flushed_made full board a h h' v w flushed.Waiting asked before s made = subst (λ k. HasMade before board k asked) (sym s.0) made
-flushed_made full board a h h' v w flushed.Nothing asked before s made = subst (λ k. HasMade before board k asked) (sym s.0) made
-flushed_made full board a h h' v w flushed.Closed asked before s made = subst (λ k. HasMade before board k asked) (sym s.0) made
-flushed_made full board a h h' v w flushed.Posted asked before s made = subst (λ k. HasMade before board k asked) (sym s.event) (sent_made board a h asked before made)
+flushed_made full board a h h' v w r asked before s made =
+    subst (λ asks. asked (before ++ asks)) (sym (flushed_asks full board a h h' v w r s)) made
 
 module _ {C Caller Callee Rest : Type 0} (refuses : Bool) (identity : C → List ℕ) (links : List (Link C Caller Callee Rest)) (old c c' : ControllerView) (asked b : List Asked → Type 0) where
   pub and_served : (b' : List Asked → Type 0) (a : ℕ) (r : Served) → GoesOn refuses identity links old asked c b → HasLinks identity links c' → c'.board ≡ c.board → ServesOn a c b r c' b' → (refuses ≡ false → Serves a c r c')
