@@ -85,7 +85,8 @@ fn task_command<'a>(alloc: Global, form: &Form) -> Result<Command<'a>, AllocErro
             .arg(Arg::new(alloc, FIRST)),
         Operands::Drawn => command
             .arg(flag(alloc, MERMAID))?
-            .arg(Arg::new(alloc, FIRST)),
+            .arg(Arg::new(alloc, FIRST))?
+            .arg(Arg::new(alloc, SECOND)),
         Operands::BoardAndRecord => command
             .arg(flag(alloc, TAP))?
             .arg(flag(alloc, JSON))?

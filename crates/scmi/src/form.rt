@@ -10,7 +10,7 @@ pub enum Operands {
     Input,
     /// The same; `-b`, `--offset`, `--size` and `--stride` may come before it.
     Dumps,
-    /// The same; `--mermaid` may come before it.
+    /// The same, or the files of a board and of a record; `--mermaid` may come before them.
     Drawn,
     /// The file of a board; `--save FILE` may come before it.
     Board,

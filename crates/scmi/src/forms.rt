@@ -39,13 +39,15 @@ bytes, and --offset N begins at byte N of each dump; N is decimal, or hexadecima
         task: Task::Chart,
         word: "chart",
         operands: Operands::Drawn,
-        usage: "scmi chart [--mermaid] [FILE]",
-        summary: "draws a script's run as a picture (SVG), or as a Mermaid diagram",
-        about: "Draws a script's run as a sequence chart.",
+        usage: "scmi chart [--mermaid] [FILE | BOARD RECORD]",
+        summary: "draws a script's run, or a record, as a picture (SVG) or a Mermaid diagram",
+        about: "Draws a script's run, or the messages of a record, as a sequence chart.",
         details: "\
 The input is that of scmi run in the modes steps words, steps rings, hardware words,
 hardware rings, threads words and threads rings, at most 2,000 steps. A run of agents in
 threads is drawn in the order in which the platform executed it.
+With two files it draws a record that scmi check reads, such as a trace of Linux, of a platform with
+that board: at most 2,000 replies and messages. RECORD may be -, standard input.
 The output is an SVG; docs/CHART.md has the signs. --mermaid writes a diagram as text, which
 GitHub and most editors draw.",
         example: "scmi chart examples/two_agents.in > run.svg",

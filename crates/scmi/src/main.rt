@@ -20,6 +20,7 @@ mod letters;
 mod listed;
 mod opened;
 mod painted;
+mod picture;
 mod read_as;
 mod record;
 mod record_cause;

@@ -13,6 +13,7 @@ use crate::serve_session::{AskedSession, serve_session};
 use crate::task::Task;
 use crate::terminal::Terminal;
 use scmi_check::Style;
+use scmi_draw::Form;
 use scmi_explain::{Kept, LastLine};
 use scmi_io::FAILED_OUTPUT;
 use scmi_modes::RunError;
@@ -41,16 +42,7 @@ pub fn serve<T: Threads + Wait + Sync + Files + Print + Eprint + Input>(
             request => { serve_standard(rt, alloc, request, is_colored) }
         };
     };
-    if asked.request == Request::Do(Task::Check) {
-        let check = AskedCheck {
-            style: asked.style,
-            is_colored: is_colored && asked.style == Style::Plain,
-            is_watched: terminal.is_watched,
-            protocols: asked.protocols,
-            refusals: asked.refusals,
-            board: name,
-            record: asked.second,
-        };
+    if let Some(check) = check_asked(asked, name, terminal) {
         return serve_check(rt, alloc, check);
     }
     if name == STANDARD {
@@ -73,11 +65,40 @@ pub fn serve<T: Threads + Wait + Sync + Files + Print + Eprint + Input>(
     }
 }
 
+/// What is asked for of a board and a record, if it is a check or a picture of the record.
+fn check_asked<'a>(asked: Asked<'a>, board: &'a str, terminal: Terminal) -> Option<AskedCheck<'a>> {
+    let picture = picture_asked(asked);
+    if picture.is_none() && asked.request != Request::Do(Task::Check) {
+        return None;
+    }
+    Some(AskedCheck {
+        picture,
+        style: asked.style,
+        is_colored: terminal.is_colored && asked.style == Style::Plain,
+        is_watched: terminal.is_watched,
+        protocols: asked.protocols,
+        refusals: asked.refusals,
+        board,
+        record: asked.second,
+    })
+}
+
+/// The form of the picture of a record, if a chart is asked for of a board and a record.
+fn picture_asked(asked: Asked<'_>) -> Option<Form> {
+    asked.second?;
+    match asked.request {
+        Request::Do(Task::Chart) => Some(Form::Svg),
+        Request::Diagram => Some(Form::Mermaid),
+        _ => None,
+    }
+}
+
 /// Whether standard input is read to its end. A session says of itself that it waits for lines.
 fn reads_standard(asked: Asked<'_>) -> bool {
     match asked.request {
         Request::Do(Task::Session) => false,
         Request::Do(Task::Check) => asked.first.is_some() && is_standard(asked.second),
+        _ if picture_asked(asked).is_some() => is_standard(asked.second),
         request => !is_text(request) && is_standard(asked.first),
     }
 }
@@ -194,7 +215,7 @@ fn serve_whole<T: Threads + Wait + Sync + Print + Eprint, R: Read + Drop>(
 }
 
 /// Writes a result, and gives the exit status.
-fn write_whole<T: Print + Eprint>(rt: &T, whole: &[u8]) -> u8 {
+pub(crate) fn write_whole<T: Print + Eprint>(rt: &T, whole: &[u8]) -> u8 {
     let mut output = LastLine::new(io::writer(rt));
     let status = match output.write_all(whole) {
         Ok(()) => 0,
@@ -204,7 +225,7 @@ fn write_whole<T: Print + Eprint>(rt: &T, whole: &[u8]) -> u8 {
 }
 
 /// A line without its line feed.
-fn without_feed(line: &[u8]) -> &[u8] {
+pub(crate) fn without_feed(line: &[u8]) -> &[u8] {
     match line {
         [text @ .., b'\n'] => text,
         _ => line,

@@ -1,26 +1,34 @@
-//! A check of the program: its board from a file, and its record from another or standard input.
+//! A check or a picture of a record: its board from a file, and the record from another or standard
+//! input.
 
 use crate::STANDARD_INPUT;
 use crate::asked::STANDARD;
 use crate::listed::Listed;
 use crate::painted::Painted;
+use crate::picture::{NotDrawn, picture_of};
 use crate::record::run_record;
 use crate::refusal::{BOARD_START, WRONG_ARGUMENT, begins_as_board, refuse_file, refuse_standard};
 use crate::report::report_output;
 use crate::report_board::report_board;
 use crate::report_record::report_record;
+use crate::serve::{without_feed, write_whole};
 use crate::watched::Watched;
 use scmi_board::{Items, byte};
-use scmi_check::{CheckOptions, DIFFERS, PROTOCOLS, Refusals, Style, UNSURE};
+use scmi_check::{CheckError, CheckOptions, DIFFERS, PROTOCOLS, Refusals, Style, UNSURE};
+use scmi_draw::{Form, STEPS};
 use scmi_explain::{Fault, Kept, LastLine};
-use scmi_io::{FAILED_OUTPUT, INPUT_BYTES};
+use scmi_io::{CountedReader, FAILED_OUTPUT, INPUT_BYTES, read_rest, write_fault};
+use scmi_svg::{write_chart, write_diagram};
 use std::alloc::Global;
 use std::fs::{self, Files};
 use std::io::{self, BufWriter, Eprint, Input, Print, Read, Write};
 
-/// A check of a record, by the names of its files.
+/// A check of a record, or a picture of one, by the names of its files.
 #[derive(Clone, Copy)]
 pub struct AskedCheck<'a> {
+    /// The form of the picture, if one is asked for.
+    pub picture: Option<Form>,
+    /// The form of the report of a check.
     pub style: Style,
     /// Whether words of the report are in colour.
     pub is_colored: bool,
@@ -36,7 +44,7 @@ pub struct AskedCheck<'a> {
     pub record: Option<&'a str>,
 }
 
-/// Opens the files of a check, runs it, and gives the exit status.
+/// Opens the files, checks or draws the record, and gives the exit status.
 pub fn serve_check<T: Files + Print + Eprint + Input>(
     rt: &T,
     alloc: Global,
@@ -108,8 +116,8 @@ impl<'a> AskedCheck<'a> {
     }
 }
 
-/// Checks the record of these files, and gives the exit status. What is wrong with a file, or the
-/// output, is reported on standard error.
+/// Checks or draws the record of these files, and gives the exit status. What is wrong with a file,
+/// or the output, is reported on standard error.
 fn check<T: Print + Eprint, B: Read + Drop, R: Read + Drop>(
     rt: &T,
     alloc: Global,
@@ -117,6 +125,9 @@ fn check<T: Print + Eprint, B: Read + Drop, R: Read + Drop>(
     board: B,
     record: R,
 ) -> u8 {
+    if let Some(form) = asked.picture {
+        return draw(rt, alloc, asked, form, board, record);
+    }
     // If there is no memory for a buffer, the output goes straight out.
     match BufWriter::new(alloc, io::writer(rt)) {
         Ok(writer) => {
@@ -173,6 +184,66 @@ fn check_on<T: Eprint, B: Read + Drop, R: Read + Drop, W: Write + Drop>(
     status
 }
 
+/// Draws the record of these files in a form, whole or not at all.
+fn draw<T: Print + Eprint, B: Read + Drop, R: Read + Drop>(
+    rt: &T,
+    alloc: Global,
+    asked: AskedCheck<'_>,
+    form: Form,
+    board: B,
+    record: R,
+) -> u8 {
+    let mut board = Kept::new(alloc, board);
+    let mut record = Kept::new(alloc, record);
+    let mut whole = Vec::new(alloc);
+    let fault = match write_picture(alloc, &mut board, &mut record, form, &mut whole) {
+        Ok(()) => return write_whole(rt, &whole),
+        Err(NotDrawn::Many) => {
+            let name = asked.record_name();
+            let _ = eprintln!(rt;
+                "{name}: a picture shows at most {STEPS} replies and messages; take a part of the record"
+            );
+            return CheckError::Size.status();
+        }
+        Err(NotDrawn::Refused(fault)) => fault,
+    };
+    whole.clear();
+    let status = write_fault(&mut whole, &fault, fault.status());
+    let line = without_feed(&whole);
+    report(rt, alloc, asked, &PROTOCOLS, &board, &record, line);
+    status
+}
+
+/// Writes the picture of a record in a form.
+fn write_picture<B: Read + Drop, R: Read + Drop>(
+    alloc: Global,
+    board: &mut Kept<B>,
+    record: &mut Kept<R>,
+    form: Form,
+    whole: &mut Vec<u8>,
+) -> Result<(), NotDrawn> {
+    let board = read_all(alloc, board)?;
+    let record = read_all(alloc, record)?;
+    let chart = picture_of(alloc, &board, &record)?;
+    let written = match form {
+        Form::Svg => write_chart(whole, &chart),
+        Form::Mermaid => write_diagram(whole, &chart),
+    };
+    // A vector refuses bytes only if there is no memory for them.
+    match written {
+        Ok(()) => Ok(()),
+        Err(_) => Err(NotDrawn::Refused(CheckError::Memory)),
+    }
+}
+
+/// All that is left of an input.
+fn read_all<R: Read>(alloc: Global, input: &mut R) -> Result<Vec<u8>, CheckError> {
+    match read_rest(alloc, &mut CountedReader::new(input)) {
+        Ok(text) => Ok(text),
+        Err(error) => Err(CheckError::from(error)),
+    }
+}
+
 /// The last line if nothing is judged.
 const NOTHING: &[u8] = b"fault empty";
 
@@ -204,6 +275,12 @@ fn report<B: Read + Drop, R: Read + Drop>(
         report_record(rt, alloc, name, board.bytes(), record.bytes(), line);
     } else if let Some(line) = line_of(last_line, b"long") {
         let _ = eprintln!(rt; "{name}:{line}: this line is longer than {INPUT_BYTES} bytes");
+    } else if last_line == NOTHING && asked.picture.is_some() {
+        let listed = Listed(judged);
+        let _ = eprintln!(rt;
+            "{name}: nothing to draw: no command with its reply, and no message, of protocols \
+            {listed}; docs/CHECK.md has the lines of a record"
+        );
     } else if last_line == NOTHING {
         let listed = Listed(judged);
         let _ = eprintln!(rt;

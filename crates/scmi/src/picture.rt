@@ -1,0 +1,224 @@
+//! The picture of a record: what went over a platform's channels.
+
+use crate::board_names::BoardNames;
+use scmi_board::{Lines, TextLine, read_valid_board};
+use scmi_chart::Recorder;
+use scmi_check::{CheckError, Names, PROTOCOLS, Placed, Record, read_record};
+use scmi_codec::{Answer, Frame, Header, Message, payload_of};
+use scmi_core::Core;
+use scmi_draw::STEPS;
+use scmi_judge::Entry;
+use scmi_link::Collected;
+use scmi_live::in_hertz;
+use scmi_plan::{Plan, RawPlan};
+use scmi_script::Served;
+use scmi_svg::Chart;
+use scmi_text::{AgentStep, Call, PlatformStep, Step, StepLine};
+use std::alloc::{AllocError, Global};
+
+/// Why a record is not drawn.
+pub(crate) enum NotDrawn {
+    /// As a check of it is refused.
+    Refused(CheckError),
+    /// It has more entries than a picture shows.
+    Many,
+}
+
+impl From<AllocError> for NotDrawn {
+    fn from(_error: AllocError) -> NotDrawn {
+        NotDrawn::Refused(CheckError::Memory)
+    }
+}
+
+impl From<CheckError> for NotDrawn {
+    fn from(error: CheckError) -> NotDrawn {
+        NotDrawn::Refused(error)
+    }
+}
+
+/// The picture of a record of a platform with the board of a text: its commands with their answers,
+/// and the other messages. What else the record has is counted below the title.
+pub(crate) fn picture_of(alloc: Global, board: &[u8], text: &[u8]) -> Result<Chart, NotDrawn> {
+    let board = in_hertz(alloc, board)?;
+    let names = BoardNames::of_text(alloc, &board)?;
+    let plan = match read_valid_board(alloc, &board) {
+        Ok(valid) => valid.plan,
+        Err(error) => return Err(NotDrawn::Refused(CheckError::from(error))),
+    };
+    let record = read_with_names(alloc, &names, text)?;
+    if record.entries.is_empty() {
+        return Err(NotDrawn::Refused(CheckError::Empty));
+    }
+    if record.entries.len() > STEPS {
+        return Err(NotDrawn::Many);
+    }
+    let mut chart = chart_of(alloc, names.board(), plan, &record, text)?;
+    // The states of domains and clocks, which a record does not show.
+    chart.columns.clear();
+    Ok(chart)
+}
+
+/// The record of a text.
+fn read_with_names(alloc: Global, names: &BoardNames, text: &[u8]) -> Result<Record, NotDrawn> {
+    let numbered = in_numbers(alloc, names, text)?;
+    let mut lines = Lines::of_text(&numbered);
+    match read_record(alloc, &mut lines, names.agents(), &PROTOCOLS) {
+        Ok(record) => Ok(record),
+        Err(error) => Err(NotDrawn::Refused(CheckError::from(error))),
+    }
+}
+
+/// The text of a record with numbers in place of names.
+fn in_numbers(alloc: Global, names: &BoardNames, text: &[u8]) -> Result<Vec<u8>, AllocError> {
+    let mut numbered = Vec::new(alloc);
+    for line in text.split(|byte| *byte == b'\n') {
+        match names.line(alloc, line)? {
+            Some(given) => numbered.extend_from_slice(given.as_bytes())?,
+            None => numbered.extend_from_slice(line)?,
+        }
+        numbered.push(b'\n')?;
+    }
+    Ok(numbered)
+}
+
+/// The chart of a record, with the lines of its text.
+fn chart_of(
+    alloc: Global,
+    board: &RawPlan,
+    plan: Plan,
+    record: &Record,
+    text: &[u8],
+) -> Result<Chart, AllocError> {
+    let core = Core::new(alloc, plan);
+    let lines: Vec<&[u8]> = text.split(|byte| *byte == b'\n').collect(alloc)?;
+    let mut recorder = Recorder::new(alloc, board, &core)?;
+    for placed in &record.entries {
+        let line = text_at(&lines, placed.line);
+        draw(&mut recorder, &core, line, placed)?;
+    }
+    let title = format!(in alloc; "{} {}", board.vendor, board.sub_vendor)?;
+    recorder.finish(title.into_bytes(), subtitle_of(alloc, record)?)
+}
+
+/// The line of this number, from 1.
+fn text_at<'a>(lines: &[&'a [u8]], number: u32) -> TextLine<'a> {
+    let text = match lines.get((number as usize).saturating_sub(1)) {
+        Some(line) => *line,
+        None => b"",
+    };
+    TextLine { number, text }
+}
+
+/// What is drawn of a record and what is not, in a line.
+fn subtitle_of(alloc: Global, record: &Record) -> Result<Vec<u8>, AllocError> {
+    let drawn = record.entries.len();
+    let ending = if drawn == 1 { "y" } else { "ies" };
+    let noted = record.left.notes.len();
+    let skipped = record.left.skipped;
+    let text = if noted == 0 && skipped == 0 {
+        format!(in alloc; "a record of {drawn} entr{ending}")?
+    } else {
+        format!(in alloc;
+            "a record of {drawn} entr{ending}; not drawn: {noted} unanswered, unmatched or lost, \
+            {skipped} of other protocols"
+        )?
+    };
+    Ok(text.into_bytes())
+}
+
+/// Draws an entry, whose answer or message is in this line.
+fn draw(
+    recorder: &mut Recorder<'_>,
+    core: &Core,
+    line: TextLine<'_>,
+    placed: &Placed,
+) -> Result<(), AllocError> {
+    match &placed.entry {
+        Entry::Answered {
+            agent,
+            frame,
+            answer,
+        } => draw_answered(recorder, core, line, *agent, frame, answer),
+        Entry::Delivered { agent, message } => {
+            let agent = *agent;
+            let step = Step::Agent {
+                agent,
+                step: AgentStep::P2a,
+            };
+            let frame = Some(Frame::Good(message.copy()));
+            recorder.record(line, &step, &StepLine::P2a { agent, frame }, core)
+        }
+    }
+}
+
+/// Draws a command with its answer.
+fn draw_answered(
+    recorder: &mut Recorder<'_>,
+    core: &Core,
+    line: TextLine<'_>,
+    agent: u32,
+    frame: &Frame,
+    answer: &Answer,
+) -> Result<(), AllocError> {
+    let step = match frame {
+        Frame::Good(message) if is_plain(message.header) => {
+            let collected = Collected::Got(answer.copy());
+            let call = call_of(message);
+            let step = Step::Do { agent, call };
+            return recorder.record(line, &step, &StepLine::Collected { agent, collected }, core);
+        }
+        Frame::Good(message) => AgentStep::Raw(message.copy()),
+        Frame::Malformed { length, header } => AgentStep::Malformed {
+            length: *length,
+            header: *header,
+        },
+    };
+    draw_apart(recorder, core, line, agent, step, answer)
+}
+
+/// Draws a frame that no call posts, with its answer.
+fn draw_apart(
+    recorder: &mut Recorder<'_>,
+    core: &Core,
+    line: TextLine<'_>,
+    agent: u32,
+    step: AgentStep,
+    answer: &Answer,
+) -> Result<(), AllocError> {
+    let number = line.number;
+    let posts = Step::Agent { agent, step };
+    recorder.record(line, &posts, &StepLine::Posted { agent }, core)?;
+    let serves = Step::Platform {
+        agent,
+        step: PlatformStep::Serve,
+    };
+    let served = Served::Done;
+    let below = TextLine { number, text: b"" };
+    recorder.record(below, &serves, &StepLine::Served { agent, served }, core)?;
+    let collects = Step::Agent {
+        agent,
+        step: AgentStep::Collect,
+    };
+    let collected = Collected::Got(answer.copy());
+    let below = TextLine { number, text: b"" };
+    recorder.record(
+        below,
+        &collects,
+        &StepLine::Collected { agent, collected },
+        core,
+    )
+}
+
+/// Whether a call posts a message with this header.
+fn is_plain(header: Header) -> bool {
+    header == Header::command(header.protocol(), header.token(), header.id())
+}
+
+/// The call that posts a message.
+fn call_of(message: &Message) -> Call {
+    Call {
+        protocol: message.header.protocol(),
+        message: message.header.id(),
+        payload: payload_of(message.payload.as_slice()),
+    }
+}
