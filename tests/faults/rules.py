@@ -154,6 +154,14 @@ def drawn(charts, examples):
     return session
 
 
+def pictured(charts, sessions):
+    """A record that is drawn: nothing is written before the picture stands."""
+    stdin = (sessions / "check/linux.ftrace").read_bytes()
+    session = Whole("a picture of a record", stdin, (charts / "record.mmd").read_bytes())
+    session.words = ("chart", "--mermaid", str(sessions / "boards/reference"), "-")
+    return session
+
+
 def tabled(examples):
     """A board whose tables are written: nothing is written before the board is read."""
     session = Whole("the tables of a board", (examples / "phone.board").read_bytes(),

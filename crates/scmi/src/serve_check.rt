@@ -196,14 +196,19 @@ fn draw<T: Print + Eprint, B: Read + Drop, R: Read + Drop>(
     let mut board = Kept::new(alloc, board);
     let mut record = Kept::new(alloc, record);
     let mut whole = Vec::new(alloc);
+    let name = asked.record_name();
     let fault = match write_picture(alloc, &mut board, &mut record, form, &mut whole) {
         Ok(()) => return write_whole(rt, &whole),
         Err(NotDrawn::Many) => {
-            let name = asked.record_name();
             let _ = eprintln!(rt;
-                "{name}: a picture shows at most {STEPS} replies and messages; take a part of the record"
+                "{name}: a picture shows at most {STEPS} replies and messages; take a part of the \
+                record"
             );
             return CheckError::Size.status();
+        }
+        Err(NotDrawn::Refused(CheckError::Memory)) => {
+            let _ = eprintln!(rt; "{name}: out of memory");
+            return CheckError::Memory.status();
         }
         Err(NotDrawn::Refused(fault)) => fault,
     };
