@@ -1,12 +1,14 @@
 -- What serving an agent and flushing its outbox add to a history of plain events.
-use Rattle.std.proofs.Common.{◌≡◌, ℕ, Bool, List, [], ◌∷◌, ◌++◌, refl, sym, ap, subst, ◌∙◌}
+use Rattle.std.proofs.Common.{◌≡◌, ℕ, Bool, List, [], ◌∷◌, ◌++◌, Result, Ok, Err, OnOk, OnErr, refl, sym, ap, subst, ◌∙◌}
 use Rattle.std.specs.List.{All}
 use Rattle.std.proofs.lemmas.List.Elements.{All-push}
 use Rattle.scmi_core.proofs.EffectsMade.{asks-stay}
 use Rattle.scmi_core.specs.Driven.{asks}
+use Rattle.scmi_core.specs.Platform.{Platform}
+use Rattle.scmi_core.specs.declared.core_error.CoreError.{CoreError}
 use Rattle.scmi_core.specs.Plain.{IsPlain}
 use Rattle.scmi_core.specs.declared.event.Event.{Event}
-use Rattle.scmi_core.specs.declared.event.Event.TheVariants.{Command, Sent}
+use Rattle.scmi_core.specs.declared.event.Event.TheVariants.{Command, Restarted, Sent}
 use Rattle.scmi_script.specs.declared.flushed.Flushed.{Flushed}
 use Rattle.scmi_script.specs.declared.flushed.Flushed.TheVariants as flushed
 use Rattle.scmi_script.specs.declared.served.Served.{Served}
@@ -45,3 +47,12 @@ flushed_asks full board a h h' v w flushed.Waiting s = ap (asks board) s.0
 flushed_asks full board a h h' v w flushed.Nothing s = ap (asks board) s.0
 flushed_asks full board a h h' v w flushed.Closed s = ap (asks board) s.0
 flushed_asks full board a h h' v w flushed.Posted s = ap (asks board) s.event ∙ asks-stay board h (Sent a) refl
+
+-- nor by the restart of an agent, whatever it answers
+pub restarted_asks : (old new : Platform) (a : ℕ) (r : Result (Unit {0}) CoreError) → new.board ≡ old.board → OnOk r (new.history ≡ old.history ++ Restarted a ∷ []) → OnErr r (new ≡ old)
+    → asks new.board new.history ≡ asks old.board old.history
+restarted_asks old new a (Ok done) eb event err =
+    ap (λ board. asks board new.history) eb
+    ∙ ap (asks old.board) event
+    ∙ asks-stay old.board old.history (Restarted a) refl
+restarted_asks old new a (Err e) eb event err = ap (λ p. asks p.board p.history) err

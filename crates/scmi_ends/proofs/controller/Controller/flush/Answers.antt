@@ -1,10 +1,12 @@
 use Rattle.std.proofs.Common.{◌≡◌, ◌<◌, ◌-◌, length, map, ap, arith, ◌∙◌, slice_set}
 use Rattle.std.proofs.lemmas.List.{length-map}
+use Rattle.scmi_core.specs.Driven.{asks}
 use Rattle.scmi_ends.specs.Agreement.{EndsAgree}
 use Rattle.scmi_ends.specs.Flush.{CollectsAndFlushes}
 use Rattle.scmi_ends.proofs.Lists.{map_same, name_at}
 use Rattle.scmi_ends.proofs.AgreementLemmas.{agrees_flush}
 use Rattle.scmi_ends.proofs.Places.{flushes}
+use Rattle.scmi_ends.proofs.PlainCalls.{flushed_asks}
 use Rattle.scmi_ends.proofs.controller.Controller.flush.Goals as goal
 use Rattle.scmi_ends.proofs.controller.Controller.flush.Goals.{After-index_mut, After-flush_one}
 
@@ -45,3 +47,9 @@ returns-clause-flushes g c = let at = (goal.at.returns-clause-flushes g c).After
     _ _ _ _ _ _ _ (within g at) c.index_mut.ensures.value (board g (goal.at.returns-clause-flushes g c).After-flush_one)
     (map_same g.C.Channel.caller_identity c.self.inside.callers.items (c.args.agent - 1) c.index_mut.result.now c.flush_one.new.caller (within g at) c.index_mut.ensures.value c.flush_one.ensures.identity)
     g.C.Channel.FULL c.flush_one.result (step g (goal.at.returns-clause-flushes g c).After-flush_one))
+
+pub returns-clause-made : goal.returns-clause-made
+returns-clause-made g c = let at = (goal.at.returns-clause-made g c).After-flush_one in
+    ap (λ board. asks board c.flush_one.new.core.history) (board g at)
+    ∙ flushed_asks g.C.Channel.FULL c.self.inside.core.board c.args.agent c.self.inside.core.history c.flush_one.new.core.history _ _ c.flush_one.result (step g at).step
+    ∙ ap (λ v. asks v.board v.history) c.self.view_is

@@ -1,4 +1,6 @@
-use Rattle.std.proofs.Common.{map}
+use Rattle.std.proofs.Common.{map, ap, ◌∙◌}
+use Rattle.scmi_core.specs.Driven.{asks}
+use Rattle.scmi_ends.proofs.PlainCalls.{restarted_asks}
 use Rattle.scmi_ends.specs.Agreement.{EndsAgree}
 use Rattle.scmi_ends.proofs.AgreementLemmas.{agrees_after_restart}
 use Rattle.scmi_ends.proofs.controller.Controller.restart.Goals as goal
@@ -12,3 +14,8 @@ invariant_of-self g c = keeps g (goal.at.invariant_of-self g c).After-restart
 
 pub returns-clause-agrees : goal.returns-clause-agrees
 returns-clause-agrees g c = keeps g (goal.at.returns-clause-agrees g c).After-restart
+
+pub returns-clause-made : goal.returns-clause-made
+returns-clause-made g c =
+    restarted_asks c.self.inside.core c.restart.new.self c.args.agent c.restart.result c.restart.ensures.board c.restart.ensures.event c.restart.ensures.err
+    ∙ ap (λ v. asks v.board v.history) c.self.view_is
